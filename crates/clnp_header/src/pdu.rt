@@ -1,0 +1,92 @@
+//! A PDU of the connectionless network protocol (X.233, structure of PDUs).
+
+use nsap::Nsap;
+use osi_base::Bytes;
+
+/// The type of a PDU.
+#[derive(Clone, Copy, Debug, PartialEq, Eq)]
+pub enum PduKind {
+    /// A DT PDU, which carries data.
+    Dt,
+    /// An ER PDU, which reports why a PDU was discarded.
+    Er,
+}
+
+/// A PDU over the octets that it was read from.
+#[derive(Clone, Copy, Debug)]
+pub struct PduRef<'a> {
+    /// The type.
+    pub kind: PduKind,
+    /// The destination address.
+    pub destination: Nsap,
+    /// The source address.
+    pub source: Nsap,
+    /// The lifetime that is left, in units of 500 ms.
+    pub lifetime: u8,
+    /// Whether the header has a checksum.
+    pub checksum_used: bool,
+    /// Whether the source wants an error report.
+    pub report: bool,
+    /// The whole header.
+    pub header: &'a [u8],
+    /// The data.
+    pub body: &'a [u8],
+}
+
+/// A PDU on its own: the fields of a [`PduRef`] but for the header.
+#[derive(Debug, Drop, PartialEq, Eq)]
+pub struct Pdu {
+    /// The type.
+    pub kind: PduKind,
+    /// The destination address.
+    pub destination: Nsap,
+    /// The source address.
+    pub source: Nsap,
+    /// The lifetime that is left, in units of 500 ms.
+    pub lifetime: u8,
+    /// Whether the header has a checksum.
+    pub checksum_used: bool,
+    /// Whether the source wants an error report.
+    pub report: bool,
+    /// The data.
+    pub body: Bytes,
+}
+
+/// The protocol identifier of the connectionless network protocol.
+pub const PROTOCOL: u8 = 0x81;
+
+/// The protocol version.
+pub const VERSION: u8 = 0x01;
+
+/// Segmentation is permitted, and the header has a segmentation part.
+pub const SEGMENTATION_PERMITTED: u8 = 0x80;
+
+/// More segments follow.
+pub const MORE_SEGMENTS: u8 = 0x40;
+
+/// The source wants an error report.
+pub const ERROR_REPORT: u8 = 0x20;
+
+/// The bits of the type.
+pub const TYPE_BITS: u8 = 0x1f;
+
+/// The type DT.
+pub const DT: u8 = 0x1c;
+
+/// The type ER.
+pub const ER: u8 = 0x01;
+
+/// The octets of the fixed part.
+pub const FIXED_PART: usize = 9;
+
+/// The position of the checksum.
+pub const CHECKSUM: usize = 7;
+
+/// The least octets of a header: the fixed part and two addresses.
+pub const SHORTEST_HEADER: usize = 13;
+
+/// The most octets of a header.
+pub const LONGEST_HEADER: usize = 254;
+
+/// The most octets of a PDU.
+pub const LONGEST_PDU: usize = 65_535;

@@ -1,0 +1,11 @@
+pub mod Codes
+pub mod Entries
+pub mod Laws
+pub mod Routes
+pub mod Steps
+pub mod Values
+pub mod Walk
+pub mod Written
+pub mod Moves
+pub mod FirstFault
+pub mod Found

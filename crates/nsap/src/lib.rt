@@ -1,0 +1,17 @@
+//! Network addresses of end and intermediate systems (ISO/IEC 8348, network layer addressing).
+#![tactic(auto)]
+
+mod nsap;
+mod octets;
+mod port;
+mod prefix;
+mod snpa;
+#[cfg(test)]
+mod tests;
+mod text;
+
+pub use nsap::Nsap;
+pub use port::{Hop, Port};
+pub use prefix::{Prefix, is_prefix};
+pub use snpa::Snpa;
+pub use text::{NsapFault, text_round_trip};

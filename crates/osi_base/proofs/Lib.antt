@@ -1,0 +1,7 @@
+mod FletcherModulo
+pub mod FletcherPair
+mod FletcherRest
+pub mod FletcherSealed
+pub mod FletcherSums
+pub mod Fronts
+pub mod Numbers

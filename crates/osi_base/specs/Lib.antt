@@ -1,0 +1,4 @@
+pub mod Ends
+pub mod Fletcher
+pub mod Memory
+pub mod Status

@@ -1,0 +1,60 @@
+//! What no clause says: that calls succeed with ample memory, and what streams give and take.
+use super::*;
+use std::io::{self, BufWriter, ErrorKind, Read};
+use std::test::Fail;
+
+#[derive(Drop)]
+struct Broken;
+
+impl Read for Broken {
+    fn read(&mut self, _: &mut [u8]) -> io::Result<usize> {
+        Err(ErrorKind::Other.into())
+    }
+}
+
+#[test]
+fn a_read_in_memory_is_cut_and_fails_by_its_number(rt: HostRuntime) -> Result<(), Fail> {
+    let rows: [(&[usize], &[u32], &[Result<usize, Failed>]); 2] = [
+        (&[3, 0, 2], &[2], &[Ok(3), Err(Failed), Ok(2), Ok(3), Ok(0)]),
+        (&[0], &[], &[Ok(1), Ok(7), Ok(0)]),
+    ];
+    for (cuts, fails, answers) in rows {
+        let mut source = MemSource::new(rt.alloc(), b"8 octets", cuts, fails)?;
+        for answer in answers {
+            assert_eq!(rt; source.read(&mut [0; 16]), *answer);
+        }
+    }
+    Ok(())
+}
+
+#[test]
+fn octets_come_in_order(rt: HostRuntime) {
+    let mut octets = Octets::new(b"\x01\x02\x03");
+    assert_eq!(rt; octets.take(1), Some(b"\x01".as_slice()));
+    assert_eq!(rt; [octets.number(2), octets.number(1)], [Some(0x0203), None]);
+    let mut address = Address::of(&[7; 20]);
+    address.length = 25;
+    assert_eq!(rt; address.as_slice(), [7; 20].as_slice());
+}
+
+#[test]
+fn streams_and_memory_give_and_take(rt: HostRuntime) -> Result<(), Fail> {
+    let mut into = [0; 4];
+    let mut held = Vec::new(rt.alloc());
+    let mut source = StdSource::new(b"ab".as_slice().chain(Broken));
+    assert_eq!(rt; source.read(&mut into), Ok(2));
+    assert_eq!(rt; source.read(&mut into), Err(Failed));
+    assert_eq!(rt; into, *b"ab\0\0");
+    assert_eq!(rt; PlainSource::new(rt.alloc(), b"xy")?.read(&mut into), Ok(2));
+    assert_eq!(rt; StdSink::new(&mut held).write(b"abc"), Ok(3));
+    assert_eq!(rt; held.as_slice(), b"abc".as_slice());
+    let mut full = StdSink::new(&mut into[..2]);
+    assert_eq!(rt; [full.write(b"abc"), full.write(b"c")], [Ok(2), Ok(0)]);
+    let mut stuck = StdSink::new(BufWriter::with_capacity(rt.alloc(), 2, &mut into[..0])?);
+    assert_eq!(rt; stuck.write(b"a"), Ok(1));
+    assert_eq!(rt; stuck.write(b"bc"), Err(WriteRefusal::Failed)); // its buffer cannot empty
+    assert_eq!(rt; PlainSink::new(rt.alloc()).write(b"abc"), Ok(3));
+    assert_eq!(rt; MemSink::new(rt.alloc(), &[2])?.write(b"abc"), Ok(3));
+    assert!(rt; Items::of([1].to_vec(rt.alloc())?) != Items::of([2].to_vec(rt.alloc())?));
+    Ok(())
+}

@@ -1,0 +1,195 @@
+-- A unit that a system shows of a frame was sent: the PDU at the front of the frame's octets is the one that was written,
+-- its destination is an address of the system and so the system's raw address, and the frame was taken within the bound
+-- of its LAN, which its lifetime is not below.
+use Rattle.std.proofs.Common.{◌≡◌, ℕ, ◌+◌, ◌-◌, ◌≤◌, Bool, true, false, List, [], ◌∷◌, ◌++◌, Option, Some, None, refl, sym, ◌∙◌, ap, subst, arith, inl, inr, append_assoc}
+use Rattle.std.specs.Prelude.{◌==◌, not, nat_lt, slice_get, if◌then◌else◌}
+use Rattle.std.specs.List.{AllByRecursion}
+use Rattle.std.proofs.lemmas.Bool.{ltb-false}
+use Rattle.std.proofs.lemmas.List.{append-nil}
+use Rattle.nsap.specs.Address.{selector_of, system_part, is_same_system}
+use Rattle.nsap.specs.declared.port.Port.{Port}
+use Rattle.nsap.proofs.AddressLemmas.{system_part-append, is_same_system-Decides}
+use Rattle.clnp_header.specs.declared.pdu.Pdu.{Pdu}
+use Rattle.clnp_header.specs.Grammar.{BeginsWith}
+use Rattle.osi_bench.specs.declared.event.Event.{Event}
+use Rattle.osi_bench.specs.declared.event.Event.TheVariants as events
+use Rattle.osi_bench.specs.declared.lan.Lan.{Lan}
+use Rattle.osi_bench.specs.declared.lan.Frame.{Frame}
+use Rattle.osi_bench.specs.declared.lan.Picked.{Picked}
+use Rattle.osi_bench.specs.declared.lan.Picked.TheVariants.{Taken, NoSuch, Late, NotThere, NotOurs}
+use Rattle.osi_bench.specs.World.{Station, Network, initial_lifetime, raw_address, unit_pdu, frame_of, bound_of, delivery}
+use Rattle.osi_bench.specs.Steps.{Receives, Takes, Delivers}
+use Rattle.osi_bench.specs.Lawful.{clock_from, tick_after, titles_of, WasSent}
+use Rattle.osi_bench.specs.OneRun.{HeaderLaws, one_front}
+use Rattle.osi_bench.proofs.Journals.{clock_from-append, IsOther, no_unit}
+use Rattle.osi_bench.proofs.Standing.{FrameSent, Standing, NewSent, none_new, goes_on, along, stays, quiet, title_stands}
+
+-- an address of the system of a title has the raw address of that title
+one_raw : (title other : List ℕ) → is_same_system (raw_address title) other ≡ true → raw_address title ≡ raw_address other
+one_raw title other is =
+    let parts : system_part (raw_address title) ≡ system_part other = (is_same_system-Decides (raw_address title) other).0 is in
+    ap (λ (xs : List ℕ). xs ++ 2 ∷ []) (sym (system_part-append (system_part title) 2) ∙ parts)
+
+-- the one event, if it shows a unit
+one_unit : (system at : ℕ) (source body from octets : List ℕ) (before after : List Event) → events.Unit system source body ∷ [] ≡ before ++ events.Unit at from octets ∷ after
+    → (before ≡ []) × (at ≡ system) × (from ≡ source) × (octets ≡ body)
+one_unit system at source body from octets [] after is = (refl, (cc), (cc), (cc))
+one_unit system at source body from octets (event ∷ before) after is =
+    let tail : [] ≡ before ++ events.Unit at from octets ∷ after = cc in
+    absurd (no_unit [] before after at from octets tt tail)
+
+-- what a system does, by its four tests
+abbrev chosen : ℕ → List ℕ → List ℕ → Bool → Bool → Bool → Bool → List Event
+chosen system source body same late raw transport =
+    if not same then events.Discard system 128 0 ∷ []
+    else if late then events.Discard system 160 4 ∷ []
+    else if raw then events.Unit system source body ∷ []
+    else if transport then []
+    else events.Discard system 129 0 ∷ []
+
+-- a unit is shown only by a system of its destination, within its lifetime
+chosen_units : (system : ℕ) (source body : List ℕ) (same late raw transport : Bool) (before after : List Event) (at : ℕ) (from octets : List ℕ)
+    → chosen system source body same late raw transport ≡ before ++ events.Unit at from octets ∷ after
+    → (same ≡ true) × (late ≡ false) × (before ≡ []) × (at ≡ system) × (from ≡ source) × (octets ≡ body)
+chosen_units system source body false late raw transport before after at from octets is = absurd (no_unit (events.Discard system 128 0 ∷ []) before after at from octets (tt, tt) is)
+chosen_units system source body true true raw transport before after at from octets is = absurd (no_unit (events.Discard system 160 4 ∷ []) before after at from octets (tt, tt) is)
+chosen_units system source body true false true transport before after at from octets is =
+    let h = one_unit system at source body from octets before after is in
+    (refl, refl, h.0, h.1, h.2, h.3)
+chosen_units system source body true false false true before after at from octets is = absurd (no_unit [] before after at from octets tt is)
+chosen_units system source body true false false false before after at from octets is = absurd (no_unit (events.Discard system 129 0 ∷ []) before after at from octets (tt, tt) is)
+
+-- the clock does not move
+chosen_clock : (now system : ℕ) (source body : List ℕ) (same late raw transport : Bool) → clock_from now (chosen system source body same late raw transport) ≡ now
+chosen_clock now system source body false late raw transport = refl
+chosen_clock now system source body true true raw transport = refl
+chosen_clock now system source body true false true transport = refl
+chosen_clock now system source body true false false true = refl
+chosen_clock now system source body true false false false = refl
+
+received_clock : (now : ℕ) (station : Station) (system bound : ℕ) (octets : List ℕ) (made : List Event) → Receives station system bound octets made → clock_from now made ≡ now
+received_clock now station system bound octets made (inl a) =
+    ap (λ (all : List Event). clock_from now all) a.3
+    ∙ chosen_clock now system a.1.source a.1.body (is_same_system a.1.destination station.title) (nat_lt a.1.lifetime bound) (selector_of a.1.destination == 2) (selector_of a.1.destination == 1)
+received_clock now station system bound octets made (inr a) = ap (λ (all : List Event). clock_from now all) a.2
+
+-- a frame is delivered to a system within the bound of its LAN
+record HasFrame (net : Network) (journal : List Event) (system bound : ℕ) (station : Station) (frame : Frame) : Type 0 where
+  stands : Standing net journal
+  at : slice_get net.systems system ≡ Some station
+  sent : FrameSent (titles_of net) journal frame
+  in_time : net.clock ≤ frame.tick + bound
+
+-- a unit of that frame was sent: its lifetime is at least the bound
+delivered : (laws : HeaderLaws) (net : Network) (journal : List Event) (number system bound : ℕ) (station : Station) (frame : Frame) (header : List ℕ) (pdu : Pdu)
+    → HasFrame net journal system bound station frame → BeginsWith frame.octets header pdu → is_same_system pdu.destination station.title ≡ true → nat_lt pdu.lifetime bound ≡ false
+    → WasSent (titles_of net) (journal ++ events.Deliver number system ∷ []) system pdu.source pdu.body
+delivered laws net journal number system bound station frame header pdu has begins ours lives =
+    let sent = has.sent in
+    let written : Pdu = unit_pdu (raw_address sent.sender_title) (raw_address sent.own_title) sent.octets in
+    let same : pdu ≡ written =
+    one_front laws frame.octets begins.front begins.rest frame.octets [] pdu written begins.whole (sym (append-nil frame.octets)) begins.is_pdu sent.spelled in
+    let here : is_same_system (raw_address sent.own_title) station.title ≡ true = subst (λ (p : Pdu). is_same_system p.destination station.title ≡ true) same ours in
+    let to : raw_address sent.own_title ≡ raw_address station.title = one_raw sent.own_title station.title here in
+    let body : sent.octets ≡ pdu.body = ap (λ (p : Pdu). p.body) (sym same) in
+    let event : events.Sent sent.sender (raw_address sent.own_title) sent.octets ≡ events.Sent sent.sender (raw_address station.title) pdu.body =
+    ap (λ (address : List ℕ). events.Sent sent.sender address sent.octets) to ∙ ap (λ (octets : List ℕ). events.Sent sent.sender (raw_address station.title) octets) body in
+    let now : tick_after (journal ++ events.Deliver number system ∷ []) ≡ tick_after journal = clock_from-append 0 journal (events.Deliver number system ∷ []) in
+    let clock = has.stands.clock_is in
+    let tick = sent.tick_is in
+    let late = has.in_time in
+    let left : bound ≤ pdu.lifetime = ltb-false pdu.lifetime bound lives in
+    let lifetime : pdu.lifetime ≡ initial_lifetime = ap (λ (p : Pdu). p.lifetime) same in
+    record {
+      sender = sent.sender;
+      sender_title = sent.sender_title;
+      own_title = station.title;
+      earlier = sent.earlier;
+      later = sent.later ++ events.Deliver number system ∷ [];
+      sender_is = sent.sender_is;
+      from_is = ap (λ (p : Pdu). p.source) same;
+      own_is = title_stands net system station has.at;
+      sent = goes_on journal (events.Deliver number system ∷ []) sent.earlier sent.later (events.Sent sent.sender (raw_address sent.own_title) sent.octets) sent.sent
+          ∙ ap {B = List Event} (λ (e : Event). sent.earlier ++ e ∷ (sent.later ++ events.Deliver number system ∷ [])) event;
+      recent = omega arith;
+    }
+
+-- the units that a system shows of a frame were sent
+received_units : (laws : HeaderLaws) (net : Network) (journal : List Event) (number system bound : ℕ) (station : Station) (frame : Frame) (made : List Event)
+    → HasFrame net journal system bound station frame → Receives station system bound frame.octets made → NewSent (titles_of net) (journal ++ events.Deliver number system ∷ []) made
+received_units laws net journal number system bound station frame made has (inl a) = record {
+  each = λ before after at from octets is.
+      let told : List Event = journal ++ events.Deliver number system ∷ [] in
+      let h = chosen_units system a.1.source a.1.body (is_same_system a.1.destination station.title) (nat_lt a.1.lifetime bound) (selector_of a.1.destination == 2)
+      (selector_of a.1.destination == 1) before after at from octets (sym a.3 ∙ is) in
+      let base : WasSent (titles_of net) told system a.1.source a.1.body = delivered laws net journal number system bound station frame a.0 a.1 has a.2 h.0 h.1 in
+      let none : told ≡ told ++ before = sym (append-nil told) ∙ ap (λ (xs : List Event). told ++ xs) (sym h.2) in
+      subst (λ (o : List ℕ). WasSent (titles_of net) (told ++ before) at from o) (sym h.5)
+      (subst (λ (f : List ℕ). WasSent (titles_of net) (told ++ before) at f a.1.body) (sym h.4)
+      (subst (λ (n : ℕ). WasSent (titles_of net) (told ++ before) n a.1.source a.1.body) (sym h.3)
+      (subst (λ (all : List Event). WasSent (titles_of net) all system a.1.source a.1.body) none base)));
+}
+received_units laws net journal number system bound station frame made has (inr a) =
+    none_new (titles_of net) (journal ++ events.Deliver number system ∷ []) made (subst (λ (all : List Event). AllByRecursion IsOther all) (sym a.2) (tt, tt))
+
+-- a unit behind an event that shows none
+behind : (first : Event) (made before after : List Event) (at : ℕ) (from octets : List ℕ) → IsOther first → first ∷ made ≡ before ++ events.Unit at from octets ∷ after
+    → (more : List Event) × (before ≡ first ∷ more) × (made ≡ more ++ events.Unit at from octets ∷ after)
+behind first made [] after at from octets other is =
+    let head : first ≡ events.Unit at from octets = cc in
+    absurd (subst IsOther head other)
+behind first made (event ∷ before) after at from octets other is =
+    let head : event ≡ first = cc in
+    (before, ap (λ (e : Event). e ∷ before) head, (cc))
+
+-- new units behind an event that shows none
+new_behind : (titles : List (List ℕ)) (journal made : List Event) (first : Event) → IsOther first → NewSent titles (journal ++ first ∷ []) made → NewSent titles journal (first ∷ made)
+new_behind titles journal made first other new = record {
+  each = λ before after at from octets is.
+      let h = behind first made before after at from octets other is in
+      let whole : (journal ++ first ∷ []) ++ h.0 ≡ journal ++ before = append_assoc journal (first ∷ []) h.0 ∙ ap (λ (xs : List Event). journal ++ xs) (sym h.1) in
+      subst (λ (all : List Event). WasSent titles all at from octets) whole (new.each h.0 after at from octets h.2);
+}
+
+-- the first test
+not_late : (late : Bool) (there : Picked) → (if late then Late else there) ≡ Taken → late ≡ false
+not_late true there is = absurd cc
+not_late false there is = refl
+
+-- a frame that is taken is not late
+taken_in_time : (clock : ℕ) (lans : List Lan) (port : Option Port) (system : ℕ) (frame : Frame) → delivery clock lans port system (Some frame) ≡ Taken → clock ≤ frame.tick + bound_of lans frame.lan
+taken_in_time clock lans port system frame is = ltb-false (frame.tick + bound_of lans frame.lan) clock (not_late _ _ is)
+
+-- a frame that a number has is one of the frames
+numbered : (zeroth : Bool) (found : Option Frame) (frame : Frame) → (if zeroth then None else found) ≡ Some frame → found ≡ Some frame
+numbered true found frame is = absurd cc
+numbered false found frame is = is
+
+-- the system takes a frame
+takes_stands : (laws : HeaderLaws) (net : Network) (journal made : List Event) (number system : ℕ) (station : Station) (found : Option Frame)
+    → Standing net journal → slice_get net.systems system ≡ Some station → frame_of net.frames number ≡ found → delivery net.clock net.lans station.port system found ≡ Taken
+    → Takes net.lans number system station found made → Standing net (journal ++ made)
+takes_stands laws net journal made number system station None stands at is answer takes = absurd takes
+takes_stands laws net journal made number system station (Some frame) stands at is answer takes =
+    let sent : FrameSent (titles_of net) journal frame = stands.frames_sent (number - 1) frame (numbered (number == 0) (slice_get net.frames (number - 1)) frame is) in
+    let time : net.clock ≤ frame.tick + bound_of net.lans frame.lan = taken_in_time net.clock net.lans station.port system frame answer in
+    let has : HasFrame net journal system (bound_of net.lans frame.lan) station frame = record { stands = stands; at = at; sent = sent; in_time = time } in
+    let new = received_units laws net journal number system (bound_of net.lans frame.lan) station frame takes.0 has takes.1 in
+    along net net journal made (events.Deliver number system ∷ takes.0) takes.2 refl
+    (stays net journal (events.Deliver number system ∷ takes.0) stands (received_clock net.clock station system (bound_of net.lans frame.lan) frame.octets takes.0 takes.1)
+    (new_behind (titles_of net) journal takes.0 (events.Deliver number system) tt new))
+
+-- a delivery
+pub delivers_stands : (laws : HeaderLaws) (net : Network) (journal made : List Event) (number system : ℕ) (station : Station) (answer : Picked)
+    → Standing net journal → slice_get net.systems system ≡ Some station → delivery net.clock net.lans station.port system (frame_of net.frames number) ≡ answer
+    → Delivers net.lans number system station (frame_of net.frames number) answer made → Standing net (journal ++ made)
+delivers_stands laws net journal made number system station Taken stands at is done =
+    takes_stands laws net journal made number system station (frame_of net.frames number) stands at refl is done
+delivers_stands laws net journal made number system station NoSuch stands at is done =
+    along net net journal made _ done refl (quiet net journal (events.NoSuch number system) stands tt refl)
+delivers_stands laws net journal made number system station Late stands at is done =
+    along net net journal made _ done refl (quiet net journal (events.Late number system) stands tt refl)
+delivers_stands laws net journal made number system station NotThere stands at is done =
+    along net net journal made _ done refl (quiet net journal (events.NotThere number system) stands tt refl)
+delivers_stands laws net journal made number system station NotOurs stands at is done =
+    along net net journal made _ done refl (quiet net journal (events.NotOurs number system) stands tt refl)

@@ -1,0 +1,63 @@
+-- Where an event stands in a journal that goes on, and what a list that goes on keeps.
+use Rattle.std.proofs.Common.{◌≡◌, ℕ, zero, suc, ◌⊎◌, List, [], ◌∷◌, ◌++◌, Some, refl, sym, ◌∙◌, ap, subst, inl, inr}
+use Rattle.std.specs.Prelude.{slice_get}
+use Rattle.std.specs.List.{AllByRecursion}
+use Rattle.osi_bench.specs.declared.event.Event.{Event}
+use Rattle.osi_bench.specs.declared.event.Event.TheVariants as events
+use Rattle.osi_bench.specs.Lawful.{clock_after, clock_from}
+
+-- an element keeps its place where more follows
+pub get_append : {X : Type 0} (xs ys : List X) (i : ℕ) (x : X) → slice_get xs i ≡ Some x → slice_get (xs ++ ys) i ≡ Some x
+get_append [] ys i x is = absurd cc
+get_append (y ∷ xs) ys zero x is = is
+get_append (y ∷ xs) ys (suc i) x is = get_append xs ys i x is
+
+-- an element is one of those before, or the one that was added
+pub get_push : {X : Type 0} (xs : List X) (y : X) (i : ℕ) (x : X) → slice_get (xs ++ y ∷ []) i ≡ Some x → (slice_get xs i ≡ Some x) ⊎ (x ≡ y)
+get_push [] y zero x is = inr cc
+get_push [] y (suc i) x is = absurd cc
+get_push (z ∷ xs) y zero x is = inl is
+get_push (z ∷ xs) y (suc i) x is = get_push xs y i x is
+
+-- an element of two lists stands in the first or in the second
+pub split_at : {X : Type 0} (xs ys before after : List X) (e : X) → xs ++ ys ≡ before ++ e ∷ after
+    → ((more : List X) × (xs ≡ before ++ e ∷ more)) ⊎ ((more : List X) × (before ≡ xs ++ more) × (ys ≡ more ++ e ∷ after))
+split_at [] ys before after e is = inr (before, refl, is)
+split_at (x ∷ xs) ys [] after e is =
+    let head : x ≡ e = cc in
+    inl (xs, ap (λ z. z ∷ xs) head)
+split_at {X} (x ∷ xs) ys (b ∷ before) after e is =
+    let head : x ≡ b = cc in
+    let tail : xs ++ ys ≡ before ++ e ∷ after = cc in
+    elim (split_at xs ys before after e tail) [
+      | inl found ↦ inl (found.0, ap {B = List X} (λ (zs : List X). x ∷ zs) found.1 ∙ ap {B = List X} (λ (z : X). z ∷ before ++ e ∷ found.0) head)
+      | inr found ↦ inr (found.0, ap {B = List X} (λ (z : X). z ∷ before) (sym head) ∙ ap {B = List X} (λ (zs : List X). x ∷ zs) found.1, found.2)
+    ]
+
+pub clock_from-append : (now : ℕ) (xs ys : List Event) → clock_from now (xs ++ ys) ≡ clock_from (clock_from now xs) ys
+clock_from-append now [] ys = refl
+clock_from-append now (x ∷ xs) ys = clock_from-append (clock_after now x) xs ys
+
+-- the event shows no unit
+abbrev pub IsOther : Event → Type 0
+IsOther (events.Tick now) = Unit {0}
+IsOther (events.Sent system to octets) = Unit {0}
+IsOther (events.Unit system from octets) = ⊥
+IsOther (events.No cause) = Unit {0}
+IsOther (events.Frame number lan system snpa length) = Unit {0}
+IsOther (events.Deliver number system) = Unit {0}
+IsOther (events.NoSuch number system) = Unit {0}
+IsOther (events.Late number system) = Unit {0}
+IsOther (events.NotThere number system) = Unit {0}
+IsOther (events.NotOurs number system) = Unit {0}
+IsOther (events.Discard system reason place) = Unit {0}
+
+pub no_unit : (made before after : List Event) (system : ℕ) (from octets : List ℕ) → AllByRecursion IsOther made → made ≡ before ++ events.Unit system from octets ∷ after → ⊥
+no_unit [] [] after system from octets others is = cc
+no_unit [] (event ∷ before) after system from octets others is = cc
+no_unit (e ∷ made) [] after system from octets others is =
+    let head : e ≡ events.Unit system from octets = cc in
+    subst IsOther head others.0
+no_unit (e ∷ made) (event ∷ before) after system from octets others is =
+    let tail : made ≡ before ++ events.Unit system from octets ∷ after = cc in
+    no_unit made before after system from octets others.1 tail

@@ -1,0 +1,16 @@
+use Rattle.std.proofs.Common.{◌≡◌, ◌+◌, ◌≤◌, ◌++◌, ℕ, List, length}
+use Rattle.osi_bench.specs.Script.{most_octets}
+use Rattle.osi_bench.specs.Feeding.{IsCounted, Feeds}
+use Rattle.osi_bench.proofs.Feeding.{Within}
+use Rattle.osi_bench.proofs.feed.Feed.feed_within.Given as goal
+
+abbrev pub invariant-loop-part : goal.invariant-loop-part
+invariant-loop-part g l = record {
+  so_far : Within g.M.Machine.meaning l.fn.octets l.rest l.initial.self l.initial.out.items l.self l.out.items;
+  counted : IsCounted g.M.Machine.meaning l.self;
+  octets : l.self.octets + length l.rest ≡ l.initial.self.octets + length l.fn.octets;
+  room : l.initial.self.octets + length l.fn.octets ≤ most_octets;
+}
+
+abbrev pub decreases-loop-part : goal.decreases-loop-part
+decreases-loop-part g l = length l.rest

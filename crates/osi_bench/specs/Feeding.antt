@@ -1,0 +1,43 @@
+-- How octets go on from what was read before.
+use Rattle.std.specs.Prelude.{◌≡◌, ℕ, List, [], ◌++◌, length}
+use Rattle.osi_bench.specs.declared.event.Event.{Event}
+use Rattle.osi_bench.specs.Script.{whole_lines, open_line}
+use Rattle.osi_bench.specs.Meaning.{Meaning}
+use Rattle.osi_bench.specs.Course.{IsRead}
+
+-- the machine's state, the open line, and how many whole lines and octets were read
+pub record Held (M : Type 0) : Type 0 where
+  pub machine : M
+  pub line : List ℕ
+  pub lines : ℕ
+  pub octets : ℕ
+
+module _ {M : Type 0} (meaning : Meaning M) where
+  -- the machine ran as many lines as were counted
+  abbrev pub IsCounted : Held M → Type 0
+  IsCounted feed = meaning.lines feed.machine ≡ feed.lines
+
+  -- these octets were read so far, and have this journal
+  pub record Fed (first : M) (read : List ℕ) (journal : List Event) (feed : Held M) : Type 0 where
+    pub so_far : IsRead meaning first read journal feed.machine
+    pub tells : meaning.tells feed.machine journal
+    pub line : feed.line ≡ open_line read
+    pub lines : feed.lines ≡ length (whole_lines read)
+    pub octets : feed.octets ≡ length read
+
+  -- whatever was read before, these octets go on from there
+  pub record Feeds (octets : List ℕ) (old : Held M) (before : List ℕ) (new : Held M) (after : List ℕ) : Type 0 where
+    pub events : List Event
+    pub told : List ℕ
+    pub appended : after ≡ before ++ told
+    pub goes_on : (first : M) (read : List ℕ) (journal : List Event) → Fed first read journal old
+        → Fed first (read ++ octets) (journal ++ events) new × (meaning.text new.machine (journal ++ events) ≡ meaning.text old.machine journal ++ told)
+
+  -- whatever was read before, the run stops in these octets
+  pub record Stops (Stopped : M → List ℕ → List Event → M → Type 0) (octets : List ℕ) (old : Held M) (before after : List ℕ) : Type 0 where
+    pub events : List Event
+    pub last : M
+    pub told : List ℕ
+    pub appended : after ≡ before ++ told
+    pub stopped : (first : M) (read : List ℕ) (journal : List Event) → Fed first read journal old
+        → Stopped first (read ++ octets) (journal ++ events) last × (meaning.text last (journal ++ events) ≡ meaning.text old.machine journal ++ told)

@@ -1,0 +1,132 @@
+-- A line has one step from a network, and so lines have one journal.
+use Rattle.std.proofs.Common.{◌≡◌, ℕ, ◌+◌, ◌/◌, ◌%◌, List, [], ◌∷◌, ◌++◌, length, get_or, take, Option, Some, None, Result, Ok, Err, refl, sym, ◌∙◌, ap, subst, arith, inl, inr}
+use Rattle.std.proofs.Math.Seq.{take-append_seam}
+use Rattle.nsap.specs.declared.port.Port.{Port}
+use Rattle.clnp_header.specs.declared.fault.Fault.{Fault}
+use Rattle.clnp_header.specs.declared.pdu.Pdu.{Pdu}
+use Rattle.clnp_header.specs.Grammar.{IsPdu, BeginsWith, header_octets}
+use Rattle.clnp_header.specs.Faults.{PduFault}
+use Rattle.osi_bench.specs.declared.event.Event.{Event}
+use Rattle.osi_bench.specs.declared.event.Event.TheVariants as events
+use Rattle.osi_bench.specs.declared.event.Refused.{Refused}
+use Rattle.osi_bench.specs.declared.line.Line.{Line}
+use Rattle.osi_bench.specs.declared.line.Line.TheVariants as lines
+use Rattle.osi_bench.specs.declared.lan.Lan.{Lan}
+use Rattle.osi_bench.specs.declared.lan.Frame.{Frame}
+use Rattle.osi_bench.specs.declared.lan.Picked.{Picked}
+use Rattle.osi_bench.specs.declared.lan.Picked.TheVariants.{Taken, NoSuch, Late, NotThere, NotOurs}
+use Rattle.osi_bench.specs.World.{Station, Network, raw_address, unit_pdu, sending, frame_of, bound_of, delivery}
+use Rattle.osi_bench.specs.Steps.{reaction, Receives, Sends, Takes, Delivers, with_route, with_system, WorldStep, WorldRuns}
+
+-- what the grammar of PDUs and its faults ensure
+pub record HeaderLaws : Type 0 where
+  pub one_value : (octets : List ℕ) (pdu other : Pdu) → IsPdu octets pdu → IsPdu octets other → pdu ≡ other
+  pub one_spelling : (octets others : List ℕ) (pdu : Pdu) → IsPdu octets pdu → IsPdu others pdu → octets ≡ others
+  pub excludes : (octets front rest : List ℕ) (pdu : Pdu) (fault : Fault) → octets ≡ front ++ rest → IsPdu front pdu → PduFault octets fault → ⊥
+
+-- the octets of a PDU, and what follows it, by its fields
+spelled : (front rest : List ℕ) (pdu : Pdu) (h : IsPdu front pdu) → front ++ rest ≡ (header_octets pdu (length h.header) (length front) h.first h.second ++ pdu.body) ++ rest
+spelled front rest pdu h = ap (λ (xs : List ℕ). xs ++ rest) (h.whole ∙ ap (λ (xs : List ℕ). xs ++ pdu.body) h.parts)
+
+-- a PDU says its own length
+one_length : (front rest other more : List ℕ) (pdu second : Pdu) → front ++ rest ≡ other ++ more → IsPdu front pdu → IsPdu other second → length front ≡ length other
+one_length front rest other more pdu second same a b =
+    let e = sym (spelled front rest pdu a) ∙ same ∙ spelled other more second b in
+    let higher : length front / 256 ≡ length other / 256 = ap (λ (xs : List ℕ). get_or xs 5 0) e in
+    let lower : length front % 256 ≡ length other % 256 = ap (λ (xs : List ℕ). get_or xs 6 0) e in
+    omega arith
+
+-- octets have one PDU at their front
+pub one_front : (laws : HeaderLaws) (octets front rest other more : List ℕ) (pdu second : Pdu) → octets ≡ front ++ rest → octets ≡ other ++ more → IsPdu front pdu → IsPdu other second
+    → pdu ≡ second
+one_front laws octets front rest other more pdu second a-is b-is a b =
+    let same : front ++ rest ≡ other ++ more = sym a-is ∙ b-is in
+    let n : length front ≡ length other = one_length front rest other more pdu second same a b in
+    let fronts : front ≡ other =
+    sym (take-append_seam front rest) ∙ ap (λ (xs : List ℕ). take (length front) xs) same ∙ ap (λ (k : ℕ). take k (other ++ more)) n ∙ take-append_seam other more in
+    laws.one_value other pdu second (subst (λ (xs : List ℕ). IsPdu xs pdu) fronts a) b
+
+pub receives_once : (laws : HeaderLaws) (station : Station) (system bound : ℕ) (octets : List ℕ) (made other : List Event)
+    → Receives station system bound octets made → Receives station system bound octets other → made ≡ other
+receives_once laws station system bound octets made other (inl a) (inl b) =
+    let same : a.1 ≡ b.1 = one_front laws octets a.2.front a.2.rest b.2.front b.2.rest a.1 b.1 a.2.whole b.2.whole a.2.is_pdu b.2.is_pdu in
+    a.3 ∙ ap (λ (pdu : Pdu). reaction station system bound pdu) same ∙ sym b.3
+receives_once laws station system bound octets made other (inl a) (inr b) = absurd (laws.excludes octets a.2.front a.2.rest a.1 b.0 a.2.whole a.2.is_pdu b.1)
+receives_once laws station system bound octets made other (inr a) (inl b) = absurd (laws.excludes octets b.2.front b.2.rest b.1 a.0 b.2.whole b.2.is_pdu a.1)
+receives_once laws station system bound octets made other (inr a) (inr b) =
+    let some : Some a.0 ≡ Some b.0 = sym a.1 ∙ b.1 in
+    let same : a.0 ≡ b.0 = cc in
+    a.2 ∙ ap (λ (fault : Fault). events.Discard system fault.reason fault.place ∷ []) same ∙ sym b.2
+
+sends_once : (laws : HeaderLaws) (old : Network) (system : ℕ) (sender : Station) (destination octets : List ℕ) (answer : Result Port Refused) (made other : List Event) (new last : Network)
+    → Sends old system sender destination octets answer made new → Sends old system sender destination octets answer other last → (made ≡ other) × (new ≡ last)
+sends_once laws old system sender destination octets (Err cause) made other new last a b = (a.0 ∙ sym b.0, a.1 ∙ sym b.1)
+sends_once laws old system sender destination octets (Ok hop) made other new last a b =
+    let same : a.0 ≡ b.0 = laws.one_spelling a.0 b.0 (unit_pdu (raw_address sender.title) destination octets) a.1 b.1 in (
+      a.2 ∙ ap (λ (frame : List ℕ). events.Sent system destination octets ∷ events.Frame (length old.frames + 1) hop.lan system hop.snpa (length frame + 17) ∷ []) same ∙ sym b.2,
+      a.3 ∙ ap {B = Network} (λ (frame : List ℕ). record old { frames = old.frames ++ record { tick = old.clock; lan = hop.lan; system = system; to = hop.snpa; octets = frame } ∷ [] }) same ∙ sym b.3,
+    )
+
+takes_once : (laws : HeaderLaws) (lans : List Lan) (number system : ℕ) (station : Station) (frame : Option Frame) (made other : List Event)
+    → Takes lans number system station frame made → Takes lans number system station frame other → made ≡ other
+takes_once laws lans number system station None made other a b = absurd a
+takes_once laws lans number system station (Some frame) made other a b =
+    let same : a.0 ≡ b.0 = receives_once laws station system (bound_of lans frame.lan) frame.octets a.0 b.0 a.1 b.1 in
+    a.2 ∙ ap (λ (reactions : List Event). events.Deliver number system ∷ reactions) same ∙ sym b.2
+
+delivers_once : (laws : HeaderLaws) (lans : List Lan) (number system : ℕ) (station : Station) (frame : Option Frame) (answer : Picked) (made other : List Event)
+    → Delivers lans number system station frame answer made → Delivers lans number system station frame answer other → made ≡ other
+delivers_once laws lans number system station frame Taken made other a b = takes_once laws lans number system station frame made other a b
+delivers_once laws lans number system station frame NoSuch made other a b = a ∙ sym b
+delivers_once laws lans number system station frame Late made other a b = a ∙ sym b
+delivers_once laws lans number system station frame NotThere made other a b = a ∙ sym b
+delivers_once laws lans number system station frame NotOurs made other a b = a ∙ sym b
+
+-- one number has one system
+one_station : (found : Option Station) (station other : Station) → found ≡ Some station → found ≡ Some other → station ≡ other
+one_station found station other a b = let some : Some station ≡ Some other = sym a ∙ b in cc
+
+pub one_step : (laws : HeaderLaws) (line : Line) (old : Network) (made other : List Event) (new last : Network)
+    → WorldStep old line made new → WorldStep old line other last → (made ≡ other) × (new ≡ last)
+one_step laws lines.Nothing old made other new last a b = (a.0 ∙ sym b.0, a.1 ∙ sym b.1)
+one_step laws (lines.Lan name bound room) old made other new last a b = (a.0 ∙ sym b.0, a.1 ∙ sym b.1)
+one_step laws (lines.Es name title) old made other new last a b = (a.0 ∙ sym b.0, a.1 ∙ sym b.1)
+one_step laws (lines.Port system lan snpa) old made other new last a b =
+    let same : a.0 ≡ b.0 = one_station _ a.0 b.0 a.1 b.1 in (
+      a.2 ∙ sym b.2,
+      a.3 ∙ ap (λ (station : Station). with_system old system (record station { port = Some (record { lan = lan; snpa = snpa }) })) same ∙ sym b.3,
+    )
+one_step laws (lines.Route system prefix next lan) old made other new last a b =
+    let same : a.0 ≡ b.0 = one_station _ a.0 b.0 a.2 b.2 in
+    let hop : a.1 ≡ b.1 = one_station _ a.1 b.1 a.3 b.3 in (
+      a.4 ∙ sym b.4,
+      a.5 ∙ ap (λ (station : Station). with_system old system (with_route station prefix a.1.port)) same
+          ∙ ap (λ (found : Station). with_system old system (with_route b.0 prefix found.port)) hop ∙ sym b.5,
+    )
+one_step laws lines.Start old made other new last a b = (a.0 ∙ sym b.0, a.1 ∙ sym b.1)
+one_step laws (lines.Unit system to octets) old made other new last a b =
+    let sender : a.0 ≡ b.0 = one_station _ a.0 b.0 a.2 b.2 in
+    let receiver : a.1 ≡ b.1 = one_station _ a.1 b.1 a.3 b.3 in
+    let P : Station → Station → Type 0 =
+    λ from into. Sends old system from (raw_address into.title) octets (sending old.lans from (raw_address into.title) octets) other last in
+    let there : P a.0 a.1 = subst (λ (into : Station). P a.0 into) (sym receiver) (subst (λ (from : Station). P from b.1) (sym sender) b.4) in
+    sends_once laws old system a.0 (raw_address a.1.title) octets (sending old.lans a.0 (raw_address a.1.title) octets) made other new last a.4 there
+one_step laws lines.Tick old made other new last a b = (a.0 ∙ sym b.0, a.1 ∙ sym b.1)
+one_step laws (lines.Deliver number system) old made other new last a b =
+    let same : a.0 ≡ b.0 = one_station _ a.0 b.0 a.1 b.1 in
+    let P : Station → Type 0 = λ station. Delivers old.lans number system station (frame_of old.frames number) (delivery old.clock old.lans station.port system (frame_of old.frames number)) other in (
+      delivers_once laws old.lans number system a.0 (frame_of old.frames number) (delivery old.clock old.lans a.0.port system (frame_of old.frames number)) made other a.3
+          (subst P (sym same) b.3),
+      a.2 ∙ sym b.2,
+    )
+
+pub one_run : (laws : HeaderLaws) (script : List Line) (first : Network) (journal other : List Event) (last end : Network)
+    → WorldRuns first script journal last → WorldRuns first script other end → (journal ≡ other) × (last ≡ end)
+one_run laws [] first journal other last end a b = (a.0 ∙ sym b.0, a.1 ∙ sym b.1)
+one_run laws (line ∷ script) first journal other last end a b =
+    let here : (a.1 ≡ b.1) × (a.0 ≡ b.0) = one_step laws line first a.1 b.1 a.0 b.0 a.3 b.3 in
+    let after : WorldRuns a.0 script b.2 end = subst (λ (mid : Network). WorldRuns mid script b.2 end) (sym here.1) b.5 in
+    let left : (a.2 ≡ b.2) × (last ≡ end) = one_run laws script a.0 a.2 b.2 last end a.5 after in (
+      a.4 ∙ ap (λ (made : List Event). made ++ a.2) here.0 ∙ ap (λ (rest : List Event). b.1 ++ rest) left.0 ∙ sym b.4,
+      left.1,
+    )

@@ -1,0 +1,55 @@
+-- What was written, by the octets read and the status.
+use Rattle.std.specs.Prelude.{◌≡◌, ◌⊎◌, ℕ, List, [], ◌∷◌, ◌++◌, codes, decimal}
+use Rattle.osi_base.specs.declared.status.Status.{Status}
+use Rattle.osi_base.specs.declared.status.Status.TheVariants.{Done, RefusedLine, RefusedWords, ReadFault, WriteFault, NoMemory, RefusedCapture, TooMuch}
+use Rattle.osi_bench.specs.declared.event.Event.{Event}
+use Rattle.osi_bench.specs.Meaning.{Meaning}
+use Rattle.osi_bench.specs.Course.{IsRead, IsWhole, IsTooMuch, IsRefusedAt, IsRefusedAtEnd}
+use Rattle.osi_bench.specs.Writing.{IsPrefix}
+
+-- the closing lines
+abbrev pub done_line : List ℕ
+done_line = codes "done" ++ 10 ∷ []
+
+abbrev pub refused_line : ℕ → List ℕ
+refused_line line = codes "refused " ++ decimal line ++ codes " 1 word" ++ 10 ∷ []
+
+abbrev pub too_much_line : List ℕ
+too_much_line = codes "toomuch" ++ 10 ∷ []
+
+module _ {M : Type 0} (meaning : Meaning M) where
+  -- the transcript that the octets ask for where nothing fails, by how the run ends; `end` is that the input ends after them
+  abbrev pub Asks : Type 0 → M → List ℕ → List ℕ → Status → Type 0
+  Asks end first read text Done = (journal : List Event) × (last : M) × end × IsWhole meaning first read journal last
+      × (text ≡ meaning.text last journal ++ done_line)
+  Asks end first read text RefusedLine = (line : ℕ) × (journal : List Event) × (last : M)
+      × (IsRefusedAt meaning first read line journal last ⊎ (end × IsRefusedAtEnd meaning first read line journal last))
+      × (text ≡ meaning.text last journal ++ refused_line line)
+  Asks end first read text TooMuch = (journal : List Event) × (last : M) × IsTooMuch meaning first read journal last
+      × (text ≡ meaning.text last journal ++ too_much_line)
+  Asks end first read text ReadFault = (journal : List Event) × (last : M) × IsRead meaning first read journal last
+      × (text ≡ meaning.text last journal)
+  Asks end first read text WriteFault = ⊥
+  Asks end first read text NoMemory = ⊥
+  Asks end first read text RefusedWords = ⊥
+  Asks end first read text RefusedCapture = ⊥
+
+  -- a front of the transcript that a front of the octets asks for
+  pub record IsCut (end : Type 0) (first : M) (read written : List ℕ) : Type 0 where
+    pub front : List ℕ
+    pub text : List ℕ
+    pub status : Status
+    pub begins : IsPrefix front read
+    pub asked : Asks ((front ≡ read) × end) first front text status
+    pub cut : IsPrefix written text
+
+  -- what was written is what the octets read ask for, or where a write or memory failed a front of that
+  abbrev pub Outcome : Type 0 → M → List ℕ → List ℕ → Status → Type 0
+  Outcome end first read written Done = Asks end first read written Done
+  Outcome end first read written RefusedLine = Asks end first read written RefusedLine
+  Outcome end first read written TooMuch = Asks end first read written TooMuch
+  Outcome end first read written ReadFault = Asks end first read written ReadFault
+  Outcome end first read written WriteFault = IsCut end first read written
+  Outcome end first read written NoMemory = IsCut end first read written
+  Outcome end first read written RefusedWords = ⊥
+  Outcome end first read written RefusedCapture = ⊥

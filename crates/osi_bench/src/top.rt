@@ -1,0 +1,107 @@
+//! The call of the program.
+
+ghost use Rattle.std.specs.Prelude.{◌≡◌, ◌≢◌, ◌⊎◌, ◌≤◌, true, false, List, ℕ, Some, map, string_bytes, IfOk};
+ghost use Rattle.osi_base.specs.Ends.{HasRisen, Took, Put, IsAtEnd};
+ghost use Rattle.osi_bench.specs.Bench.{first_bench, bench_meaning};
+ghost use Rattle.osi_bench.specs.Exact.{IsFailure};
+ghost use Rattle.osi_bench.specs.Outcome.{Asks, Outcome};
+ghost use Rattle.osi_bench.specs.Text.{usage_line};
+ghost use Rattle.osi_bench.specs.Top.{is_run, ShowsSent};
+ghost use Rattle.osi_bench.specs.Writing.{IsWritten};
+
+use crate::bench::Bench;
+use crate::drive::drive;
+use crate::text::usage;
+use crate::writing::{write_all, write_closed};
+use osi_base::{Bytes, NoMemory, PlainSink, PlainSource, Sink, Source, Status};
+use std::alloc::Global;
+
+/// Does what the words of the program ask for, and answers how it ended.
+///
+/// `run` reads a script from the source and writes its transcript to the sink. Other words write the
+/// usage line.
+pub fn osi<S: Source, K: Sink>(
+    alloc: Global,
+    words: &[String],
+    source: &mut S,
+    sink: &mut K,
+) -> Status
+    // `run`: of the octets read, what was written is told as the status says; and whatever part of
+    // them was run, each raw unit that is shown was sent.
+    ensures run { is_run (map string_bytes words.now) ≡ true
+        → (read : List ℕ) × (written : List ℕ)
+        × Took (S.left source.old) read (S.left source.new)
+        × Put (K.held sink.old) written (K.held sink.new)
+        × Outcome bench_meaning (IsAtEnd (S.left source.new)) first_bench read written result
+        × ShowsSent read }
+    // What all octets of the source ask for comes, or a failure in its place.
+    ensures exact { is_run (map string_bytes words.now) ≡ true
+        → (all text : List ℕ) (asked : Status) → S.left source.old ≡ Some all → asked ≢ Status.ReadFault → Asks bench_meaning (Unit {0}) first_bench all text asked
+        → ((result ≡ asked) × Put (K.held sink.old) text (K.held sink.new)) ⊎ IsFailure result }
+    // A script that is run to its end is Done, unless memory runs out, where neither count of faults
+    // rises or stands at its last value.
+    ensures complete { is_run (map string_bytes words.now) ≡ true
+        → (all text : List ℕ) → S.left source.old ≡ Some all → Asks bench_meaning (Unit {0}) first_bench all text Status.Done
+        → ¬ HasRisen (S.faults source.old) (S.faults source.new) → ¬ HasRisen (K.faults sink.old) (K.faults sink.new)
+        → ((result ≡ Status.Done) × Put (K.held sink.old) text (K.held sink.new)) ⊎ (result ≡ Status.NoMemory) }
+    // Other words: the usage line was written, or a front of it, and nothing was read.
+    ensures words { is_run (map string_bytes words.now) ≡ false
+        → (S.left source.new ≡ S.left source.old) × IsWritten K.held sink.old usage_line Status.RefusedWords sink.new result }
+    // A fault comes only where its count rose in this call, or stands at its last value.
+    ensures read_fault { result ≡ Status.ReadFault → HasRisen (S.faults source.old) (S.faults source.new) }
+    ensures write_fault { result ≡ Status.WriteFault → HasRisen (K.faults sink.old) (K.faults sink.new) }
+{
+    clnp_header::one_value();
+    clnp_header::one_spelling();
+    clnp_header::no_fault();
+    if is_run(words) {
+        drive(alloc, Bench::new(alloc), source, sink)
+    } else {
+        refuse_words(sink)
+    }
+}
+
+/// Whether the words are the one word `run`.
+fn is_run(words: &[String]) -> bool
+    ensures { result ≡ is_run (map string_bytes words.now) }
+{
+    match words {
+        [word] => word.as_str() == "run",
+        _ => false,
+    }
+}
+
+/// Writes the usage line.
+fn refuse_words<K: Sink>(sink: &mut K) -> Status
+    ensures written { IsWritten K.held sink.old usage_line Status.RefusedWords sink.new result }
+    ensures faults_stay { K.faults sink.old ≤ K.faults sink.new }
+    ensures write_fault { result ≡ Status.WriteFault → HasRisen (K.faults sink.old) (K.faults sink.new) }
+{
+    match write_all(sink, usage()) {
+        Status::Done => Status::RefusedWords,
+        status => status,
+    }
+}
+
+/// What a run in memory wrote, and how it ended.
+#[derive(Drop, Debug)]
+pub struct Transcript {
+    pub status: Status,
+    pub octets: Bytes,
+}
+
+/// Does what the words ask for over a script in memory. Neither a read nor a write fails.
+pub fn run_in_memory(alloc: Global, words: &[String], script: &[u8]) -> Result<Transcript, NoMemory>
+    ensures no_read_fault { IfOk result (λ made. made.status ≢ Status.ReadFault) }
+    ensures no_write_fault { IfOk result (λ made. made.status ≢ Status.WriteFault) }
+    // What the script asks for comes, unless memory runs out.
+    ensures exact { is_run (map string_bytes words.now) ≡ true
+        → (text : List ℕ) (asked : Status) → asked ≢ Status.ReadFault → Asks bench_meaning (Unit {0}) first_bench script.now text asked
+        → IfOk result (λ made. ((made.status ≡ asked) × (made.octets ≡ text)) ⊎ (made.status ≡ Status.NoMemory)) }
+{
+    let mut source = PlainSource::new(alloc, script)?;
+    let mut sink = PlainSink::new(alloc);
+    let status = osi(alloc, words, &mut source, &mut sink);
+    let octets = Bytes::of(sink.into_written());
+    Ok(Transcript { status, octets })
+}

@@ -1,0 +1,380 @@
+//! The network that a script runs, and what each line does to it.
+
+ghost use Rattle.std.specs.Prelude.{◌≡◌, ◌<◌, ◌≤◌, ◌+◌, ◌++◌, ◌∷◌, List, ℕ, [], Some, length, slice_get, OnOk, IfOk, MatchOption};
+ghost use Rattle.std.specs.Option.{option_copied};
+ghost use Rattle.clnp_header.specs.Grammar.{IsPdu, value_of};
+ghost use Rattle.osi_bench.specs.declared.event.Event.{Event};
+ghost use Rattle.osi_bench.specs.World.{frame_of, bound_of, unit_pdu};
+ghost use Rattle.osi_bench.specs.Steps.{reaction, Receives};
+
+use crate::event::{Event, Refused};
+use crate::lan::{FRAME_HEADER, Frame, Lan, Picked, bound_of, delivery, frame_of};
+use crate::line::Line;
+use crate::system::{RAW, System, header_octets};
+use clnp_header::{Pdu, PduKind, PduRef, read_pdu, write_pdu};
+use nsap::{Nsap, Port, Prefix, Snpa};
+use osi_base::{Address, Bytes, HeaderRefusal, NoMemory, Tick};
+use std::alloc::Global;
+use std::marker::Model;
+
+/// The selector of transport.
+const TRANSPORT: u8 = 1;
+
+/// The initial lifetime of a unit, in ticks.
+const LIFETIME: u8 = 32;
+
+/// The lifetime has passed.
+const LIFETIME_EXPIRED: u8 = 0xa0;
+
+/// The octet of the header with the lifetime.
+const LIFETIME_PLACE: u8 = 4;
+
+/// A destination that cannot be reached from here.
+const UNREACHABLE: u8 = 0x80;
+
+/// A destination with no such user.
+const UNKNOWN: u8 = 0x81;
+
+/// The clock, the LANs, the systems and all frames that were sent.
+#[derive(Drop)]
+pub struct World {
+    alloc: Global,
+    clock: Tick,
+    lans: Vec<Lan>,
+    systems: Vec<System>,
+    frames: Vec<Frame>,
+}
+
+impl Model for World {
+    ghost use Rattle.osi_bench.specs.World.{Network};
+
+    ghost Value = { Network };
+
+    ghost view = { λ w. record { clock = w.clock; lans = w.lans.items; systems = w.systems.items; frames = w.frames.items } };
+}
+
+impl World {
+    ghost use Rattle.osi_bench.specs.World.{Network, Station, sending, raw_address, unit_pdu, delivery};
+    ghost use Rattle.osi_bench.specs.Steps.{WorldStep, Sends, Delivers, with_system, with_route};
+    ghost use Rattle.osi_bench.specs.Known.{NamesSystems, no_network};
+
+    /// Nothing was declared, and nothing was sent.
+    pub fn new(alloc: Global) -> World
+        ensures { result ≡ no_network }
+    {
+        World {
+            alloc,
+            clock: 0,
+            lans: Vec::new(alloc),
+            systems: Vec::new(alloc),
+            frames: Vec::new(alloc),
+        }
+    }
+
+    /// Does what the line says, and adds its events.
+    pub fn step(&mut self, line: Line, events: &mut Vec<Event>) -> Result<(), NoMemory>
+        requires none { events.old.items ≡ [] }
+        requires known { NamesSystems (length self.old.systems) line }
+        requires clock { self.old.clock < 4000000000 }
+        requires frames { length self.old.frames < 4000000000 }
+        ensures { OnOk result (WorldStep self.old line events.new.items self.new) }
+    {
+        match line {
+            Line::Nothing => Ok(()),
+            Line::Lan { bound, room, .. } => self.add_lan(Lan { bound, room }),
+            Line::Es { title, .. } => self.add_system(title),
+            Line::Port { system, lan, snpa } => self.attach(system, Port { lan, snpa }),
+            Line::Route {
+                system,
+                prefix,
+                next,
+                ..
+            } => self.add_route(system, prefix, next),
+            Line::Start => {
+                self.clock = 0;
+                self.tell_clock(events)
+            }
+            Line::Unit { system, to, octets } => self.unit(system, to, octets, events),
+            Line::Tick => {
+                self.clock += 1;
+                self.tell_clock(events)
+            }
+            Line::Deliver { frame, system } => self.deliver(frame, system, events),
+        }
+    }
+
+    fn add_lan(&mut self, lan: Lan) -> Result<(), NoMemory>
+        ensures { OnOk result (self.new ≡ record self.old { lans = self.old.lans ++ lan ∷ [] }) }
+    {
+        self.lans.push(lan)?;
+        Ok(())
+    }
+
+    fn add_system(&mut self, title: Nsap) -> Result<(), NoMemory>
+        ensures { OnOk result (self.new ≡ record self.old { systems = self.old.systems ++ record { title = title; port = None; rows = [] } ∷ [] }) }
+    {
+        self.systems.push(System::new(self.alloc, title))?;
+        Ok(())
+    }
+
+    fn attach(&mut self, system: u8, port: Port) -> Result<(), NoMemory>
+        requires { system < length self.old.systems }
+        ensures { (station : Station) × (slice_get self.old.systems system ≡ Some station)
+            × (self.new ≡ with_system self.old system (record station { port = Some port })) }
+    {
+        let station = &mut self.systems[usize::from(system)];
+        station.attach(port);
+        Ok(())
+    }
+
+    fn add_route(&mut self, system: u8, prefix: Prefix, next: u8) -> Result<(), NoMemory>
+        requires system { system < length self.old.systems }
+        requires next { next < length self.old.systems }
+        ensures { OnOk result ((station other : Station) × (slice_get self.old.systems system ≡ Some station) × (slice_get self.old.systems next ≡ Some other)
+            × (self.new ≡ with_system self.old system (with_route station prefix other.port))) }
+    {
+        let hop = self.systems[usize::from(next)].port();
+        let station = &mut self.systems[usize::from(system)];
+        station.add_route(prefix, hop)
+    }
+
+    fn tell_clock(&self, events: &mut Vec<Event>) -> Result<(), NoMemory>
+        ensures { OnOk result (events.new.items ≡ events.old.items ++ Event.Tick self.now.clock ∷ []) }
+    {
+        events.push(Event::Tick { now: self.clock })?;
+        Ok(())
+    }
+
+    /// A user's unit: it is sent, or refused.
+    fn unit(
+        &mut self,
+        system: u8,
+        to: u8,
+        octets: Bytes,
+        events: &mut Vec<Event>,
+    ) -> Result<(), NoMemory>
+        requires none { events.old.items ≡ [] }
+        requires system { system < length self.old.systems }
+        requires to { to < length self.old.systems }
+        requires frames { length self.old.frames < 4000000000 }
+        ensures { OnOk result ((sender receiver : Station) × (slice_get self.old.systems system ≡ Some sender) × (slice_get self.old.systems to ≡ Some receiver)
+            × Sends self.old system sender (raw_address receiver.title) octets (sending self.old.lans sender (raw_address receiver.title) octets) events.new.items self.new) }
+    {
+        let destination = self.systems[usize::from(to)].raw_address();
+        let sender = &self.systems[usize::from(system)];
+        match sender.sending(&self.lans, &destination, octets.as_slice()) {
+            Ok(hop) => {
+                let source = sender.raw_address();
+                self.send(system, unit_pdu(source, destination, octets), hop, events)?;
+                Ok(())
+            }
+            Err(cause) => {
+                events.push(Event::No { cause })?;
+                Ok(())
+            }
+        }
+    }
+
+    /// Sends a PDU in a frame to the hop.
+    fn send(
+        &mut self,
+        system: u8,
+        pdu: Pdu,
+        hop: Port,
+        events: &mut Vec<Event>,
+    ) -> Result<(), NoMemory>
+        requires none { events.old.items ≡ [] }
+        requires kind { pdu.kind ≡ PduKind.Dt }
+        requires short { length pdu.body ≤ 16384 }
+        requires frames { length self.old.frames < 4000000000 }
+        ensures { OnOk result ((frame : List ℕ) × IsPdu frame pdu
+            × (events.new.items ≡ Event.Sent system pdu.destination pdu.body ∷ Event.Frame (length self.old.frames + 1) hop.lan system hop.snpa (length frame + 17) ∷ [])
+            × (self.new ≡ record self.old { frames = self.old.frames ++ record { tick = self.old.clock; lan = hop.lan; system = system; to = hop.snpa; octets = frame } ∷ [] })) }
+    {
+        let size = header_octets(&pdu.source, &pdu.destination) + pdu.body.as_slice().len();
+        let octets = match write_pdu(self.alloc, &pdu) {
+            Ok(octets) => octets,
+            Err(HeaderRefusal::TooLong) => unreachable!(),
+            Err(HeaderRefusal::NoMemory) => return Err(NoMemory),
+        };
+        let length = size as u32 + FRAME_HEADER;
+        let Pdu {
+            destination,
+            body,
+            ..
+        } = pdu;
+        let to = address(&destination);
+        events.push(Event::Sent {
+            system,
+            to,
+            octets: body,
+        })?;
+        let number = self.frames.len() as u32 + 1;
+        let snpa = snpa_octets(&hop.snpa);
+        events.push(Event::Frame {
+            number,
+            lan: hop.lan,
+            system,
+            snpa,
+            length,
+        })?;
+        let octets = Bytes::of(octets);
+        let tick = self.clock;
+        self.frames.push(Frame {
+            tick,
+            lan: hop.lan,
+            system,
+            to: hop.snpa,
+            octets,
+        })?;
+        Ok(())
+    }
+
+    /// A delivery: the first answer that applies, and what the system does with a frame that it takes.
+    fn deliver(&self, number: u32, system: u8, events: &mut Vec<Event>) -> Result<(), NoMemory>
+        requires none { events.old.items ≡ [] }
+        requires system { system < length self.now.systems }
+        ensures { OnOk result ((station : Station) × (slice_get self.now.systems system ≡ Some station)
+            × Delivers self.now.lans number system station (frame_of self.now.frames number) (delivery self.now.clock self.now.lans station.port system (frame_of self.now.frames number)) events.new.items) }
+    {
+        let station = &self.systems[usize::from(system)];
+        let frame = frame_of(&self.frames, number);
+        let answer = delivery(self.clock, &self.lans, station.port(), system, frame);
+        let Some(frame) = frame else {
+            events.push(Event::NoSuch { number, system })?;
+            return Ok(());
+        };
+        match answer {
+            Picked::Taken => {
+                let bound = bound_of(&self.lans, frame.lan);
+                take(
+                    self.alloc,
+                    station,
+                    number,
+                    system,
+                    bound,
+                    frame.octets.as_slice(),
+                    events,
+                )?;
+            }
+            Picked::NoSuch => events.push(Event::NoSuch { number, system })?,
+            Picked::Late => events.push(Event::Late { number, system })?,
+            Picked::NotThere => events.push(Event::NotThere { number, system })?,
+            Picked::NotOurs => events.push(Event::NotOurs { number, system })?,
+        }
+        Ok(())
+    }
+}
+
+/// The DT PDU of a raw unit.
+fn unit_pdu(source: Nsap, destination: Nsap, octets: Bytes) -> Pdu
+    ensures { result ≡ unit_pdu source destination octets }
+{
+    Pdu {
+        kind: PduKind::Dt,
+        destination,
+        source,
+        lifetime: LIFETIME,
+        checksum_used: true,
+        report: false,
+        body: octets,
+    }
+}
+
+fn address(nsap: &Nsap) -> Address
+    ensures { result ≡ nsap.now }
+{
+    Address::of(nsap.octets())
+}
+
+fn snpa_octets(snpa: &Snpa) -> [u8; 6]
+    ensures { result ≡ snpa.now }
+{
+    let mut octets = [0; 6];
+    octets.copy_from_slice(snpa.octets());
+    octets
+}
+
+/// A system takes the octets of a frame.
+fn take(
+    alloc: Global,
+    station: &System,
+    number: u32,
+    system: u8,
+    bound: u32,
+    octets: &[u8],
+    events: &mut Vec<Event>,
+) -> Result<(), NoMemory>
+    requires { events.old.items ≡ [] }
+    ensures { OnOk result ((made : List Event) × Receives station.now system bound octets.now made × (events.new.items ≡ Event.Deliver number system ∷ made)) }
+{
+    events.push(Event::Deliver { number, system })?;
+    receive(alloc, station, system, bound, octets, events)?;
+    Ok(())
+}
+
+/// What a system does with the octets of a frame: their PDU, or the fault by which it is discarded.
+fn receive(
+    alloc: Global,
+    station: &System,
+    system: u8,
+    bound: u32,
+    octets: &[u8],
+    events: &mut Vec<Event>,
+) -> Result<(), NoMemory>
+    ensures { OnOk result ((made : List Event) × Receives station.now system bound octets.now made × (events.new.items ≡ events.old.items ++ made)) }
+{
+    match read_pdu(octets) {
+        Ok(pdu) => react(alloc, station, system, bound, &pdu, events),
+        Err(fault) => {
+            events.push(Event::Discard {
+                system,
+                reason: fault.reason,
+                place: fault.place,
+            })?;
+            Ok(())
+        }
+    }
+}
+
+/// What a system does with a PDU (X.233, header format analysis).
+fn react(
+    alloc: Global,
+    station: &System,
+    system: u8,
+    bound: u32,
+    pdu: &PduRef<'_>,
+    events: &mut Vec<Event>,
+) -> Result<(), NoMemory>
+    ensures { OnOk result (events.new.items ≡ events.old.items ++ reaction station.now system bound (value_of pdu.now)) }
+{
+    let selector = pdu.destination.selector();
+    if !pdu.destination.same_system(&station.title()) {
+        events.push(Event::Discard {
+            system,
+            reason: UNREACHABLE,
+            place: 0,
+        })?;
+    } else if u32::from(pdu.lifetime) < bound {
+        events.push(Event::Discard {
+            system,
+            reason: LIFETIME_EXPIRED,
+            place: LIFETIME_PLACE,
+        })?;
+    } else if selector == RAW {
+        let from = address(&pdu.source);
+        let octets = pdu.body.to_vec(alloc)?;
+        events.push(Event::Unit {
+            system,
+            from,
+            octets: Bytes::of(octets),
+        })?;
+    } else if selector != TRANSPORT {
+        events.push(Event::Discard {
+            system,
+            reason: UNKNOWN,
+            place: 0,
+        })?;
+    }
+    Ok(())
+}
