@@ -1,7 +1,6 @@
 -- After a line the names and the network agree again.
-use Rattle.std.proofs.Common.{◌≡◌, ℕ, ◌+◌, ◌≤◌, true, List, [], ◌∷◌, ◌++◌, length, Option, Some, None, Result, Ok, Err, refl, sym, ◌∙◌, ap, subst, arith, length-append}
+use Rattle.std.proofs.Common.{◌≡◌, ℕ, ◌+◌, ◌≤◌, true, List, [], ◌∷◌, length, Some, None, Result, Ok, Err, refl, sym, ◌∙◌, ap, subst, arith, length-append}
 use Rattle.std.proofs.Math.ListN.{length-set}
-use Rattle.std.specs.Prelude.{slice_set}
 use Rattle.osi_bench.specs.declared.event.Event.{Event}
 use Rattle.osi_bench.specs.declared.event.Refused.{Refused}
 use Rattle.osi_bench.specs.declared.line.Line.{Line}

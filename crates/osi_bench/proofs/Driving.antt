@@ -1,5 +1,5 @@
 -- What the pieces of the input and its end come to, joined: by the status, what was written is what was asked for.
-use Rattle.std.proofs.Common.{◌≡◌, ◌≢◌, ◌⊎◌, ℕ, ◌+◌, ◌≤◌, List, [], ◌∷◌, ◌++◌, take, inl, inr, refl, sym, ◌∙◌, ap, subst, append_assoc, arith, Option, Some, None}
+use Rattle.std.proofs.Common.{◌≡◌, ◌≢◌, ◌⊎◌, ℕ, List, [], ◌++◌, take, inl, inr, refl, sym, ◌∙◌, ap, subst, append_assoc, Option}
 use Rattle.std.proofs.lemmas.List.{append-nil}
 use Rattle.osi_base.specs.declared.status.Status.{Status}
 use Rattle.osi_base.specs.declared.status.Status.TheVariants.{Done, RefusedLine, RefusedWords, ReadFault, WriteFault, NoMemory, RefusedCapture, TooMuch}
@@ -8,9 +8,10 @@ use Rattle.osi_bench.specs.declared.event.Event.{Event}
 use Rattle.osi_bench.specs.Meaning.{Meaning, Laws}
 use Rattle.osi_bench.specs.Course.{IsRead, IsWhole, IsTooMuch, IsRefusedAt, IsRefusedAtEnd}
 use Rattle.osi_bench.specs.Feeding.{Held, Fed, Feeds, Stops}
-use Rattle.osi_bench.specs.Writing.{IsPrefix, IsBroken, IsWritten}
-use Rattle.osi_bench.specs.Outcome.{Asks, IsCut, Outcome, done_line, refused_line, too_much_line}
-use Rattle.osi_bench.specs.Driving.{GoesOn, Passes, Closes}
+use Rattle.osi_bench.specs.Writing.{IsPrefix, IsWritten}
+use Rattle.osi_bench.specs.Outcome.{Asks, IsCut, Outcome}
+use Rattle.osi_bench.specs.Text.{done_line, refused_line, toomuch_line}
+use Rattle.osi_bench.specs.Driving.{Passes, Closes}
 use Rattle.osi_bench.proofs.Reading.{read_none}
 use Rattle.osi_bench.proofs.Written.{took_none, took_on, put_none, put_on}
 
@@ -167,10 +168,10 @@ module _ {M : Type 0} (meaning : Meaning M) where
         passes_stop (λ first read journal last. IsRefusedAt meaning first read line journal last) (refused_line line) RefusedLine (λ is. absurd (cc)) (λ P first read text a. a)
         (λ P first read journal last r. (line, journal, last, inl r, refl)) octets old new out before after status s w
 
-    pub passes_too_much : (octets : List ℕ) (old new : Held M) (out : List ℕ) (before after : K) (status : Status) → Stops meaning (IsTooMuch meaning) octets old [] out → IsWritten held before (out ++ too_much_line) TooMuch after status
+    pub passes_too_much : (octets : List ℕ) (old new : Held M) (out : List ℕ) (before after : K) (status : Status) → Stops meaning (IsTooMuch meaning) octets old [] out → IsWritten held before (out ++ toomuch_line) TooMuch after status
         → Passes meaning held octets old before new after status
     passes_too_much octets old new out before after status s w =
-        passes_stop (IsTooMuch meaning) too_much_line TooMuch (λ is. absurd (cc)) (λ P first read text a. a) (λ P first read journal last r. (journal, last, r, refl)) octets old new out before after status s w
+        passes_stop (IsTooMuch meaning) toomuch_line TooMuch (λ is. absurd (cc)) (λ P first read text a. a) (λ P first read journal last r. (journal, last, r, refl)) octets old new out before after status s w
 
     -- the input ended, and its transcript was closed
     closes_stop : (S : M → List ℕ → List Event → M → Type 0) (closing : List ℕ) (end : Status) → end ≢ ReadFault
@@ -235,7 +236,7 @@ module _ {M : Type 0} (meaning : Meaning M) where
         (subst (λ (n : ℕ). IsWritten held before (out ++ refused_line n) RefusedLine after status) is w)
 
     pub piece_too_much : (octets : List ℕ) (old new : Held M) (start out : List ℕ) (before after : K) (status : Status) → start ≡ []
-        → Stops meaning (IsTooMuch meaning) octets old start out → IsWritten held before (out ++ too_much_line) TooMuch after status
+        → Stops meaning (IsTooMuch meaning) octets old start out → IsWritten held before (out ++ toomuch_line) TooMuch after status
         → Passes meaning held octets old before new after status
     piece_too_much octets old new start out before after status none s w =
         passes_too_much octets old new out before after status (subst (λ (x : List ℕ). Stops meaning (IsTooMuch meaning) octets old x out) none s) w

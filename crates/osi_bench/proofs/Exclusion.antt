@@ -1,18 +1,20 @@
 -- What octets come to is one. A front of octets that were read was read too; so the octet at which a run stops is the
 -- first that can stop it, and two stops of the same octets are at the same place. The state there is one, as a line has
 -- one course.
-use Rattle.std.proofs.Common.{◌≡◌, ◌≢◌, ◌⊎◌, ℕ, ◌+◌, ◌<◌, ◌≤◌, List, [], ◌∷◌, ◌++◌, length, map, inl, inr, refl, sym, ◌∙◌, ap, subst, append_assoc, arith, Option, Some, None}
+use Rattle.std.proofs.Common.{◌≡◌, ◌≢◌, ◌⊎◌, ℕ, ◌+◌, ◌≤◌, List, [], ◌∷◌, ◌++◌, length, map, inl, inr, refl, sym, ◌∙◌, ap, subst, append_assoc, arith, Option, Some}
 use Rattle.std.specs.List.{AllByRecursion}
-use Rattle.std.proofs.lemmas.List.{append-nil, append_cancel_left, map-append, length-append, length_push}
+use Rattle.std.proofs.lemmas.List.{append-nil, map-append, length-append, length_push}
 use Rattle.osi_base.specs.declared.status.Status.{Status}
 use Rattle.osi_base.specs.declared.status.Status.TheVariants.{Done, RefusedLine, RefusedWords, ReadFault, WriteFault, NoMemory, RefusedCapture, TooMuch}
 use Rattle.osi_bench.specs.declared.event.Event.{Event}
-use Rattle.osi_bench.specs.Script.{most_lines, most_in_line, most_octets, whole_lines, open_line, last_line, without_return, HasNoFeed, Fits}
+use Rattle.osi_bench.specs.Script.{most_in_line, whole_lines, open_line, last_line, without_return}
+use Rattle.osi_bench.specs.Joined.{HasNoFeed}
 use Rattle.osi_bench.specs.Meaning.{Meaning, Laws}
 use Rattle.osi_bench.specs.Course.{Runs, IsRead, IsWhole, IsFull, IsTooMuch, IsRefusal, IsRefusedAt, IsRefusedAtEnd}
-use Rattle.osi_bench.specs.Outcome.{Asks, IsCut, Outcome, done_line, refused_line, too_much_line}
-use Rattle.osi_bench.specs.Exact.{IsFailure, AsksOne, OneOutcome}
-use Rattle.osi_bench.proofs.Lines.{feed_or_other, whole_feed, open_feed, whole_part, open_part}
+use Rattle.osi_bench.specs.Outcome.{Asks, Outcome}
+use Rattle.osi_bench.specs.Text.{done_line, refused_line, toomuch_line}
+use Rattle.osi_bench.specs.Exact.{OneCourse, IsFailure, AsksOne, OneOutcome}
+use Rattle.osi_bench.proofs.Lines.{feed_or_other, whole_feed, whole_part, open_part}
 use Rattle.osi_base.specs.Ends.{HasRisen, Took, Put, IsAtEnd}
 use Rattle.osi_bench.proofs.Driving.{Ran}
 use Rattle.osi_bench.proofs.Reading.{all_front, last_line-le, runs_split, one_step_of, refused_more, too_much_more}
@@ -204,6 +206,21 @@ module _ {M : Type 0} (meaning : Meaning M) (laws : Laws meaning) where
   one_refused_at_end first read line journal last next other state h k =
       let run = one_read first read journal other last state h.so_far k.so_far in (h.number ∙ sym k.number, run.0, run.1)
 
+  pub one_course : OneCourse meaning
+  one_course = record {
+    read = one_read;
+    whole = one_whole;
+    refused = one_refused;
+    refused_at_end = one_refused_at_end;
+    too_much = one_too_much;
+    read_not_refused = read_refused;
+    read_not_too_much = read_too_much;
+    refused_not_too_much = refused_too_much;
+    whole_not_refused = whole_refused;
+    whole_not_refused_at_end = whole_refused_at_end;
+    whole_not_too_much = whole_too_much;
+  }
+
   -- one transcript for an input
   abbrev IsRefusedSomewhere : M → List ℕ → ℕ → List Event → M → Type 0
   IsRefusedSomewhere first all line journal last = IsRefusedAt meaning first all line journal last ⊎ (Unit {0} × IsRefusedAtEnd meaning first all line journal last)
@@ -239,7 +256,7 @@ module _ {M : Type 0} (meaning : Meaning M) (laws : Laws meaning) where
   asks_one first all text other TooMuch Done never nor h k = absurd (whole_too_much first all k.0 k.1 h.0 h.1 k.3 h.2)
   asks_one first all text other TooMuch RefusedLine never nor h k = absurd (somewhere_too_much first all k.0 k.1 k.2 h.0 h.1 k.3 h.2)
   asks_one first all text other TooMuch TooMuch never nor h k =
-      let same = one_too_much first all h.0 h.1 k.0 k.1 h.2 k.2 in (refl, h.3 ∙ told_alike h.0 k.0 h.1 k.1 too_much_line same.0 same.1 ∙ sym k.3)
+      let same = one_too_much first all h.0 h.1 k.0 k.1 h.2 k.2 in (refl, h.3 ∙ told_alike h.0 k.0 h.1 k.1 toomuch_line same.0 same.1 ∙ sym k.3)
   asks_one first all text other ReadFault next never nor h k = absurd (never refl)
   asks_one first all text other status ReadFault never nor h k = absurd (nor refl)
   asks_one first all text other WriteFault next never nor h k = absurd h

@@ -4,13 +4,13 @@ use Rattle.std.specs.Prelude.{Result, Ok, Err, OnOk}
 use Rattle.std.proofs.Common.{◌≡◌, ◌≢◌, ◌⊎◌, ◌==◌, true, false, ℕ, ◌+◌, ◌-◌, ◌<◌, ◌≤◌, List, [], ◌∷◌, ◌++◌, length, map, take, drop, get_or, inl, inr, refl, sym, ◌∙◌, ap, subst, append_assoc, arith}
 use Rattle.std.proofs.lemmas.List.{append-nil, length-append, length-take-le, take-append-drop, drop_more}
 use Rattle.osi_bench.specs.declared.event.Event.{Event}
-use Rattle.osi_bench.specs.Script.{most_lines, most_in_line, most_octets, whole_lines, open_line, last_line, without_return, HasNoFeed}
+use Rattle.osi_bench.specs.Script.{most_lines, most_in_line, most_octets, whole_lines, open_line, last_line, without_return}
 use Rattle.osi_bench.specs.Meaning.{Meaning, Laws}
-use Rattle.osi_bench.specs.Course.{Runs, IsRead, IsWhole, IsTooMuch, IsRefusedAt, IsRefusedAtEnd}
+use Rattle.osi_bench.specs.Course.{Runs, IsWhole, IsTooMuch, IsRefusedAt, IsRefusedAtEnd}
 use Rattle.osi_bench.specs.Feeding.{Held, Fed, Feeds, Stops}
-use Rattle.osi_bench.specs.Joined.{RunsJoined}
+use Rattle.osi_bench.specs.Joined.{HasNoFeed, RunsJoined}
 use Rattle.osi_bench.proofs.Lines.{whole_feed, open_feed, whole_part, open_part}
-use Rattle.osi_bench.proofs.Reading.{runs_on, runs_one, read_part, read_line, read_none, refused_more, too_much_more, refused_line_here, refused_long_here, too_much_here}
+use Rattle.osi_bench.proofs.Reading.{runs_on, runs_one, read_part, read_line, refused_more, too_much_more, refused_line_here, refused_long_here, too_much_here}
 
 pub on_ok : {T E : Type 0} {P Q : Type 0} (result : Result T E) → (P → Q) → OnOk result P → OnOk result Q
 on_ok (Ok value) f h = f h

@@ -14,6 +14,5 @@ pub mod Reading
 pub mod Returns
 pub mod ScriptRuns
 pub mod Standing
-pub mod Texts
 pub mod Worlds
 pub mod Written

@@ -1,10 +1,10 @@
 -- How the whole lines and the open line go on with more octets: a line feed ends the open line, and octets without
 -- one lengthen it. By induction over the octets before.
 use Rattle.std.proofs.Common.{◌≡◌, ◌≢◌, ◌⊎◌, ℕ, Bool, List, [], ◌∷◌, ◌++◌, inl, inr, refl, sym, ◌∙◌, ap, subst, if◌then◌else◌}
-use Rattle.std.proofs.lemmas.List.{append-nil}
 use Rattle.std.proofs.lemmas.Bool.{ne_eqb}
 use Rattle.std.proofs.lemmas.Bool.Decides.{eqb_tells}
-use Rattle.osi_bench.specs.Script.{whole_lines, open_line, joins_first, joins_open, HasNoFeed}
+use Rattle.osi_bench.specs.Script.{whole_lines, open_line, joins_first, joins_open}
+use Rattle.osi_bench.specs.Joined.{HasNoFeed}
 
 pub feed_or_other : (octet : ℕ) → (octet ≡ 10) ⊎ (octet ≢ 10)
 feed_or_other octet = elim (eqb_tells octet 10) [ inl is ↦ inl is.1 | inr other ↦ inr other.1 ]

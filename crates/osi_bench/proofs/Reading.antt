@@ -1,11 +1,12 @@
 -- What was read goes on with octets of a line, with the end of a line, or stops. The runs of lines compose and split.
-use Rattle.std.proofs.Common.{◌≡◌, ◌≢◌, ◌⊎◌, ℕ, zero, suc, ◌+◌, ◌-◌, ◌<◌, ◌≤◌, List, [], ◌∷◌, ◌++◌, length, take, drop, map, get_or, inl, inr, refl, sym, ◌∙◌, ap, subst, append_assoc, arith}
+use Rattle.std.proofs.Common.{◌≡◌, ◌≢◌, ℕ, zero, suc, ◌+◌, ◌-◌, ◌<◌, ◌≤◌, List, [], ◌∷◌, ◌++◌, length, take, drop, map, get_or, inl, inr, refl, sym, ◌∙◌, ap, subst, append_assoc, arith}
 use Rattle.std.specs.List.{AllByRecursion}
 use Rattle.std.proofs.lemmas.List.{append-nil, map-append, length-append, length-take-le, take-append-drop, drop_more, length_push}
 use Rattle.osi_bench.specs.declared.event.Event.{Event}
-use Rattle.osi_bench.specs.Script.{most_lines, most_in_line, most_octets, whole_lines, open_line, last_line, without_return, HasNoFeed, Fits}
-use Rattle.osi_bench.specs.Meaning.{Meaning, Laws}
-use Rattle.osi_bench.specs.Course.{Runs, IsRead, IsWhole, IsFull, IsTooMuch, IsRefusal, IsRefusedAt, IsRefusedAtEnd}
+use Rattle.osi_bench.specs.Script.{most_lines, most_in_line, most_octets, whole_lines, open_line, last_line, without_return}
+use Rattle.osi_bench.specs.Joined.{HasNoFeed}
+use Rattle.osi_bench.specs.Meaning.{Meaning}
+use Rattle.osi_bench.specs.Course.{Runs, IsRead, IsFull, IsTooMuch, IsRefusedAt}
 use Rattle.osi_bench.proofs.Lines.{whole_feed, open_feed, whole_part, open_part}
 
 pub all_last : {A : Type 0} (P : A → Type 0) (xs : List A) (x : A) → AllByRecursion P xs → P x → AllByRecursion P (xs ++ x ∷ [])

@@ -1,16 +1,14 @@
 -- What ran on the bench is the run of the network for the lines of the script, and so it is lawful.
-use Rattle.std.proofs.Common.{◌≡◌, ◌⊎◌, ℕ, List, [], ◌∷◌, ◌++◌, Some, inl, inr, refl, sym, ◌∙◌, ap, subst}
+use Rattle.std.proofs.Common.{ℕ, List, [], ◌∷◌, inl, inr, refl, ap, subst}
 use Rattle.osi_bench.specs.declared.event.Event.{Event}
 use Rattle.osi_bench.specs.declared.line.Line.{Line}
 use Rattle.osi_bench.specs.Bench.{Bench, RunsLine, first_bench, bench_meaning}
-use Rattle.osi_bench.specs.Course.{Runs, IsRead, IsWhole}
-use Rattle.osi_bench.specs.Grammar.{Declared, nothing_declared, declared_by}
-use Rattle.osi_bench.specs.Known.{no_network}
+use Rattle.osi_bench.specs.Course.{Runs}
+use Rattle.osi_bench.specs.Grammar.{Declared}
 use Rattle.osi_bench.specs.Lawful.{RawLawful, titles_of}
 use Rattle.osi_bench.specs.OneRun.{HeaderLaws}
-use Rattle.osi_bench.specs.Steps.{WorldStep, WorldRuns}
-use Rattle.osi_bench.specs.Top.{Script, WorldRun, IsScriptRun, IsJournal, ShowsSent}
-use Rattle.osi_bench.specs.World.{Network}
+use Rattle.osi_bench.specs.Steps.{WorldRuns}
+use Rattle.osi_bench.specs.Top.{Script, IsScriptRun, ShowsSent}
 use Rattle.osi_bench.proofs.Lawful.{raw_lawful}
 
 -- the lines that the texts say, with what they did

@@ -1,5 +1,5 @@
 -- What a call of the network did is the step of its line.
-use Rattle.std.proofs.Common.{◌≡◌, ℕ, ◌+◌, ◌<◌, List, [], ◌∷◌, ◌++◌, length, get_or, Option, Some, None, Result, Ok, Err, refl, sym, ◌∙◌, ap, subst, arith}
+use Rattle.std.proofs.Common.{◌≡◌, ℕ, ◌+◌, List, [], ◌∷◌, ◌++◌, length, Option, Some, Result, Ok, Err, refl, sym, subst}
 use Rattle.nsap.specs.declared.port.Port.{Port}
 use Rattle.clnp_header.specs.Grammar.{IsPdu}
 use Rattle.osi_bench.specs.declared.event.Event.{Event}
@@ -8,7 +8,7 @@ use Rattle.osi_bench.specs.declared.event.Refused.{Refused}
 use Rattle.osi_bench.specs.declared.lan.Lan.{Lan}
 use Rattle.osi_bench.specs.declared.lan.Frame.{Frame}
 use Rattle.osi_bench.specs.declared.lan.Picked.{Picked}
-use Rattle.osi_bench.specs.declared.lan.Picked.TheVariants.{Taken, NoSuch, Late, NotThere, NotOurs}
+use Rattle.osi_bench.specs.declared.lan.Picked.TheVariants.{Taken}
 use Rattle.osi_bench.specs.World.{Station, Network, raw_address, unit_pdu, bound_of}
 use Rattle.osi_bench.specs.Steps.{Sends, Delivers, Receives}
 

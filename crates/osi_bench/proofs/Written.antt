@@ -1,13 +1,11 @@
 -- One write after another, and a text that is written to its end or to a front of it.
-use Rattle.std.proofs.Common.{◌≡◌, ◌⊎◌, ℕ, ◌+◌, ◌-◌, ◌≤◌, List, [], ◌∷◌, ◌++◌, length, take, drop, inl, inr, refl, sym, ◌∙◌, ap, subst, append_assoc, arith, length-drop, Option, Some, None}
+use Rattle.std.proofs.Common.{◌≡◌, ◌⊎◌, ℕ, ◌+◌, ◌-◌, ◌≤◌, List, [], ◌++◌, length, take, drop, inl, inr, refl, sym, ◌∙◌, ap, subst, append_assoc, arith, length-drop, Option, Some, None}
 use Rattle.std.proofs.lemmas.List.{append-nil, take-append-drop, take_all, take_rest}
 use Rattle.std.proofs.Math.Seq.{take-add}
 use Rattle.osi_base.specs.declared.status.Status.{Status}
-use Rattle.osi_base.specs.declared.status.Status.TheVariants.{Done, WriteFault, NoMemory}
+use Rattle.osi_base.specs.declared.status.Status.TheVariants.{WriteFault, NoMemory}
 use Rattle.osi_base.specs.Ends.{Took, Put}
-use Rattle.std.specs.Prelude.{codes, decimal}
-use Rattle.osi_bench.specs.Outcome.{refused_line}
-use Rattle.osi_bench.specs.Writing.{IsPrefix, IsBroken, IsWritten}
+use Rattle.osi_bench.specs.Writing.{IsWritten}
 
 pub took_none : (o : Option (List ℕ)) → Took o [] o
 took_none None = refl
@@ -63,10 +61,3 @@ pub more_within : (words : List ℕ) (at count : ℕ) → at ≤ length words �
 more_within words at count h k =
     let n : count ≤ length (drop at words) = subst (λ (xs : List ℕ). count ≤ length xs) (take_rest words at) k in
     omega (arith, length-drop at words)
-
--- the closing line of a refusal
-pub refusal_written : {K : Type 0} (held : K → Option (List ℕ)) (line : ℕ) (text shown bytes : List ℕ) (old new : K) (end status : Status) → shown ≡ bytes
-    → bytes ≡ codes "refused " ++ (decimal line ++ (codes " 1 word" ++ 10 ∷ [])) → IsWritten held old (text ++ shown) end new status → IsWritten held old (text ++ refused_line line) end new status
-refusal_written held line text shown bytes old new end status same is w =
-    subst (λ (xs : List ℕ). IsWritten held old (text ++ xs) end new status)
-    (same ∙ is ∙ ap (λ (xs : List ℕ). codes "refused " ++ xs) (sym (append_assoc (decimal line) (codes " 1 word") (10 ∷ [])))) w

@@ -1,5 +1,5 @@
 -- The bench as a machine: what a line of a script does to the names declared and to the network.
-use Rattle.std.specs.Prelude.{◌≡◌, ℕ, ◌+◌, false, List, [], ◌∷◌, Some, None}
+use Rattle.std.specs.Prelude.{◌≡◌, ℕ, ◌+◌, false, List, [], Some, None}
 use Rattle.osi_bench.specs.declared.event.Event.{Event}
 use Rattle.osi_bench.specs.declared.line.Line.{Line}
 use Rattle.osi_bench.specs.Grammar.{Declared, nothing_declared, line_of, declared_by}

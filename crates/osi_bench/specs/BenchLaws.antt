@@ -1,7 +1,6 @@
 -- A line has one course on the bench, and events that were told stay told.
-use Rattle.std.proofs.Common.{◌≡◌, ℕ, ◌+◌, Bool, true, false, List, [], ◌∷◌, ◌++◌, Option, Some, None, refl, sym, ◌∙◌, ap, subst}
+use Rattle.std.proofs.Common.{◌≡◌, ℕ, false, List, [], ◌++◌, Option, Some, None, refl, sym, ◌∙◌, ap, subst}
 use Rattle.std.proofs.lemmas.Bool.{false≢true}
-use Rattle.std.proofs.lemmas.List.{append-nil}
 use Rattle.clnp_header.proofs.Answered.{one_pdu, front_excludes}
 use Rattle.clnp_header.proofs.Spelled.{one_list}
 use Rattle.osi_bench.specs.declared.event.Event.{Event}

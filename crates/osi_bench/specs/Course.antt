@@ -8,7 +8,8 @@ module _ {M : Type 0} (meaning : Meaning M) where
   -- the lines, one after another, have this journal and lead to this state
   abbrev pub Runs : M → List (List ℕ) → List Event → M → Type 0
   Runs first [] journal last = (journal ≡ []) × (last ≡ first)
-  Runs first (line ∷ lines) journal last = (events : List Event) × (middle : M) × (rest : List Event) × meaning.step first line events middle × (journal ≡ events ++ rest) × Runs middle lines rest last
+  Runs first (line ∷ lines) journal last = (events : List Event) × (middle : M) × (rest : List Event)
+      × meaning.step first line events middle × (journal ≡ events ++ rest) × Runs middle lines rest last
 
   -- the octets keep the limits, and their whole lines ran; an open line waits
   pub record IsRead (first : M) (read : List ℕ) (journal : List Event) (last : M) : Type 0 where
@@ -35,7 +36,8 @@ module _ {M : Type 0} (meaning : Meaning M) where
 
   -- a line is refused at its line feed, or at the first octet that is too many for a line
   abbrev pub IsRefusal : M → List ℕ → ℕ → Type 0
-  IsRefusal state line octet = ((octet ≡ 10) × meaning.refuses state (without_return line)) ⊎ ((octet ≢ 10) × (length line ≡ most_in_line))
+  IsRefusal state line octet = ((octet ≡ 10) × meaning.refuses state (without_return line))
+      ⊎ ((octet ≢ 10) × (length line ≡ most_in_line))
 
   -- this line, counted from 1, is refused at an octet, and no octet up to it passes a limit
   pub record IsRefusedAt (first : M) (read : List ℕ) (line : ℕ) (journal : List Event) (last : M) : Type 0 where

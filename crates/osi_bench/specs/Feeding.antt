@@ -3,7 +3,7 @@ use Rattle.std.specs.Prelude.{◌≡◌, ℕ, List, [], ◌++◌, length}
 use Rattle.osi_bench.specs.declared.event.Event.{Event}
 use Rattle.osi_bench.specs.Script.{whole_lines, open_line}
 use Rattle.osi_bench.specs.Meaning.{Meaning}
-use Rattle.osi_bench.specs.Course.{IsRead}
+use Rattle.osi_bench.specs.Course.{IsRead, IsWhole, IsTooMuch, IsRefusedAt, IsRefusedAtEnd}
 
 -- the machine's state, the open line, and how many whole lines and octets were read
 pub record Held (M : Type 0) : Type 0 where
@@ -41,3 +41,19 @@ module _ {M : Type 0} (meaning : Meaning M) where
     pub appended : after ≡ before ++ told
     pub stopped : (first : M) (read : List ℕ) (journal : List Event) → Fed first read journal old
         → Stopped first (read ++ octets) (journal ++ events) last × (meaning.text last (journal ++ events) ≡ meaning.text old.machine journal ++ told)
+
+  -- it stops at this line, which is refused
+  abbrev pub StopsAtLine : ℕ → List ℕ → Held M → List ℕ → List ℕ → Type 0
+  StopsAtLine line octets old before after = Stops (λ first read journal last. IsRefusedAt meaning first read line journal last) octets old before after
+
+  -- it stops at an octet that passes a limit
+  abbrev pub StopsFull : List ℕ → Held M → List ℕ → List ℕ → Type 0
+  StopsFull octets old before after = Stops (IsTooMuch meaning) octets old before after
+
+  -- the input ends, and all its lines ran
+  abbrev pub Ends : Held M → List ℕ → List ℕ → Type 0
+  Ends old before after = Stops (IsWhole meaning) [] old before after
+
+  -- the input ends in this line, which is refused
+  abbrev pub EndsAtLine : ℕ → Held M → List ℕ → List ℕ → Type 0
+  EndsAtLine line old before after = Stops (λ first read journal last. IsRefusedAtEnd meaning first read line journal last) [] old before after

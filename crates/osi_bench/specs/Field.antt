@@ -1,10 +1,9 @@
 -- The fields of a line of the script, and the forms that a field may have.
-use Rattle.std.specs.Prelude.{◌≡◌, ◌==◌, ℕ, ◌-◌, Bool, true, false, not, ◌&&◌, ◌||◌, nat_lt, nat_le, nat_eq, ◌%◌, if◌then◌else◌, List, [], ◌∷◌, length, slice_index, Option, Some, None, option_and_then, Result, Ok, Err, codes}
+use Rattle.std.specs.Prelude.{◌==◌, ℕ, Bool, false, not, ◌&&◌, ◌||◌, nat_lt, nat_le, nat_eq, ◌%◌, if◌then◌else◌, List, [], ◌∷◌, length, slice_index, Option, Some, None, option_and_then, Result, Ok, Err, codes}
 use Rattle.std.specs.List.{list_all, slice_split}
 use Rattle.std.specs.Cmp.Lexicographic.{pointwise}
 use Rattle.std.specs.Str.Parse.{digits_value}
 use Rattle.hex.specs.Hex.{decode_of}
-use Rattle.hex.specs.declared.error.FromHexError.{FromHexError}
 use Rattle.nsap.specs.Address.{selector_of}
 use Rattle.nsap.specs.Text.{address_of_text, snpa_of_text, prefix_of_text}
 use Rattle.nsap.specs.declared.text.NsapFault.{NsapFault}

@@ -1,5 +1,5 @@
 -- The lines that a network knows the systems of.
-use Rattle.std.specs.Prelude.{◌≡◌, ℕ, ◌<◌, ◌≤◌, Bool, true, false, List, [], length}
+use Rattle.std.specs.Prelude.{◌≡◌, ℕ, ◌<◌, Bool, true, false, []}
 use Rattle.osi_bench.specs.declared.line.Line.{Line}
 use Rattle.osi_bench.specs.declared.line.Line.TheVariants as lines
 use Rattle.osi_bench.specs.World.{Network}

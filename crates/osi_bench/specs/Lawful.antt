@@ -1,8 +1,8 @@
 -- What a receiver of raw units may see (X.213, connectionless-mode network service).
-use Rattle.std.specs.Prelude.{◌≡◌, ℕ, ◌+◌, ◌≤◌, List, [], ◌∷◌, ◌++◌, map, slice_get, Option, Some}
+use Rattle.std.specs.Prelude.{◌≡◌, ℕ, ◌+◌, ◌≤◌, List, [], ◌∷◌, ◌++◌, map, slice_get, Some}
 use Rattle.osi_bench.specs.declared.event.Event.{Event}
 use Rattle.osi_bench.specs.declared.event.Event.TheVariants as events
-use Rattle.osi_bench.specs.World.{Station, Network, raw_address, initial_lifetime}
+use Rattle.osi_bench.specs.World.{Network, raw_address, initial_lifetime}
 
 -- the clock after an event
 abbrev pub clock_after : ℕ → Event → ℕ

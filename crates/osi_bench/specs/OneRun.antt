@@ -1,10 +1,10 @@
 -- A line has one step from a network, and so lines have one journal.
-use Rattle.std.proofs.Common.{◌≡◌, ℕ, ◌+◌, ◌/◌, ◌%◌, List, [], ◌∷◌, ◌++◌, length, get_or, take, Option, Some, None, Result, Ok, Err, refl, sym, ◌∙◌, ap, subst, arith, inl, inr}
+use Rattle.std.proofs.Common.{◌≡◌, ℕ, ◌+◌, ◌/◌, ◌%◌, List, [], ◌∷◌, ◌++◌, length, get_or, take, Option, Some, None, Result, Ok, Err, sym, ◌∙◌, ap, subst, arith, inl, inr}
 use Rattle.std.proofs.Math.Seq.{take-append_seam}
 use Rattle.nsap.specs.declared.port.Port.{Port}
 use Rattle.clnp_header.specs.declared.fault.Fault.{Fault}
 use Rattle.clnp_header.specs.declared.pdu.Pdu.{Pdu}
-use Rattle.clnp_header.specs.Grammar.{IsPdu, BeginsWith, header_octets}
+use Rattle.clnp_header.specs.Grammar.{IsPdu, header_octets}
 use Rattle.clnp_header.specs.Faults.{PduFault}
 use Rattle.osi_bench.specs.declared.event.Event.{Event}
 use Rattle.osi_bench.specs.declared.event.Event.TheVariants as events

@@ -1,24 +1,16 @@
 -- What was written, by the octets read and the status.
-use Rattle.std.specs.Prelude.{◌≡◌, ◌⊎◌, ℕ, List, [], ◌∷◌, ◌++◌, codes, decimal}
+use Rattle.std.specs.Prelude.{◌≡◌, ◌⊎◌, ℕ, List, ◌++◌}
 use Rattle.osi_base.specs.declared.status.Status.{Status}
 use Rattle.osi_base.specs.declared.status.Status.TheVariants.{Done, RefusedLine, RefusedWords, ReadFault, WriteFault, NoMemory, RefusedCapture, TooMuch}
 use Rattle.osi_bench.specs.declared.event.Event.{Event}
 use Rattle.osi_bench.specs.Meaning.{Meaning}
 use Rattle.osi_bench.specs.Course.{IsRead, IsWhole, IsTooMuch, IsRefusedAt, IsRefusedAtEnd}
+use Rattle.osi_bench.specs.Text.{done_line, refused_line, toomuch_line}
 use Rattle.osi_bench.specs.Writing.{IsPrefix}
 
--- the closing lines
-abbrev pub done_line : List ℕ
-done_line = codes "done" ++ 10 ∷ []
-
-abbrev pub refused_line : ℕ → List ℕ
-refused_line line = codes "refused " ++ decimal line ++ codes " 1 word" ++ 10 ∷ []
-
-abbrev pub too_much_line : List ℕ
-too_much_line = codes "toomuch" ++ 10 ∷ []
-
 module _ {M : Type 0} (meaning : Meaning M) where
-  -- the transcript that the octets ask for where nothing fails, by how the run ends; `end` is that the input ends after them
+  -- the transcript that the octets ask for, by how the run ends: with ReadFault that of their whole lines alone. `end` says
+  -- that the input ends after them
   abbrev pub Asks : Type 0 → M → List ℕ → List ℕ → Status → Type 0
   Asks end first read text Done = (journal : List Event) × (last : M) × end × IsWhole meaning first read journal last
       × (text ≡ meaning.text last journal ++ done_line)
@@ -26,7 +18,7 @@ module _ {M : Type 0} (meaning : Meaning M) where
       × (IsRefusedAt meaning first read line journal last ⊎ (end × IsRefusedAtEnd meaning first read line journal last))
       × (text ≡ meaning.text last journal ++ refused_line line)
   Asks end first read text TooMuch = (journal : List Event) × (last : M) × IsTooMuch meaning first read journal last
-      × (text ≡ meaning.text last journal ++ too_much_line)
+      × (text ≡ meaning.text last journal ++ toomuch_line)
   Asks end first read text ReadFault = (journal : List Event) × (last : M) × IsRead meaning first read journal last
       × (text ≡ meaning.text last journal)
   Asks end first read text WriteFault = ⊥
@@ -34,7 +26,7 @@ module _ {M : Type 0} (meaning : Meaning M) where
   Asks end first read text RefusedWords = ⊥
   Asks end first read text RefusedCapture = ⊥
 
-  -- a front of the transcript that a front of the octets asks for
+  -- a front of the transcript that a front of the octets asks for; the input ends there only where it is all of them
   pub record IsCut (end : Type 0) (first : M) (read written : List ℕ) : Type 0 where
     pub front : List ℕ
     pub text : List ℕ

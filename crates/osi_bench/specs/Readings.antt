@@ -1,15 +1,13 @@
 -- A line of the set-up stands before `start`, and an event line after it.
-use Rattle.std.proofs.Common.{◌≡◌, ℕ, ◌≤◌, Bool, true, false, List, [], ◌∷◌, Option, Some, None, refl, sym, ◌∙◌, subst, arith}
-use Rattle.std.specs.Prelude.{◌&&◌, ◌==◌, nat_le, if◌then◌else◌, length, codes}
+use Rattle.std.proofs.Common.{◌≡◌, ℕ, Bool, true, false, List, [], ◌∷◌, Option, Some, None, refl, subst}
+use Rattle.std.specs.Prelude.{if◌then◌else◌}
 use Rattle.std.specs.List.{list_all}
 use Rattle.std.specs.Option.{option_and_then}
-use Rattle.std.proofs.lemmas.Bool.{leb-true}
-use Rattle.std.proofs.lemmas.Option.{option_and_then_some}
 use Rattle.osi_bench.specs.declared.line.Line.{Line}
 use Rattle.osi_bench.specs.declared.line.Line.TheVariants as lines
-use Rattle.osi_bench.specs.Field.{fields_of, is_word, is_printable, is_name, number_of, number_within, title_of, station_of, prefix_of, octets_of}
+use Rattle.osi_bench.specs.Field.{fields_of, is_printable, number_of, number_within, title_of, station_of, prefix_of, octets_of}
 use Rattle.osi_bench.specs.Known.{IsPlaced}
-use Rattle.osi_bench.specs.Grammar.{Declared, lan_of, system_of, may_join, may_attach, may_reach, lan_line, es_line, port_line, route_line, unit_line, deliver_line, bare_line, before_start, after_start, worded_line, split_line, is_idle, text_line, line_of}
+use Rattle.osi_bench.specs.Grammar.{Declared, lan_of, system_of, lan_line, es_line, port_line, route_line, unit_line, deliver_line, bare_line, worded_line, split_line, is_idle, text_line, line_of}
 
 -- the line, if there is one, stands where it may
 record Places (started : Bool) (found : Option Line) : Type 0 where

@@ -1,5 +1,5 @@
 -- A script as octets: its lines, and the limits of an input.
-use Rattle.std.specs.Prelude.{◌==◌, ◌≡◌, ◌≢◌, ℕ, ◌+◌, ◌<◌, ◌≤◌, List, [], ◌∷◌, ◌++◌, length, take, drop, if◌then◌else◌}
+use Rattle.std.specs.Prelude.{◌==◌, ℕ, ◌+◌, ◌≤◌, List, [], ◌∷◌, length, if◌then◌else◌}
 use Rattle.std.specs.List.{AllByRecursion}
 
 -- the most lines of an input
@@ -51,7 +51,3 @@ pub record Fits (octets : List ℕ) : Type 0 where
   pub lines : length (whole_lines octets) + length (last_line (open_line octets)) ≤ most_lines
   pub each : AllByRecursion (λ line. length line ≤ most_in_line) (whole_lines octets)
   pub last : length (open_line octets) ≤ most_in_line
-
--- no octet is a line feed
-abbrev pub HasNoFeed : List ℕ → Type 0
-HasNoFeed octets = AllByRecursion (λ octet. octet ≢ 10) octets

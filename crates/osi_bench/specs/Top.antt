@@ -1,11 +1,11 @@
 -- The words of the program, and what the lines that it ran come to.
-use Rattle.std.specs.Prelude.{◌≡◌, ◌⊎◌, ℕ, Bool, true, false, List, [], ◌∷◌, Some, codes}
+use Rattle.std.specs.Prelude.{◌≡◌, ◌⊎◌, ℕ, Bool, false, List, [], ◌∷◌, Some, codes}
 use Rattle.std.specs.Str.{bytes_eq}
 use Rattle.osi_bench.specs.declared.event.Event.{Event}
 use Rattle.osi_bench.specs.declared.line.Line.{Line}
 use Rattle.osi_bench.specs.declared.lan.Frame.{Frame}
 use Rattle.osi_bench.specs.Bench.{Bench, first_bench, bench_meaning}
-use Rattle.osi_bench.specs.Course.{IsRead, IsWhole, Runs}
+use Rattle.osi_bench.specs.Course.{IsRead, IsWhole}
 use Rattle.osi_bench.specs.Grammar.{Declared, nothing_declared, line_of, declared_by}
 use Rattle.osi_bench.specs.Known.{no_network}
 use Rattle.osi_bench.specs.Lawful.{RawLawful, titles_of}

@@ -4,6 +4,7 @@ use Rattle.osi_base.specs.declared.status.Status.{Status}
 use Rattle.osi_base.specs.declared.status.Status.TheVariants.{WriteFault, NoMemory}
 use Rattle.osi_base.specs.Ends.{Put}
 
+-- the first list begins the second
 abbrev pub IsPrefix : List ℕ → List ℕ → Type 0
 IsPrefix xs ys = (rest : List ℕ) × (xs ++ rest ≡ ys)
 

@@ -1,9 +1,9 @@
 //! Lines out of pieces of any size. Each line is run when it has come whole.
 
-ghost use Rattle.std.specs.Prelude.{◌≡◌, ◌++◌, ◌+◌, ◌<◌, ◌≤◌, ◌∷◌, [], List, length, drop, IfSome, IfNone, OnOk, IsErrOf};
+ghost use Rattle.std.specs.Prelude.{◌≡◌, ◌++◌, ◌+◌, ◌<◌, ◌≤◌, ◌∷◌, [], ℕ, List, length, drop, IfSome, IfNone, OnOk, IsErrOf};
 ghost use Rattle.osi_bench.specs.declared.event.Event.{Event};
-ghost use Rattle.osi_bench.specs.Script.{HasNoFeed, most_lines, most_in_line, most_octets, without_return};
-ghost use Rattle.osi_bench.specs.Joined.{RunsJoined};
+ghost use Rattle.osi_bench.specs.Script.{most_lines, most_in_line, most_octets, without_return};
+ghost use Rattle.osi_bench.specs.Joined.{HasNoFeed, RunsJoined};
 
 use crate::machine::{LineRefusal, Machine};
 use std::alloc::Global;
@@ -50,8 +50,7 @@ impl<M: Machine> Model for Feed<M> {
 }
 
 impl<M: Machine> Feed<M> {
-    ghost use Rattle.osi_bench.specs.Course.{IsWhole, IsTooMuch, IsRefusedAt, IsRefusedAtEnd};
-    ghost use Rattle.osi_bench.specs.Feeding.{IsCounted, Feeds, Stops};
+    ghost use Rattle.osi_bench.specs.Feeding.{IsCounted, Feeds, StopsAtLine, StopsFull, Ends, EndsAtLine};
 
     /// Nothing was read yet. The machine ran no line yet.
     pub fn new(alloc: Global, machine: M) -> Feed<M>
@@ -77,10 +76,8 @@ impl<M: Machine> Feed<M> {
     pub fn feed(&mut self, octets: &[u8], out: &mut Vec<u8>) -> Result<(), FeedError>
         requires { IsCounted M.meaning self.old }
         ensures ok { OnOk result (Feeds M.meaning octets.now self.old out.old.items self.new out.new.items) }
-        ensures refused { IsErrOf result FeedError.Refused
-            → Stops M.meaning (λ first read journal last. IsRefusedAt M.meaning first read (self.new.lines + 1) journal last) octets.now self.old out.old.items out.new.items }
-        ensures too_much { IsErrOf result FeedError.TooMuch
-            → Stops M.meaning (IsTooMuch M.meaning) octets.now self.old out.old.items out.new.items }
+        ensures refused { IsErrOf result FeedError.Refused → StopsAtLine M.meaning (self.new.lines + 1) octets.now self.old out.old.items out.new.items }
+        ensures too_much { IsErrOf result FeedError.TooMuch → StopsFull M.meaning octets.now self.old out.old.items out.new.items }
         ensures counted { OnOk result (IsCounted M.meaning self.new) }
         ensures octets { OnOk result (self.new.octets ≡ self.old.octets + length octets.now) }
     {
@@ -99,10 +96,8 @@ impl<M: Machine> Feed<M> {
         requires counted { IsCounted M.meaning self.old }
         requires room { self.old.octets + length octets.now ≤ most_octets }
         ensures ok { OnOk result (Feeds M.meaning octets.now self.old out.old.items self.new out.new.items) }
-        ensures refused { IsErrOf result FeedError.Refused
-            → Stops M.meaning (λ first read journal last. IsRefusedAt M.meaning first read (self.new.lines + 1) journal last) octets.now self.old out.old.items out.new.items }
-        ensures too_much { IsErrOf result FeedError.TooMuch
-            → Stops M.meaning (IsTooMuch M.meaning) octets.now self.old out.old.items out.new.items }
+        ensures refused { IsErrOf result FeedError.Refused → StopsAtLine M.meaning (self.new.lines + 1) octets.now self.old out.old.items out.new.items }
+        ensures too_much { IsErrOf result FeedError.TooMuch → StopsFull M.meaning octets.now self.old out.old.items out.new.items }
         ensures counted { OnOk result (IsCounted M.meaning self.new) }
         ensures octets { OnOk result (self.new.octets ≡ self.old.octets + length octets.now) }
     {
@@ -113,7 +108,7 @@ impl<M: Machine> Feed<M> {
             }
             rest = after;
         }
-        self.hold(rest, out)
+        self.hold(rest)
     }
 
     /// Takes the rest of the open line and its line feed, and runs the line.
@@ -122,10 +117,8 @@ impl<M: Machine> Feed<M> {
         requires no_feed { HasNoFeed part.now }
         requires room { self.old.octets + length part.now < most_octets }
         ensures ok { OnOk result (Feeds M.meaning (part.now ++ 10 ∷ []) self.old out.old.items self.new out.new.items) }
-        ensures refused { IsErrOf result FeedError.Refused
-            → Stops M.meaning (λ first read journal last. IsRefusedAt M.meaning first read (self.new.lines + 1) journal last) (part.now ++ 10 ∷ []) self.old out.old.items out.new.items }
-        ensures too_much { IsErrOf result FeedError.TooMuch
-            → Stops M.meaning (IsTooMuch M.meaning) (part.now ++ 10 ∷ []) self.old out.old.items out.new.items }
+        ensures refused { IsErrOf result FeedError.Refused → StopsAtLine M.meaning (self.new.lines + 1) (part.now ++ 10 ∷ []) self.old out.old.items out.new.items }
+        ensures too_much { IsErrOf result FeedError.TooMuch → StopsFull M.meaning (part.now ++ 10 ∷ []) self.old out.old.items out.new.items }
         ensures counted { OnOk result (IsCounted M.meaning self.new) }
         ensures octets { OnOk result (self.new.octets ≡ self.old.octets + length part.now + 1) }
     {
@@ -143,16 +136,14 @@ impl<M: Machine> Feed<M> {
         Ok(())
     }
 
-    /// Takes octets of the open line, whose line feed is still to come.
-    fn hold(&mut self, part: &[u8], out: &mut Vec<u8>) -> Result<(), FeedError>
+    /// Takes octets of the open line, whose line feed is still to come. Nothing is told of them.
+    fn hold(&mut self, part: &[u8]) -> Result<(), FeedError>
         requires counted { IsCounted M.meaning self.old }
         requires no_feed { HasNoFeed part.now }
         requires room { self.old.octets + length part.now ≤ most_octets }
-        ensures ok { OnOk result (Feeds M.meaning part.now self.old out.old.items self.new out.new.items) }
-        ensures refused { IsErrOf result FeedError.Refused
-            → Stops M.meaning (λ first read journal last. IsRefusedAt M.meaning first read (self.new.lines + 1) journal last) part.now self.old out.old.items out.new.items }
-        ensures too_much { IsErrOf result FeedError.TooMuch
-            → Stops M.meaning (IsTooMuch M.meaning) part.now self.old out.old.items out.new.items }
+        ensures ok { OnOk result ((out : List ℕ) → Feeds M.meaning part.now self.old out self.new out) }
+        ensures refused { IsErrOf result FeedError.Refused → (out : List ℕ) → StopsAtLine M.meaning (self.new.lines + 1) part.now self.old out out }
+        ensures too_much { IsErrOf result FeedError.TooMuch → (out : List ℕ) → StopsFull M.meaning part.now self.old out out }
         ensures counted { OnOk result (IsCounted M.meaning self.new) }
         ensures octets { OnOk result (self.new.octets ≡ self.old.octets + length part.now) }
     {
@@ -187,9 +178,8 @@ impl<M: Machine> Feed<M> {
     /// The input ends. An open line is run as it stands.
     pub fn finish(&mut self, out: &mut Vec<u8>) -> Result<(), LineRefusal>
         requires { IsCounted M.meaning self.old }
-        ensures ok { OnOk result (Stops M.meaning (IsWhole M.meaning) [] self.old out.old.items out.new.items) }
-        ensures refused { IsErrOf result LineRefusal.Refused
-            → Stops M.meaning (λ first read journal last. IsRefusedAtEnd M.meaning first read (self.new.lines + 1) journal last) [] self.old out.old.items out.new.items }
+        ensures ok { OnOk result (Ends M.meaning self.old out.old.items out.new.items) }
+        ensures refused { IsErrOf result LineRefusal.Refused → EndsAtLine M.meaning (self.new.lines + 1) self.old out.old.items out.new.items }
     {
         if self.held.as_slice().is_empty() {
             return Ok(());

@@ -3,6 +3,7 @@
 ghost use Rattle.std.specs.Prelude.{◌≡◌, List, ℕ};
 ghost use Rattle.osi_bench.specs.Bench.{Bench, first_bench, bench_meaning};
 ghost use Rattle.osi_bench.specs.Course.{Runs};
+ghost use Rattle.osi_bench.specs.Exact.{OneCourse, AsksOne};
 ghost use Rattle.osi_bench.specs.Top.{IsScriptRun};
 ghost use Rattle.osi_bench.specs.declared.event.Event.{Event};
 ghost use Rattle.osi_bench.specs.declared.line.Line.{Line};
@@ -36,3 +37,14 @@ pub fn raw_units_are_lawful()
 pub fn script_runs()
     ensures { (texts : List (List ℕ)) (journal : List Event) (last : Bench) → Runs bench_meaning first_bench texts journal last → IsScriptRun texts journal last }
 {}
+
+/// A script asks for one status and one transcript; and its octets were read, or refused at one line,
+/// or pass a limit, and never two of these.
+pub fn one_outcome()
+    ensures course { OneCourse bench_meaning }
+    ensures asks { AsksOne bench_meaning }
+{
+    clnp_header::one_value();
+    clnp_header::one_spelling();
+    clnp_header::no_fault();
+}

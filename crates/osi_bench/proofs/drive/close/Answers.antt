@@ -1,11 +1,14 @@
-use Rattle.std.proofs.Common.{◌+◌, ap, Err}
+use Rattle.std.proofs.Common.{◌+◌, ◌++◌, ℕ, List, ap, subst, Err}
+use Rattle.osi_base.specs.declared.status.Status.TheVariants as status
+use Rattle.osi_bench.specs.Writing.{IsWritten}
 use Rattle.osi_bench.proofs.Driving.{end_run, end_refused, closes_memory}
 use Rattle.osi_bench.proofs.drive.close.Goals as goal
 
 pub returns-in-Ok-clause-closes : goal.returns-in-Ok-clause-closes
 returns-in-Ok-clause-closes g c =
     end_run g.M.Machine.meaning g.K.Sink.held c.args.feed.now c.new-out.result.items c.finish.new.out.items c.args.sink.now c.write_closed.new.sink c.write_closed.result
-    c.new-out.ensures.items c.in-Ok.ensures.ok c.write_closed.ensures.written
+    c.new-out.ensures.items c.in-Ok.ensures.ok
+    (subst (λ (line : List ℕ). IsWritten g.K.Sink.held c.args.sink.now (c.finish.new.out.items ++ line) status.Done c.write_closed.new.sink c.write_closed.result) c.done.ensures c.write_closed.ensures.written)
 
 pub returns-in-Err-Refused-clause-closes : goal.returns-in-Err-Refused-clause-closes
 returns-in-Err-Refused-clause-closes g c =

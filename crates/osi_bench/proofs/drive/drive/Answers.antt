@@ -1,6 +1,5 @@
-use Rattle.std.proofs.Common.{rules, ◌≡◌, ℕ, ◌<◌, ◌≤◌, arith, refl, sym, ap, subst, length, take}
-use Rattle.osi_base.specs.declared.status.Status.TheVariants.{Done}
-use Rattle.osi_bench.proofs.Driving.{run_starts, run_on, run_passed, passed_never_read, run_closed, closed_never_read, run_stopped}
+use Rattle.std.proofs.Common.{rules, ◌<◌, arith, refl, length, take}
+use Rattle.osi_bench.proofs.Driving.{run_on, run_passed, passed_never_read, run_closed}
 use Rattle.osi_bench.proofs.Exclusion.{ran_exact}
 use Rattle.osi_bench.proofs.drive.drive.Goals as goal
 

@@ -1,4 +1,3 @@
-use Rattle.std.proofs.Common.{rules}
 use Rattle.osi_bench.proofs.Returns.{drops_return, keeps_line}
 use Rattle.osi_bench.proofs.feed.without_return.Goals as goal
 

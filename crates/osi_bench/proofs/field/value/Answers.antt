@@ -1,6 +1,6 @@
 use Rattle.std.proofs.Common.{arith, rules}
 use Rattle.std.proofs.lemmas.Grind.{common_steps}
-use Rattle.osi_bench.proofs.Digits.{value_more, value_fits, digit_there}
+use Rattle.osi_bench.proofs.Digits.{value_more, value_fits}
 use Rattle.osi_bench.proofs.field.value.Goals as goal
 
 pub overflow_mul-number : goal.overflow_mul-number

@@ -1,6 +1,6 @@
-use Rattle.std.proofs.Common.{◌≡◌, ◌+◌, ◌≤◌, length, arith, inl, inr, refl}
+use Rattle.std.proofs.Common.{arith, inl, inr, refl}
 use Rattle.osi_base.specs.declared.status.Status.TheVariants.{Done, WriteFault, NoMemory}
-use Rattle.osi_bench.proofs.Written.{more_written, broken, nothing_taken, all_written, more_within}
+use Rattle.osi_bench.proofs.Written.{more_written, broken, nothing_taken, more_within}
 use Rattle.osi_bench.proofs.writing.write_all.Goals as goal
 
 pub returns-in-Err-Failed-clause-written : goal.returns-in-Err-Failed-clause-written

@@ -1,5 +1,5 @@
 use Rattle.std.proofs.Common.{◌≡◌, ◌∙◌, ◌+◌, ℕ, List, Some, subst, refl, ap}
-use Rattle.osi_bench.specs.Grammar.{Declared, line_of, declared_by}
+use Rattle.osi_bench.specs.Grammar.{line_of, declared_by}
 use Rattle.osi_bench.specs.Bench.{Bench, RunsLine}
 use Rattle.osi_bench.proofs.Agreement.{line_meaning}
 use Rattle.osi_bench.proofs.bench.Bench.run.Goals as goal

@@ -1,4 +1,4 @@
-use Rattle.std.proofs.Common.{◌≡◌, ◌+◌, ◌∷◌, [], ◌++◌, length, refl, arith, length-append}
+use Rattle.std.proofs.Common.{◌+◌, refl}
 use Rattle.osi_bench.proofs.Feeding.{on_ok, within_start, within_line, within_end, within_refused, within_too_much, line_refused, line_too_much, count_left}
 use Rattle.osi_bench.proofs.feed.Feed.feed_within.Goals as goal
 
@@ -31,12 +31,15 @@ loop-part-preserved g c = record {
 
 pub returns-clause-ok : goal.returns-clause-ok
 returns-clause-ok g c =
-    on_ok c.hold.result (within_end g.M.Machine.meaning c.args.octets.now c.loop-part.rest.now c.args.self.now c.args.out.now.items c.loop-part.self c.loop-part.out.items c.hold.new.self c.hold.new.out.items c.loop-part.invariant.so_far) c.hold.ensures.ok
+    on_ok c.hold.result (λ f. within_end g.M.Machine.meaning c.args.octets.now c.loop-part.rest.now c.args.self.now c.args.out.now.items c.loop-part.self c.loop-part.out.items c.hold.new.self c.loop-part.out.items
+    c.loop-part.invariant.so_far (f c.loop-part.out.items)) c.hold.ensures.ok
 
 pub returns-clause-refused : goal.returns-clause-refused
 returns-clause-refused g c is =
-    within_refused g.M.Machine.meaning (c.hold.new.self.lines + 1) c.args.octets.now c.loop-part.rest.now c.args.self.now c.args.out.now.items c.loop-part.self c.loop-part.out.items c.hold.new.out.items c.loop-part.invariant.so_far (c.hold.ensures.refused is)
+    within_refused g.M.Machine.meaning (c.hold.new.self.lines + 1) c.args.octets.now c.loop-part.rest.now c.args.self.now c.args.out.now.items c.loop-part.self c.loop-part.out.items c.loop-part.out.items
+    c.loop-part.invariant.so_far (c.hold.ensures.refused is c.loop-part.out.items)
 
 pub returns-clause-too_much : goal.returns-clause-too_much
 returns-clause-too_much g c is =
-    within_too_much g.M.Machine.meaning c.args.octets.now c.loop-part.rest.now c.args.self.now c.args.out.now.items c.loop-part.self c.loop-part.out.items c.hold.new.out.items c.loop-part.invariant.so_far (c.hold.ensures.too_much is)
+    within_too_much g.M.Machine.meaning c.args.octets.now c.loop-part.rest.now c.args.self.now c.args.out.now.items c.loop-part.self c.loop-part.out.items c.loop-part.out.items
+    c.loop-part.invariant.so_far (c.hold.ensures.too_much is c.loop-part.out.items)

@@ -1,6 +1,6 @@
-use Rattle.std.proofs.Common.{◌≡◌, ◌+◌, ◌≤◌, ◌++◌, ℕ, List, length}
+use Rattle.std.proofs.Common.{◌≡◌, ◌+◌, ◌≤◌, length}
 use Rattle.osi_bench.specs.Script.{most_octets}
-use Rattle.osi_bench.specs.Feeding.{IsCounted, Feeds}
+use Rattle.osi_bench.specs.Feeding.{IsCounted}
 use Rattle.osi_bench.proofs.Feeding.{Within}
 use Rattle.osi_bench.proofs.feed.Feed.feed_within.Given as goal
 

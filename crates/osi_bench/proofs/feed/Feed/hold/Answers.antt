@@ -3,17 +3,17 @@ use Rattle.osi_bench.proofs.Feeding.{none_held, part_held, part_full, stops_long
 use Rattle.osi_bench.proofs.feed.Feed.hold.Goals as goal
 
 pub returns-then-is_empty-clause-ok : goal.returns-then-is_empty-clause-ok
-returns-then-is_empty-clause-ok g c = none_held g.M.Machine.meaning c.args.part.now c.args.self.now c.args.out.now.items c.if-is_empty.ensures
+returns-then-is_empty-clause-ok g c out = none_held g.M.Machine.meaning c.args.part.now c.args.self.now out c.if-is_empty.ensures
 
 pub returns-in-Err-clause-refused : goal.returns-in-Err-clause-refused
-returns-in-Err-clause-refused g c is =
+returns-in-Err-clause-refused g c is out =
     let past = c.in-Err.ensures.refused is in
-    stops_long g.M.Machine.meaning (c.args.self.now.lines + 1) c.args.part.now c.args.self.now c.args.out.now.items refl c.requires.no_feed past.0 past.1 c.requires.room
+    stops_long g.M.Machine.meaning (c.args.self.now.lines + 1) c.args.part.now c.args.self.now out refl c.requires.no_feed past.0 past.1 c.requires.room
 
 pub returns-in-Err-clause-too_much : goal.returns-in-Err-clause-too_much
-returns-in-Err-clause-too_much g c is =
-    part_full g.M.Machine.meaning c.args.part.now c.args.self.now c.args.out.now.items c.if-is_empty.ensures (c.in-Err.ensures.too_much is)
+returns-in-Err-clause-too_much g c is out =
+    part_full g.M.Machine.meaning c.args.part.now c.args.self.now out c.if-is_empty.ensures (c.in-Err.ensures.too_much is)
 
 pub returns-clause-ok : goal.returns-clause-ok
-returns-clause-ok g c =
-    part_held g.M.Machine.meaning c.args.part.now c.args.self.now _ c.extend_from_slice.new.self.items c.args.out.now.items c.self.view_is c.in-Ok.ensures.items c.requires.no_feed c.in_default.ensures.ok c.requires.room
+returns-clause-ok g c out =
+    part_held g.M.Machine.meaning c.args.part.now c.args.self.now _ c.extend_from_slice.new.self.items out c.self.view_is c.in-Ok.ensures.items c.requires.no_feed c.in_default.ensures.ok c.requires.room

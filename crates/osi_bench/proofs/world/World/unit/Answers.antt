@@ -1,4 +1,4 @@
-use Rattle.std.proofs.Common.{◌≡◌, Some, Ok, Err, rules, subst}
+use Rattle.std.proofs.Common.{◌≡◌, Some, rules, subst}
 use Rattle.std.specs.Prelude.{slice_get}
 use Rattle.std.proofs.lemmas.Option.{slice_get_read}
 use Rattle.clnp_header.specs.declared.pdu.Pdu.{Pdu}
