@@ -1,15 +1,16 @@
 -- What stops the reading is the first failing step: each test of the reader is a step of the table, in the same order.
-use Rattle.std.proofs.Common.{◌≡◌, ◌==◌, ◌&&◌, ◌||◌, not, ℕ, ◌+◌, ◌-◌, ◌<◌, Bool, true, false, cond, ltb, leb, List, [], ◌∷◌, length, get_or, take, drop, Option, Some, None, Result, Ok, Err, refl, ap, ◌∙◌, arith}
-use Rattle.std.proofs.Common.{inl, inr, ◌⊎◌, length-drop}
+use Rattle.std.proofs.Common.{◌≡◌, ◌==◌, ◌&&◌, ◌||◌, not, ℕ, ◌+◌, ◌-◌, ◌%◌, ◌<◌, Bool, true, false, cond, ltb, leb, List, [], ◌∷◌, length, get_or, take, drop, Option, Some, None, Result, Ok, Err, refl, sym, ap, ◌∙◌, arith, inl, inr, ◌⊎◌, length-drop, length-take-le}
 use Rattle.std.proofs.lemmas.Bool.{cases_lt}
-use Rattle.std.proofs.lemmas.List.{drop_more, drop_all, get_or_past}
-use Rattle.clnp_header.specs.declared.fault.Fault.{Fault}
+use Rattle.std.proofs.lemmas.List.{drop_all, drop_more, get_or_past}
+use Rattle.clnp_options.specs.Faults.{options_fault}
+use Rattle.clnp_options.specs.Options.{Parameter, options_in}
+use Rattle.clnp_options.specs.declared.fault.Fault.{Fault}
+use Rattle.clnp_options.specs.declared.fault.PduKind.{PduKind}
+use Rattle.clnp_header.specs.declared.pdu.SegmentPart.{SegmentPart}
 use Rattle.clnp_header.specs.declared.reading.Flags.{Flags}
-use Rattle.clnp_header.specs.Faults.{must, or_else, first_failing, first_fault, steps, is_checked, are_flags, is_address_at, number_at}
-use Rattle.clnp_header.specs.declared.pdu.PduKind.TheVariants.{Dt, Er}
-use Rattle.clnp_header.specs.Faults.{is_dt, is_er, is_segmented, wants_report}
-use Rattle.clnp_header.proofs.Stages.{from_body, from_built, from_source, from_destination, from_flags, from_checksum, in_stages, FlagsFound, ErFound, flags_found, address_found, header_found, built_found}
-use Rattle.clnp_header.specs.Reading.{◌>>=◌, header_at, checksum_at, flags_at, address_in, address_at, found_or, built_at, body_at, pdu_at}
+use Rattle.clnp_header.specs.Faults.{must, with_report, or_else, first_failing, first_fault, steps, is_checked, are_flags, is_address_at, is_eights, is_placed, number_at, is_dt, is_er, is_segmented, has_more, kind_of, wants_report}
+use Rattle.clnp_header.specs.Reading.{◌>>=◌, header_at, checksum_at, flags_at, address_in, address_at, found_or, segment_at, segment_octets, options_at, options_or, body_at, placed_at, pdu_at}
+use Rattle.clnp_header.proofs.Stages.{from_placed, from_body, from_options, from_segment, from_source, from_destination, from_flags, from_checksum, in_stages, FlagsFound, ErFound, flags_found, NoSegment, SegmentFound, segment_found, body_found, address_found, header_found}
 
 -- the fault, where there is one
 abbrev pub fault_of : {A : Type 0} → Result A Fault → Option Fault
@@ -94,92 +95,177 @@ address_agrees header at =
           rw (none, past) refl
     ]
 
-body_agrees : (octets header : List ℕ) (report : Bool)
-    → fault_of (body_at octets (length header) report)
-    ≡ or_else (must (leb (length header) (number_at 5 octets)) 0x04 6 report) (or_else (must (leb (number_at 5 octets) (length octets)) 0x06 6 report) None)
-unfolding body_at
-body_agrees octets header report =
-    guard_agrees _ _ _ _ _ (ltb-not_leb (number_at 5 octets) (length header)) (guard_agrees _ _ _ _ _ (ltb-not_leb (length octets) (number_at 5 octets)) refl)
-
--- ---- the stages
-
-abbrev body_faults : List ℕ → List ℕ → Bool → Option Fault
-body_faults octets header report =
-    or_else (must (leb (length header) (number_at 5 octets)) 0x04 6 report) (or_else (must (leb (number_at 5 octets) (length octets)) 0x06 6 report) None)
-
-abbrev built_faults : List ℕ → List ℕ → ℕ → Option Fault
-built_faults octets header end =
-    or_else (must (is_dt (get_or header 4 0) && not (is_segmented (get_or header 4 0)) && leb (length header) end) 0x00 0 false)
-    (body_faults octets header (wants_report (get_or header 4 0)))
-
-from_body_agrees : (octets header : List ℕ) (used : Bool) (flags : Flags) (destination source : List ℕ)
-    → fault_of (from_body octets header used flags destination source) ≡ body_faults octets header flags.report
-from_body_agrees octets header used flags destination source =
-    fault_of-bind (body_at octets (length header) flags.report) _ None (λ x e. refl) ∙ or_else-None _ ∙ body_agrees octets header flags.report
-
-not_both : (octet : ℕ) → is_er octet ≡ true → is_dt octet ≡ false
-not_both octet er = grind arith
-
 -- a test that goes on agrees with the step that is the same
 passing_agrees : {A : Type 0} (holds : Bool) (fault : Fault) (good : Result A Fault) → fault_of good ≡ None → fault_of (cond holds good (Err fault)) ≡ cond holds None (Some fault)
 passing_agrees true fault good h = h
 passing_agrees false fault good h = refl
 
-built_test : (octet left len end : ℕ) (flags : Flags) → FlagsFound octet flags ⊎ ErFound octet flags → left ≡ len - end
-    → fault_of (built_at flags left) ≡ must (is_dt octet && not (is_segmented octet) && leb len end) 0x00 0 false
-unfolding built_at
-built_test octet left len end flags (inl h) left-is =
-    let test : (left == 0) ≡ leb len end = grind arith in
-    rw (h.is, h.dt, test) (passing_agrees (not (is_segmented octet) && leb len end) _ _ refl)
-built_test octet left len end flags (inr h) left-is = rw (h.is, not_both octet h.er) refl
+options_agree : (report : Bool) (fault : Option Fault) (options : List Parameter) → fault_of (options_or report fault options) ≡ with_report report fault
+options_agree report None options = refl
+options_agree report (Some fault) options = refl
 
-report_is : (octet : ℕ) (flags : Flags) → FlagsFound octet flags ⊎ ErFound octet flags → flags.kind ≡ Dt → flags.report ≡ wants_report octet
-report_is octet flags (inl h) kind = rw h.is refl
-report_is octet flags (inr h) kind = let e : flags.kind ≡ Er = rw h.is refl in absurd cc
+-- ---- the stages, from the last one on
 
-from_built_agrees : (octets header : List ℕ) (used : Bool) (flags : Flags) (destination source : List ℕ) (end : ℕ)
-    → FlagsFound (get_or header 4 0) flags ⊎ ErFound (get_or header 4 0) flags → 11 + length destination + length source ≡ end
-    → fault_of (from_built octets header used flags destination source) ≡ built_faults octets header end
-from_built_agrees octets header used flags destination source end found end-is =
-    let left = length header - (11 + length destination + length source) in
-    fault_of-bind (built_at flags left) _ (body_faults octets header (wants_report (get_or header 4 0)))
-    (λ x e. from_body_agrees octets header used flags destination source ∙ ap (body_faults octets header) (report_is (get_or header 4 0) flags found (built_found flags left x e).kind))
-    ∙ ap (λ f. or_else f (body_faults octets header (wants_report (get_or header 4 0)))) (built_test (get_or header 4 0) left (length header) end flags found (omega arith))
+abbrev placed_faults : List ℕ → Flags → ℕ → ℕ → Option Fault
+placed_faults header flags at whole =
+    or_else (must (not flags.segmented || is_placed flags.more (number_at (at + 2) header + whole) (number_at (at + 4) header)) 0x04 (at + 5) flags.report) None
 
-abbrev source_faults : List ℕ → List ℕ → ℕ → Option Fault
-source_faults octets header source =
-    or_else (must (is_address_at source header) 0x04 (source + 1) false) (built_faults octets header (source + 1 + get_or header source 0))
+placed_agrees : (header : List ℕ) (flags : Flags) (at whole : ℕ) (segment : Option SegmentPart) → NoSegment flags segment ⊎ SegmentFound header at flags segment
+    → fault_of (placed_at segment whole (at + 5) flags.report) ≡ placed_faults header flags at whole
+unfolding placed_at
+placed_agrees header flags at whole segment (inl h) = rw (h.nothing, h.whole) refl
+placed_agrees header flags at whole segment (inr h) =
+    rw (h.is, h.permitted) (passing_agrees (is_placed flags.more (number_at (at + 2) header + whole) (number_at (at + 4) header)) _ (Ok tt) refl ∙ sym (or_else-None _))
 
-from_source_agrees : (octets header : List ℕ) (used : Bool) (flags : Flags) (destination : List ℕ) (source : ℕ)
-    → FlagsFound (get_or header 4 0) flags ⊎ ErFound (get_or header 4 0) flags → 10 + length destination ≡ source
-    → fault_of (from_source octets header used flags destination) ≡ source_faults octets header source
-from_source_agrees octets header used flags destination source found source-is =
+from_placed_agrees : (header : List ℕ) (used : Bool) (flags : Flags) (destination source : List ℕ) (segment : Option SegmentPart) (options : List Parameter) (body : List ℕ) (at whole : ℕ)
+    → NoSegment flags segment ⊎ SegmentFound header at flags segment → 11 + length destination + length source ≡ at → length header + length body ≡ whole
+    → fault_of (from_placed header used flags destination source segment options body) ≡ placed_faults header flags at whole
+from_placed_agrees header used flags destination source segment options body at whole found at-is whole-is =
+    fault_of-bind (placed_at segment (length header + length body) (11 + length destination + length source + 5) flags.report) _ None (λ x e. refl)
+    ∙ or_else-None _
+    ∙ ap (λ (n : ℕ). fault_of (placed_at segment n (11 + length destination + length source + 5) flags.report)) whole-is
+    ∙ ap (λ (n : ℕ). fault_of (placed_at segment whole (n + 5) flags.report)) at-is
+    ∙ placed_agrees header flags at whole segment found
+
+abbrev body_faults : List ℕ → List ℕ → Flags → Option Fault → Option Fault
+body_faults octets header flags later =
+    or_else (must (leb (length header) (number_at 5 octets)) 0x04 6 flags.report)
+    (or_else (must (leb (number_at 5 octets) (length octets)) 0x06 6 flags.report)
+    (or_else (must (not flags.more || is_eights (length header) (number_at 5 octets)) 0x04 6 flags.report) later))
+
+even_test : (more eights : Bool) (header whole : ℕ) → (more && (leb whole header || not eights)) ≡ not (not more || (ltb header whole && eights))
+even_test true true header whole = grind arith
+even_test true false header whole = grind arith
+even_test false eights header whole = refl
+
+body_agrees : (octets header : List ℕ) (flags : Flags) → fault_of (body_at octets (length header) flags) ≡ body_faults octets header flags None
+unfolding body_at
+body_agrees octets header flags =
+    guard_agrees _ _ _ _ _ (ltb-not_leb (number_at 5 octets) (length header))
+    (guard_agrees _ _ _ _ _ (ltb-not_leb (length octets) (number_at 5 octets))
+    (guard_agrees _ _ _ _ _ (even_test flags.more ((number_at 5 octets - length header) % 8 == 0) (length header) (number_at 5 octets)) refl))
+
+body_more : (octets header : List ℕ) (flags : Flags) (later : Option Fault) → or_else (body_faults octets header flags None) later ≡ body_faults octets header flags later
+body_more octets header flags later = simp or_else_assoc
+
+from_body_agrees : (octets header : List ℕ) (used : Bool) (flags : Flags) (destination source : List ℕ) (segment : Option SegmentPart) (options : List Parameter) (at : ℕ)
+    → NoSegment flags segment ⊎ SegmentFound header at flags segment → 11 + length destination + length source ≡ at
+    → fault_of (from_body octets header used flags destination source segment options) ≡ body_faults octets header flags (placed_faults header flags at (number_at 5 octets))
+from_body_agrees octets header used flags destination source segment options at found at-is =
+    let later = placed_faults header flags at (number_at 5 octets) in
+    fault_of-bind (body_at octets (length header) flags) _ later
+    (λ x e.
+    let h = body_found octets x (length header) flags e in
+    let len : length x ≡ number_at 5 octets - length header = ap length h.is ∙ length-take-le _ (drop (length header) octets) (omega (arith, length-drop (length header) octets, h.most, h.least)) in
+    from_placed_agrees header used flags destination source segment options x at (number_at 5 octets) found at-is (omega (arith, h.least)))
+    ∙ ap (λ f. or_else f later) (body_agrees octets header flags)
+    ∙ body_more octets header flags later
+
+abbrev options_faults : List ℕ → List ℕ → Flags → ℕ → ℕ → Option Fault
+options_faults octets header flags at options =
+    or_else (with_report flags.report (options_fault flags.kind (options + 1) (drop options header))) (body_faults octets header flags (placed_faults header flags at (number_at 5 octets)))
+
+from_options_agrees : (octets header : List ℕ) (used : Bool) (flags : Flags) (destination source : List ℕ) (segment : Option SegmentPart) (at options : ℕ)
+    → NoSegment flags segment ⊎ SegmentFound header at flags segment → 11 + length destination + length source ≡ at
+    → 11 + length destination + length source + segment_octets segment ≡ options
+    → fault_of (from_options octets header used flags destination source segment) ≡ options_faults octets header flags at options
+unfolding options_at
+from_options_agrees octets header used flags destination source segment at options found at-is options-is =
+    let start = 11 + length destination + length source + segment_octets segment in
+    let later = body_faults octets header flags (placed_faults header flags at (number_at 5 octets)) in
+    fault_of-bind (options_at header start flags) _ later (λ x e. from_body_agrees octets header used flags destination source segment x at found at-is)
+    ∙ ap (λ f. or_else f later) (options_agree flags.report (options_fault flags.kind (start + 1) (drop start header)) (options_in (drop start header)))
+    ∙ ap (options_faults octets header flags at) options-is
+
+abbrev segment_octets_if : Bool → ℕ
+segment_octets_if segmented = cond segmented 6 0
+
+octets_if : (header : List ℕ) (at : ℕ) (flags : Flags) (segment : Option SegmentPart) → NoSegment flags segment ⊎ SegmentFound header at flags segment → segment_octets segment ≡ segment_octets_if flags.segmented
+octets_if header at flags segment (inl h) = rw (h.nothing, h.whole) refl
+octets_if header at flags segment (inr h) = rw (h.is, h.permitted) refl
+
+-- all faults behind the addresses
+abbrev late_faults : List ℕ → List ℕ → Flags → ℕ → Option Fault
+late_faults octets header flags at =
+    or_else (must (not flags.segmented || leb (at + 6) (length header)) 0x04 (at + 1) flags.report)
+    (or_else (must (not flags.segmented || (number_at (at + 2) header % 8 == 0)) 0x04 (at + 3) flags.report)
+    (options_faults octets header flags at (at + segment_octets_if flags.segmented)))
+
+segment_agrees_by : (header : List ℕ) (at : ℕ) (kind : PduKind) (segmented more report : Bool)
+    → fault_of (segment_at header at (record { kind = kind; segmented = segmented; more = more; report = report }))
+    ≡ or_else (must (not segmented || leb (at + 6) (length header)) 0x04 (at + 1) report) (or_else (must (not segmented || (number_at (at + 2) header % 8 == 0)) 0x04 (at + 3) report) None)
+unfolding segment_at
+segment_agrees_by header at kind false more report = refl
+segment_agrees_by header at kind true more report = guard_agrees _ _ _ _ _ (ltb-not_leb (length header) (at + 6)) (guard_agrees _ _ _ _ _ refl refl)
+
+segment_agrees : (header : List ℕ) (at : ℕ) (flags : Flags)
+    → fault_of (segment_at header at flags)
+    ≡ or_else (must (not flags.segmented || leb (at + 6) (length header)) 0x04 (at + 1) flags.report) (or_else (must (not flags.segmented || (number_at (at + 2) header % 8 == 0)) 0x04 (at + 3) flags.report) None)
+segment_agrees header at flags = segment_agrees_by header at flags.kind flags.segmented flags.more flags.report
+
+segment_more : (header : List ℕ) (at : ℕ) (flags : Flags) (later : Option Fault)
+    → or_else (or_else (must (not flags.segmented || leb (at + 6) (length header)) 0x04 (at + 1) flags.report) (or_else (must (not flags.segmented || (number_at (at + 2) header % 8 == 0)) 0x04 (at + 3) flags.report) None)) later
+    ≡ or_else (must (not flags.segmented || leb (at + 6) (length header)) 0x04 (at + 1) flags.report) (or_else (must (not flags.segmented || (number_at (at + 2) header % 8 == 0)) 0x04 (at + 3) flags.report) later)
+segment_more header at flags later = simp or_else_assoc
+
+from_segment_agrees : (octets header : List ℕ) (used : Bool) (flags : Flags) (destination source : List ℕ) (at : ℕ) → 11 + length destination + length source ≡ at
+    → fault_of (from_segment octets header used flags destination source) ≡ late_faults octets header flags at
+from_segment_agrees octets header used flags destination source at at-is =
+    let start = 11 + length destination + length source in
+    let later : ℕ → Option Fault = λ (n : ℕ). options_faults octets header flags n (n + segment_octets_if flags.segmented) in
+    fault_of-bind (segment_at header start flags) _ (later start)
+    (λ x e.
+    let found = segment_found header start flags x e in
+    from_options_agrees octets header used flags destination source x start (start + segment_octets_if flags.segmented) found refl (ap (λ (n : ℕ). start + n) (octets_if header start flags x found)))
+    ∙ ap (λ f. or_else f (later start)) (segment_agrees header start flags)
+    ∙ segment_more header start flags (later start)
+    ∙ ap (late_faults octets header flags) at-is
+
+abbrev source_faults : List ℕ → List ℕ → Flags → ℕ → Option Fault
+source_faults octets header flags source =
+    or_else (must (is_address_at source header) 0x04 (source + 1) false) (late_faults octets header flags (source + 1 + get_or header source 0))
+
+from_source_agrees : (octets header : List ℕ) (used : Bool) (flags : Flags) (destination : List ℕ) (source : ℕ) → 10 + length destination ≡ source
+    → fault_of (from_source octets header used flags destination) ≡ source_faults octets header flags source
+from_source_agrees octets header used flags destination source source-is =
     let at = 10 + length destination in
-    let later : (at : ℕ) → Option Fault = λ at. built_faults octets header (at + 1 + get_or header at 0) in
+    let later : ℕ → Option Fault = λ (n : ℕ). late_faults octets header flags (n + 1 + get_or header n 0) in
     fault_of-bind (address_at header at) _ (later at)
-    (λ x e. let h = address_found header x at e in from_built_agrees octets header used flags destination x (at + 1 + get_or header at 0) found (omega arith))
+    (λ x e. let h = address_found header x at e in from_segment_agrees octets header used flags destination x (at + 1 + get_or header at 0) (omega arith))
     ∙ ap (λ f. or_else f (later at)) (address_agrees header at ∙ or_else-None _)
-    ∙ ap (source_faults octets header) source-is
+    ∙ ap (source_faults octets header flags) source-is
 
-abbrev destination_faults : List ℕ → List ℕ → Option Fault
-destination_faults octets header = or_else (must (is_address_at 9 header) 0x04 10 false) (source_faults octets header (10 + get_or header 9 0))
+abbrev destination_faults : List ℕ → List ℕ → Flags → Option Fault
+destination_faults octets header flags = or_else (must (is_address_at 9 header) 0x04 10 false) (source_faults octets header flags (10 + get_or header 9 0))
 
-from_destination_agrees : (octets header : List ℕ) (used : Bool) (flags : Flags) → FlagsFound (get_or header 4 0) flags ⊎ ErFound (get_or header 4 0) flags
-    → fault_of (from_destination octets header used flags) ≡ destination_faults octets header
-from_destination_agrees octets header used flags found =
-    let later = source_faults octets header (10 + get_or header 9 0) in
+from_destination_agrees : (octets header : List ℕ) (used : Bool) (flags : Flags) → fault_of (from_destination octets header used flags) ≡ destination_faults octets header flags
+from_destination_agrees octets header used flags =
+    let later = source_faults octets header flags (10 + get_or header 9 0) in
     fault_of-bind (address_at header 9) _ later
-    (λ x e. let h = address_found header x 9 e in from_source_agrees octets header used flags x (10 + get_or header 9 0) found (omega arith))
+    (λ x e. let h = address_found header x 9 e in from_source_agrees octets header used flags x (10 + get_or header 9 0) (omega arith))
     ∙ ap (λ f. or_else f later) (address_agrees header 9 ∙ or_else-None _)
 
+-- the flags as the table has them
+abbrev table_flags : ℕ → Flags
+table_flags octet = record { kind = kind_of octet; segmented = is_segmented octet; more = is_dt octet && has_more octet; report = is_dt octet && wants_report octet }
+
+not_both : (octet : ℕ) → is_er octet ≡ true → is_dt octet ≡ false
+not_both octet er = grind arith
+
+flags_are : (octet : ℕ) (flags : Flags) → FlagsFound octet flags ⊎ ErFound octet flags → flags ≡ table_flags octet
+flags_are octet flags (inl h) = h.is ∙ rw h.dt refl
+flags_are octet flags (inr h) = h.is ∙ rw (not_both octet h.er, h.whole) refl
+
 abbrev flags_faults : List ℕ → List ℕ → Option Fault
-flags_faults octets header = or_else (must (are_flags (get_or header 4 0)) 0x04 5 false) (destination_faults octets header)
+flags_faults octets header = or_else (must (are_flags (get_or header 4 0)) 0x04 5 false) (destination_faults octets header (table_flags (get_or header 4 0)))
 
 from_flags_agrees : (octets header : List ℕ) (used : Bool) → fault_of (from_flags octets header used) ≡ flags_faults octets header
 from_flags_agrees octets header used =
-    fault_of-bind (flags_at (get_or header 4 0)) _ (destination_faults octets header)
-    (λ flags e. from_destination_agrees octets header used flags (flags_found (get_or header 4 0) flags e))
-    ∙ ap (λ f. or_else f (destination_faults octets header)) (flags_agrees (get_or header 4 0))
+    let octet = get_or header 4 0 in
+    let later = destination_faults octets header (table_flags octet) in
+    fault_of-bind (flags_at octet) _ later
+    (λ flags e. from_destination_agrees octets header used flags ∙ ap (destination_faults octets header) (flags_are octet flags (flags_found octet flags e)))
+    ∙ ap (λ f. or_else f later) (flags_agrees octet)
 
 abbrev checksum_faults : List ℕ → List ℕ → Option Fault
 checksum_faults octets header = or_else (must (is_checked header) 0x02 8 false) (flags_faults octets header)

@@ -1,9 +1,9 @@
 -- The contract of the reader, from what it reads: by cases on its answer.
 use Rattle.std.proofs.Common.{◌≡◌, ℕ, ◌<◌, List, [], ◌++◌, None, Result, Ok, Err, refl, sym, ap, ◌∙◌, length, arith, inl, inr}
-use Rattle.std.proofs.lemmas.List.{get_or_past}
+use Rattle.std.proofs.lemmas.List.{append_cancel_left, get_or_past}
 use Rattle.std.proofs.lemmas.Bool.{cases_lt}
 use Rattle.std.specs.Prelude.{IfOk, IfErr, IsOkAnd, All}
-use Rattle.clnp_header.specs.declared.fault.Fault.{Fault}
+use Rattle.clnp_options.specs.declared.fault.Fault.{Fault}
 use Rattle.clnp_header.specs.declared.pdu.Pdu.{Pdu}
 use Rattle.clnp_header.specs.declared.pdu.PduRef.{PduRef}
 use Rattle.clnp_header.specs.Grammar.{IsPdu, BeginsWith, value_of}
@@ -43,6 +43,17 @@ reads_fault octets (Err fault) given = sym (pdu_agrees octets) ∙ ap fault_of g
 
 pub one_pdu : (octets : List ℕ) (pdu other : Pdu) → IsPdu octets pdu → IsPdu octets other → pdu ≡ other
 one_pdu octets pdu other h k = same_read (h.header, pdu) (k.header, other) (sym (pdu_again octets [] pdu h) ∙ pdu_again octets [] other k)
+
+same_both : (x y : List ℕ × Pdu) → read x ≡ read y → x ≡ y
+same_both x y e = cc
+
+pub one_front : (front rest other more : List ℕ) (pdu second : Pdu) → front ++ rest ≡ other ++ more → IsPdu front pdu → IsPdu other second
+    → (front ≡ other) × (rest ≡ more) × (pdu ≡ second)
+one_front front rest other more pdu second e h k =
+    let same : (h.header, pdu) ≡ (k.header, second) = same_both (h.header, pdu) (k.header, second) (sym (pdu_again front rest pdu h) ∙ ap pdu_at e ∙ pdu_again other more second k) in
+    let fronts : front ≡ other = h.whole ∙ ap (λ (x : List ℕ × Pdu). x.0 ++ x.1.body) same ∙ sym k.whole in
+    let rests : other ++ rest ≡ other ++ more = ap (λ (xs : List ℕ). xs ++ rest) (sym fronts) ∙ e in
+    (fronts, append_cancel_left other rest more rests, ap (λ (x : List ℕ × Pdu). x.1) same)
 
 pub front_excludes : (octets front rest : List ℕ) (pdu : Pdu) (fault : Fault) → octets ≡ front ++ rest → IsPdu front pdu → PduFault octets fault → ⊥
 front_excludes octets front rest pdu fault e h failed =

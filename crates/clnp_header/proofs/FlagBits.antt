@@ -1,9 +1,8 @@
 -- An octet is known by its bits: tried for each octet.
 use Rattle.std.proofs.Common.{◌≡◌, ◌==◌, ◌&&◌, ◌||◌, not, ℕ, zero, suc, ◌<◌, Bool, true, false, refl, subst, arith, inl, inr}
 use Rattle.std.proofs.lemmas.Bool.{cases_lt, eqb-true}
-use Rattle.clnp_header.specs.declared.pdu.PduKind.TheVariants.{Dt}
 use Rattle.clnp_header.specs.Grammar.{flags_octet}
-use Rattle.clnp_header.specs.Faults.{is_dt, is_segmented, has_more, wants_report}
+use Rattle.clnp_header.specs.Faults.{is_dt, is_er, is_segmented, has_more, wants_report}
 
 -- a test holds of each number below
 abbrev all_below : ℕ → (ℕ → Bool) → Bool
@@ -23,12 +22,22 @@ all_below-at (suc n) test k e lt =
       | inr above ↦ let same : n ≡ k = omega arith in subst (λ m. test m ≡ true) same both.0
     ]
 
+-- the octet that has the same flags, and a type
+abbrev same_flags : ℕ → ℕ → ℕ
+same_flags octet type = flags_octet (is_segmented octet) (has_more octet) (wants_report octet) type
+
 abbrev dt_test : ℕ → Bool
-dt_test octet = not (is_dt octet && not (is_segmented octet) && not (has_more octet)) || (octet == flags_octet Dt (wants_report octet))
+dt_test octet = not (is_dt octet) || (octet == same_flags octet 0x1c)
 
-holds_of : (a b c d : Bool) → (not (a && not b && not c) || d) ≡ true → a ≡ true → b ≡ false → c ≡ false → d ≡ true
-holds_of a b c d e ha hb hc = grind arith
+abbrev er_test : ℕ → Bool
+er_test octet = not (is_er octet) || (octet == same_flags octet 0x01)
 
-pub flags_of_dt : (octet : ℕ) → octet < 256 → is_dt octet ≡ true → is_segmented octet ≡ false → has_more octet ≡ false → octet ≡ flags_octet Dt (wants_report octet)
-flags_of_dt octet fits dt whole last =
-    eqb-true _ _ (holds_of (is_dt octet) (is_segmented octet) (has_more octet) _ (all_below-at 256 dt_test octet refl fits) dt whole last)
+holds_of : (a b : Bool) → (not a || b) ≡ true → a ≡ true → b ≡ true
+holds_of true b e h = e
+holds_of false b e h = absurd cc
+
+pub flags_of_dt : (octet : ℕ) → octet < 256 → is_dt octet ≡ true → octet ≡ flags_octet (is_segmented octet) (has_more octet) (wants_report octet) 0x1c
+flags_of_dt octet fits dt = eqb-true _ _ (holds_of (is_dt octet) _ (all_below-at 256 dt_test octet refl fits) dt)
+
+pub flags_of_er : (octet : ℕ) → octet < 256 → is_er octet ≡ true → octet ≡ flags_octet (is_segmented octet) (has_more octet) (wants_report octet) 0x01
+flags_of_er octet fits er = eqb-true _ _ (holds_of (is_er octet) _ (all_below-at 256 er_test octet refl fits) er)

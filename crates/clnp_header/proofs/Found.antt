@@ -1,17 +1,20 @@
 -- What is read is in the grammar: each reader tells what stands at its place, and the places follow one another.
-use Rattle.std.proofs.Common.{◌≡◌, ◌||◌, not, ℕ, ◌+◌, ◌-◌, ◌*◌, ◌/◌, ◌%◌, ◌<◌, ◌≤◌, Bool, true, false, List, [], ◌∷◌, ◌++◌, length, get_or, take, drop, Ok, refl, sym, ap, subst, ◌∙◌, arith, inl, inr, ◌⊎◌, length-append, length-drop, length-take-le, get_or-take}
-use Rattle.std.proofs.lemmas.List.{take-append-drop, drop_more, drop-drop, drop_all, append-nil}
+use Rattle.std.proofs.Common.{◌≡◌, ◌||◌, not, ℕ, ◌+◌, ◌-◌, ◌*◌, ◌/◌, ◌%◌, ◌<◌, ◌≤◌, Bool, true, false, List, [], ◌∷◌, ◌++◌, length, get_or, take, drop, map, Option, Some, None, Ok, refl, sym, ap, subst, ◌∙◌, arith, inl, inr, ◌⊎◌, length-append, length-drop, length-take-le, get_or-take}
+use Rattle.std.proofs.lemmas.List.{take-append-drop, drop_more, drop-drop}
 use Rattle.std.proofs.Math.Seq.{take-add}
+use Rattle.clnp_options.specs.Grammar.{IsOptions}
+use Rattle.clnp_options.specs.Options.{Parameter}
+use Rattle.clnp_options.specs.declared.fault.PduKind.{PduKind}
+use Rattle.clnp_options.specs.declared.fault.PduKind.TheVariants.{Dt, Er}
 use Rattle.clnp_header.specs.declared.pdu.Pdu.{Pdu}
-use Rattle.clnp_header.specs.declared.pdu.PduKind.{PduKind}
-use Rattle.clnp_header.specs.declared.pdu.PduKind.TheVariants.{Dt, Er}
+use Rattle.clnp_header.specs.declared.pdu.SegmentPart.{SegmentPart}
 use Rattle.clnp_header.specs.declared.reading.Flags.{Flags}
-use Rattle.clnp_header.specs.Grammar.{IsChecksum, BeginsWith, address, flags_octet}
-use Rattle.clnp_header.specs.Faults.{number_at, is_segmented, has_more}
-use Rattle.clnp_header.specs.Reading.{header_at, checksum_at, flags_at, address_at, built_at, body_at, pdu_at}
-use Rattle.clnp_header.proofs.FlagBits.{flags_of_dt}
+use Rattle.clnp_header.specs.Grammar.{IsChecksum, MayBeSegment, AreFlags, AreErFlags, BeginsWith, address, flags_octet, is_followed, is_segment, own, parameters, segment_part, two_octets}
+use Rattle.clnp_header.specs.Faults.{number_at, is_segmented, has_more, wants_report}
+use Rattle.clnp_header.specs.Reading.{header_at, checksum_at, flags_at, address_at, segment_at, segment_octets, options_at, body_at, placed_at, pdu_at}
+use Rattle.clnp_header.proofs.FlagBits.{flags_of_dt, flags_of_er}
 use Rattle.clnp_header.proofs.Parts.{AreOctets, AreOctets-take, HasFields, parts_of}
-use Rattle.clnp_header.proofs.Stages.{from_body, from_built, from_source, from_destination, from_flags, from_checksum, in_stages, bind_ok, ok_is, HeaderFound, header_found, checksum_found, FlagsFound, ErFound, flags_found, AddressFound, address_found, built_found, BodyFound, body_found}
+use Rattle.clnp_header.proofs.Stages.{made, from_placed, from_body, from_options, from_segment, from_source, from_destination, from_flags, from_checksum, in_stages, bind_ok, ok_is, HeaderFound, header_found, checksum_found, FlagsFound, ErFound, flags_found, AddressFound, address_found, NoSegment, SegmentFound, segment_found, options_found, BodyFound, body_found, PlacedIf, placed_found}
 
 not_more : (segmented more : Bool) → (segmented || not more) ≡ true → segmented ≡ false → more ≡ false
 not_more segmented more e whole = grind arith
@@ -25,25 +28,122 @@ address_stands header octets at h =
     first ∙ ap (λ (n : ℕ). n ∷ drop (at + 1) header) h.count
     ∙ ap (λ (xs : List ℕ). length octets ∷ xs) (split ∙ ap (λ (xs : List ℕ). xs ++ drop (length octets) (drop (at + 1) header)) (sym h.is) ∙ ap (λ (xs : List ℕ). octets ++ xs) behind)
 
+-- ---- the flags
+
+bits_of : (flags : Flags) (segment : Option SegmentPart) (header : List ℕ) (at : ℕ) → NoSegment flags segment ⊎ SegmentFound header at flags segment
+    → (flags.segmented ≡ false → flags.more ≡ false) → (is_segment segment ≡ flags.segmented) × (is_followed segment ≡ flags.more)
+bits_of flags segment header at (inl h) last = (rw (h.nothing, h.whole) refl, rw h.nothing (sym (last h.whole)))
+bits_of flags segment header at (inr h) last = (rw (h.is, h.permitted) refl, rw h.is refl)
+
+dt_flags : (octet : ℕ) (flags : Flags) (segment : Option SegmentPart) (header : List ℕ) (at : ℕ) → octet < 256 → FlagsFound octet flags → NoSegment flags segment ⊎ SegmentFound header at flags segment
+    → octet ≡ flags_octet (is_segment segment) (is_followed segment) flags.report 0x1c
+dt_flags octet flags segment header at fits h found =
+    let segmented : flags.segmented ≡ is_segmented octet = ap (λ (f : Flags). f.segmented) h.is in
+    let more : flags.more ≡ has_more octet = ap (λ (f : Flags). f.more) h.is in
+    let report : flags.report ≡ wants_report octet = ap (λ (f : Flags). f.report) h.is in
+    let bits = bits_of flags segment header at found (λ whole. more ∙ not_more (is_segmented octet) (has_more octet) h.last (sym segmented ∙ whole)) in
+    flags_of_dt octet fits h.dt ∙ rw (bits.0, bits.1, segmented, more, report) refl
+
+er_flags : (octet : ℕ) (flags : Flags) (segment : Option SegmentPart) (header : List ℕ) (at : ℕ) → octet < 256 → ErFound octet flags → NoSegment flags segment ⊎ SegmentFound header at flags segment
+    → AreErFlags octet segment flags.report
+er_flags octet flags segment header at fits h (inl found) = record {
+  more_bit = has_more octet;
+  report_bit = wants_report octet;
+  parts = flags_of_er octet fits h.er ∙ ap (λ (b : Bool). flags_octet b (has_more octet) (wants_report octet) 0x01) h.whole;
+  whole = found.nothing;
+  unreported = ap (λ (f : Flags). f.report) h.is;
+}
+er_flags octet flags segment header at fits h (inr found) =
+    let segmented : flags.segmented ≡ false = ap (λ (f : Flags). f.segmented) h.is in
+    absurd (let e : true ≡ false = sym found.permitted ∙ segmented in cc)
+
+flags_part : (octet : ℕ) (flags : Flags) (segment : Option SegmentPart) (header : List ℕ) (at : ℕ) → octet < 256 → FlagsFound octet flags ⊎ ErFound octet flags
+    → NoSegment flags segment ⊎ SegmentFound header at flags segment → AreFlags flags.kind octet segment flags.report
+flags_part octet flags segment header at fits (inl h) found =
+    let kind : flags.kind ≡ Dt = ap (λ (f : Flags). f.kind) h.is in
+    let P : PduKind → Type 0 = λ k. AreFlags k octet segment flags.report in
+    subst P (sym kind) (dt_flags octet flags segment header at fits h found)
+flags_part octet flags segment header at fits (inr h) found =
+    let kind : flags.kind ≡ Er = ap (λ (f : Flags). f.kind) h.is in
+    let P : PduKind → Type 0 = λ k. AreFlags k octet segment flags.report in
+    subst P (sym kind) (er_flags octet flags segment header at fits h found)
+
+-- ---- the segmentation part
+
+-- the number in two octets gives them back
+two_octets_of : (higher lower : ℕ) → lower < 256 → (higher ≡ (higher * 256 + lower) / 256) × (lower ≡ (higher * 256 + lower) % 256)
+two_octets_of higher lower lt = (omega arith, omega arith)
+
+two_stand : (header : List ℕ) (at : ℕ) → AreOctets header → at + 2 ≤ length header → drop at header ≡ two_octets (number_at at header) ++ drop (at + 2) header
+two_stand header at fits within =
+    let first : drop at header ≡ get_or header at 0 ∷ drop (at + 1) header = drop_more header at 0 (omega arith) in
+    let second : drop (at + 1) header ≡ get_or header (at + 1) 0 ∷ drop (at + 1 + 1) header = drop_more header (at + 1) 0 (omega arith) in
+    let parts = two_octets_of (get_or header at 0) (get_or header (at + 1) 0) (fits (at + 1)) in
+    first ∙ ap (λ (xs : List ℕ). get_or header at 0 ∷ xs) (second ∙ ap (λ (n : ℕ). get_or header (at + 1) 0 ∷ drop n header) (omega arith))
+    ∙ ap (λ (n : ℕ). n ∷ get_or header (at + 1) 0 ∷ drop (at + 2) header) parts.0
+    ∙ ap (λ (n : ℕ). number_at at header / 256 ∷ n ∷ drop (at + 2) header) parts.1
+
+segment_some : (header : List ℕ) (at : ℕ) → AreOctets header → at + 6 ≤ length header → (more : Bool)
+    → drop at header ≡ segment_part (Some (record { id = number_at at header; offset = number_at (at + 2) header; total = number_at (at + 4) header; more = more })) ++ drop (at + 6) header
+segment_some header at fits within more =
+    let first = two_stand header at fits (omega arith) in
+    let second : drop (at + 2) header ≡ two_octets (number_at (at + 2) header) ++ drop (at + 4) header =
+    two_stand header (at + 2) fits (omega arith) ∙ ap (λ (n : ℕ). two_octets (number_at (at + 2) header) ++ drop n header) (omega arith) in
+    let third : drop (at + 4) header ≡ two_octets (number_at (at + 4) header) ++ drop (at + 6) header =
+    two_stand header (at + 4) fits (omega arith) ∙ ap (λ (n : ℕ). two_octets (number_at (at + 4) header) ++ drop n header) (omega arith) in
+    first ∙ ap (λ (xs : List ℕ). two_octets (number_at at header) ++ xs) (second ∙ ap (λ (xs : List ℕ). two_octets (number_at (at + 2) header) ++ xs) third)
+
+segment_stands : (header : List ℕ) (at : ℕ) (flags : Flags) (segment : Option SegmentPart) → AreOctets header → NoSegment flags segment ⊎ SegmentFound header at flags segment
+    → drop at header ≡ segment_part segment ++ drop (at + segment_octets segment) header
+segment_stands header at flags segment fits (inl h) =
+    ap (λ (n : ℕ). drop n header) (omega arith) ∙ ap (λ (s : Option SegmentPart). segment_part s ++ drop (at + segment_octets s) header) (sym h.nothing)
+segment_stands header at flags segment fits (inr h) =
+    segment_some header at fits h.within flags.more ∙ ap (λ (s : Option SegmentPart). segment_part s ++ drop (at + segment_octets s) header) (sym h.is)
+
+abbrev one : {A : Type 0} → A → Option A
+one x = Some x
+
+some_is : {A : Type 0} (x y : A) → one x ≡ one y → x ≡ y
+some_is x y e = cc
+
+segment_part_of : (segment : Option SegmentPart) (header : List ℕ) (at : ℕ) (flags : Flags) (whole size : ℕ) → NoSegment flags segment ⊎ SegmentFound header at flags segment → PlacedIf segment whole
+    → (flags.more ≡ true → 0 < size) → (flags.more ≡ true → size % 8 ≡ 0) → MayBeSegment segment whole size
+segment_part_of None header at flags whole size found placed some eights = tt
+segment_part_of (Some part) header at flags whole size (inl h) placed some eights = let e = h.nothing in absurd cc
+segment_part_of (Some part) header at flags whole size (inr h) placed some eights =
+    let same : part ≡ record { id = number_at at header; offset = number_at (at + 2) header; total = number_at (at + 4) header; more = flags.more } = some_is _ _ h.is in
+    let more : part.more ≡ flags.more = ap (λ (p : SegmentPart). p.more) same in
+    record {
+      aligned = ap (λ (p : SegmentPart). p.offset % 8) same ∙ h.aligned;
+      some = λ m. some (sym more ∙ m);
+      eights = λ m. eights (sym more ∙ m);
+      placed = placed;
+    }
+
+-- ---- the whole
+
 -- a header of which all fields were read
 pub record AllFound (octets header : List ℕ) (pdu : Pdu) : Type 0 where
+  pub options : List ℕ
   pub header_part : HeaderFound octets header
   pub checksum_part : IsChecksum pdu.checksum_used (get_or header 7 0) (get_or header 8 0) header
-  pub kind : pdu.kind ≡ Dt
-  pub flags_part : get_or header 4 0 ≡ flags_octet Dt pdu.report
+  pub flags_part : AreFlags pdu.kind (get_or header 4 0) pdu.segment pdu.report
   pub destination_part : AddressFound header pdu.destination 9
   pub source_part : AddressFound header pdu.source (10 + length pdu.destination)
-  pub nothing : length header - (11 + length pdu.destination + length pdu.source) ≡ 0
+  pub segment_stand : drop (11 + length pdu.destination + length pdu.source) header ≡ segment_part pdu.segment ++ options
+  pub options_part : IsOptions pdu.kind options (parameters pdu.options)
   pub lifetime : get_or header 3 0 ≡ pdu.lifetime
-  pub body_part : BodyFound octets pdu.body (length header)
+  pub more : Bool
+  pub body_part : BodyFound octets pdu.body (length header) more
+  pub segment_fits : MayBeSegment pdu.segment (length header + length pdu.body) (length pdu.body)
 
--- the flags of a DT PDU that has no segmentation part
-flags_part : (octet : ℕ) (flags : Flags) → octet < 256 → FlagsFound octet flags ⊎ ErFound octet flags → flags.kind ≡ Dt → flags.segmented ≡ false → octet ≡ flags_octet Dt flags.report
-flags_part octet flags fits (inl h) kind whole =
-    let segmented : is_segmented octet ≡ false = ap (λ (f : Flags). f.segmented) (sym h.is) ∙ whole in
-    let more : has_more octet ≡ false = not_more (is_segmented octet) (has_more octet) h.last segmented in
-    flags_of_dt octet fits h.dt segmented more ∙ ap (λ (b : Bool). flags_octet Dt b) (ap (λ (f : Flags). f.report) (sym h.is))
-flags_part octet flags fits (inr h) kind whole = let e : flags.kind ≡ Er = ap (λ (f : Flags). f.kind) h.is in absurd cc
+pub parameters_again : (options : List Parameter) → parameters (map own options) ≡ options
+parameters_again [] = refl
+parameters_again (option ∷ options) = ap (λ (xs : List Parameter). option ∷ xs) (parameters_again options)
+
+length-body : (octets body : List ℕ) (header : ℕ) (more : Bool) → BodyFound octets body header more → length body ≡ number_at 5 octets - header
+length-body octets body header more h =
+    ap length h.is ∙ length-take-le (number_at 5 octets - header) (drop header octets) (omega (arith, length-drop header octets, h.most, h.least))
 
 all_found : (octets header : List ℕ) (pdu : Pdu) → AreOctets octets → pdu_at octets ≡ Ok (header, pdu) → AllFound octets header pdu
 all_found octets header pdu fits e =
@@ -52,54 +152,59 @@ all_found octets header pdu fits e =
     let b = bind_ok (checksum_at a.0) (from_flags octets a.0) target a.2 in
     let c = bind_ok (flags_at (get_or a.0 4 0)) (from_destination octets a.0 b.0) target b.2 in
     let d = bind_ok (address_at a.0 9) (from_source octets a.0 b.0 c.0) target c.2 in
-    let s = bind_ok (address_at a.0 (10 + length d.0)) (from_built octets a.0 b.0 c.0 d.0) target d.2 in
-    let left = length a.0 - (11 + length d.0 + length s.0) in
-    let u = bind_ok (built_at c.0 left) (λ nothing. from_body octets a.0 b.0 c.0 d.0 s.0) target s.2 in
-    let v = bind_ok (body_at octets (length a.0) c.0.report) (λ body. Ok (a.0, record { kind = c.0.kind; destination = d.0; source = s.0; lifetime = get_or a.0 3 0; checksum_used = b.0; report = c.0.report; body = body })) target u.2 in
-    let value : Pdu = record { kind = c.0.kind; destination = d.0; source = s.0; lifetime = get_or a.0 3 0; checksum_used = b.0; report = c.0.report; body = v.0 } in
+    let s = bind_ok (address_at a.0 (10 + length d.0)) (from_segment octets a.0 b.0 c.0 d.0) target d.2 in
+    let at = 11 + length d.0 + length s.0 in
+    let g = bind_ok (segment_at a.0 at c.0) (from_options octets a.0 b.0 c.0 d.0 s.0) target s.2 in
+    let o = bind_ok (options_at a.0 (at + segment_octets g.0) c.0) (from_body octets a.0 b.0 c.0 d.0 s.0 g.0) target g.2 in
+    let v = bind_ok (body_at octets (length a.0) c.0) (from_placed a.0 b.0 c.0 d.0 s.0 g.0 o.0) target o.2 in
+    let p = bind_ok (placed_at g.0 (length a.0 + length v.0) (at + 5) c.0.report) (λ nothing. Ok (a.0, made a.0 b.0 c.0 d.0 s.0 g.0 o.0 v.0)) target v.2 in
+    let value = made a.0 b.0 c.0 d.0 s.0 g.0 o.0 v.0 in
     let header_part = header_found octets a.0 a.1 in
-    let header_fits : AreOctets a.0 = let P : List ℕ → Type 0 = AreOctets in subst P (sym header_part.is) (AreOctets-take (get_or octets 1 0) octets fits) in
-    let built = built_found c.0 left u.0 u.1 in
-    let made : AllFound octets a.0 value = record {
+    let P : List ℕ → Type 0 = AreOctets in
+    let header_fits : AreOctets a.0 = subst P (sym header_part.is) (AreOctets-take (get_or octets 1 0) octets fits) in
+    let segment = segment_found a.0 at c.0 g.0 g.1 in
+    let body = body_found octets v.0 (length a.0) c.0 v.1 in
+    let len = length-body octets v.0 (length a.0) c.0.more body in
+    let Q : List Parameter → Type 0 = IsOptions c.0.kind (drop (at + segment_octets g.0) a.0) in
+    let found : AllFound octets a.0 value = record {
+      options = drop (at + segment_octets g.0) a.0;
       header_part = header_part;
       checksum_part = checksum_found a.0 b.0 (header_fits 7) (header_fits 8) b.1;
-      kind = built.kind;
-      flags_part = flags_part (get_or a.0 4 0) c.0 (header_fits 4) (flags_found (get_or a.0 4 0) c.0 c.1) built.kind built.whole;
+      flags_part = flags_part (get_or a.0 4 0) c.0 g.0 a.0 at (header_fits 4) (flags_found (get_or a.0 4 0) c.0 c.1) segment;
       destination_part = address_found a.0 d.0 9 d.1;
       source_part = address_found a.0 s.0 (10 + length d.0) s.1;
-      nothing = built.nothing;
+      segment_stand = segment_stands a.0 at c.0 g.0 header_fits segment;
+      options_part = subst Q (sym (parameters_again o.0)) (options_found a.0 (at + segment_octets g.0) c.0 o.0 o.1);
       lifetime = refl;
-      body_part = body_found octets v.0 (length a.0) c.0.report v.1;
+      more = c.0.more;
+      body_part = body;
+      segment_fits = segment_part_of g.0 a.0 at c.0 (length a.0 + length v.0) (length v.0) segment (placed_found g.0 (length a.0 + length v.0) (at + 5) c.0.report p.0 p.1)
+          (λ m. omega (arith, body.some m, len)) (λ m. ap (λ (n : ℕ). n % 8) len ∙ body.eights m);
     } in
-    subst (λ (q : List ℕ × Pdu). AllFound octets q.0 q.1) {x = (a.0, value)} {y = target} (ok_is (a.0, value) target v.2) made
-
--- the number in two octets gives them back
-two_octets_of : (higher lower : ℕ) → lower < 256 → (higher ≡ (higher * 256 + lower) / 256) × (lower ≡ (higher * 256 + lower) % 256)
-two_octets_of higher lower lt = (omega arith, omega arith)
+    subst (λ (q : List ℕ × Pdu). AllFound octets q.0 q.1) {x = (a.0, value)} {y = target} (ok_is (a.0, value) target p.2) found
 
 -- the fields stand at their places
-fields_stand : (octets header : List ℕ) (pdu : Pdu) (pdu_length : ℕ) → AreOctets octets → AllFound octets header pdu → number_at 5 octets ≡ pdu_length
-    → HasFields header pdu pdu_length (get_or header 7 0) (get_or header 8 0)
+fields_stand : (octets header : List ℕ) (pdu : Pdu) (pdu_length : ℕ) → AreOctets octets → (h : AllFound octets header pdu) → number_at 5 octets ≡ pdu_length
+    → HasFields header pdu (get_or header 4 0) pdu_length (get_or header 7 0) (get_or header 8 0) h.options
 fields_stand octets header pdu pdu_length fits h number-is =
     let len : length header ≡ get_or octets 1 0 = ap length h.header_part.is ∙ length-take-le (get_or octets 1 0) octets h.header_part.within in
     let at : (i : ℕ) → i < 13 → get_or header i 0 ≡ get_or octets i 0 =
     λ i lt. ap (λ (xs : List ℕ). get_or xs i 0) h.header_part.is ∙ get_or-take (get_or octets 1 0) octets i 0 (omega (arith, h.header_part.least)) in
     let parts = two_octets_of (get_or octets 5 0) (get_or octets 6 0) (fits 6) in
     let first : drop 9 header ≡ address pdu.destination ++ drop (10 + length pdu.destination) header = address_stands header pdu.destination 9 h.destination_part in
-    let second : drop (10 + length pdu.destination) header ≡ address pdu.source ++ drop (10 + length pdu.destination + 1 + length pdu.source) header =
-    address_stands header pdu.source (10 + length pdu.destination) h.source_part in
-    let nothing : drop (10 + length pdu.destination + 1 + length pdu.source) header ≡ [] = drop_all _ header (omega (arith, h.nothing)) in
+    let second : drop (10 + length pdu.destination) header ≡ address pdu.source ++ drop (11 + length pdu.destination + length pdu.source) header =
+    address_stands header pdu.source (10 + length pdu.destination) h.source_part ∙ ap (λ (n : ℕ). address pdu.source ++ drop n header) (omega arith) in
     record {
       identifier = at 0 (omega arith) ∙ h.header_part.identifier;
       indicator = at 1 (omega arith) ∙ sym len;
       version = at 2 (omega arith) ∙ h.header_part.version;
       lifetime = h.lifetime;
-      flags = h.flags_part ∙ ap (λ (k : PduKind). flags_octet k pdu.report) (sym h.kind);
+      flags_is = refl;
       higher = at 5 (omega arith) ∙ parts.0 ∙ ap (λ (n : ℕ). n / 256) number-is;
       lower = at 6 (omega arith) ∙ parts.1 ∙ ap (λ (n : ℕ). n % 256) number-is;
       first_is = refl;
       second_is = refl;
-      addresses = first ∙ ap (λ (xs : List ℕ). address pdu.destination ++ xs) (second ∙ ap (λ (xs : List ℕ). address pdu.source ++ xs) nothing ∙ append-nil (address pdu.source));
+      variable = first ∙ ap (λ (xs : List ℕ). address pdu.destination ++ xs) (second ∙ ap (λ (xs : List ℕ). address pdu.source ++ xs) h.segment_stand);
     }
 
 pub found : (octets header : List ℕ) (pdu : Pdu) → AreOctets octets → pdu_at octets ≡ Ok (header, pdu) → BeginsWith octets header pdu
@@ -111,29 +216,33 @@ found octets header pdu fits e =
     let header_is : header ≡ take (length header) octets = h.header_part.is ∙ ap (λ (n : ℕ). take n octets) (sym len) in
     let front = header ++ pdu.body in
     let rest = drop count octets in
-    let length-body : length pdu.body ≡ count - length header =
-    ap length body.is ∙ length-take-le (count - length header) (drop (length header) octets) (omega (arith, length-drop (length header) octets, body.most, body.least)) in
+    let body_length = length-body octets pdu.body (length header) h.more body in
     let length-front : length front ≡ count = length-append header pdu.body ∙ omega (arith, body.least) in
     let split : count ≡ length header + (count - length header) = omega (arith, body.least) in
     let front_is : front ≡ take count octets =
     ap (λ (xs : List ℕ). xs ++ pdu.body) header_is ∙ ap (λ (xs : List ℕ). take (length header) octets ++ xs) body.is
     ∙ sym (take-add (length header) (count - length header) octets) ∙ ap (λ (n : ℕ). take n octets) (sym split) in
-    let fields = fields_stand octets header pdu count fits h refl in
+    let fields = fields_stand octets header pdu (length front) fits h (sym length-front) in
     let most : count ≤ 65535 = omega (arith, fits 5, fits 6) in
+    let P : ℕ → Type 0 = λ n. MayBeSegment pdu.segment n (length pdu.body) in
     record {
       front = front;
       rest = rest;
       whole = sym (take-append-drop count octets) ∙ ap (λ (xs : List ℕ). xs ++ rest) (sym front_is);
       is_pdu = record {
         header = header;
+        options = h.options;
+        flags = get_or header 4 0;
         first = get_or header 7 0;
         second = get_or header 8 0;
         whole = refl;
-        parts = parts_of header pdu (length front) (get_or header 7 0) (get_or header 8 0) (omega (arith, h.header_part.least)) (let P : ℕ → Type 0 = λ n. HasFields header pdu n (get_or header 7 0) (get_or header 8 0) in subst P (sym length-front) fields);
-        kind = h.kind;
+        parts = parts_of header pdu (get_or header 4 0) (length front) (get_or header 7 0) (get_or header 8 0) h.options (omega (arith, h.header_part.least)) fields;
+        flags_part = h.flags_part;
+        checksum = h.checksum_part;
         destination = record { some = h.destination_part.some; most = h.destination_part.most };
         source = record { some = h.source_part.some; most = h.source_part.most };
-        checksum = h.checksum_part;
+        segment = subst P (sym (length-append header pdu.body)) h.segment_fits;
+        options_part = h.options_part;
         header_fits = omega (arith, h.header_part.most);
         pdu_fits = omega arith;
       };

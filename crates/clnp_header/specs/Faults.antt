@@ -1,12 +1,20 @@
 -- The faults of a PDU, in order (X.233, PDU header analysis and reasons for discard).
-use Rattle.std.specs.Prelude.{◌≡◌, ◌==◌, ◌&&◌, ◌||◌, not, ℕ, ◌+◌, ◌*◌, Bool, false, if◌then◌else◌, nat_le, List, [], ◌∷◌, length, take, slice_index, Option, Some, None, bit_and}
+use Rattle.std.specs.Prelude.{◌≡◌, ◌==◌, ◌&&◌, ◌||◌, not, ℕ, ◌+◌, ◌-◌, ◌*◌, ◌%◌, Bool, false, if◌then◌else◌, nat_le, nat_lt, List, [], ◌∷◌, length, take, drop, slice_index, Option, Some, None, bit_and}
 use Rattle.osi_base.specs.Fletcher.{is_sealed}
-use Rattle.clnp_header.specs.declared.fault.Fault.{Fault}
+use Rattle.clnp_options.specs.Faults.{options_fault}
+use Rattle.clnp_options.specs.declared.fault.Fault.{Fault}
+use Rattle.clnp_options.specs.declared.fault.PduKind.{PduKind}
+use Rattle.clnp_options.specs.declared.fault.PduKind.TheVariants.{Dt, Er}
 
 -- what must hold, and the reason, the place and whether a report is wanted where it does not
 abbrev pub must : Bool → ℕ → ℕ → Bool → Option Fault
 must holds reason place reportable =
     if holds then None else Some (record { reason = reason; place = place; reportable = reportable })
+
+-- a fault with a report that is wanted or not
+abbrev pub with_report : Bool → Option Fault → Option Fault
+with_report reportable None = None
+with_report reportable (Some fault) = Some (record fault { reportable = reportable })
 
 -- the earlier of two faults
 abbrev pub or_else : Option Fault → Option Fault → Option Fault
@@ -42,6 +50,9 @@ is_dt flags = bit_and flags 0x1f == 0x1c
 abbrev pub is_er : ℕ → Bool
 is_er flags = bit_and flags 0x1f == 0x01
 
+abbrev pub kind_of : ℕ → PduKind
+kind_of flags = if is_dt flags then Dt else Er
+
 -- a checksum that is not used, or has no octet 0 and holds
 abbrev pub is_checked : List ℕ → Bool
 is_checked header =
@@ -57,12 +68,25 @@ abbrev pub is_address_at : ℕ → List ℕ → Bool
 is_address_at at header =
     nat_le 1 (slice_index header at) && nat_le (slice_index header at) 20 && nat_le (at + 1 + slice_index header at) (length header)
 
+-- data that is some and a multiple of 8 octets
+abbrev pub is_eights : ℕ → ℕ → Bool
+is_eights header_length pdu_length = nat_lt header_length pdu_length && ((pdu_length - header_length) % 8 == 0)
+
+-- the end of a PDU in the initial PDU: before its end where more segments follow, and else at its end
+abbrev pub is_placed : Bool → ℕ → ℕ → Bool
+is_placed more end total = if more then nat_lt end total else end == total
+
 -- the steps in order, for octets with this header. A position counts from 0, a place from 1
 abbrev pub steps : List ℕ → List ℕ → List (Option Fault)
 steps octets header =
     let flags = slice_index header 4 in
+    let segmented = is_segmented flags in
+    let more = is_dt flags && has_more flags in
+    let report = is_dt flags && wants_report flags in
+    let whole = number_at 5 octets in
     let source = 10 + slice_index header 9 in
-    let end = source + 1 + slice_index header source in
+    let segment = source + 1 + slice_index header source in
+    let options = segment + (if segmented then 6 else 0) in
     must (nat_le 9 (length octets)) 0x06 0 false
     ∷ must (slice_index octets 0 == 0x81) 0x04 1 false
     ∷ must (nat_le 13 (slice_index octets 1) && nat_le (slice_index octets 1) 254) 0x04 2 false
@@ -72,9 +96,13 @@ steps octets header =
     ∷ must (are_flags flags) 0x04 5 false
     ∷ must (is_address_at 9 header) 0x04 10 false
     ∷ must (is_address_at source header) 0x04 (source + 1) false
-    ∷ must (is_dt flags && not (is_segmented flags) && nat_le (length header) end) 0x00 0 false
-    ∷ must (nat_le (length header) (number_at 5 octets)) 0x04 6 (wants_report flags)
-    ∷ must (nat_le (number_at 5 octets) (length octets)) 0x06 6 (wants_report flags)
+    ∷ must (not segmented || nat_le (segment + 6) (length header)) 0x04 (segment + 1) report
+    ∷ must (not segmented || (number_at (segment + 2) header % 8 == 0)) 0x04 (segment + 3) report
+    ∷ with_report report (options_fault (kind_of flags) (options + 1) (drop options header))
+    ∷ must (nat_le (length header) whole) 0x04 6 report
+    ∷ must (nat_le whole (length octets)) 0x06 6 report
+    ∷ must (not more || is_eights (length header) whole) 0x04 6 report
+    ∷ must (not segmented || is_placed more (number_at (segment + 2) header + whole) (number_at (segment + 4) header)) 0x04 (segment + 5) report
     ∷ []
 
 -- the first failing step, where the header is as long as its second octet says

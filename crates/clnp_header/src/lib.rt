@@ -1,17 +1,17 @@
 //! PDUs of the connectionless network protocol, read and written (X.233, structure and encoding of PDUs).
-//!
-//! Profile: a PDU has no segmentation part and no options, and its type is DT.
 #![tactic(auto)]
 
 mod fault;
 mod laws;
+mod lifetime;
 mod pdu;
 mod reading;
 mod writing;
 
-pub use fault::Fault;
-pub use laws::{no_fault, one_spelling, one_value};
-pub use pdu::{Pdu, PduKind, PduRef};
+pub use clnp_options::{Fault, PduKind};
+pub use laws::{no_fault, one_front, one_spelling, one_value};
+pub use lifetime::lower_lifetime;
+pub use pdu::{OwnOpt, Pdu, PduRef, SegmentPart};
 pub use reading::read_pdu;
 pub use writing::write_pdu;
 

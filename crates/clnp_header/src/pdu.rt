@@ -1,15 +1,29 @@
 //! A PDU of the connectionless network protocol (X.233, structure of PDUs).
 
+use clnp_options::{OptionsRef, PduKind};
 use nsap::Nsap;
-use osi_base::Bytes;
+use osi_base::{Bytes, Items};
 
-/// The type of a PDU.
+/// The segmentation part of a PDU.
 #[derive(Clone, Copy, Debug, PartialEq, Eq)]
-pub enum PduKind {
-    /// A DT PDU, which carries data.
-    Dt,
-    /// An ER PDU, which reports why a PDU was discarded.
-    Er,
+pub struct SegmentPart {
+    /// The data unit identifier, the same in all segments of an initial PDU.
+    pub id: u16,
+    /// The position of the data in that of the initial PDU, in octets.
+    pub offset: u16,
+    /// The octets of the initial PDU, header and data.
+    pub total: u16,
+    /// Whether more segments follow.
+    pub more: bool,
+}
+
+/// An option that a value owns.
+#[derive(Debug, Drop, PartialEq, Eq)]
+pub struct OwnOpt {
+    /// The parameter code.
+    pub code: u8,
+    /// The parameter value.
+    pub value: Bytes,
 }
 
 /// A PDU over the octets that it was read from.
@@ -27,6 +41,10 @@ pub struct PduRef<'a> {
     pub checksum_used: bool,
     /// Whether the source wants an error report.
     pub report: bool,
+    /// The segmentation part, where segmentation is permitted.
+    pub segment: Option<SegmentPart>,
+    /// The options.
+    pub options: OptionsRef<'a>,
     /// The whole header.
     pub header: &'a [u8],
     /// The data.
@@ -48,6 +66,10 @@ pub struct Pdu {
     pub checksum_used: bool,
     /// Whether the source wants an error report.
     pub report: bool,
+    /// The segmentation part, where segmentation is permitted.
+    pub segment: Option<SegmentPart>,
+    /// The options.
+    pub options: Items<OwnOpt>,
     /// The data.
     pub body: Bytes,
 }
@@ -78,6 +100,9 @@ pub const ER: u8 = 0x01;
 
 /// The octets of the fixed part.
 pub const FIXED_PART: usize = 9;
+
+/// The octets of a segmentation part.
+pub const SEGMENTATION_PART: usize = 6;
 
 /// The position of the checksum.
 pub const CHECKSUM: usize = 7;

@@ -1,27 +1,41 @@
 //! Reading a PDU, with its first fault (X.233, structure of PDUs).
 
 ghost use Rattle.std.specs.Prelude.{◌≡◌, ◌+◌, ◌<◌, ◌≤◌, ◌++◌, ℕ, List, length, IfOk, IfErr, IsOkAnd, IfSome};
+ghost use Rattle.clnp_options.specs.Listed.{listed};
 ghost use Rattle.clnp_header.specs.declared.pdu.Pdu.{Pdu};
-ghost use Rattle.clnp_header.specs.Faults.{PduFault};
+ghost use Rattle.clnp_header.specs.Faults.{PduFault, number_at};
 ghost use Rattle.clnp_header.specs.Grammar.{value_of, IsPdu, BeginsWith};
-ghost use Rattle.clnp_header.specs.Reading.{Gives, header_at, checksum_at, flags_at, address_in as address_in_front, address_at as address_read, built_at, body_at, pdu_at};
+ghost use Rattle.clnp_header.specs.Reading.{Gives, header_at, checksum_at, flags_at, address_in as address_in_front, address_at as address_read, segment_at as segment_read, segment_octets as octets_of_segment, options_at as options_read, body_at, placed_at, pdu_at};
 
-use crate::fault::{
-    BAD_CHECKSUM, Fault, HEADER_SYNTAX, INCOMPLETE, OTHER_VERSION, UNSPECIFIED, unreported,
-};
+use crate::fault::{BAD_CHECKSUM, INCOMPLETE, OTHER_VERSION, early};
 use crate::pdu::{
-    CHECKSUM, DT, ER, ERROR_REPORT, FIXED_PART, LONGEST_HEADER, MORE_SEGMENTS, PROTOCOL, PduKind,
-    PduRef, SEGMENTATION_PERMITTED, SHORTEST_HEADER, TYPE_BITS, VERSION,
+    CHECKSUM, DT, ER, ERROR_REPORT, FIXED_PART, LONGEST_HEADER, MORE_SEGMENTS, PROTOCOL, PduRef,
+    SEGMENTATION_PART, SEGMENTATION_PERMITTED, SHORTEST_HEADER, SegmentPart, TYPE_BITS, VERSION,
 };
+use clnp_options::{Fault, HEADER_SYNTAX, OptionsRef, PduKind, read_options};
 use nsap::Nsap;
 use osi_base::fletcher_ok;
 
-/// What the flags and the type of the fixed part say.
+/// What the flags and the type of the fixed part say. In an ER PDU none of the flags is set.
 #[derive(Clone, Copy)]
 struct Flags {
     kind: PduKind,
     segmented: bool,
+    more: bool,
     report: bool,
+}
+
+impl Flags {
+    /// A fault behind the addresses, of which the source may want a report.
+    fn fault(self, reason: u8, place: u8) -> Fault
+        ensures { result ≡ record { reason = reason; place = place; reportable = self.report } }
+    {
+        Fault {
+            reason,
+            place,
+            reportable: self.report,
+        }
+    }
 }
 
 /// The PDU at the front of the octets; octets past its segment length are ignored.
@@ -49,9 +63,12 @@ fn read(octets: &[u8]) -> Result<PduRef<'_>, Fault>
     let destination = address_at(header, FIXED_PART)?;
     let source_at = FIXED_PART + 1 + destination.octets().len();
     let source = address_at(header, source_at)?;
-    let end = source_at + 1 + source.octets().len();
-    check_built(flags, header.len() - end)?;
-    let body = body_of(octets, header.len(), flags.report)?;
+    let start = source_at + 1 + source.octets().len();
+    let segment = segment_at(header, start, flags)?;
+    let options = options_at(header, start + segment_octets(&segment), flags)?;
+    let body = body_of(octets, header.len(), flags)?;
+    let whole = header.len() + body.len();
+    check_placed(&segment, whole, start as u8 + 5, flags.report)?;
     Ok(PduRef {
         kind: flags.kind,
         destination,
@@ -59,6 +76,8 @@ fn read(octets: &[u8]) -> Result<PduRef<'_>, Fault>
         lifetime: header[3],
         checksum_used,
         report: flags.report,
+        segment,
+        options,
         header,
         body,
     })
@@ -71,20 +90,20 @@ fn header_of(octets: &[u8]) -> Result<&[u8], Fault>
     ensures length { IfOk result (λ header. (13 ≤ length header.now) × (length header.now ≤ 254) × (length header.now ≤ length octets.now)) }
 {
     if octets.len() < FIXED_PART {
-        return Err(unreported(INCOMPLETE, 0));
+        return Err(early(INCOMPLETE, 0));
     }
     if octets[0] != PROTOCOL {
-        return Err(unreported(HEADER_SYNTAX, 1));
+        return Err(early(HEADER_SYNTAX, 1));
     }
     let length = usize::from(octets[1]);
     if length < SHORTEST_HEADER || length > LONGEST_HEADER {
-        return Err(unreported(HEADER_SYNTAX, 2));
+        return Err(early(HEADER_SYNTAX, 2));
     }
     if length > octets.len() {
-        return Err(unreported(INCOMPLETE, 2));
+        return Err(early(INCOMPLETE, 2));
     }
     if octets[2] != VERSION {
-        return Err(unreported(OTHER_VERSION, 3));
+        return Err(early(OTHER_VERSION, 3));
     }
     Ok(&octets[..length])
 }
@@ -101,7 +120,7 @@ fn checksum_of(header: &[u8]) -> Result<bool, Fault>
         return Ok(false);
     }
     if first == 0 || second == 0 || !fletcher_ok(header) {
-        return Err(unreported(BAD_CHECKSUM, 8));
+        return Err(early(BAD_CHECKSUM, 8));
     }
     Ok(true)
 }
@@ -119,6 +138,7 @@ fn flags_of(octet: u8) -> Result<Flags, Fault>
         return Ok(Flags {
             kind: PduKind::Dt,
             segmented,
+            more,
             report,
         });
     }
@@ -126,10 +146,11 @@ fn flags_of(octet: u8) -> Result<Flags, Fault>
         return Ok(Flags {
             kind: PduKind::Er,
             segmented,
+            more: false,
             report: false,
         });
     }
-    Err(unreported(HEADER_SYNTAX, 5))
+    Err(early(HEADER_SYNTAX, 5))
 }
 
 /// The address whose length stands at the position.
@@ -140,7 +161,7 @@ fn address_at(header: &[u8], at: usize) -> Result<Nsap, Fault>
     ensures value { result ≡ address_read header.now at }
     ensures length { IfOk result (λ address. at + 1 + length address ≤ length header.now) }
 {
-    let fault = unreported(HEADER_SYNTAX, at as u8 + 1);
+    let fault = early(HEADER_SYNTAX, at as u8 + 1);
     address_in(&header[at..]).ok_or(fault)
 }
 
@@ -156,38 +177,107 @@ fn address_in(octets: &[u8]) -> Option<Nsap>
     Nsap::of(rest.get(..usize::from(*length))?)
 }
 
-/// What is not read is refused: a segmentation part, an ER PDU, octets behind the addresses.
-#[tactic(auto, unfolding(crate::specs::Reading::built_at))]
-fn check_built(flags: Flags, left: usize) -> Result<(), Fault>
-    ensures { result ≡ built_at flags left }
+/// The segmentation part at the position, where segmentation is permitted.
+#[tactic(auto, unfolding(crate::specs::Reading::segment_at))]
+fn segment_at(header: &[u8], at: usize, flags: Flags) -> Result<Option<SegmentPart>, Fault>
+    requires inside { at ≤ length header.now }
+    requires short { length header.now ≤ 254 }
+    ensures value { result ≡ segment_read header.now at flags }
+    ensures length { IfOk result (λ segment. at + octets_of_segment segment ≤ length header.now) }
 {
-    match flags.kind {
-        PduKind::Dt if !flags.segmented && left == 0 => Ok(()),
-        PduKind::Dt | PduKind::Er => Err(unreported(UNSPECIFIED, 0)),
+    if !flags.segmented {
+        return Ok(None);
+    }
+    if at + SEGMENTATION_PART > header.len() {
+        return Err(flags.fault(HEADER_SYNTAX, at as u8 + 1));
+    }
+    let offset = number_in(header, at + 2);
+    if offset % 8 != 0 {
+        return Err(flags.fault(HEADER_SYNTAX, at as u8 + 3));
+    }
+    Ok(Some(SegmentPart {
+        id: number_in(header, at),
+        offset,
+        total: number_in(header, at + 4),
+        more: flags.more,
+    }))
+}
+
+/// The number in the two octets at the position, the higher one first.
+fn number_in(octets: &[u8], at: usize) -> u16
+    requires { at + 2 ≤ length octets.now }
+    ensures { result ≡ number_at at octets.now }
+{
+    u16::from_be_bytes([octets[at], octets[at + 1]])
+}
+
+/// How many octets the segmentation part has.
+pub fn segment_octets(segment: &Option<SegmentPart>) -> usize
+    ensures { result ≡ octets_of_segment segment.now }
+{
+    match segment {
+        None => 0,
+        Some(_) => SEGMENTATION_PART,
     }
 }
 
-/// The data, by the segment length.
+/// The options, which end the header.
+fn options_at(header: &[u8], at: usize, flags: Flags) -> Result<OptionsRef<'_>, Fault>
+    requires inside { at ≤ length header.now }
+    requires short { length header.now ≤ 254 }
+    ensures { Gives listed result (options_read header.now at flags) }
+{
+    match read_options(&header[at..], flags.kind, at as u8 + 1) {
+        Ok(options) => Ok(options),
+        Err(fault) => Err(flags.fault(fault.reason, fault.place)),
+    }
+}
+
+/// The data, by the segment length. Where more segments follow it is some, and a multiple of 8 octets.
 #[tactic(auto, unfolding(crate::specs::Reading::body_at))]
-fn body_of(octets: &[u8], header: usize, report: bool) -> Result<&[u8], Fault>
+fn body_of(octets: &[u8], header: usize, flags: Flags) -> Result<&[u8], Fault>
     requires least { 9 ≤ header }
     requires inside { header ≤ length octets.now }
-    ensures { Gives (λ body. body.now) result (body_at octets.now header report) }
+    ensures value { Gives (λ body. body.now) result (body_at octets.now header flags) }
+    ensures short { IfOk result (λ body. header + length body.now ≤ 65535) }
 {
-    let whole = usize::from(u16::from_be_bytes([octets[5], octets[6]]));
+    let whole = usize::from(number_in(octets, 5));
     if whole < header {
-        return Err(Fault {
-            reason: HEADER_SYNTAX,
-            place: 6,
-            reportable: report,
-        });
+        return Err(flags.fault(HEADER_SYNTAX, 6));
     }
     if whole > octets.len() {
-        return Err(Fault {
-            reason: INCOMPLETE,
-            place: 6,
-            reportable: report,
-        });
+        return Err(flags.fault(INCOMPLETE, 6));
+    }
+    if flags.more && (whole <= header || (whole - header) % 8 != 0) {
+        return Err(flags.fault(HEADER_SYNTAX, 6));
     }
     Ok(&octets[header..whole])
+}
+
+/// A segment ends before the end of the initial PDU where more follow, and else at its end.
+#[tactic(auto, unfolding(crate::specs::Reading::placed_at))]
+fn check_placed(
+    segment: &Option<SegmentPart>,
+    whole: usize,
+    place: u8,
+    report: bool,
+) -> Result<(), Fault>
+    requires { whole ≤ 65535 }
+    ensures { result ≡ placed_at segment.now whole place report }
+{
+    let Some(part) = segment else {
+        return Ok(());
+    };
+    let end = usize::from(part.offset) + whole;
+    let total = usize::from(part.total);
+    let placed = if part.more { end < total } else { end == total };
+    if placed {
+        Ok(())
+    } else {
+        Err(Fault {
+            reason: HEADER_SYNTAX,
+            place,
+            reportable: report,
+        })
+    }
 }

@@ -1,6 +1,7 @@
 use super::*;
 use nsap::Nsap;
-use osi_base::Bytes;
+use osi_base::{Bytes, Items};
+use std::alloc::Global;
 use std::test::Fail;
 
 /// A DT PDU from 490a02 to 490b02 with the data `hello`.
@@ -9,16 +10,18 @@ const HELLO: [u8; 22] = [
     0x02, 0x68, 0x65, 0x6c, 0x6c, 0x6f,
 ];
 
-/// The octets with one of them changed, and both octets of the checksum 0.
-fn unsealed(at: usize, octet: u8) -> [u8; 22] {
-    let mut octets = HELLO;
-    octets[7] = 0;
-    octets[8] = 0;
-    if let Some(place) = octets.get_mut(at) {
-        *place = octet;
-    }
-    octets
-}
+/// The last segment of a DT PDU that wants a report, with a priority and eight octets from position 8 on.
+const SEGMENT: [u8; 34] = [
+    0x81, 0x1a, 0x01, 0x20, 0xbc, 0x00, 0x22, 0x00, 0x00, 0x03, 0x49, 0x0b, 0x02, 0x03, 0x49, 0x0a,
+    0x02, 0x00, 0x07, 0x00, 0x08, 0x00, 0x2a, 0xcd, 0x01, 0x05, 0x61, 0x62, 0x63, 0x64, 0x65, 0x66,
+    0x67, 0x68,
+];
+
+/// An ER PDU about a lifetime that ran out, without data.
+const REPORT: [u8; 21] = [
+    0x81, 0x15, 0x01, 0x20, 0x01, 0x00, 0x15, 0x00, 0x00, 0x03, 0x49, 0x0b, 0x02, 0x03, 0x49, 0x0a,
+    0x02, 0xc1, 0x02, 0xa0, 0x04,
+];
 
 /// The fault of the octets, where they are no PDU.
 fn fault_of(octets: &[u8]) -> Option<Fault> {
@@ -28,111 +31,215 @@ fn fault_of(octets: &[u8]) -> Option<Fault> {
     }
 }
 
+/// The fault of the segment with some of its octets changed.
+fn fault_with(changes: &[(usize, u8)]) -> Option<Fault> {
+    let mut octets = SEGMENT;
+    for (at, octet) in changes {
+        if let Some(place) = octets.get_mut(*at) {
+            *place = *octet;
+        }
+    }
+    fault_of(&octets)
+}
+
+/// The fault with this reason and place.
+fn fault(reason: u8, place: u8, reportable: bool) -> Option<Fault> {
+    Some(Fault {
+        reason,
+        place,
+        reportable,
+    })
+}
+
+/// The address of these octets.
+fn address(octets: &[u8]) -> Result<Nsap, Fail> {
+    match Nsap::of(octets) {
+        Some(address) => Ok(address),
+        None => Err(Fail::from("an address")),
+    }
+}
+
+/// A PDU from 490a02 to 490b02 without a checksum, with one option or none.
+fn pdu(alloc: Global, kind: PduKind, options: &[(u8, &[u8])], body: &[u8]) -> Result<Pdu, Fail> {
+    let mut list = Vec::new(alloc);
+    for (code, value) in options {
+        let value = Bytes::of(Vec::from_slice(alloc, value)?);
+        list.push(OwnOpt { code: *code, value })?;
+    }
+    Ok(Pdu {
+        kind,
+        destination: address(&[0x49, 0x0b, 0x02])?,
+        source: address(&[0x49, 0x0a, 0x02])?,
+        lifetime: 32,
+        checksum_used: false,
+        report: false,
+        segment: None,
+        options: Items::of(list),
+        body: Bytes::of(Vec::from_slice(alloc, body)?),
+    })
+}
+
 #[test]
 fn a_pdu_reads_and_is_written_again(rt: HostRuntime) -> Result<(), Fail> {
-    let Ok(pdu) = read_pdu(&HELLO) else {
+    let Ok(read) = read_pdu(&HELLO) else {
         return Err(Fail::from("the octets are a PDU"));
     };
-    assert_eq!(rt; pdu.body, b"hello".as_slice());
-    assert_eq!(rt; pdu.destination.octets(), [0x49, 0x0b, 0x02].as_slice());
-    assert_eq!(rt; pdu.source.octets(), [0x49, 0x0a, 0x02].as_slice());
-    assert_eq!(rt; pdu.lifetime, 32);
-    assert!(rt; pdu.checksum_used);
-    assert!(rt; !pdu.report);
-    assert_eq!(rt; pdu.header.len(), 17);
-    let body = Bytes::of(Vec::from_slice(rt.alloc(), b"hello")?);
-    let owned = Pdu {
-        kind: pdu.kind,
-        destination: pdu.destination,
-        source: pdu.source,
-        lifetime: pdu.lifetime,
-        checksum_used: pdu.checksum_used,
-        report: pdu.report,
-        body,
-    };
+    assert_eq!(rt; read.body, b"hello".as_slice());
+    assert_eq!(rt; read.destination.octets(), [0x49, 0x0b, 0x02].as_slice());
+    assert_eq!(rt; read.source.octets(), [0x49, 0x0a, 0x02].as_slice());
+    assert_eq!(rt; read.lifetime, 32);
+    assert!(rt; read.checksum_used);
+    assert!(rt; !read.report);
+    assert_eq!(rt; read.header.len(), 17);
+    let mut owned = pdu(rt.alloc(), PduKind::Dt, &[], b"hello")?;
+    owned.checksum_used = true;
     let octets = write_pdu(rt.alloc(), &owned)?;
     assert_eq!(rt; octets.as_slice(), HELLO.as_slice());
     Ok(())
 }
 
 #[test]
-fn a_checksum_of_zeros_is_unused(rt: HostRuntime) -> Result<(), Fail> {
-    let octets = unsealed(3, 0x20);
-    assert!(rt; matches!(read_pdu(&octets), Ok(pdu) if !pdu.checksum_used));
-    let mut octets = HELLO;
-    octets[7] = 0;
-    let fault = fault_of(&octets).ok_or("one octet is 0")?;
+fn a_segment_with_an_option_reads_and_is_written_again(rt: HostRuntime) -> Result<(), Fail> {
+    let part = SegmentPart {
+        id: 7,
+        offset: 8,
+        total: 42,
+        more: false,
+    };
+    let Ok(read) = read_pdu(&SEGMENT) else {
+        return Err(Fail::from("the octets are a PDU"));
+    };
+    assert_eq!(rt; read.segment, Some(part));
     assert_eq!(rt;
-        fault,
-        Fault {
-            reason: 0x02,
-            place: 8,
-            reportable: false
-        }
+        clnp_options::get(&read.options, 0xcd),
+        Some([0x05].as_slice())
     );
+    assert_eq!(rt; read.body, b"abcdefgh".as_slice());
+    assert!(rt; read.report);
+    let mut owned = pdu(rt.alloc(), PduKind::Dt, &[(0xcd, &[0x05])], b"abcdefgh")?;
+    owned.report = true;
+    owned.segment = Some(part);
+    let octets = write_pdu(rt.alloc(), &owned)?;
+    assert_eq!(rt; octets.as_slice(), SEGMENT.as_slice());
     Ok(())
 }
 
 #[test]
-fn the_first_fault_answers(rt: HostRuntime) -> Result<(), Fail> {
-    for (at, octet, reason, place) in [
-        (0, 0x82, 0x04, 1),
-        (1, 12, 0x04, 2),
-        (1, 255, 0x04, 2),
-        (1, 23, 0x06, 2),
-        (2, 2, 0xb1, 3),
-        (7, 1, 0x02, 8),
-        (4, 0x5c, 0x04, 5),
-        (4, 0x1d, 0x04, 5),
-        (4, 0x81, 0x04, 5),
-        (9, 0, 0x04, 10),
-        (9, 21, 0x04, 10),
-        (9, 7, 0x04, 18),
-        (9, 8, 0x04, 10),
-        (13, 0, 0x04, 14),
-        (13, 4, 0x04, 14),
-        (13, 2, 0x00, 0),
-        (4, 0x9c, 0x00, 0),
-        (4, 0xdc, 0x00, 0),
-        (4, 0x61, 0x00, 0),
-        (6, 16, 0x04, 6),
-        (6, 23, 0x06, 6),
-    ] {
-        let fault = fault_of(&unsealed(at, octet)).ok_or("a fault")?;
-        assert_eq!(rt;
-            fault,
-            Fault {
-                reason,
-                place,
-                reportable: false
-            },
-            "octet {octet} at {at}"
+fn a_report_reads_without_its_flags_and_is_written_without(rt: HostRuntime) -> Result<(), Fail> {
+    for flags in [0x01, 0x21, 0x41, 0x61] {
+        let mut octets = REPORT;
+        octets[4] = flags;
+        assert!(rt;
+            matches!(read_pdu(&octets), Ok(read) if read.kind == PduKind::Er && !read.report)
         );
     }
+    let owned = pdu(rt.alloc(), PduKind::Er, &[(0xc1, &[0xa0, 0x04])], b"")?;
+    let octets = write_pdu(rt.alloc(), &owned)?;
+    assert_eq!(rt; octets.as_slice(), REPORT.as_slice());
+    let mut bare = REPORT;
+    bare[1] = 17;
+    assert_eq!(rt; fault_of(&bare), fault(0x04, 0, false));
     Ok(())
 }
 
 #[test]
-fn only_a_late_fault_is_reportable(rt: HostRuntime) -> Result<(), Fail> {
-    let mut octets = unsealed(4, 0x3c);
-    octets[6] = 23;
-    let fault = fault_of(&octets).ok_or("too long")?;
-    assert_eq!(rt;
-        fault,
-        Fault {
-            reason: 0x06,
-            place: 6,
-            reportable: true
-        }
-    );
-    let fault = fault_of(&octets[..8]).ok_or("too short")?;
-    assert_eq!(rt;
-        fault,
-        Fault {
-            reason: 0x06,
-            place: 0,
-            reportable: false
-        }
-    );
-    Ok(())
+fn a_checksum_of_zeros_is_unused(rt: HostRuntime) {
+    let mut octets = HELLO;
+    octets[7] = 0;
+    assert_eq!(rt; fault_of(&octets), fault(0x02, 8, false));
+    octets[8] = 0;
+    assert!(rt; matches!(read_pdu(&octets), Ok(read) if !read.checksum_used));
+}
+
+#[test]
+fn each_step_fails_where_no_earlier_one_does(rt: HostRuntime) {
+    assert_eq!(rt; fault_of(&SEGMENT[..8]), fault(0x06, 0, false));
+    let changes: [(&[(usize, u8)], u8, u8, bool); 25] = [
+        (&[(0, 0x80)], 0x04, 1, false),
+        (&[(1, 12)], 0x04, 2, false),
+        (&[(1, 255)], 0x04, 2, false),
+        (&[(1, 35)], 0x06, 2, false),
+        (&[(2, 2)], 0xb1, 3, false),
+        (&[(7, 1)], 0x02, 8, false),
+        (&[(7, 1), (8, 1)], 0x02, 8, false),
+        (&[(4, 0xbd)], 0x04, 5, false),
+        (&[(4, 0x5c)], 0x04, 5, false),
+        (&[(4, 0x81)], 0x04, 5, false),
+        (&[(9, 0)], 0x04, 10, false),
+        (&[(9, 17)], 0x04, 10, false),
+        (&[(9, 16)], 0x04, 27, false),
+        (&[(13, 0)], 0x04, 14, false),
+        (&[(13, 13)], 0x04, 14, false),
+        (&[(1, 22)], 0x04, 18, true),
+        (&[(20, 9)], 0x04, 20, true),
+        (&[(23, 0x99)], 0xb0, 24, true),
+        (&[(24, 2)], 0x04, 24, true),
+        (&[(6, 25)], 0x04, 6, true),
+        (&[(6, 35)], 0x06, 6, true),
+        (&[(4, 0xfc), (6, 33), (22, 43)], 0x04, 6, true),
+        (&[(4, 0xfc), (6, 26), (22, 43)], 0x04, 6, true),
+        (&[(4, 0xfc)], 0x04, 22, true),
+        (&[(4, 0x9c), (22, 43)], 0x04, 22, false),
+    ];
+    for (change, reason, place, reportable) in changes {
+        assert_eq!(rt;
+            fault_with(change),
+            fault(reason, place, reportable),
+            "{change:?}"
+        );
+    }
+}
+
+#[test]
+fn of_two_steps_that_fail_the_earlier_answers(rt: HostRuntime) {
+    let mut short = SEGMENT;
+    short[0] = 0x80;
+    assert_eq!(rt; fault_of(&short[..8]), fault(0x06, 0, false));
+    let changes: [(&[(usize, u8)], u8, u8, bool); 13] = [
+        (&[(0, 0x80), (1, 12)], 0x04, 1, false),
+        (&[(1, 255)], 0x04, 2, false),
+        (&[(1, 35), (2, 2)], 0x06, 2, false),
+        (&[(2, 2), (7, 1)], 0xb1, 3, false),
+        (&[(7, 1), (4, 0xbd)], 0x02, 8, false),
+        (&[(4, 0xbd), (9, 0)], 0x04, 5, false),
+        (&[(9, 0), (13, 0)], 0x04, 10, false),
+        (&[(13, 0), (1, 22)], 0x04, 14, false),
+        (&[(1, 22), (20, 9)], 0x04, 18, true),
+        (&[(20, 9), (23, 0x99)], 0x04, 20, true),
+        (&[(23, 0x99), (6, 25)], 0xb0, 24, true),
+        (&[(4, 0xfc), (6, 35)], 0x06, 6, true),
+        (&[(4, 0xfc), (6, 33), (22, 1)], 0x04, 6, true),
+    ];
+    for (change, reason, place, reportable) in changes {
+        assert_eq!(rt;
+            fault_with(change),
+            fault(reason, place, reportable),
+            "{change:?}"
+        );
+    }
+}
+
+/// Lowers the lifetime, where the octets are a PDU that has as much.
+fn lower(octets: &mut [u8], by: u8) -> bool {
+    let Ok(read) = read_pdu(octets) else {
+        return false;
+    };
+    if read.lifetime < by {
+        return false;
+    }
+    lower_lifetime(octets, by);
+    true
+}
+
+#[test]
+fn a_lowered_lifetime_keeps_the_pdu(rt: HostRuntime) {
+    let mut hello = HELLO;
+    assert!(rt; !lower(&mut hello, 33));
+    assert!(rt; lower(&mut hello, 5));
+    assert!(rt; matches!(read_pdu(&hello), Ok(read) if read.lifetime == 27 && read.checksum_used));
+    let mut segment = SEGMENT;
+    assert!(rt; lower(&mut segment, 32));
+    let mut wanted = SEGMENT;
+    wanted[3] = 0;
+    assert_eq!(rt; segment, wanted);
 }

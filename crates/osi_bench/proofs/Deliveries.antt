@@ -9,7 +9,10 @@ use Rattle.std.proofs.lemmas.List.{append-nil}
 use Rattle.nsap.specs.Address.{selector_of, system_part, is_same_system}
 use Rattle.nsap.specs.declared.port.Port.{Port}
 use Rattle.nsap.proofs.AddressLemmas.{system_part-append, is_same_system-Decides}
+use Rattle.clnp_options.specs.declared.fault.PduKind.{PduKind}
+use Rattle.clnp_options.specs.declared.fault.PduKind.TheVariants.{Dt, Er}
 use Rattle.clnp_header.specs.declared.pdu.Pdu.{Pdu}
+use Rattle.clnp_header.specs.declared.pdu.SegmentPart.{SegmentPart}
 use Rattle.clnp_header.specs.Grammar.{BeginsWith}
 use Rattle.osi_bench.specs.declared.event.Event.{Event}
 use Rattle.osi_bench.specs.declared.event.Event.TheVariants as events
@@ -18,9 +21,9 @@ use Rattle.osi_bench.specs.declared.lan.Frame.{Frame}
 use Rattle.osi_bench.specs.declared.lan.Picked.{Picked}
 use Rattle.osi_bench.specs.declared.lan.Picked.TheVariants.{Taken, NoSuch, Late, NotThere, NotOurs}
 use Rattle.osi_bench.specs.World.{Station, Network, initial_lifetime, raw_address, unit_pdu, frame_of, bound_of, delivery}
-use Rattle.osi_bench.specs.Steps.{Receives, Takes, Delivers}
+use Rattle.osi_bench.specs.Steps.{shown, handed_up, Receives, Takes, Delivers}
 use Rattle.osi_bench.specs.Lawful.{clock_from, tick_after, titles_of, WasSent}
-use Rattle.osi_bench.specs.OneRun.{HeaderLaws, one_front}
+use Rattle.osi_bench.specs.OneRun.{HeaderLaws}
 use Rattle.osi_bench.proofs.Journals.{clock_from-append, IsOther, no_unit}
 use Rattle.osi_bench.proofs.Standing.{FrameSent, Standing, NewSent, none_new, goes_on, along, stays, quiet, title_stands}
 
@@ -38,39 +41,77 @@ one_unit system at source body from octets (event ∷ before) after is =
     let tail : [] ≡ before ++ events.Unit at from octets ∷ after = cc in
     absurd (no_unit [] before after at from octets tt tail)
 
--- what a system does, by its four tests
-abbrev chosen : ℕ → List ℕ → List ℕ → Bool → Bool → Bool → Bool → List Event
-chosen system source body same late raw transport =
-    if not same then events.Discard system 128 0 ∷ []
-    else if late then events.Discard system 160 4 ∷ []
-    else if raw then events.Unit system source body ∷ []
+-- the unit that is shown, if one is
+abbrev IsShown : ℕ → List ℕ → List ℕ → List Event → ℕ → List ℕ → List ℕ → Type 0
+IsShown system source body before at from octets = (before ≡ []) × (at ≡ system) × (from ≡ source) × (octets ≡ body)
+
+shown_units : (system : ℕ) (source body : List ℕ) (segment : Option SegmentPart) (before after : List Event) (at : ℕ) (from octets : List ℕ)
+    → shown system source body segment ≡ before ++ events.Unit at from octets ∷ after → IsShown system source body before at from octets
+shown_units system source body None before after at from octets is = one_unit system at source body from octets before after is
+shown_units system source body (Some part) before after at from octets is = absurd (no_unit [] before after at from octets tt is)
+
+-- what a system does with a DT, by the tests of its selector
+abbrev selected : ℕ → List ℕ → List ℕ → Option SegmentPart → Bool → Bool → List Event
+selected system source body segment raw transport =
+    if raw then shown system source body segment
     else if transport then []
     else events.Discard system 129 0 ∷ []
 
+selected_units : (system : ℕ) (source body : List ℕ) (segment : Option SegmentPart) (raw transport : Bool) (before after : List Event) (at : ℕ) (from octets : List ℕ)
+    → selected system source body segment raw transport ≡ before ++ events.Unit at from octets ∷ after → IsShown system source body before at from octets
+selected_units system source body segment true transport before after at from octets is = shown_units system source body segment before after at from octets is
+selected_units system source body segment false true before after at from octets is = absurd (no_unit [] before after at from octets tt is)
+selected_units system source body segment false false before after at from octets is = absurd (no_unit (events.Discard system 129 0 ∷ []) before after at from octets (tt, tt) is)
+
+handed_units : (system : ℕ) (source body : List ℕ) (segment : Option SegmentPart) (selector : ℕ) (kind : PduKind) (before after : List Event) (at : ℕ) (from octets : List ℕ)
+    → handed_up system source body segment selector kind ≡ before ++ events.Unit at from octets ∷ after → IsShown system source body before at from octets
+handed_units system source body segment selector Er before after at from octets is = absurd (no_unit [] before after at from octets tt is)
+handed_units system source body segment selector Dt before after at from octets is =
+    selected_units system source body segment (selector == 2) (selector == 1) before after at from octets is
+
+-- what a system does, by the tests of the destination and of the lifetime
+abbrev chosen : ℕ → Bool → Bool → List Event → List Event
+chosen system same late handed =
+    if not same then events.Discard system 128 0 ∷ []
+    else if late then events.Discard system 160 4 ∷ []
+    else handed
+
 -- a unit is shown only by a system of its destination, within its lifetime
-chosen_units : (system : ℕ) (source body : List ℕ) (same late raw transport : Bool) (before after : List Event) (at : ℕ) (from octets : List ℕ)
-    → chosen system source body same late raw transport ≡ before ++ events.Unit at from octets ∷ after
-    → (same ≡ true) × (late ≡ false) × (before ≡ []) × (at ≡ system) × (from ≡ source) × (octets ≡ body)
-chosen_units system source body false late raw transport before after at from octets is = absurd (no_unit (events.Discard system 128 0 ∷ []) before after at from octets (tt, tt) is)
-chosen_units system source body true true raw transport before after at from octets is = absurd (no_unit (events.Discard system 160 4 ∷ []) before after at from octets (tt, tt) is)
-chosen_units system source body true false true transport before after at from octets is =
-    let h = one_unit system at source body from octets before after is in
-    (refl, refl, h.0, h.1, h.2, h.3)
-chosen_units system source body true false false true before after at from octets is = absurd (no_unit [] before after at from octets tt is)
-chosen_units system source body true false false false before after at from octets is = absurd (no_unit (events.Discard system 129 0 ∷ []) before after at from octets (tt, tt) is)
+chosen_units : (system : ℕ) (same late : Bool) (handed before after : List Event) (at : ℕ) (from octets : List ℕ)
+    → chosen system same late handed ≡ before ++ events.Unit at from octets ∷ after
+    → (same ≡ true) × (late ≡ false) × (handed ≡ before ++ events.Unit at from octets ∷ after)
+chosen_units system false late handed before after at from octets is = absurd (no_unit (events.Discard system 128 0 ∷ []) before after at from octets (tt, tt) is)
+chosen_units system true true handed before after at from octets is = absurd (no_unit (events.Discard system 160 4 ∷ []) before after at from octets (tt, tt) is)
+chosen_units system true false handed before after at from octets is = (refl, refl, is)
 
 -- the clock does not move
-chosen_clock : (now system : ℕ) (source body : List ℕ) (same late raw transport : Bool) → clock_from now (chosen system source body same late raw transport) ≡ now
-chosen_clock now system source body false late raw transport = refl
-chosen_clock now system source body true true raw transport = refl
-chosen_clock now system source body true false true transport = refl
-chosen_clock now system source body true false false true = refl
-chosen_clock now system source body true false false false = refl
+shown_clock : (now system : ℕ) (source body : List ℕ) (segment : Option SegmentPart) → clock_from now (shown system source body segment) ≡ now
+shown_clock now system source body None = refl
+shown_clock now system source body (Some part) = refl
+
+selected_clock : (now system : ℕ) (source body : List ℕ) (segment : Option SegmentPart) (raw transport : Bool) → clock_from now (selected system source body segment raw transport) ≡ now
+selected_clock now system source body segment true transport = shown_clock now system source body segment
+selected_clock now system source body segment false true = refl
+selected_clock now system source body segment false false = refl
+
+handed_clock : (now system : ℕ) (source body : List ℕ) (segment : Option SegmentPart) (selector : ℕ) (kind : PduKind) → clock_from now (handed_up system source body segment selector kind) ≡ now
+handed_clock now system source body segment selector Er = refl
+handed_clock now system source body segment selector Dt = selected_clock now system source body segment (selector == 2) (selector == 1)
+
+chosen_clock : (now system : ℕ) (same late : Bool) (handed : List Event) → clock_from now handed ≡ now → clock_from now (chosen system same late handed) ≡ now
+chosen_clock now system false late handed stays = refl
+chosen_clock now system true true handed stays = refl
+chosen_clock now system true false handed stays = stays
+
+-- what a system does with a PDU that is for it
+abbrev handed_of : ℕ → Pdu → List Event
+handed_of system pdu = handed_up system pdu.source pdu.body pdu.segment (selector_of pdu.destination) pdu.kind
 
 received_clock : (now : ℕ) (station : Station) (system bound : ℕ) (octets : List ℕ) (made : List Event) → Receives station system bound octets made → clock_from now made ≡ now
 received_clock now station system bound octets made (inl a) =
     ap (λ (all : List Event). clock_from now all) a.3
-    ∙ chosen_clock now system a.1.source a.1.body (is_same_system a.1.destination station.title) (nat_lt a.1.lifetime bound) (selector_of a.1.destination == 2) (selector_of a.1.destination == 1)
+    ∙ chosen_clock now system (is_same_system a.1.destination station.title) (nat_lt a.1.lifetime bound) (handed_of system a.1)
+    (handed_clock now system a.1.source a.1.body a.1.segment (selector_of a.1.destination) a.1.kind)
 received_clock now station system bound octets made (inr a) = ap (λ (all : List Event). clock_from now all) a.2
 
 -- a frame is delivered to a system within the bound of its LAN
@@ -88,7 +129,7 @@ delivered laws net journal number system bound station frame header pdu has begi
     let sent = has.sent in
     let written : Pdu = unit_pdu (raw_address sent.sender_title) (raw_address sent.own_title) sent.octets in
     let same : pdu ≡ written =
-    one_front laws frame.octets begins.front begins.rest frame.octets [] pdu written begins.whole (sym (append-nil frame.octets)) begins.is_pdu sent.spelled in
+    (laws.one_front begins.front begins.rest frame.octets [] pdu written (sym begins.whole ∙ sym (append-nil frame.octets)) begins.is_pdu sent.spelled).2 in
     let here : is_same_system (raw_address sent.own_title) station.title ≡ true = subst (λ (p : Pdu). is_same_system p.destination station.title ≡ true) same ours in
     let to : raw_address sent.own_title ≡ raw_address station.title = one_raw sent.own_title station.title here in
     let body : sent.octets ≡ pdu.body = ap (λ (p : Pdu). p.body) (sym same) in
@@ -120,13 +161,13 @@ received_units : (laws : HeaderLaws) (net : Network) (journal : List Event) (num
 received_units laws net journal number system bound station frame made has (inl a) = record {
   each = λ before after at from octets is.
       let told : List Event = journal ++ events.Deliver number system ∷ [] in
-      let h = chosen_units system a.1.source a.1.body (is_same_system a.1.destination station.title) (nat_lt a.1.lifetime bound) (selector_of a.1.destination == 2)
-      (selector_of a.1.destination == 1) before after at from octets (sym a.3 ∙ is) in
-      let base : WasSent (titles_of net) told system a.1.source a.1.body = delivered laws net journal number system bound station frame a.0 a.1 has a.2 h.0 h.1 in
-      let none : told ≡ told ++ before = sym (append-nil told) ∙ ap (λ (xs : List Event). told ++ xs) (sym h.2) in
-      subst (λ (o : List ℕ). WasSent (titles_of net) (told ++ before) at from o) (sym h.5)
-      (subst (λ (f : List ℕ). WasSent (titles_of net) (told ++ before) at f a.1.body) (sym h.4)
-      (subst (λ (n : ℕ). WasSent (titles_of net) (told ++ before) n a.1.source a.1.body) (sym h.3)
+      let own = chosen_units system (is_same_system a.1.destination station.title) (nat_lt a.1.lifetime bound) (handed_of system a.1) before after at from octets (sym a.3 ∙ is) in
+      let h = handed_units system a.1.source a.1.body a.1.segment (selector_of a.1.destination) a.1.kind before after at from octets own.2 in
+      let base : WasSent (titles_of net) told system a.1.source a.1.body = delivered laws net journal number system bound station frame a.0 a.1 has a.2 own.0 own.1 in
+      let none : told ≡ told ++ before = sym (append-nil told) ∙ ap (λ (xs : List Event). told ++ xs) (sym h.0) in
+      subst (λ (o : List ℕ). WasSent (titles_of net) (told ++ before) at from o) (sym h.3)
+      (subst (λ (f : List ℕ). WasSent (titles_of net) (told ++ before) at f a.1.body) (sym h.2)
+      (subst (λ (n : ℕ). WasSent (titles_of net) (told ++ before) n a.1.source a.1.body) (sym h.1)
       (subst (λ (all : List Event). WasSent (titles_of net) all system a.1.source a.1.body) none base)));
 }
 received_units laws net journal number system bound station frame made has (inr a) =

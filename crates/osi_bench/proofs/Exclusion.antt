@@ -13,7 +13,7 @@ use Rattle.osi_bench.specs.Meaning.{Meaning, Laws}
 use Rattle.osi_bench.specs.Course.{Runs, IsRead, IsWhole, IsFull, IsTooMuch, IsRefusal, IsRefusedAt, IsRefusedAtEnd}
 use Rattle.osi_bench.specs.Outcome.{Asks, Outcome}
 use Rattle.osi_bench.specs.Text.{done_line, refused_line, toomuch_line}
-use Rattle.osi_bench.specs.Exact.{OneCourse, IsFailure, AsksOne, OneOutcome}
+use Rattle.osi_bench.specs.Exact.{OneCourse, IsAccepted, IsFailure, AsksOne, OneOutcome}
 use Rattle.osi_bench.proofs.Lines.{feed_or_other, whole_feed, whole_part, open_part}
 use Rattle.osi_base.specs.Ends.{HasRisen, Took, Put, IsAtEnd}
 use Rattle.osi_bench.proofs.Driving.{Ran}
@@ -310,9 +310,35 @@ module _ {M : Type 0} (meaning : Meaning M) (laws : Laws meaning) where
         | inr fails ↦ inr fails
       ]
 
--- a valid input over ends that do not fail gives Done, unless memory runs out
-pub complete : {T : Type 0} (status : Status) (reads reads_now writes writes_now : ℕ) → ((status ≡ Done) × T) ⊎ IsFailure status → (status ≡ ReadFault → HasRisen reads reads_now) → (status ≡ WriteFault → HasRisen writes writes_now)
-    → ¬ HasRisen reads reads_now → ¬ HasRisen writes writes_now → ((status ≡ Done) × T) ⊎ (status ≡ NoMemory)
+  -- an accepted input asks for Done alone
+  accepted_asks : (first : M) (all text : List ℕ) (status : Status) → IsAccepted meaning first all → status ≢ ReadFault → Asks meaning (Unit {0}) first all text status
+      → (status ≡ Done) × Asks meaning (Unit {0}) first all text Done
+  accepted_asks first all text Done a never h = (refl, h)
+  accepted_asks first all text RefusedLine a never h = elim h.3 [ inl here ↦ absurd (a.read h.0 h.1 h.2 here) | inr last ↦ absurd (a.ended h.0 h.1 h.2 last.1) ]
+  accepted_asks first all text TooMuch a never h = absurd (a.within h.0 h.1 h.2)
+  accepted_asks first all text ReadFault a never h = absurd (never refl)
+  accepted_asks first all text WriteFault a never h = absurd h
+  accepted_asks first all text NoMemory a never h = absurd h
+  accepted_asks first all text RefusedWords a never h = absurd h
+  accepted_asks first all text RefusedCapture a never h = absurd h
+
+  -- its run gives Done and its transcript, or fails
+  pub ran_accepted : {S K : Type 0} (left : S → Option (List ℕ)) (held : K → Option (List ℕ)) (source : S) (sink : K) (first : M) (now_source : S) (now_sink : K) (status : Status) → Ran meaning left held source sink first now_source now_sink status
+      → (all : List ℕ) → left source ≡ Some all → IsAccepted meaning first all
+      → ((status ≡ Done) × (text : List ℕ) × Asks meaning (Unit {0}) first all text Done × Put (held sink) text (held now_sink)) ⊎ IsFailure status
+  ran_accepted {S} {K} left held source sink first now_source now_sink status r all tells accepted =
+      let took : Took (Some all) r.0 (left now_source) = subst (λ (o : Option (List ℕ)). Took o r.0 (left now_source)) tells r.2 in
+      let outcome : Outcome meaning (took.0 ≡ []) first r.0 r.1 status = subst (λ (o : Option (List ℕ)). Outcome meaning (IsAtEnd o) first r.0 r.1 status) took.1 r.4 in
+      elim (outcome_all first r.0 took.0 r.1 status outcome) [
+        | inl here ↦
+            let done = accepted_asks first all r.1 status accepted here.0 (subst (λ (xs : List ℕ). Asks meaning (Unit {0}) first xs r.1 status) (sym took.2) here.1) in
+            inl (done.0, r.1, done.1, r.3)
+        | inr fails ↦ inr fails
+      ]
+
+-- where neither a read nor a write fails, only memory does
+pub complete : {T : Type 0} (status : Status) (reads reads_now writes writes_now : ℕ) → T ⊎ IsFailure status → (status ≡ ReadFault → HasRisen reads reads_now) → (status ≡ WriteFault → HasRisen writes writes_now)
+    → ¬ HasRisen reads reads_now → ¬ HasRisen writes writes_now → T ⊎ (status ≡ NoMemory)
 complete status reads reads_now writes writes_now (inl done) read write no_read no_write = inl done
 complete status reads reads_now writes writes_now (inr (inl fault)) read write no_read no_write = absurd (no_read (read fault))
 complete status reads reads_now writes writes_now (inr (inr (inl fault))) read write no_read no_write = absurd (no_write (write fault))

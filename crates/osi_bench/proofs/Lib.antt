@@ -12,6 +12,7 @@ pub mod Lines
 pub mod Printing
 pub mod Reading
 pub mod Returns
+pub mod Routes
 pub mod ScriptRuns
 pub mod Standing
 pub mod Worlds

@@ -1,7 +1,7 @@
 -- A line has one course on the bench, and events that were told stay told.
 use Rattle.std.proofs.Common.{◌≡◌, ℕ, false, List, [], ◌++◌, Option, Some, None, refl, sym, ◌∙◌, ap, subst}
 use Rattle.std.proofs.lemmas.Bool.{false≢true}
-use Rattle.clnp_header.proofs.Answered.{one_pdu, front_excludes}
+use Rattle.clnp_header.proofs.Answered.{one_front, front_excludes}
 use Rattle.clnp_header.proofs.Spelled.{one_list}
 use Rattle.osi_bench.specs.declared.event.Event.{Event}
 use Rattle.osi_bench.specs.declared.line.Line.{Line}
@@ -18,7 +18,7 @@ use Rattle.osi_bench.specs.TextLaws.{text-append}
 use Rattle.osi_bench.specs.World.{Network}
 
 header_laws : HeaderLaws
-header_laws = record { one_value = one_pdu; one_spelling = one_list; excludes = front_excludes }
+header_laws = record { one_front = one_front; one_spelling = one_list; excludes = front_excludes }
 
 -- an octet string says one line
 one_line : (found : Option Line) (line other : Line) → found ≡ Some line → found ≡ Some other → line ≡ other

@@ -39,7 +39,7 @@ module _ {M : Type 0} (meaning : Meaning M) where
   IsRefusal state line octet = ((octet ≡ 10) × meaning.refuses state (without_return line))
       ⊎ ((octet ≢ 10) × (length line ≡ most_in_line))
 
-  -- this line, counted from 1, is refused at an octet, and no octet up to it passes a limit
+  -- this line, counted from 1, is refused at an octet, and no octet up to it passes a limit of an input
   pub record IsRefusedAt (first : M) (read : List ℕ) (line : ℕ) (journal : List Event) (last : M) : Type 0 where
     pub front : List ℕ
     pub octet : ℕ

@@ -1,4 +1,4 @@
--- What octets come to is one: they were read, or one line is refused, or a limit is passed; and what all octets of a
+-- Octets come to one thing at most: they were read, or one line is refused, or a limit is passed. What all octets of a
 -- source ask for comes, or a failure in its place.
 use Rattle.std.specs.Prelude.{◌≡◌, ◌≢◌, ◌⊎◌, ℕ, List, [], ◌++◌}
 use Rattle.osi_base.specs.declared.status.Status.{Status}
@@ -37,7 +37,7 @@ pub record OneCourse {M : Type 0} (meaning : Meaning M) : Type 0 where
 abbrev pub IsFailure : Status → Type 0
 IsFailure status = (status ≡ ReadFault) ⊎ (status ≡ WriteFault) ⊎ (status ≡ NoMemory)
 
--- an input asks for one status and one transcript: Done, or the first refused line, or that a limit is passed
+-- an input asks for at most one status and one transcript: Done, or the first refused line, or that a limit is passed
 abbrev pub AsksOne : {M : Type 0} → Meaning M → Type 0
 AsksOne {M} meaning = (first : M) (all text other : List ℕ) (status next : Status)
     → status ≢ ReadFault → next ≢ ReadFault → Asks meaning (Unit {0}) first all text status → Asks meaning (Unit {0}) first all other next → (status ≡ next) × (text ≡ other)
@@ -47,3 +47,9 @@ abbrev pub OneOutcome : {M : Type 0} → Meaning M → Type 0
 OneOutcome {M} meaning = (first : M) (read rest text written : List ℕ) (asked status : Status)
     → asked ≢ ReadFault → Asks meaning (Unit {0}) first (read ++ rest) text asked → Outcome meaning (rest ≡ []) first read written status
     → ((status ≡ asked) × (written ≡ text)) ⊎ IsFailure status
+
+-- no line of an input is refused, and none of its octets passes a limit
+pub record IsAccepted {M : Type 0} (meaning : Meaning M) (first : M) (all : List ℕ) : Type 0 where
+  pub read : (line : ℕ) (journal : List Event) (last : M) → IsRefusedAt meaning first all line journal last → ⊥
+  pub ended : (line : ℕ) (journal : List Event) (last : M) → IsRefusedAtEnd meaning first all line journal last → ⊥
+  pub within : (journal : List Event) (last : M) → IsTooMuch meaning first all journal last → ⊥

@@ -158,7 +158,7 @@ text_line names text = if is_idle text then Some lines.Nothing else split_line n
 unfoldable pub line_of : Declared → List ℕ → Option Line
 line_of names octets = if list_all is_printable octets then text_line names octets else None
 
--- there is room for what a line declares
+-- there is room for the system or the LAN that a line declares
 abbrev pub HasRoom : Declared → Line → Type 0
 HasRoom names lines.Nothing = Unit {0}
 HasRoom names (lines.Lan name bound room) = length names.tags.lans ≡ 0

@@ -1,4 +1,4 @@
--- The lines that a network knows the systems of.
+-- A network before the first line, the systems that a line names, and where a line may stand.
 use Rattle.std.specs.Prelude.{◌≡◌, ℕ, ◌<◌, Bool, true, false, []}
 use Rattle.osi_bench.specs.declared.line.Line.{Line}
 use Rattle.osi_bench.specs.declared.line.Line.TheVariants as lines

@@ -14,6 +14,7 @@ pub mod Meaning
 pub mod OneRun
 pub mod Outcome
 pub mod Readings
+pub mod Routes
 pub mod Script
 pub mod Split
 pub mod Steps

@@ -1,10 +1,10 @@
 -- A line has one step from a network, and so lines have one journal.
-use Rattle.std.proofs.Common.{◌≡◌, ℕ, ◌+◌, ◌/◌, ◌%◌, List, [], ◌∷◌, ◌++◌, length, get_or, take, Option, Some, None, Result, Ok, Err, sym, ◌∙◌, ap, subst, arith, inl, inr}
-use Rattle.std.proofs.Math.Seq.{take-append_seam}
+use Rattle.std.proofs.Common.{◌≡◌, ℕ, ◌+◌, List, [], ◌∷◌, ◌++◌, length, Option, Some, None, Result, Ok, Err, refl, sym, ◌∙◌, ap, subst, inl, inr}
 use Rattle.nsap.specs.declared.port.Port.{Port}
-use Rattle.clnp_header.specs.declared.fault.Fault.{Fault}
+use Rattle.clnp_options.specs.declared.fault.Fault.{Fault}
+use Rattle.clnp_options.specs.declared.fault.PduKind.TheVariants.{Dt}
 use Rattle.clnp_header.specs.declared.pdu.Pdu.{Pdu}
-use Rattle.clnp_header.specs.Grammar.{IsPdu, header_octets}
+use Rattle.clnp_header.specs.Grammar.{IsPdu}
 use Rattle.clnp_header.specs.Faults.{PduFault}
 use Rattle.osi_bench.specs.declared.event.Event.{Event}
 use Rattle.osi_bench.specs.declared.event.Event.TheVariants as events
@@ -20,36 +20,14 @@ use Rattle.osi_bench.specs.Steps.{reaction, Receives, Sends, Takes, Delivers, wi
 
 -- what the grammar of PDUs and its faults ensure
 pub record HeaderLaws : Type 0 where
-  pub one_value : (octets : List ℕ) (pdu other : Pdu) → IsPdu octets pdu → IsPdu octets other → pdu ≡ other
-  pub one_spelling : (octets others : List ℕ) (pdu : Pdu) → IsPdu octets pdu → IsPdu others pdu → octets ≡ others
+  pub one_front : (front rest other more : List ℕ) (pdu second : Pdu) → front ++ rest ≡ other ++ more → IsPdu front pdu → IsPdu other second → (front ≡ other) × (rest ≡ more) × (pdu ≡ second)
+  pub one_spelling : (octets others : List ℕ) (pdu : Pdu) → pdu.kind ≡ Dt → IsPdu octets pdu → IsPdu others pdu → octets ≡ others
   pub excludes : (octets front rest : List ℕ) (pdu : Pdu) (fault : Fault) → octets ≡ front ++ rest → IsPdu front pdu → PduFault octets fault → ⊥
-
--- the octets of a PDU, and what follows it, by its fields
-spelled : (front rest : List ℕ) (pdu : Pdu) (h : IsPdu front pdu) → front ++ rest ≡ (header_octets pdu (length h.header) (length front) h.first h.second ++ pdu.body) ++ rest
-spelled front rest pdu h = ap (λ (xs : List ℕ). xs ++ rest) (h.whole ∙ ap (λ (xs : List ℕ). xs ++ pdu.body) h.parts)
-
--- a PDU says its own length
-one_length : (front rest other more : List ℕ) (pdu second : Pdu) → front ++ rest ≡ other ++ more → IsPdu front pdu → IsPdu other second → length front ≡ length other
-one_length front rest other more pdu second same a b =
-    let e = sym (spelled front rest pdu a) ∙ same ∙ spelled other more second b in
-    let higher : length front / 256 ≡ length other / 256 = ap (λ (xs : List ℕ). get_or xs 5 0) e in
-    let lower : length front % 256 ≡ length other % 256 = ap (λ (xs : List ℕ). get_or xs 6 0) e in
-    omega arith
-
--- octets have one PDU at their front
-pub one_front : (laws : HeaderLaws) (octets front rest other more : List ℕ) (pdu second : Pdu) → octets ≡ front ++ rest → octets ≡ other ++ more → IsPdu front pdu → IsPdu other second
-    → pdu ≡ second
-one_front laws octets front rest other more pdu second a-is b-is a b =
-    let same : front ++ rest ≡ other ++ more = sym a-is ∙ b-is in
-    let n : length front ≡ length other = one_length front rest other more pdu second same a b in
-    let fronts : front ≡ other =
-    sym (take-append_seam front rest) ∙ ap (λ (xs : List ℕ). take (length front) xs) same ∙ ap (λ (k : ℕ). take k (other ++ more)) n ∙ take-append_seam other more in
-    laws.one_value other pdu second (subst (λ (xs : List ℕ). IsPdu xs pdu) fronts a) b
 
 pub receives_once : (laws : HeaderLaws) (station : Station) (system bound : ℕ) (octets : List ℕ) (made other : List Event)
     → Receives station system bound octets made → Receives station system bound octets other → made ≡ other
 receives_once laws station system bound octets made other (inl a) (inl b) =
-    let same : a.1 ≡ b.1 = one_front laws octets a.2.front a.2.rest b.2.front b.2.rest a.1 b.1 a.2.whole b.2.whole a.2.is_pdu b.2.is_pdu in
+    let same : a.1 ≡ b.1 = (laws.one_front a.2.front a.2.rest b.2.front b.2.rest a.1 b.1 (sym a.2.whole ∙ b.2.whole) a.2.is_pdu b.2.is_pdu).2 in
     a.3 ∙ ap (λ (pdu : Pdu). reaction station system bound pdu) same ∙ sym b.3
 receives_once laws station system bound octets made other (inl a) (inr b) = absurd (laws.excludes octets a.2.front a.2.rest a.1 b.0 a.2.whole a.2.is_pdu b.1)
 receives_once laws station system bound octets made other (inr a) (inl b) = absurd (laws.excludes octets b.2.front b.2.rest b.1 a.0 b.2.whole b.2.is_pdu a.1)
@@ -62,7 +40,7 @@ sends_once : (laws : HeaderLaws) (old : Network) (system : ℕ) (sender : Statio
     → Sends old system sender destination octets answer made new → Sends old system sender destination octets answer other last → (made ≡ other) × (new ≡ last)
 sends_once laws old system sender destination octets (Err cause) made other new last a b = (a.0 ∙ sym b.0, a.1 ∙ sym b.1)
 sends_once laws old system sender destination octets (Ok hop) made other new last a b =
-    let same : a.0 ≡ b.0 = laws.one_spelling a.0 b.0 (unit_pdu (raw_address sender.title) destination octets) a.1 b.1 in (
+    let same : a.0 ≡ b.0 = laws.one_spelling a.0 b.0 (unit_pdu (raw_address sender.title) destination octets) refl a.1 b.1 in (
       a.2 ∙ ap (λ (frame : List ℕ). events.Sent system destination octets ∷ events.Frame (length old.frames + 1) hop.lan system hop.snpa (length frame + 17) ∷ []) same ∙ sym b.2,
       a.3 ∙ ap {B = Network} (λ (frame : List ℕ). record old { frames = old.frames ++ record { tick = old.clock; lan = hop.lan; system = system; to = hop.snpa; octets = frame } ∷ [] }) same ∙ sym b.3,
     )

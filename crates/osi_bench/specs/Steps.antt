@@ -2,8 +2,11 @@
 use Rattle.std.specs.Prelude.{◌≡◌, ◌==◌, ℕ, ◌+◌, not, nat_lt, ◌⊎◌, if◌then◌else◌, List, [], ◌∷◌, ◌++◌, length, slice_get, slice_set, Option, Some, None, Result, Ok, Err}
 use Rattle.nsap.specs.Address.{selector_of, is_same_system}
 use Rattle.nsap.specs.declared.port.Port.{Port}
-use Rattle.clnp_header.specs.declared.fault.Fault.{Fault}
+use Rattle.clnp_options.specs.declared.fault.Fault.{Fault}
+use Rattle.clnp_options.specs.declared.fault.PduKind.{PduKind}
+use Rattle.clnp_options.specs.declared.fault.PduKind.TheVariants.{Dt, Er}
 use Rattle.clnp_header.specs.declared.pdu.Pdu.{Pdu}
+use Rattle.clnp_header.specs.declared.pdu.SegmentPart.{SegmentPart}
 use Rattle.clnp_header.specs.Grammar.{IsPdu, BeginsWith}
 use Rattle.clnp_header.specs.Faults.{PduFault}
 use Rattle.osi_bench.specs.declared.event.Event.{Event}
@@ -17,14 +20,25 @@ use Rattle.osi_bench.specs.declared.lan.Picked.{Picked}
 use Rattle.osi_bench.specs.declared.lan.Picked.TheVariants.{Taken, NoSuch, Late, NotThere, NotOurs}
 use Rattle.osi_bench.specs.World.{Station, Network, raw_address, unit_pdu, sending, frame_of, bound_of, delivery}
 
--- what an end system does with a PDU, by its destination, its lifetime and its selector
+-- a unit that came whole is shown; a segment shows nothing
+abbrev pub shown : ℕ → List ℕ → List ℕ → Option SegmentPart → List Event
+shown system source body None = events.Unit system source body ∷ []
+shown system source body (Some part) = []
+
+-- what an end system does with a PDU for itself: an error report shows nothing, and a DT goes by its selector
+abbrev pub handed_up : ℕ → List ℕ → List ℕ → Option SegmentPart → ℕ → PduKind → List Event
+handed_up system source body segment selector Er = []
+handed_up system source body segment selector Dt =
+    if selector == 2 then shown system source body segment
+    else if selector == 1 then []
+    else events.Discard system 129 0 ∷ []
+
+-- what an end system does with a PDU, by its destination and its lifetime
 abbrev pub reaction : Station → ℕ → ℕ → Pdu → List Event
 reaction station system bound pdu =
     if not (is_same_system pdu.destination station.title) then events.Discard system 128 0 ∷ []
     else if nat_lt pdu.lifetime bound then events.Discard system 160 4 ∷ []
-    else if selector_of pdu.destination == 2 then events.Unit system pdu.source pdu.body ∷ []
-    else if selector_of pdu.destination == 1 then []
-    else events.Discard system 129 0 ∷ []
+    else handed_up system pdu.source pdu.body pdu.segment (selector_of pdu.destination) pdu.kind
 
 -- the PDU at the front of a frame's octets, or the fault by which it is discarded
 abbrev pub Receives : Station → ℕ → ℕ → List ℕ → List Event → Type 0

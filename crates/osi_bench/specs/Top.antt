@@ -5,7 +5,7 @@ use Rattle.osi_bench.specs.declared.event.Event.{Event}
 use Rattle.osi_bench.specs.declared.line.Line.{Line}
 use Rattle.osi_bench.specs.declared.lan.Frame.{Frame}
 use Rattle.osi_bench.specs.Bench.{Bench, first_bench, bench_meaning}
-use Rattle.osi_bench.specs.Course.{IsRead, IsWhole}
+use Rattle.osi_bench.specs.Course.{Runs, IsRead, IsWhole}
 use Rattle.osi_bench.specs.Grammar.{Declared, nothing_declared, line_of, declared_by}
 use Rattle.osi_bench.specs.Known.{no_network}
 use Rattle.osi_bench.specs.Lawful.{RawLawful, titles_of}
@@ -25,7 +25,7 @@ Script names [] script last = (script ≡ []) × (last ≡ names)
 Script names (text ∷ texts) script last =
     (line : Line) × (rest : List Line) × (line_of names text ≡ Some line) × (script ≡ line ∷ rest) × Script (declared_by names text line) texts rest last
 
--- from a network with no clock, LAN, system or frame, the lines have this journal, and leave a network with these frames
+-- from a network with no LAN, system or frame, its clock 0, the lines have this journal, and leave a network with these frames
 pub record WorldRun (script : List Line) (journal : List Event) (frames : List Frame) : Type 0 where
   pub last : Network
   pub runs : WorldRuns no_network script journal last
@@ -36,6 +36,10 @@ pub record IsScriptRun (texts : List (List ℕ)) (journal : List Event) (last : 
   pub script : List Line
   pub lines : Script nothing_declared texts script last.names
   pub run : WorldRun script journal last.net.frames
+
+-- what runs on the bench is a script, line by line, and the run of the network for its lines
+abbrev pub RunsScripts : Type 0
+RunsScripts = (texts : List (List ℕ)) (journal : List Event) (last : Bench) → Runs bench_meaning first_bench texts journal last → IsScriptRun texts journal last
 
 -- the events of the lines that a front of the octets has, with what the names declared and the network are then
 pub record IsJournal (octets : List ℕ) (journal : List Event) (last : Bench) : Type 0 where

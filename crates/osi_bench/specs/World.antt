@@ -4,7 +4,7 @@ use Rattle.std.specs.Cmp.Lexicographic.{pointwise}
 use Rattle.nsap.specs.Address.{system_part, is_same_system, covers}
 use Rattle.nsap.specs.declared.port.Port.{Port}
 use Rattle.clnp_header.specs.declared.pdu.Pdu.{Pdu}
-use Rattle.clnp_header.specs.declared.pdu.PduKind.TheVariants.{Dt}
+use Rattle.clnp_options.specs.declared.fault.PduKind.TheVariants.{Dt}
 use Rattle.osi_bench.specs.declared.event.Refused.{Refused}
 use Rattle.osi_bench.specs.declared.event.Refused.TheVariants.{EmptyUnit, TooLong, NoRoute}
 use Rattle.osi_bench.specs.declared.lan.Lan.{Lan}
@@ -48,9 +48,9 @@ next_row rows address = fold (better_row address) None rows
 -- the DT PDU of a raw unit
 abbrev pub unit_pdu : List ℕ → List ℕ → List ℕ → Pdu
 unit_pdu source destination octets =
-    record { kind = Dt; destination = destination; source = source; lifetime = initial_lifetime; checksum_used = true; report = false; body = octets }
+    record { kind = Dt; destination = destination; source = source; lifetime = initial_lifetime; checksum_used = true; report = false; segment = None; options = []; body = octets }
 
--- the octets of its header: the fixed part and the two addresses, each behind its length
+-- how many octets its header has: the fixed part and the two addresses, each behind its length
 abbrev pub header_octets : List ℕ → List ℕ → ℕ
 header_octets source destination = 11 + length destination + length source
 

@@ -24,6 +24,5 @@ mod world;
 mod writing;
 
 pub use event::{Event, Refused};
-pub use laws::{one_journal, raw_units_are_lawful, script_runs};
-pub use tags::Tags;
+pub use laws::{longest_route, one_journal, one_outcome, raw_units_are_lawful, script_runs};
 pub use top::{Transcript, osi, run_in_memory};

@@ -5,7 +5,8 @@ ghost use Rattle.std.specs.Fmt.{decimal};
 ghost use Rattle.hex.specs.Hex.{encode_lower};
 ghost use Rattle.osi_bench.specs.Text.{cause_text, done_line, line, octets_text, refused_line, text, text_of, toomuch_line, usage_line};
 
-use crate::{Event, Refused, Tags};
+use crate::tags::Tags;
+use crate::{Event, Refused};
 use osi_base::{Address, NoMemory, Tick};
 
 #[cfg(test)]

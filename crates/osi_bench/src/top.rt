@@ -1,13 +1,13 @@
 //! The call of the program.
 
-ghost use Rattle.std.specs.Prelude.{◌≡◌, ◌≢◌, ◌⊎◌, ◌≤◌, true, false, List, ℕ, Some, map, string_bytes, IfOk};
+ghost use Rattle.std.specs.Prelude.{◌≡◌, ◌≢◌, ◌⊎◌, ◌≤◌, ◌++◌, true, false, List, ℕ, [], Some, map, string_bytes, IfOk};
 ghost use Rattle.osi_base.specs.Ends.{HasRisen, Took, Put, IsAtEnd};
 ghost use Rattle.osi_bench.specs.Bench.{first_bench, bench_meaning};
-ghost use Rattle.osi_bench.specs.Exact.{IsFailure};
+ghost use Rattle.osi_bench.specs.Exact.{IsAccepted, IsFailure};
 ghost use Rattle.osi_bench.specs.Outcome.{Asks, Outcome};
 ghost use Rattle.osi_bench.specs.Text.{usage_line};
-ghost use Rattle.osi_bench.specs.Top.{is_run, ShowsSent};
-ghost use Rattle.osi_bench.specs.Writing.{IsWritten};
+ghost use Rattle.osi_bench.specs.Top.{is_run, RunsScripts, ShowsSent};
+ghost use Rattle.osi_bench.specs.Writing.{IsPrefix, IsWritten};
 
 use crate::bench::Bench;
 use crate::drive::drive;
@@ -26,24 +26,26 @@ pub fn osi<S: Source, K: Sink>(
     source: &mut S,
     sink: &mut K,
 ) -> Status
-    // `run`: of the octets read, what was written is told as the status says; and whatever part of
-    // them was run, each raw unit that is shown was sent.
+    // `run`: of the octets read, what was written is told as the status says; what ran is the run of the
+    // network; and whatever part of the octets was run, each raw unit that is shown was sent.
     ensures run { is_run (map string_bytes words.now) ≡ true
         → (read : List ℕ) × (written : List ℕ)
         × Took (S.left source.old) read (S.left source.new)
         × Put (K.held sink.old) written (K.held sink.new)
         × Outcome bench_meaning (IsAtEnd (S.left source.new)) first_bench read written result
+        × RunsScripts
         × ShowsSent read }
     // What all octets of the source ask for comes, or a failure in its place.
     ensures exact { is_run (map string_bytes words.now) ≡ true
         → (all text : List ℕ) (asked : Status) → S.left source.old ≡ Some all → asked ≢ Status.ReadFault → Asks bench_meaning (Unit {0}) first_bench all text asked
         → ((result ≡ asked) × Put (K.held sink.old) text (K.held sink.new)) ⊎ IsFailure result }
-    // A script that is run to its end is Done, unless memory runs out, where neither count of faults
-    // rises or stands at its last value.
+    // A script with no refused line and no limit passed is Done, unless memory runs out, where neither
+    // count of faults rises or stands at its last value.
     ensures complete { is_run (map string_bytes words.now) ≡ true
-        → (all text : List ℕ) → S.left source.old ≡ Some all → Asks bench_meaning (Unit {0}) first_bench all text Status.Done
+        → (all : List ℕ) → S.left source.old ≡ Some all → IsAccepted bench_meaning first_bench all
         → ¬ HasRisen (S.faults source.old) (S.faults source.new) → ¬ HasRisen (K.faults sink.old) (K.faults sink.new)
-        → ((result ≡ Status.Done) × Put (K.held sink.old) text (K.held sink.new)) ⊎ (result ≡ Status.NoMemory) }
+        → ((result ≡ Status.Done) × (text : List ℕ) × Asks bench_meaning (Unit {0}) first_bench all text Status.Done × Put (K.held sink.old) text (K.held sink.new))
+        ⊎ (result ≡ Status.NoMemory) }
     // Other words: the usage line was written, or a front of it, and nothing was read.
     ensures words { is_run (map string_bytes words.now) ≡ false
         → (S.left source.new ≡ S.left source.old) × IsWritten K.held sink.old usage_line Status.RefusedWords sink.new result }
@@ -51,7 +53,7 @@ pub fn osi<S: Source, K: Sink>(
     ensures read_fault { result ≡ Status.ReadFault → HasRisen (S.faults source.old) (S.faults source.new) }
     ensures write_fault { result ≡ Status.WriteFault → HasRisen (K.faults sink.old) (K.faults sink.new) }
 {
-    clnp_header::one_value();
+    clnp_header::one_front();
     clnp_header::one_spelling();
     clnp_header::no_fault();
     if is_run(words) {
@@ -98,6 +100,13 @@ pub fn run_in_memory(alloc: Global, words: &[String], script: &[u8]) -> Result<T
     ensures exact { is_run (map string_bytes words.now) ≡ true
         → (text : List ℕ) (asked : Status) → asked ≢ Status.ReadFault → Asks bench_meaning (Unit {0}) first_bench script.now text asked
         → IfOk result (λ made. ((made.status ≡ asked) × (made.octets ≡ text)) ⊎ (made.status ≡ Status.NoMemory)) }
+    // Of a front of the script, what was written is told as the status says.
+    ensures run { is_run (map string_bytes words.now) ≡ true
+        → IfOk result (λ made. (read rest : List ℕ) × (script.now ≡ read ++ rest) × Outcome bench_meaning (rest ≡ []) first_bench read made.octets made.status) }
+    // Other words: the usage line, or a front of it where memory runs out.
+    ensures words { is_run (map string_bytes words.now) ≡ false
+        → IfOk result (λ made. ((made.status ≡ Status.RefusedWords) × (made.octets ≡ usage_line))
+        ⊎ ((made.status ≡ Status.NoMemory) × IsPrefix made.octets usage_line)) }
 {
     let mut source = PlainSource::new(alloc, script)?;
     let mut sink = PlainSink::new(alloc);

@@ -1,11 +1,12 @@
 //! The network that a script runs, and what each line does to it.
 
-ghost use Rattle.std.specs.Prelude.{◌≡◌, ◌<◌, ◌≤◌, ◌+◌, ◌++◌, ◌∷◌, List, ℕ, [], Some, length, slice_get, OnOk, IfOk, MatchOption};
+ghost use Rattle.std.specs.Prelude.{◌≡◌, ◌<◌, ◌≤◌, ◌+◌, ◌++◌, ◌∷◌, List, ℕ, [], None, Some, length, slice_get, OnOk, IfOk, MatchOption};
 ghost use Rattle.std.specs.Option.{option_copied};
 ghost use Rattle.clnp_header.specs.Grammar.{IsPdu, value_of};
 ghost use Rattle.osi_bench.specs.declared.event.Event.{Event};
 ghost use Rattle.osi_bench.specs.World.{frame_of, bound_of, unit_pdu};
-ghost use Rattle.osi_bench.specs.Steps.{reaction, Receives};
+ghost use Rattle.osi_bench.specs.Steps.{handed_up, reaction, shown, Receives};
+ghost use Rattle.nsap.specs.Address.{selector_of};
 
 use crate::event::{Event, Refused};
 use crate::lan::{FRAME_HEADER, Frame, Lan, Picked, bound_of, delivery, frame_of};
@@ -13,7 +14,7 @@ use crate::line::Line;
 use crate::system::{RAW, System, header_octets};
 use clnp_header::{Pdu, PduKind, PduRef, read_pdu, write_pdu};
 use nsap::{Nsap, Port, Prefix, Snpa};
-use osi_base::{Address, Bytes, HeaderRefusal, NoMemory, Tick};
+use osi_base::{Address, Bytes, HeaderRefusal, Items, NoMemory, Tick};
 use std::alloc::Global;
 use std::marker::Model;
 
@@ -165,7 +166,12 @@ impl World {
         match sender.sending(&self.lans, &destination, octets.as_slice()) {
             Ok(hop) => {
                 let source = sender.raw_address();
-                self.send(system, unit_pdu(source, destination, octets), hop, events)?;
+                self.send(
+                    system,
+                    unit_pdu(self.alloc, source, destination, octets),
+                    hop,
+                    events,
+                )?;
                 Ok(())
             }
             Err(cause) => {
@@ -176,6 +182,7 @@ impl World {
     }
 
     /// Sends a PDU in a frame to the hop.
+    #[tactic(auto, using(clnp_header::proofs::Written::plain_is_writable))]
     fn send(
         &mut self,
         system: u8,
@@ -185,6 +192,8 @@ impl World {
     ) -> Result<(), NoMemory>
         requires none { events.old.items ≡ [] }
         requires kind { pdu.kind ≡ PduKind.Dt }
+        requires whole { pdu.segment ≡ None }
+        requires plain { pdu.options ≡ [] }
         requires short { length pdu.body ≤ 16384 }
         requires frames { length self.old.frames < 4000000000 }
         ensures { OnOk result ((frame : List ℕ) × IsPdu frame pdu
@@ -267,7 +276,7 @@ impl World {
 }
 
 /// The DT PDU of a raw unit.
-fn unit_pdu(source: Nsap, destination: Nsap, octets: Bytes) -> Pdu
+fn unit_pdu(alloc: Global, source: Nsap, destination: Nsap, octets: Bytes) -> Pdu
     ensures { result ≡ unit_pdu source destination octets }
 {
     Pdu {
@@ -277,6 +286,8 @@ fn unit_pdu(source: Nsap, destination: Nsap, octets: Bytes) -> Pdu
         lifetime: LIFETIME,
         checksum_used: true,
         report: false,
+        segment: None,
+        options: Items::of(Vec::new(alloc)),
         body: octets,
     }
 }
@@ -326,14 +337,7 @@ fn receive(
 {
     match read_pdu(octets) {
         Ok(pdu) => react(alloc, station, system, bound, &pdu, events),
-        Err(fault) => {
-            events.push(Event::Discard {
-                system,
-                reason: fault.reason,
-                place: fault.place,
-            })?;
-            Ok(())
-        }
+        Err(fault) => discard(system, fault.reason, fault.place, events),
     }
 }
 
@@ -348,33 +352,63 @@ fn react(
 ) -> Result<(), NoMemory>
     ensures { OnOk result (events.new.items ≡ events.old.items ++ reaction station.now system bound (value_of pdu.now)) }
 {
-    let selector = pdu.destination.selector();
     if !pdu.destination.same_system(&station.title()) {
-        events.push(Event::Discard {
-            system,
-            reason: UNREACHABLE,
-            place: 0,
-        })?;
-    } else if u32::from(pdu.lifetime) < bound {
-        events.push(Event::Discard {
-            system,
-            reason: LIFETIME_EXPIRED,
-            place: LIFETIME_PLACE,
-        })?;
-    } else if selector == RAW {
-        let from = address(&pdu.source);
-        let octets = pdu.body.to_vec(alloc)?;
-        events.push(Event::Unit {
-            system,
-            from,
-            octets: Bytes::of(octets),
-        })?;
-    } else if selector != TRANSPORT {
-        events.push(Event::Discard {
-            system,
-            reason: UNKNOWN,
-            place: 0,
-        })?;
+        return discard(system, UNREACHABLE, 0, events);
     }
+    if u32::from(pdu.lifetime) < bound {
+        return discard(system, LIFETIME_EXPIRED, LIFETIME_PLACE, events);
+    }
+    hand_up(alloc, system, pdu, events)
+}
+
+/// What a system does with a PDU for itself: an error report shows nothing, and a DT goes by its selector.
+fn hand_up(
+    alloc: Global,
+    system: u8,
+    pdu: &PduRef<'_>,
+    events: &mut Vec<Event>,
+) -> Result<(), NoMemory>
+    ensures { OnOk result (events.new.items ≡ events.old.items ++ handed_up system pdu.now.source pdu.now.body.now pdu.now.segment (selector_of pdu.now.destination) pdu.now.kind) }
+{
+    match pdu.kind {
+        PduKind::Er => Ok(()),
+        PduKind::Dt => match pdu.destination.selector() {
+            RAW => show(alloc, system, pdu, events),
+            TRANSPORT => Ok(()),
+            _ => discard(system, UNKNOWN, 0, events),
+        },
+    }
+}
+
+/// Shows a unit that came whole. A segment shows nothing.
+fn show(
+    alloc: Global,
+    system: u8,
+    pdu: &PduRef<'_>,
+    events: &mut Vec<Event>,
+) -> Result<(), NoMemory>
+    ensures { OnOk result (events.new.items ≡ events.old.items ++ shown system pdu.now.source pdu.now.body.now pdu.now.segment) }
+{
+    if pdu.segment.is_some() {
+        return Ok(());
+    }
+    let from = address(&pdu.source);
+    let octets = pdu.body.to_vec(alloc)?;
+    events.push(Event::Unit {
+        system,
+        from,
+        octets: Bytes::of(octets),
+    })?;
+    Ok(())
+}
+
+fn discard(system: u8, reason: u8, place: u8, events: &mut Vec<Event>) -> Result<(), NoMemory>
+    ensures { OnOk result (events.new.items ≡ events.old.items ++ Event.Discard system reason place ∷ []) }
+{
+    events.push(Event::Discard {
+        system,
+        reason,
+        place,
+    })?;
     Ok(())
 }

@@ -1,0 +1,7 @@
+use Rattle.std.proofs.Common.{◌≡◌, ◌++◌, drop}
+use Rattle.clnp_options.specs.Options.{spelled}
+use Rattle.clnp_header.specs.Grammar.{parameters}
+use Rattle.clnp_header.proofs.writing.push_options.Given as goal
+
+abbrev pub invariant-loop-option : goal.invariant-loop-option
+invariant-loop-option l = l.octets.items ++ spelled (parameters (drop l.option-index l.options)) ≡ l.initial.octets.items ++ spelled (parameters l.options)
