@@ -1,0 +1,12 @@
+pub mod Answer
+pub mod Checks
+pub mod FaultOrder
+pub mod Fronts
+pub mod Heads
+pub mod Parts
+pub mod ReadLaws
+pub mod Spellings
+pub mod Splits
+pub mod SumLemmas
+pub mod WriteLaws
+pub mod Written

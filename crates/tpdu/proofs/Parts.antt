@@ -1,0 +1,88 @@
+-- The parameters that pass are those that suit the table, and a checksum is found where one is.
+use Rattle.std.proofs.Common.{◌≡◌, ℕ, ◌+◌, Bool, true, false, cond, not, ◌&&◌, ◌||◌, leb, nat_eq, List, [], ◌∷◌, length, Option, Some, None, refl}
+use Rattle.std.specs.Prelude.{is_some}
+use Rattle.std.specs.Option.{option_or}
+use Rattle.std.specs.List.{AllByRecursion}
+use Rattle.std.proofs.lemmas.Bool.{eqb-true, le-leb, leb-true, eq-eqb}
+use Rattle.tpdu.specs.declared.fault.TpduCause.{TpduCause}
+use Rattle.tpdu.specs.declared.fault.TpduFault.{TpduFault}
+use Rattle.tpdu.specs.declared.kind.Kind.{Kind}
+use Rattle.tpdu.specs.declared.parameter.Lengths.{Lengths}
+use Rattle.tpdu.specs.Kinds.{is_connect}
+use Rattle.tpdu.specs.Parameters.{Parameter, lengths_of, size_of, has_size, trouble_by, trouble, found_or, fault_in, sum_place, last_value}
+use Rattle.tpdu.specs.Grammar.{SuitsBy, Suits, has_sum}
+
+has_size-is : (b s : Bool) → (not b || s) ≡ true → b ≡ true → s ≡ true
+has_size-is true s h e = h
+has_size-is false s h e = absurd cc
+
+has_size-from : (b s : Bool) → (b ≡ true → s ≡ true) → (not b || s) ≡ true
+has_size-from true s h = h refl
+has_size-from false s h = refl
+
+both : (a b c : Bool) (x : Option TpduCause) → cond (a && b && c) None x ≡ None → (x ≡ None → ⊥) → (a ≡ true) × (b ≡ true) × (c ≡ true)
+both true true true x e no_none = (refl, refl, refl)
+both true true false x e no_none = absurd (no_none e)
+both true false c x e no_none = absurd (no_none e)
+both false b c x e no_none = absurd (no_none e)
+
+some_cause : (cause : TpduCause) → (let o : Option TpduCause = Some cause in o) ≡ None → ⊥
+some_cause cause e = cc
+
+connect_by : (b : Bool) (cause : TpduCause) → cond b None (Some cause) ≡ None → b ≡ true
+connect_by true cause e = refl
+connect_by false cause e = absurd cc
+
+suits_by : (o : Option Lengths) (kind : Kind) (p : Parameter) → trouble_by o kind p ≡ None → SuitsBy o kind p
+suits_by None kind p e = connect_by (is_connect kind) _ e
+suits_by (Some lengths) kind p e =
+    let t = both (leb lengths.least (length p.value)) (leb (length p.value) lengths.most) (has_size p) _ e (some_cause _) in
+    (leb-true _ _ t.0, leb-true _ _ t.1, λ is. has_size-is (nat_eq p.code 0xC0) (is_some (size_of p.value)) t.2 (eq-eqb p.code 0xC0 is))
+
+pub suits : (kind : Kind) (p : Parameter) → trouble kind p ≡ None → Suits kind p
+suits kind p e = suits_by (lengths_of kind p.code) kind p e
+
+trouble_by-none : (o : Option Lengths) (kind : Kind) (p : Parameter) → SuitsBy o kind p → trouble_by o kind p ≡ None
+trouble_by-none None kind p h = rw h refl
+trouble_by-none (Some lengths) kind p h =
+    let least : leb lengths.least (length p.value) ≡ true = le-leb _ _ h.0 in
+    let most : leb (length p.value) lengths.most ≡ true = le-leb _ _ h.1 in
+    let size : has_size p ≡ true = has_size-from (nat_eq p.code 0xC0) (is_some (size_of p.value)) (λ e. h.2 (eqb-true _ _ e)) in
+    rw (least, most, size) refl
+
+pub trouble-none : (kind : Kind) (p : Parameter) → Suits kind p → trouble kind p ≡ None
+trouble-none kind p h = trouble_by-none (lengths_of kind p.code) kind p h
+
+found_or-none : (o : Option TpduCause) (place : ℕ) (later : Option TpduFault) → found_or o place later ≡ None → (o ≡ None) × (later ≡ None)
+found_or-none None place later e = (refl, e)
+found_or-none (Some cause) place later e = absurd cc
+
+-- no fault: nothing is left, and each parameter suits
+pub fault_in-none : (kind : Kind) (place : ℕ) (ps : List Parameter) (torn : List ℕ) → fault_in kind place ps torn ≡ None → (torn ≡ []) × AllByRecursion (Suits kind) ps
+fault_in-none kind place [] [] e = (refl, tt)
+fault_in-none kind place [] (octet ∷ torn) e = absurd cc
+fault_in-none kind place (p ∷ ps) torn e =
+    let f = found_or-none (trouble kind p) place (fault_in kind (place + (2 + length p.value)) ps torn) e in
+    let later = fault_in-none kind (place + (2 + length p.value)) ps torn f.1 in
+    (later.0, (suits kind p f.0, later.1))
+
+pub none-fault_in : (kind : Kind) (place : ℕ) (ps : List Parameter) → AllByRecursion (Suits kind) ps → fault_in kind place ps [] ≡ None
+none-fault_in kind place [] h = refl
+none-fault_in kind place (p ∷ ps) h = rw (trouble-none kind p h.0) (none-fault_in kind (place + (2 + length p.value)) ps h.1)
+
+is_some-or : {X Y : Type 0} (a b : Option X) (u v : Option Y) → is_some a ≡ is_some u → is_some b ≡ is_some v → is_some (option_or a b) ≡ is_some (option_or u v)
+is_some-or None b None v e h = h
+is_some-or None b (Some y) v e h = absurd cc
+is_some-or (Some x) b None v e h = absurd cc
+is_some-or (Some x) b (Some y) v e h = refl
+
+is_some-cond : {X Y : Type 0} (b : Bool) (x : X) (y : Y) → is_some (cond b (Some x) None) ≡ is_some (cond b (Some y) None)
+is_some-cond true x y = refl
+is_some-cond false x y = refl
+
+-- a checksum has a place exactly where it has a value
+pub is_some-sum_place : (place : ℕ) (ps : List Parameter) → is_some (sum_place place ps) ≡ has_sum ps
+is_some-sum_place place [] = refl
+is_some-sum_place place (p ∷ ps) =
+    is_some-or (sum_place (place + (2 + length p.value)) ps) (cond (nat_eq p.code 0xC3) (Some (place + 2)) None) (last_value 0xC3 ps) (cond (nat_eq p.code 0xC3) (Some p.value) None)
+    (is_some-sum_place (place + (2 + length p.value)) ps) (is_some-cond (nat_eq p.code 0xC3) (place + 2) p.value)

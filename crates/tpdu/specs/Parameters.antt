@@ -1,0 +1,167 @@
+-- Parameters: code, length, value (X.224, variable part), and the table of what each kind knows.
+use Rattle.std.specs.Prelude.{ℕ, zero, suc, ◌+◌, ◌*◌, Bool, ◌&&◌, ◌||◌, not, ◌==◌, nat_lt, nat_le, List, [], ◌∷◌, ◌++◌, length, take, drop, Option, Some, None, is_some, if◌then◌else◌}
+use Rattle.std.specs.Option.{option_or}
+use Rattle.tpdu.specs.declared.fault.TpduCause.{TpduCause}
+use Rattle.tpdu.specs.declared.fault.TpduCause.TheVariants.{Param, Unknown}
+use Rattle.tpdu.specs.declared.fault.TpduFault.{TpduFault}
+use Rattle.tpdu.specs.declared.kind.Kind.{Kind}
+use Rattle.tpdu.specs.declared.kind.Kind.TheVariants.{Cr, Cc, Dr, Dc, Dt, Ed, Ak, Ea, Er}
+use Rattle.tpdu.specs.declared.parameter.Lengths.{Lengths}
+use Rattle.tpdu.specs.declared.parameter.ParameterRef.{ParameterRef}
+use Rattle.tpdu.specs.Kinds.{is_connect}
+
+-- a parameter, without where it lies in memory
+pub record Parameter : Type 0 where
+  pub code : ℕ
+  pub value : List ℕ
+
+abbrev pub parameter_of : ParameterRef → Parameter
+parameter_of p = record { code = p.code; value = p.value.now }
+
+-- the parameters, one after another
+abbrev pub spelled : List Parameter → List ℕ
+spelled [] = []
+spelled (p ∷ ps) = p.code ∷ length p.value ∷ (p.value ++ spelled ps)
+
+-- a code that a kind knows, with the least and the most octets of its value
+pub record Row : Type 0 where
+  pub code : ℕ
+  pub least : ℕ
+  pub most : ℕ
+
+abbrev pub row : ℕ → ℕ → ℕ → Row
+row code least most = record { code = code; least = least; most = most }
+
+-- the checksum
+abbrev pub sum_rows : List Row
+sum_rows = row 0xC3 2 2 ∷ []
+
+-- calling and called selector, size, version, additional options, alternative classes, acknowledgement
+-- time, checksum
+abbrev pub connect_rows : List Row
+connect_rows =
+    row 0xC1 0 32
+    ∷ row 0xC2 0 32
+    ∷ row 0xC0 1 1
+    ∷ row 0xC4 1 1
+    ∷ row 0xC6 1 1
+    ∷ row 0xC7 0 255
+    ∷ row 0x85 2 2
+    ∷ sum_rows
+
+-- what each kind knows: in a DR additional information, in an AK subsequence and flow control
+-- confirmation, in an ER the rejected TPDU
+abbrev pub rows : Kind → List Row
+rows Cr = connect_rows
+rows Cc = connect_rows
+rows Dr = row 0xE0 0 255 ∷ sum_rows
+rows Dc = sum_rows
+rows Dt = sum_rows
+rows Ed = sum_rows
+rows Ak = row 0x8A 2 2 ∷ row 0x8C 8 8 ∷ sum_rows
+rows Ea = sum_rows
+rows Er = row 0xC1 0 255 ∷ sum_rows
+
+abbrev pub lengths_in : List Row → ℕ → Option Lengths
+lengths_in [] code = None
+lengths_in (row ∷ rows) code =
+    if row.code == code then Some (record { least = row.least; most = row.most }) else lengths_in rows code
+
+abbrev pub lengths_of : Kind → ℕ → Option Lengths
+lengths_of kind code = lengths_in (rows kind) code
+
+-- a size code, and the octets that it stands for
+pub record Size : Type 0 where
+  pub code : ℕ
+  pub octets : ℕ
+
+abbrev pub sizes : List Size
+sizes =
+    record { code = 7; octets = 128 }
+    ∷ record { code = 8; octets = 256 }
+    ∷ record { code = 9; octets = 512 }
+    ∷ record { code = 10; octets = 1024 }
+    ∷ record { code = 11; octets = 2048 }
+    ∷ record { code = 12; octets = 4096 }
+    ∷ record { code = 13; octets = 8192 }
+    ∷ []
+
+abbrev pub size_in : List Size → ℕ → Option ℕ
+size_in [] code = None
+size_in (size ∷ sizes) code = if size.code == code then Some size.octets else size_in sizes code
+
+abbrev pub size_of : List ℕ → Option ℕ
+size_of (code ∷ []) = size_in sizes code
+size_of octets = None
+
+-- a size parameter has a size code
+abbrev pub has_size : Parameter → Bool
+has_size p = not (p.code == 0xC0) || is_some (size_of p.value)
+
+-- what is wrong with a parameter that fits: a CR and a CC skip those that they do not know
+abbrev pub trouble_by : Option Lengths → Kind → Parameter → Option TpduCause
+trouble_by None kind p = if is_connect kind then None else Some Unknown
+trouble_by (Some lengths) kind p =
+    if nat_le lengths.least (length p.value) && nat_le (length p.value) lengths.most && has_size p then None
+    else Some Param
+
+abbrev pub trouble : Kind → Parameter → Option TpduCause
+trouble kind p = trouble_by (lengths_of kind p.code) kind p
+
+-- the parameter at the front, and what follows it; none where it does not fit
+abbrev pub front_of : List ℕ → Option (Parameter × List ℕ)
+front_of [] = None
+front_of (code ∷ []) = None
+front_of (code ∷ count ∷ rest) =
+    if nat_lt (length rest) count then None
+    else Some (record { code = code; value = take count rest }, drop count rest)
+
+-- the parameters that fit, from left to right, and what is left
+abbrev pub Split : Type 0
+Split = List Parameter × List ℕ
+
+abbrev pub split_by : List ℕ → (List ℕ → Split) → Option (Parameter × List ℕ) → Split
+split_by octets again None = ([], octets)
+split_by octets again (Some found) = (found.0 ∷ (again found.1).0, (again found.1).1)
+
+-- at most so many parameters
+unfoldable pub split_within : ℕ → List ℕ → Split
+split_within zero octets = ([], octets)
+split_within (suc n) octets = split_by octets (split_within n) (front_of octets)
+
+unfoldable pub split : List ℕ → Split
+split octets = split_within (length octets) octets
+
+abbrev pub parameters_in : List ℕ → List Parameter
+parameters_in octets = (split octets).0
+
+-- the first fault of parameters that begin at the place, where these octets are left behind them
+abbrev pub fault_at : TpduCause → ℕ → TpduFault
+fault_at cause place = record { cause = cause; place = place }
+
+abbrev pub found_or : Option TpduCause → ℕ → Option TpduFault → Option TpduFault
+found_or None place later = later
+found_or (Some cause) place later = Some (fault_at cause place)
+
+abbrev pub fault_in : Kind → ℕ → List Parameter → List ℕ → Option TpduFault
+fault_in kind place [] [] = None
+fault_in kind place [] (octet ∷ torn) = Some (fault_at Param place)
+fault_in kind place (p ∷ ps) torn = found_or (trouble kind p) place (fault_in kind (place + (2 + length p.value)) ps torn)
+
+-- the place of the value of the last checksum
+abbrev pub sum_place : ℕ → List Parameter → Option ℕ
+sum_place place [] = None
+sum_place place (p ∷ ps) = option_or (sum_place (place + (2 + length p.value)) ps) (if p.code == 0xC3 then Some (place + 2) else None)
+
+-- the value of the last parameter with this code
+abbrev pub last_value : ℕ → List Parameter → Option (List ℕ)
+last_value code [] = None
+last_value code (p ∷ ps) = option_or (last_value code ps) (if p.code == code then Some p.value else None)
+
+abbrev pub octet_in : List ℕ → ℕ
+octet_in (octet ∷ []) = octet
+octet_in octets = 0
+
+abbrev pub pair_in : List ℕ → ℕ
+pair_in (high ∷ low ∷ []) = 256 * high + low
+pair_in octets = 0

@@ -1,0 +1,206 @@
+-- How a TPDU is written (X.224, structure and encoding of TPDUs): of the ways to spell a value, this one.
+use Rattle.std.specs.Prelude.{◌≡◌, ◌==◌, ◌≤◌, ◌<◌, ℕ, ◌+◌, ◌%◌, Bool, true, false, ◌||◌, IsTrue, List, [], ◌∷◌, ◌++◌, length, Option, Some, None, IsSome, unwrap_or, if◌then◌else◌}
+use Rattle.std.specs.Int.{w16, w32, to_be_bytes}
+use Rattle.osi_base.specs.Fletcher.{Sealed}
+use Rattle.tpdu.specs.declared.kind.Kind.{Kind}
+use Rattle.tpdu.specs.declared.kind.Kind.TheVariants.{Cr, Cc, Dr, Dc, Dt, Ed, Ak, Ea, Er}
+use Rattle.tpdu.specs.declared.tpdu.Format.{Format}
+use Rattle.tpdu.specs.declared.tpdu.Format.TheVariants.{Normal, Extended}
+use Rattle.tpdu.specs.declared.tpdu.Tpdu.{Tpdu}
+use Rattle.tpdu.specs.declared.tpdu.Tpdu.TheVariants as tpdus
+use Rattle.tpdu.specs.Kinds.{is_request}
+use Rattle.tpdu.specs.Parameters.{Parameter, Size, sizes}
+use Rattle.tpdu.specs.Values.{Parts}
+use Rattle.tpdu.specs.Grammar.{header_of}
+
+abbrev pub kind_for : Tpdu → Kind
+kind_for (tpdus.Cr _ _ _ _ _ _ _ _ _ _ _) = Cr
+kind_for (tpdus.Cc _ _ _ _ _ _ _ _ _ _ _ _) = Cc
+kind_for (tpdus.Dr _ _ _ _ _) = Dr
+kind_for (tpdus.Dc _ _) = Dc
+kind_for (tpdus.Dt _ _ _ _) = Dt
+kind_for (tpdus.Ed _ _ _ _) = Ed
+kind_for (tpdus.Ak _ _ _ _ _) = Ak
+kind_for (tpdus.Ea _ _) = Ea
+kind_for (tpdus.Er _ _ _) = Er
+
+-- the code octet of a kind, with a credit of 4 bits in CR, CC and in AK of normal formats
+abbrev pub ack_code : Format → ℕ → ℕ
+ack_code Normal credit = 0x60 + credit % 16
+ack_code Extended credit = 0x60
+
+abbrev pub code_for : Format → Tpdu → ℕ
+code_for width (tpdus.Cr credit _ _ _ _ _ _ _ _ _ _) = 0xE0 + credit % 16
+code_for width (tpdus.Cc credit _ _ _ _ _ _ _ _ _ _ _) = 0xD0 + credit % 16
+code_for width (tpdus.Dr _ _ _ _ _) = 0x80
+code_for width (tpdus.Dc _ _) = 0xC0
+code_for width (tpdus.Dt _ _ _ _) = 0xF0
+code_for width (tpdus.Ed _ _ _ _) = 0x10
+code_for width (tpdus.Ak _ _ credit _ _) = ack_code width credit
+code_for width (tpdus.Ea _ _) = 0x20
+code_for width (tpdus.Er _ _ _) = 0x70
+
+abbrev pub pair : ℕ → List ℕ
+pair number = to_be_bytes w16 number
+
+-- class 4, and bit 2 for extended formats
+abbrev pub class_for : Format → ℕ
+class_for Normal = 0x40
+class_for Extended = 0x42
+
+-- a number with its top bit: 7 bits in one octet, or 31 in four
+abbrev pub number_for : Format → Bool → ℕ → List ℕ
+number_for Normal last number = (number % 128 + (if last then 128 else 0)) ∷ []
+number_for Extended last number = to_be_bytes w32 (number % 2147483648 + (if last then 2147483648 else 0))
+
+-- the credit of an AK behind its number
+abbrev pub credit_for : Format → ℕ → List ℕ
+credit_for Normal credit = []
+credit_for Extended credit = pair credit
+
+-- the fixed part behind the code
+abbrev pub fixed_for : Format → Tpdu → List ℕ
+fixed_for width (tpdus.Cr _ source format _ _ _ _ _ _ _ _) = pair 0 ++ pair source ++ class_for format ∷ []
+fixed_for width (tpdus.Cc _ destination source format _ _ _ _ _ _ _ _) = pair destination ++ pair source ++ class_for format ∷ []
+fixed_for width (tpdus.Dr destination source reason _ _) = pair destination ++ pair source ++ reason ∷ []
+fixed_for width (tpdus.Dc destination source) = pair destination ++ pair source
+fixed_for width (tpdus.Dt destination last number _) = pair destination ++ number_for width last number
+fixed_for width (tpdus.Ed destination last number _) = pair destination ++ number_for width last number
+fixed_for width (tpdus.Ak destination number credit _ _) = pair destination ++ number_for width false number ++ credit_for width credit
+fixed_for width (tpdus.Ea destination number) = pair destination ++ number_for width false number
+fixed_for width (tpdus.Er destination cause _) = pair destination ++ cause ∷ []
+
+-- the code of a size; 0 for one that has none
+abbrev pub code_in : List Size → ℕ → Option ℕ
+code_in [] octets = None
+code_in (size ∷ sizes) octets = if size.octets == octets then Some size.code else code_in sizes octets
+
+abbrev pub size_code : ℕ → ℕ
+size_code octets = unwrap_or (code_in sizes octets) 0
+
+abbrev pub parameter : ℕ → List ℕ → Parameter
+parameter code value = record { code = code; value = value }
+
+-- the parameters of a CR and a CC: calling and called selector, size, additional options
+abbrev pub connect_parameters : List ℕ → List ℕ → ℕ → ℕ → List Parameter
+connect_parameters calling called size extra =
+    parameter 0xC1 calling ∷ parameter 0xC2 called ∷ parameter 0xC0 (size_code size ∷ []) ∷ parameter 0xC6 (extra ∷ []) ∷ []
+
+-- the subsequence of an AK, where it is not 0
+abbrev pub ack_parameters : ℕ → List Parameter
+ack_parameters subsequence = if subsequence == 0 then [] else parameter 0x8A (pair subsequence) ∷ []
+
+-- the parameters but for the checksum, in the order in which they are written
+abbrev pub parameters_for : Tpdu → List Parameter
+parameters_for (tpdus.Cr _ _ _ calling called size extra _ _ _ _) = connect_parameters calling called size extra
+parameters_for (tpdus.Cc _ _ _ _ calling called size extra _ _ _ _) = connect_parameters calling called size extra
+parameters_for (tpdus.Dr _ _ _ _ _) = []
+parameters_for (tpdus.Dc _ _) = []
+parameters_for (tpdus.Dt _ _ _ _) = []
+parameters_for (tpdus.Ed _ _ _ _) = []
+parameters_for (tpdus.Ak _ _ _ subsequence _) = ack_parameters subsequence
+parameters_for (tpdus.Ea _ _) = []
+parameters_for (tpdus.Er _ _ _) = []
+
+abbrev pub body_for : Tpdu → List ℕ
+body_for (tpdus.Cr _ _ _ _ _ _ _ _ _ _ octets) = octets
+body_for (tpdus.Cc _ _ _ _ _ _ _ _ _ _ _ octets) = octets
+body_for (tpdus.Dr _ _ _ _ octets) = octets
+body_for (tpdus.Dc _ _) = []
+body_for (tpdus.Dt _ _ _ octets) = octets
+body_for (tpdus.Ed _ _ _ octets) = octets
+body_for (tpdus.Ak _ _ _ _ _) = []
+body_for (tpdus.Ea _ _) = []
+body_for (tpdus.Er _ _ _) = []
+
+-- a checksum is written where it is asked for, and in every CR
+abbrev pub is_summed : Bool → Tpdu → Bool
+is_summed sum tpdu = sum || is_request (kind_for tpdu)
+
+-- the parts that are written, with these octets of a checksum where there is one
+abbrev pub sums_for : Bool → ℕ → ℕ → List Parameter
+sums_for true first second = parameter 0xC3 (first ∷ second ∷ []) ∷ []
+sums_for false first second = []
+
+abbrev pub parts_for : Format → Tpdu → List Parameter → Parts
+parts_for width tpdu sums = record {
+  kind = kind_for tpdu;
+  format = width;
+  code = code_for width tpdu;
+  fixed = fixed_for width tpdu;
+  parameters = parameters_for tpdu ++ sums;
+  body = body_for tpdu;
+}
+
+-- the octets of the header that is written, behind its length indicator
+abbrev pub count_for : Format → Bool → Tpdu → ℕ
+count_for width summed tpdu = length (header_of (parts_for width tpdu (sums_for summed 0 0)))
+
+abbrev pub header_count : Format → Bool → Tpdu → ℕ
+header_count width sum tpdu = count_for width (is_summed sum tpdu) tpdu
+
+-- the octets are the header with its length indicator, and the data; the checksum holds
+pub record IsSpelled (width : Format) (summed : Bool) (tpdu : Tpdu) (octets : List ℕ) : Type 0 where
+  pub short : count_for width summed tpdu ≤ 254
+  pub first : ℕ
+  pub second : ℕ
+  pub all : let header = header_of (parts_for width tpdu (sums_for summed first second)) in octets ≡ length header ∷ (header ++ body_for tpdu)
+  pub sealed : IsTrue summed → Sealed octets
+
+abbrev pub IsWritten : Format → Bool → Tpdu → List ℕ → Type 0
+IsWritten width sum tpdu octets = IsSpelled width (is_summed sum tpdu) tpdu octets
+
+-- a value that holds no field that is not written
+abbrev pub IsPlain : Tpdu → Type 0
+IsPlain (tpdus.Cr _ _ _ _ _ _ _ version classes ack_time _) = (version ≡ None) × (classes ≡ None) × (ack_time ≡ None)
+IsPlain (tpdus.Cc _ _ _ _ _ _ _ _ version classes ack_time _) = (version ≡ None) × (classes ≡ None) × (ack_time ≡ None)
+IsPlain (tpdus.Dr _ _ _ info _) = info ≡ None
+IsPlain (tpdus.Dc _ _) = Unit {0}
+IsPlain (tpdus.Dt _ _ _ _) = Unit {0}
+IsPlain (tpdus.Ed _ _ _ _) = Unit {0}
+IsPlain (tpdus.Ak _ _ _ _ confirmation) = confirmation ≡ None
+IsPlain (tpdus.Ea _ _) = Unit {0}
+IsPlain (tpdus.Er _ _ rejected) = rejected ≡ None
+
+-- what the format has octets for: credits, numbers, selectors, sizes and data
+abbrev pub IsNumber : Format → ℕ → Type 0
+IsNumber Normal number = number < 128
+IsNumber Extended number = number < 2147483648
+
+abbrev pub IsCredit : Format → ℕ → Type 0
+IsCredit Normal credit = credit < 16
+IsCredit Extended credit = Unit {0}
+
+pub record IsConnect (credit : ℕ) (calling called : List ℕ) (size : ℕ) (octets : List ℕ) : Type 0 where
+  pub few_credits : credit < 16
+  pub calling_fits : length calling ≤ 32
+  pub called_fits : length called ≤ 32
+  pub size_known : IsSome (code_in sizes size)
+  pub octets_fit : length octets ≤ 32
+
+abbrev pub IsAllowed : Format → Tpdu → Type 0
+IsAllowed width (tpdus.Cr credit _ _ calling called size _ _ _ _ octets) = IsConnect credit calling called size octets
+IsAllowed width (tpdus.Cc credit _ _ _ calling called size _ _ _ _ octets) = IsConnect credit calling called size octets
+IsAllowed width (tpdus.Dr _ _ _ _ octets) = length octets ≤ 64
+IsAllowed width (tpdus.Dc _ _) = Unit {0}
+IsAllowed width (tpdus.Dt _ _ number _) = IsNumber width number
+IsAllowed width (tpdus.Ed _ _ number octets) = IsNumber width number × (1 ≤ length octets) × (length octets ≤ 16)
+IsAllowed width (tpdus.Ak _ number credit _ _) = IsNumber width number × IsCredit width credit
+IsAllowed width (tpdus.Ea _ number) = IsNumber width number
+IsAllowed width (tpdus.Er _ _ _) = Unit {0}
+
+-- the fields of two octets that are written
+abbrev pub FixedFits : Tpdu → Type 0
+FixedFits (tpdus.Cr _ source _ _ _ _ _ _ _ _ _) = source < 65536
+FixedFits (tpdus.Cc _ destination source _ _ _ _ _ _ _ _ _) = (destination < 65536) × (source < 65536)
+FixedFits (tpdus.Dr destination source _ _ _) = (destination < 65536) × (source < 65536)
+FixedFits (tpdus.Dc destination source) = (destination < 65536) × (source < 65536)
+FixedFits (tpdus.Dt destination _ _ _) = destination < 65536
+FixedFits (tpdus.Ed destination _ _ _) = destination < 65536
+FixedFits (tpdus.Ak destination _ credit _ _) = (destination < 65536) × (credit < 65536)
+FixedFits (tpdus.Ea destination _) = destination < 65536
+FixedFits (tpdus.Er destination _ _) = destination < 65536
+
+abbrev pub ParametersFit : Tpdu → Type 0
+ParametersFit (tpdus.Ak _ _ _ subsequence _) = subsequence < 65536
+ParametersFit _ = Unit {0}

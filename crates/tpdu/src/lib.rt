@@ -1,0 +1,23 @@
+//! TPDUs of transport class 4 (X.224, structure and encoding of TPDUs): nine kinds in two formats,
+//! their parameters and their checksum, read and written.
+#![tactic(auto)]
+
+mod checksum;
+mod fault;
+mod fixed;
+mod kind;
+mod laws;
+mod parameter;
+mod reading;
+mod sections;
+mod tpdu;
+mod writing;
+
+pub use fault::{TpduCause, TpduFault};
+pub use laws::{first_or_fault, one_bundle, one_first, spelling_is_first};
+pub use reading::read_first;
+pub use tpdu::{Format, Tpdu, TpduRef};
+pub use writing::write_tpdu;
+
+#[cfg(test)]
+mod tests;

@@ -1,0 +1,287 @@
+//! Writing TPDUs (X.224, structure and encoding of TPDUs).
+//!
+//! Profile: a CR and a CC have both selectors, the size and the additional options, an AK its subsequence
+//! where it is not 0, and a checksum stands last. No other parameter is written.
+
+ghost use Rattle.std.specs.Prelude.{◌≡◌, ◌+◌, ◌<◌, ◌≤◌, ◌^◌, ◌↔◌, [], ◌∷◌, ◌++◌, length, min, IfOk, OnOk, IsErrOf, IsTrue};
+ghost use Rattle.tpdu.specs.Grammar.{IsTpduWith};
+ghost use Rattle.tpdu.specs.Parameters.{spelled};
+ghost use Rattle.tpdu.specs.Writing.{
+  code_for,
+  ack_code,
+  fixed_for,
+  number_for,
+  credit_for,
+  class_for,
+  pair,
+  size_code,
+  parameter,
+  connect_parameters,
+  ack_parameters,
+  parameters_for,
+  body_for,
+  is_summed,
+  kind_for,
+  header_count,
+  count_for,
+  IsSpelled,
+  IsWritten,
+  FixedFits,
+  ParametersFit,
+  IsPlain,
+  IsAllowed,
+};
+ghost use Rattle.osi_base.specs.declared.refusal.HeaderRefusal.TheVariants.{TooLong};
+ghost use Rattle.tpdu.specs.Sums.{SumsIf};
+
+use crate::checksum::put_sum;
+use crate::fixed::put_fixed;
+use crate::kind::Kind;
+use crate::parameter::{CALLED, CALLING, EXTRA, SIZE, SUBSEQUENCE};
+use crate::{Format, Tpdu};
+use osi_base::HeaderRefusal;
+use std::alloc::{AllocError, Global};
+
+/// The most octets of a header without its length indicator.
+const LONGEST: usize = 254;
+
+/// The octets of a checksum with its code and length.
+const SUM_COUNT: usize = 4;
+
+/// The octets of the parameters of a CR or a CC but for the selectors and the checksum.
+const CONNECT_COUNT: usize = 10;
+
+/// The octets of a subsequence with its code and length.
+const SUBSEQUENCE_COUNT: usize = 4;
+
+/// The octets of the TPDU, alone in its unit or behind others. A checksum stands there where `sum` is true,
+/// and in every CR.
+///
+/// Fields that are not written are left out. TooLong exactly where the header with its length indicator
+/// has more than 255 octets.
+pub fn write_tpdu(
+    alloc: Global,
+    tpdu: &Tpdu,
+    format: Format,
+    sum: bool,
+) -> Result<Vec<u8>, HeaderRefusal>
+    ensures ok { IfOk result (λ octets. IsPlain tpdu.now → IsAllowed format tpdu.now → IsTpduWith (is_summed sum tpdu.now) format octets.items tpdu.now) }
+    // What is written, also for a value that the format has no octets for.
+    ensures written { IfOk result (λ octets. IsWritten format sum tpdu.now octets.items) }
+    ensures too_long { IsErrOf result TooLong ↔ (254 < header_count format sum tpdu.now) }
+{
+    let summed = is_summed(tpdu, sum);
+    let count = count_of(tpdu, format, summed);
+    if LONGEST < count {
+        return Err(HeaderRefusal::TooLong);
+    }
+    match spell(alloc, tpdu, format, summed, count) {
+        Ok(octets) => Ok(octets),
+        Err(_) => Err(HeaderRefusal::NoMemory),
+    }
+}
+
+fn spell(
+    alloc: Global,
+    tpdu: &Tpdu,
+    format: Format,
+    summed: bool,
+    count: usize,
+) -> Result<Vec<u8>, AllocError>
+    requires count { count ≡ count_for format summed tpdu.now }
+    requires short { count ≤ 254 }
+    ensures spelled { IfOk result (λ octets. IsSpelled format summed tpdu.now octets.items) }
+    ensures fixed_fits { OnOk result (FixedFits tpdu.now) }
+    ensures parameters_fit { OnOk result (ParametersFit tpdu.now) }
+{
+    let body = body_of(tpdu);
+    let mut out = Vec::new(alloc);
+    out.extend_from_slice(&[count as u8, code_of(tpdu, format)])?;
+    put_fixed(&mut out, tpdu, format)?;
+    put_parameters(&mut out, tpdu)?;
+    put_checksum(&mut out, body, summed)?;
+    out.extend_from_slice(body)?;
+    Ok(out)
+}
+
+fn put_checksum(out: &mut Vec<u8>, body: &[u8], summed: bool) -> Result<(), AllocError>
+    requires { length out.old.items ≤ 1000 }
+    ensures { OnOk result (SumsIf summed out.old.items body.now out.new.items) }
+{
+    if summed { put_sum(out, body) } else { Ok(()) }
+}
+
+/// The octets of the header without its length indicator, or the greatest number.
+fn count_of(tpdu: &Tpdu, format: Format, summed: bool) -> usize
+    ensures { result ≡ min (count_for format summed tpdu.now) usize.MAX }
+{
+    let sum_count = if summed { SUM_COUNT } else { 0 };
+    let fixed_count = kind_of(tpdu).fixed_count(format);
+    parameters_count(tpdu).saturating_add(1 + fixed_count + sum_count)
+}
+
+/// The octets of the parameters but for the checksum, or the greatest number.
+fn parameters_count(tpdu: &Tpdu) -> usize
+    ensures { result ≡ min (length (spelled (parameters_for tpdu.now))) usize.MAX }
+{
+    match tpdu {
+        Tpdu::Cr {
+            calling,
+            called,
+            ..
+        }
+        | Tpdu::Cc {
+            calling,
+            called,
+            ..
+        } => {
+            let calling_count = calling.as_slice().len();
+            let called_count = called.as_slice().len();
+            calling_count
+                .saturating_add(called_count)
+                .saturating_add(CONNECT_COUNT)
+        }
+        Tpdu::Ak { subsequence, .. } => if *subsequence == 0 {
+            0
+        } else {
+            SUBSEQUENCE_COUNT
+        },
+        Tpdu::Dr { .. }
+        | Tpdu::Dc { .. }
+        | Tpdu::Dt { .. }
+        | Tpdu::Ed { .. }
+        | Tpdu::Ea { .. }
+        | Tpdu::Er { .. } => 0,
+    }
+}
+
+/// Whether a checksum is written.
+fn is_summed(tpdu: &Tpdu, sum: bool) -> bool
+    ensures { result ≡ is_summed sum tpdu.now }
+{
+    sum || kind_of(tpdu).is_request()
+}
+
+fn kind_of(tpdu: &Tpdu) -> Kind
+    ensures { result ≡ kind_for tpdu.now }
+{
+    match tpdu {
+        Tpdu::Cr { .. } => Kind::Cr,
+        Tpdu::Cc { .. } => Kind::Cc,
+        Tpdu::Dr { .. } => Kind::Dr,
+        Tpdu::Dc { .. } => Kind::Dc,
+        Tpdu::Dt { .. } => Kind::Dt,
+        Tpdu::Ed { .. } => Kind::Ed,
+        Tpdu::Ak { .. } => Kind::Ak,
+        Tpdu::Ea { .. } => Kind::Ea,
+        Tpdu::Er { .. } => Kind::Er,
+    }
+}
+
+/// The code octet of the TPDU, with a credit of 4 bits in its low half.
+fn code_of(tpdu: &Tpdu, format: Format) -> u8
+    ensures { result ≡ code_for format tpdu.now }
+{
+    match tpdu {
+        Tpdu::Cr { credit, .. } => 0xe0 + credit % 16,
+        Tpdu::Cc { credit, .. } => 0xd0 + credit % 16,
+        Tpdu::Dr { .. } => 0x80,
+        Tpdu::Dc { .. } => 0xc0,
+        Tpdu::Dt { .. } => 0xf0,
+        Tpdu::Ed { .. } => 0x10,
+        Tpdu::Ak { credit, .. } => ack_code(format, *credit),
+        Tpdu::Ea { .. } => 0x20,
+        Tpdu::Er { .. } => 0x70,
+    }
+}
+
+fn ack_code(format: Format, credit: u16) -> u8
+    ensures { result ≡ ack_code format credit }
+{
+    match format {
+        Format::Normal => 0x60 + (credit % 16) as u8,
+        Format::Extended => 0x60,
+    }
+}
+
+/// The code of a size; 0 for one that has none.
+fn size_code(size: u16) -> u8
+    ensures { result ≡ size_code size }
+{
+    match size {
+        128 => 7,
+        256 => 8,
+        512 => 9,
+        1024 => 10,
+        2048 => 11,
+        4096 => 12,
+        8192 => 13,
+        _ => 0,
+    }
+}
+
+fn put_parameter(out: &mut Vec<u8>, code: u8, value: &[u8]) -> Result<(), AllocError>
+    requires { length value.now < 256 }
+    ensures { OnOk result (out.new.items ≡ out.old.items ++ spelled (parameter code value.now ∷ [])) }
+{
+    out.extend_from_slice(&[code, value.len() as u8])?;
+    out.extend_from_slice(value)
+}
+
+/// Appends the parameters but for the checksum.
+fn put_parameters(out: &mut Vec<u8>, tpdu: &Tpdu) -> Result<(), AllocError>
+    requires { length (spelled (parameters_for tpdu.now)) < 256 }
+    ensures appended { OnOk result (out.new.items ≡ out.old.items ++ spelled (parameters_for tpdu.now)) }
+    ensures fits { OnOk result (ParametersFit tpdu.now) }
+{
+    match tpdu {
+        Tpdu::Cr {
+            calling,
+            called,
+            size,
+            extra,
+            ..
+        }
+        | Tpdu::Cc {
+            calling,
+            called,
+            size,
+            extra,
+            ..
+        } => {
+            put_parameter(out, CALLING, calling.as_slice())?;
+            put_parameter(out, CALLED, called.as_slice())?;
+            put_parameter(out, SIZE, &[size_code(*size)])?;
+            put_parameter(out, EXTRA, &[*extra])
+        }
+        Tpdu::Ak { subsequence, .. } => put_subsequence(out, *subsequence),
+        Tpdu::Dr { .. }
+        | Tpdu::Dc { .. }
+        | Tpdu::Dt { .. }
+        | Tpdu::Ed { .. }
+        | Tpdu::Ea { .. }
+        | Tpdu::Er { .. } => { Ok(()) }
+    }
+}
+
+fn put_subsequence(out: &mut Vec<u8>, subsequence: u16) -> Result<(), AllocError>
+    ensures { OnOk result (out.new.items ≡ out.old.items ++ spelled (ack_parameters subsequence)) }
+{
+    if subsequence == 0 {
+        return Ok(());
+    }
+    put_parameter(out, SUBSEQUENCE, &subsequence.to_be_bytes())
+}
+
+fn body_of(tpdu: &Tpdu) -> &[u8]
+    ensures { result.now ≡ body_for tpdu.now }
+{
+    match tpdu {
+        Tpdu::Cr { octets, .. }
+        | Tpdu::Cc { octets, .. }
+        | Tpdu::Dr { octets, .. }
+        | Tpdu::Dt { octets, .. }
+        | Tpdu::Ed { octets, .. } => octets.as_slice(),
+        Tpdu::Dc { .. } | Tpdu::Ak { .. } | Tpdu::Ea { .. } | Tpdu::Er { .. } => &[],
+    }
+}
