@@ -1,3 +1,4 @@
+pub mod Chains
 mod FletcherModulo
 pub mod FletcherPair
 mod FletcherRest
@@ -5,3 +6,5 @@ pub mod FletcherSealed
 pub mod FletcherSums
 pub mod Fronts
 pub mod Numbers
+mod RoundTrips
+pub mod Young

@@ -3,28 +3,38 @@
 #![tactic(auto)]
 
 mod address;
+mod carrier;
 mod fletcher;
+mod floating;
 mod lists;
 mod memory;
+mod note;
 mod octets;
 mod refusal;
+mod runs;
 mod sink;
 mod source;
 mod standard;
 mod status;
 #[cfg(test)]
 mod tests;
+mod unit;
 
 pub use address::Address;
+pub use carrier::Carrier;
 pub use fletcher::{fletcher_ok, fletcher_seal, one_seal};
+pub use floating::Floating;
 pub use lists::{Bytes, Items};
 pub use memory::{MemSink, MemSource, PlainSink, PlainSource};
+pub use note::{HelloCause, HelloKind, Note};
 pub use octets::Octets;
 pub use refusal::{Failed, HeaderRefusal, NoMemory, WriteRefusal};
+pub use runs::{go_round, over_runs};
 pub use sink::Sink;
 pub use source::Source;
 pub use standard::{StdSink, StdSource};
 pub use status::Status;
+pub use unit::{Arrival, DropCause, Injected, Offered, Picked, Unit, Up, Wish};
 
 /// A time of the network's clock, in units of 500 ms.
 pub type Tick = u32;

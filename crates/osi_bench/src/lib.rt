@@ -26,3 +26,6 @@ mod writing;
 pub use event::{Event, Refused};
 pub use laws::{longest_route, one_journal, one_outcome, raw_units_are_lawful, script_runs};
 pub use top::{Transcript, osi, run_in_memory};
+
+#[cfg(test)]
+mod tests;

@@ -1,0 +1,4 @@
+pub mod Headers
+pub mod Offers
+pub mod Openings
+pub mod Stored

@@ -1,0 +1,281 @@
+-- The first frame that a system can take and has not taken: what changes do to it, and the least fresh pair.
+use Rattle.std.proofs.Common.{◌≡◌, ◌≢◌, ◌⊎◌, inl, inr, get_or, ℕ, zero, suc, ◌+◌, ◌<◌, ◌≤◌, Bool, true, false, not, ◌&&◌, ◌||◌, ◌==◌, nat_lt, IsTrue, is_some, if◌then◌else◌, List, [], ◌∷◌, ◌++◌, length, map, take, set, refl, sym, ◌∙◌, ap, subst, arith, Option, Some, None, slice_get, All}
+use Rattle.std.specs.List.{list_any}
+use Rattle.std.proofs.lemmas.Bool.{eqb-true, leb-true, le-leb}
+use Rattle.std.proofs.lemmas.Bool.Decides.{nat_tests, eqb_tells, leb_tells}
+use Rattle.std.proofs.lemmas.Grind.{common_steps}
+use Rattle.std.proofs.lemmas.List.Elements.{All-nil, All-cons, All-head, All-tail, All-more}
+use Rattle.std.proofs.lemmas.Option.{slice_get_past}
+use Rattle.osi_base.specs.declared.unit.Picked.TheVariants.{Late}
+use Rattle.nsap.specs.declared.port.Port.{Port}
+use Rattle.lan_bag.specs.declared.setup.Lan.{Lan}
+use Rattle.lan_bag.specs.declared.setup.PortRow.{PortRow}
+use Rattle.lan_bag.specs.Rows.{is_on}
+use Rattle.lan_bag.specs.Frames.{Frame, kept, has_taken, is_live, is_taken, picked, picked_of, picked_late, is_open_to, is_open, kept_at, marked, marked_at, marked_frame, IsClosedTo, IsFirstOpen, IsLeastOpen, IsLeastAmong, lesser_of}
+use Rattle.lan_bag.specs.Places.{push_cases, set_same, set_other, kept_places, marked_by, takes_in, takes_at}
+use Rattle.lan_bag.specs.Bag.{Bag, link_of, took_by, picked_in}
+use Rattle.osi_base.specs.Link.{Link, is_fresh, IsUpTo, IsLeastFresh}
+
+order : (m n : ℕ) → (m < n) ⊎ (n ≤ m)
+order m n = elim (leb_tells n m) [ inl at_most ↦ inr at_most.1 | inr above ↦ inl above.1 ]
+
+-- one place more is closed
+pub closed_next : (clock : ℕ) (lans : List Lan) (rows : List PortRow) (frames : List (Option Frame)) (place : ℕ) → IsClosedTo clock lans rows frames place → is_open clock lans rows (kept (slice_get frames place)) ≡ false → IsClosedTo clock lans rows frames (place + 1)
+closed_next clock lans rows frames place h e k lt =
+    elim (eqb_tells k place) [
+      | inl same ↦ ap (λ (i : ℕ). is_open clock lans rows (kept (slice_get frames i))) same.1 ∙ e
+      | inr other ↦ let ne : k ≢ place = other.1 in h k (omega arith)
+    ]
+
+-- the systems on a LAN are those of rows
+on_row : (P : ℕ → Type 0) (rows : List PortRow) (system lan : ℕ) → is_on rows system lan ≡ true → All (λ (row : PortRow). P row.system) rows → P system
+on_row P [] system lan h all = cc
+on_row P (row ∷ rows) system lan h all = here_or (λ (e : is_on rows system lan ≡ true). on_row P rows system lan e (All-tail (λ (r : PortRow). P r.system) row rows all)) (eqb_tells row.system system) h
+  where
+    here_or : (is_on rows system lan ≡ true → P system) → ((row.system == system) ≡ true) × (row.system ≡ system) ⊎ ((row.system == system) ≡ false) × (row.system ≢ system) → ((row.system == system && row.port.lan == lan) || is_on rows system lan) ≡ true → P system
+    here_or others (inl same) e = subst P same.1 (All-head (λ (r : PortRow). P r.system) row rows all)
+    here_or others (inr other) e = others (sym (ap (λ (b : Bool). (b && row.port.lan == lan) || is_on rows system lan) other.0) ∙ e)
+
+open_on : (clock : ℕ) (lans : List Lan) (rows : List PortRow) (frame : Frame) (system : ℕ) → is_open_to clock lans rows frame system ≡ true → is_on rows system frame.unit.to.lan ≡ true
+open_on clock lans rows frame system h = grind (arith, nat_tests)
+
+true_or_false : (b : Bool) → (b ≡ true) ⊎ (b ≡ false)
+true_or_false true = inl refl
+true_or_false false = inr refl
+
+-- the least among all rows is the least of all systems
+pub least_open : (clock : ℕ) (lans : List Lan) (rows : List PortRow) (frame : Frame) (least : Option ℕ) → IsLeastAmong clock lans rows frame rows least → IsLeastOpen clock lans rows frame least
+least_open clock lans rows frame None h = λ system. none_least clock lans rows frame h system
+  where
+    none_least : (clock : ℕ) (lans : List Lan) (rows : List PortRow) (frame : Frame) → All (λ (row : PortRow). is_open_to clock lans rows frame row.system ≡ false) rows → (system : ℕ) → is_open_to clock lans rows frame system ≡ false
+    none_least clock lans rows frame h system =
+        elim (true_or_false (is_open_to clock lans rows frame system)) [
+          | inl open_to ↦ on_row (λ (s : ℕ). is_open_to clock lans rows frame s ≡ false) rows system frame.unit.to.lan (open_on clock lans rows frame system open_to) h
+          | inr closed ↦ closed
+        ]
+least_open clock lans rows frame (Some least) h =
+    (h.0, λ system open_to. on_row (λ (s : ℕ). is_open_to clock lans rows frame s ≡ true → least ≤ s) rows system frame.unit.to.lan (open_on clock lans rows frame system open_to) h.1 open_to)
+
+or_parts : (a b : Bool) → (a || b) ≡ false → (a ≡ false) × (b ≡ false)
+or_parts true b e = cc
+or_parts false b e = (refl, e)
+
+-- what was closed to all stays closed to all
+any_less : {X : Type 0} (p q : X → Bool) → ((x : X) → p x ≡ false → q x ≡ false) → (xs : List X) → list_any p xs ≡ false → list_any q xs ≡ false
+any_less p q less [] h = refl
+any_less p q less (x ∷ xs) h =
+    let parts = or_parts (p x) (list_any p xs) h in
+    ap (λ (c : Bool). c || list_any q xs) (less x parts.0) ∙ any_less p q less xs parts.1
+
+push_kept : {X : Type 0} (xs : List X) (y : X) (k : ℕ) → k < length xs → slice_get (xs ++ y ∷ []) k ≡ slice_get xs k
+push_kept [] y k h = absurd (omega arith)
+push_kept (x ∷ xs) y zero h = refl
+push_kept (x ∷ xs) y (suc k) h = push_kept xs y k (omega arith)
+
+pub closed_pushed : (clock : ℕ) (lans : List Lan) (rows : List PortRow) (frames : List (Option Frame)) (place : ℕ) (slot : Option Frame) → IsFirstOpen clock lans rows frames place → IsClosedTo clock lans rows (frames ++ slot ∷ []) place
+closed_pushed clock lans rows frames place slot f k lt =
+    ap (λ (o : Option (Option Frame)). is_open clock lans rows (kept o)) (push_kept frames slot k (omega (arith, f.within))) ∙ f.before k lt
+
+and_less : (a b c d : Bool) → (a && b && not c) ≡ false → (a && b && not (c || d)) ≡ false
+and_less true true true d h = refl
+and_less true true false d h = cc
+and_less true false c d h = refl
+and_less false b c d h = refl
+
+mark_closes : (clock : ℕ) (lans : List Lan) (rows : List PortRow) (frame : Frame) (marker : ℕ) → is_open clock lans rows (Some frame) ≡ false → is_open clock lans rows (Some (marked frame marker)) ≡ false
+mark_closes clock lans rows frame marker h =
+    any_less (λ (row : PortRow). is_open_to clock lans rows frame row.system) (λ (row : PortRow). is_open_to clock lans rows (marked frame marker) row.system)
+    (λ row e.
+    ap (λ (b : Bool). is_live clock lans frame && is_taken (picked_of rows row.system frame) && not b) (marked_by frame marker row.system)
+    ∙ and_less (is_live clock lans frame) (is_taken (picked_of rows row.system frame)) (has_taken frame row.system) (row.system == marker) e)
+    rows h
+
+marked_closed : (clock : ℕ) (lans : List Lan) (rows : List PortRow) (frames : List (Option Frame)) (i system k : ℕ) (o : Option (Option Frame)) → slice_get frames i ≡ o → is_open clock lans rows (kept (slice_get frames k)) ≡ false → is_open clock lans rows (kept (slice_get (marked_frame frames i system (kept o)) k)) ≡ false
+marked_closed clock lans rows frames i system k None at h = h
+marked_closed clock lans rows frames i system k (Some None) at h = h
+marked_closed clock lans rows frames i system k (Some (Some frame)) at h =
+    elim (eqb_tells k i) [
+      | inl same ↦
+          ap (λ (j : ℕ). is_open clock lans rows (kept (slice_get (set frames i (Some (marked frame system))) j))) same.1
+          ∙ (ap (λ (o : Option (Option Frame)). is_open clock lans rows (kept o)) (set_same frames (Some (marked frame system)) (Some frame) i at)
+          ∙ mark_closes clock lans rows frame system
+          (ap (λ (o : Option (Option Frame)). is_open clock lans rows (kept o)) (sym at) ∙ (ap (λ (j : ℕ). is_open clock lans rows (kept (slice_get frames j))) (sym same.1) ∙ h)))
+      | inr other ↦ ap (λ (o : Option (Option Frame)). is_open clock lans rows (kept o)) (set_other frames (Some (marked frame system)) i k other.1) ∙ h
+    ]
+
+pub closed_marked : (clock : ℕ) (lans : List Lan) (rows : List PortRow) (frames : List (Option Frame)) (place number system : ℕ) → IsFirstOpen clock lans rows frames place → IsClosedTo clock lans rows (marked_at frames number system) place
+closed_marked clock lans rows frames place zero system f k lt = f.before k lt
+closed_marked clock lans rows frames place (suc i) system f k lt = marked_closed clock lans rows frames i system k (slice_get frames i) refl (f.before k lt)
+
+length_set : {X : Type 0} (xs : List X) (k : ℕ) (y : X) → length (set xs k y) ≡ length xs
+length_set [] k y = refl
+length_set (x ∷ xs) zero y = refl
+length_set (x ∷ xs) (suc k) y = ap suc (length_set xs k y)
+
+length_frame : (frames : List (Option Frame)) (k system : ℕ) (slot : Option Frame) → length (marked_frame frames k system slot) ≡ length frames
+length_frame frames k system None = refl
+length_frame frames k system (Some frame) = length_set frames k (Some (marked frame system))
+
+pub length_marked : (frames : List (Option Frame)) (number system : ℕ) → length (marked_at frames number system) ≡ length frames
+length_marked frames zero system = refl
+length_marked frames (suc k) system = length_frame frames k system (kept (slice_get frames k))
+
+less_sooner : (clock : ℕ) (lans : List Lan) (rows : List PortRow) (frame : Frame) (system : ℕ) → is_open_to clock lans rows frame system ≡ false → is_open_to (clock + 1) lans rows frame system ≡ false
+less_sooner clock lans rows frame system h = grind (arith, nat_tests)
+
+tick_closes : (clock : ℕ) (lans : List Lan) (rows : List PortRow) (slot : Option Frame) → is_open clock lans rows slot ≡ false → is_open (clock + 1) lans rows (kept_at (clock + 1) lans slot) ≡ false
+tick_closes clock lans rows None h = refl
+tick_closes clock lans rows (Some frame) h = by_live (is_live (clock + 1) lans frame)
+  where
+    by_live : (b : Bool) → is_open (clock + 1) lans rows (if b then Some frame else None) ≡ false
+    by_live true =
+        any_less (λ (row : PortRow). is_open_to clock lans rows frame row.system) (λ (row : PortRow). is_open_to (clock + 1) lans rows frame row.system)
+        (λ row e. less_sooner clock lans rows frame row.system e) rows h
+    by_live false = refl
+
+pub closed_ticked : (clock : ℕ) (lans : List Lan) (rows : List PortRow) (frames : List (Option Frame)) (place : ℕ) → IsFirstOpen clock lans rows frames place → IsClosedTo (clock + 1) lans rows (map (kept_at (clock + 1) lans) frames) place
+closed_ticked clock lans rows frames place f k lt =
+    ap (is_open (clock + 1) lans rows) (kept_places (clock + 1) lans frames k) ∙ tick_closes clock lans rows (kept (slice_get frames k)) (f.before k lt)
+
+pub length_kept : (clock : ℕ) (lans : List Lan) (frames : List (Option Frame)) → length (map (kept_at clock lans) frames) ≡ length frames
+length_kept clock lans [] = refl
+length_kept clock lans (frame ∷ frames) = ap suc (length_kept clock lans frames)
+
+-- the system may take what stands there, and has not
+abbrev open_in : ℕ → List Lan → List PortRow → Option Frame → ℕ → Bool
+open_in clock lans rows None system = false
+open_in clock lans rows (Some frame) system = is_open_to clock lans rows frame system
+
+open_slot : (clock : ℕ) (lans : List Lan) (rows : List PortRow) (slot : Option Frame) (system : ℕ) → (takes_in clock lans rows slot system && not (took_by slot system)) ≡ open_in clock lans rows slot system
+open_slot clock lans rows None system = refl
+open_slot clock lans rows (Some frame) system = by_live (is_live clock lans frame)
+  where
+    by_live : (b : Bool) → (is_taken (if not b then Late else picked_of rows system frame) && not (has_taken frame system)) ≡ (b && is_taken (picked_of rows system frame) && not (has_taken frame system))
+    by_live true = refl
+    by_live false = refl
+
+fresh_at : (bag : Bag) (k system : ℕ) → is_fresh (link_of bag) (suc k) system ≡ open_in bag.clock bag.lans bag.rows (kept (slice_get bag.frames k)) system
+fresh_at bag k system =
+    ap (λ (b : Bool). b && not (took_by (kept (slice_get bag.frames k)) system)) (takes_at bag.clock bag.lans bag.rows bag.frames k system)
+    ∙ open_slot bag.clock bag.lans bag.rows (kept (slice_get bag.frames k)) system
+
+none_each : {X : Type 0} (p : X → Bool) (xs : List X) → list_any p xs ≡ false → All (λ (x : X). p x ≡ false) xs
+none_each p [] h = All-nil (λ x. p x ≡ false)
+none_each p (x ∷ xs) h =
+    let both = or_parts (p x) (list_any p xs) h in
+    All-cons (λ y. p y ≡ false) x xs both.0 (none_each p xs both.1)
+
+closed_to : (clock : ℕ) (lans : List Lan) (rows : List PortRow) (slot : Option Frame) (system : ℕ) → is_open clock lans rows slot ≡ false → open_in clock lans rows slot system ≡ false
+closed_to clock lans rows None system h = refl
+closed_to clock lans rows (Some frame) system h =
+    elim (true_or_false (is_open_to clock lans rows frame system)) [
+      | inl open_to ↦
+          on_row (λ (s : ℕ). is_open_to clock lans rows frame s ≡ false) rows system frame.unit.to.lan (open_on clock lans rows frame system open_to)
+          (none_each (λ (row : PortRow). is_open_to clock lans rows frame row.system) rows h)
+      | inr closed ↦ closed
+    ]
+
+none_open : (clock : ℕ) (lans : List Lan) (rows : List PortRow) (frame : Frame) → ((system : ℕ) → is_open_to clock lans rows frame system ≡ false) → (some_rows : List PortRow) → list_any (λ (row : PortRow). is_open_to clock lans rows frame row.system) some_rows ≡ false
+none_open clock lans rows frame h [] = refl
+none_open clock lans rows frame h (row ∷ some_rows) =
+    ap (λ (b : Bool). b || list_any (λ (r : PortRow). is_open_to clock lans rows frame r.system) some_rows) (h row.system) ∙ none_open clock lans rows frame h some_rows
+
+open_within : (clock : ℕ) (lans : List Lan) (rows : List PortRow) (frames : List (Option Frame)) (k system : ℕ) → open_in clock lans rows (kept (slice_get frames k)) system ≡ true → k < length frames
+open_within clock lans rows [] k system h = cc
+open_within clock lans rows (frame ∷ frames) zero system h = omega arith
+open_within clock lans rows (frame ∷ frames) (suc k) system h = omega (arith, open_within clock lans rows frames k system h)
+
+-- where nothing is at the first open place, no pair is fresh
+pub none_fresh : (bag : Bag) (place : ℕ) → IsFirstOpen bag.clock bag.lans bag.rows bag.frames place → is_open bag.clock bag.lans bag.rows (kept (slice_get bag.frames place)) ≡ false → IsLeastFresh (link_of bag) None
+none_fresh bag place f shut zero system = refl
+none_fresh bag place f shut (suc k) system =
+    elim (true_or_false (is_fresh (link_of bag) (suc k) system)) [
+      | inl fresh ↦
+          let lt = open_within bag.clock bag.lans bag.rows bag.frames k system (sym (fresh_at bag k system) ∙ fresh) in
+          elim (order place (length bag.frames)) [
+            | inl inside ↦ let yes = f.here inside in cc
+            | inr past ↦ fresh_at bag k system ∙ closed_to bag.clock bag.lans bag.rows (kept (slice_get bag.frames k)) system (f.before k (omega (arith, lt)))
+          ]
+      | inr stale ↦ stale
+    ]
+
+-- the first open frame, and the least system that it is open to, are the least fresh pair
+pub least_fresh : (bag : Bag) (place : ℕ) (frame : Frame) (least : ℕ) → IsFirstOpen bag.clock bag.lans bag.rows bag.frames place → kept (slice_get bag.frames place) ≡ Some frame → IsLeastOpen bag.clock bag.lans bag.rows frame (Some least) → IsLeastFresh (link_of bag) (Some (place + 1, least))
+least_fresh bag place frame least f at l = (one_fresh, upward)
+  where
+    one : suc place ≡ place + 1
+    one = omega arith
+
+    one_fresh : IsTrue (is_fresh (link_of bag) (place + 1) least)
+    one_fresh =
+        ap (λ (pick : ℕ). is_fresh (link_of bag) pick least) (sym one)
+        ∙ (fresh_at bag place least ∙ (ap (λ (slot : Option Frame). open_in bag.clock bag.lans bag.rows slot least) at ∙ l.0))
+
+    upward : (pick system : ℕ) → IsTrue (is_fresh (link_of bag) pick system) → IsUpTo (place + 1, least) pick system
+    upward zero system h = cc
+    upward (suc k) system h =
+        let opened = sym (fresh_at bag k system) ∙ h in
+        elim (order k place) [
+          | inl before ↦ let shut = closed_to bag.clock bag.lans bag.rows (kept (slice_get bag.frames k)) system (f.before k before) in cc
+          | inr after ↦ elim (eqb_tells k place) [
+            | inl same ↦
+                inr (
+                  omega (arith, same.1),
+                  l.1 system (ap (λ (slot : Option Frame). open_in bag.clock bag.lans bag.rows slot system) (sym at) ∙ (ap (λ (i : ℕ). open_in bag.clock bag.lans bag.rows (kept (slice_get bag.frames i)) system) (sym same.1) ∙ opened)),
+                )
+            | inr other ↦ let ne : k ≢ place = other.1 in inl (omega (arith, after))
+          ]
+        ]
+
+-- a frame that is open to no system is no open one
+pub shut : (clock : ℕ) (lans : List Lan) (rows : List PortRow) (frame : Frame) → IsLeastOpen clock lans rows frame None → is_open clock lans rows (Some frame) ≡ false
+shut clock lans rows frame h = none_open clock lans rows frame h rows
+
+-- one row more among those that were looked at
+pub among_more : (clock : ℕ) (lans : List Lan) (all : List PortRow) (frame : Frame) (rows : List PortRow) (i : ℕ) (row : PortRow) (least : Option ℕ) → i < length rows → row ≡ get_or rows i row → IsLeastAmong clock lans all frame (take i rows) least → is_open_to clock lans all frame row.system ≡ true → IsLeastAmong clock lans all frame (take (i + 1) rows) (Some (lesser_of least row.system))
+among_more clock lans all frame rows i row None lt is h open_to = (
+  open_to,
+  All-more (λ (r : PortRow). is_open_to clock lans all frame r.system ≡ true → row.system ≤ r.system) rows i row lt
+      (λ k d l e. let shut_here = h k d l in cc)
+      (λ e. omega (arith, ap (λ (r : PortRow). r.system) is)),
+)
+among_more clock lans all frame rows i row (Some found) lt is h open_to = by_test (nat_lt found row.system) refl
+  where
+    by_test : (b : Bool) → nat_lt found row.system ≡ b → IsLeastAmong clock lans all frame (take (i + 1) rows) (Some (if b then found else row.system))
+    by_test true e = (
+      h.0,
+      All-more (λ (r : PortRow). is_open_to clock lans all frame r.system ≡ true → found ≤ r.system) rows i row lt h.1
+          (λ _. let less : found < row.system = grind (arith, nat_tests) in omega (arith, less, ap (λ (r : PortRow). r.system) is)),
+    )
+    by_test false e = (
+      open_to,
+      All-more (λ (r : PortRow). is_open_to clock lans all frame r.system ≡ true → row.system ≤ r.system) rows i row lt
+          (λ k d l o. let less : row.system ≤ found = grind (arith, nat_tests) in omega (arith, less, h.1 k d l o))
+          (λ _. omega (arith, ap (λ (r : PortRow). r.system) is)),
+    )
+
+pub among_same : (clock : ℕ) (lans : List Lan) (all : List PortRow) (frame : Frame) (rows : List PortRow) (i : ℕ) (row : PortRow) (least : Option ℕ) → i < length rows → row ≡ get_or rows i row → IsLeastAmong clock lans all frame (take i rows) least → is_open_to clock lans all frame row.system ≡ false → IsLeastAmong clock lans all frame (take (i + 1) rows) least
+among_same clock lans all frame rows i row None lt is h closed =
+    All-more (λ (r : PortRow). is_open_to clock lans all frame r.system ≡ false) rows i row lt h
+    (sym (ap (λ (r : PortRow). is_open_to clock lans all frame r.system) is) ∙ closed)
+among_same clock lans all frame rows i row (Some found) lt is h closed = (
+  h.0,
+  All-more (λ (r : PortRow). is_open_to clock lans all frame r.system ≡ true → found ≤ r.system) rows i row lt h.1
+      (λ o. let e = ap (λ (r : PortRow). is_open_to clock lans all frame r.system) is in cc),
+)
+
+pub take_rows : (rows : List PortRow) (i : ℕ) → length rows ≤ i → take i rows ≡ rows
+take_rows [] zero h = refl
+take_rows [] (suc i) h = refl
+take_rows (row ∷ rows) zero h = absurd (omega arith)
+take_rows (row ∷ rows) (suc i) h = ap (λ (rs : List PortRow). row ∷ rs) (take_rows rows i (omega arith))
+
+-- closed at equal frames
+pub closed_same : (clock : ℕ) (lans other_lans : List Lan) (rows other_rows : List PortRow) (frames other_frames : List (Option Frame)) (place : ℕ) → IsClosedTo clock lans rows frames place → other_lans ≡ lans → other_rows ≡ rows → other_frames ≡ frames → IsClosedTo clock other_lans other_rows other_frames place
+closed_same clock lans other_lans rows other_rows frames other_frames place h l r f k lt =
+    let same : is_open clock other_lans other_rows (kept (slice_get other_frames k)) ≡ is_open clock lans rows (kept (slice_get frames k)) = cc in
+    same ∙ h k lt
+
+-- nothing stands past the last frame
+pub past_shut : (clock : ℕ) (lans : List Lan) (rows : List PortRow) (frames : List (Option Frame)) (place : ℕ) → length frames ≤ place → is_open clock lans rows (kept (slice_get frames place)) ≡ false
+past_shut clock lans rows frames place h = ap (λ (o : Option (Option Frame)). is_open clock lans rows (kept o)) (slice_get_past frames place h)

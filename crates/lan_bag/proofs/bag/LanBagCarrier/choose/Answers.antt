@@ -1,0 +1,8 @@
+use Rattle.std.proofs.lemmas.Result.{IfOk-weaker}
+use Rattle.osi_base.specs.Calls.{Choose}
+use Rattle.lan_bag.specs.Laws.{bag_keeps}
+use Rattle.lan_bag.proofs.bag.LanBagCarrier.choose.Goals as goal
+
+pub returns-clause-link : goal.returns-clause-link
+returns-clause-link c =
+    IfOk-weaker c.deliver.result _ _ (λ answer h. bag_keeps c.args.self.now (Choose c.args.pick c.args.system answer) c.deliver.new.self h) c.deliver.ensures

@@ -1,0 +1,8 @@
+use Rattle.std.proofs.lemmas.Result.{IfOk-weaker}
+use Rattle.osi_base.specs.Calls.{Offer}
+use Rattle.lan_bag.specs.Laws.{bag_keeps}
+use Rattle.lan_bag.proofs.bag.LanBagCarrier.offer.Goals as goal
+
+pub returns-clause-link : goal.returns-clause-link
+returns-clause-link c =
+    IfOk-weaker c.send.result _ _ (λ answer h. bag_keeps c.args.self.now (Offer c.args.unit c.args.wish answer) c.send.new.self h) c.send.ensures

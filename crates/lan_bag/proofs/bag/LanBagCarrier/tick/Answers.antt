@@ -1,0 +1,6 @@
+use Rattle.osi_base.specs.Calls.{Tick}
+use Rattle.lan_bag.specs.Laws.{bag_keeps}
+use Rattle.lan_bag.proofs.bag.LanBagCarrier.tick.Goals as goal
+
+pub returns-clause-link : goal.returns-clause-link
+returns-clause-link c = bag_keeps c.args.self.now Tick c.pass.new.self c.pass.ensures

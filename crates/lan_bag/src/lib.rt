@@ -1,0 +1,14 @@
+//! LANs in memory: every frame is kept while it may be taken (IEEE 802.3; ISO/IEC 8802-2).
+#![tactic(auto)]
+
+mod bag;
+mod delivery;
+mod frame;
+mod reading;
+mod setup;
+mod store;
+#[cfg(test)]
+mod tests;
+
+pub use bag::LanBag;
+pub use setup::{Lan, PortRow};

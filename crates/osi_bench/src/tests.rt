@@ -1,0 +1,270 @@
+//! Scripts and the transcripts that they ask for, which were written by hand.
+
+use super::*;
+use osi_base::{MemSink, MemSource, PlainSink, PlainSource, Source, Status};
+use std::alloc::Global;
+use std::process::Abort;
+use std::test::Fail;
+
+/// Two end systems on one LAN: seven lines.
+const SET_UP: &str = "lan x 1 1497\nes a 490a00\nes b 490b00\nport a x 02000000000a\n\
+    port b x 02000000000b\nroute a 490b b x\nroute b 490a a x\n";
+
+/// A unit that is delivered in time, and then late.
+const AGE: &str = "start\nunit a b - - 00\ntick\ndeliver 1 b\ntick\ndeliver 1 b\n";
+
+const AGE_SHOWN: &str = "tick 0\nsent a 490b02 00\nframe 1 x a 02000000000b 35\ntick 1\n\
+    deliver 1 b\nunit b 490a02 00\ntick 2\nlate 1 b\n";
+
+/// An end system with a route by another one, and an end system without a port.
+const THIRD: &str = "es c 490c00\nport c x 02000000000C\nes d 490d0000\nroute a 490b02 c x\n\
+    route b 49 c x\nroute c - a x\nstart\nunit a b - - 00\ndeliver 1 b\ndeliver 1 d\ndeliver 1 c\n\
+    unit b a - - 01\nunit c d - - aB\ndeliver 3 a\nunit a c - - 03\nunit d a - - 04\n";
+
+const THIRD_SHOWN: &str = "tick 0\nsent a 490b02 00\nframe 1 x a 02000000000c 35\nnotours 1 b\n\
+    notthere 1 d\ndeliver 1 c\ndiscard c 80 0\nsent b 490a02 01\nframe 2 x b 02000000000a 35\n\
+    sent c 490d0002 ab\nframe 3 x c 02000000000a 36\ndeliver 3 a\ndiscard a 80 0\n\
+    no noroute\nno noroute\ndone\n";
+
+/// Sixteen end systems, which are all that a script may have.
+const SIXTEEN: &str = "es a 0100\nes b 0200\nes c 0300\nes d 0400\nes e 0500\nes f 0600\n\
+    es g 0700\nes h 0800\nes i 0900\nes j 1000\nes k 1100\nes l 1200\nes m 1300\nes n 1400\n\
+    es o 1500\nes p 1600\n";
+
+/// Scripts and their transcripts.
+const RUNS: [[&str; 2]; 10] = [
+    ["", "done\n"],
+    ["start\n", "tick 0\ndone\n"],
+    ["start\r\ntick\r\n", "tick 0\ntick 1\ndone\n"],
+    ["start\ntick", "tick 0\ntick 1\ndone\n"],
+    ["start\ntick\r", "tick 0\nrefused 2 1 word\n"],
+    ["start\ntick\r\r\n", "tick 0\nrefused 2 1 word\n"],
+    ["\n#\n\r\nstart \ntick\n", "refused 4 1 word\n"],
+    ["lan x 0 1497\n", "refused 1 1 word\n"],
+    ["lan x 01 1497\n", "refused 1 1 word\n"],
+    ["lan frame 1 1497\n", "refused 1 1 word\n"],
+];
+
+/// What is shown of events after the set-up and `start`.
+const EVENTS: [[&str; 2]; 7] = [
+    ["unit a a - - 00", "no noroute"],
+    ["unit a b - - -", "no emptyunit"],
+    ["unit a a - - -", "no emptyunit"],
+    ["deliver 1 b", "nosuch 1 b"],
+    ["deliver 0 b", "nosuch 0 b"],
+    [
+        "unit a b - - 00\ndeliver 1 a",
+        "sent a 490b02 00\nframe 1 x a 02000000000b 35\nnotours 1 a",
+    ],
+    [
+        "unit b a - - 7f\ndeliver 1 a\ndeliver 1 a",
+        "sent b 490a02 7f\nframe 1 x b 02000000000a 35\n\
+            deliver 1 a\nunit a 490b02 7f\ndeliver 1 a\nunit a 490b02 7f",
+    ],
+];
+
+/// Lines that are taken after the set-up and `es c 490c00`, before `start`.
+const TAKEN: &str = "\n# tsap\nes x 490d00\nes frames 490d00\nes dZ345678 4900\n\
+    es d 4900000000000000000000000000000000000000\nport c x 0200000000aB\n\
+    route a 490b00 b x\nroute a - a x\nroute b 490b b x";
+
+/// Lines that are refused after the set-up and `es c 490c00`, before `start`.
+const REFUSED: &str =
+    "lan y 1 1497\nes a 490d00\nes d 490b00\nes d 00\nes d 490d01\nes d 490d0\nes d -\n\
+    es d 490000000000000000000000000000000000000000\nes frame 490d00\nes D 490d00\nes d- 490d00\n\
+    es d23456789 490d00\nes d\nes d 490d00 x\nes d 490d00 \nes  d 490d00\n es d 490d00\nport a x 02000000000d\n\
+    port c x 02000000000b\nport c x 01000000000c\nport c x 0200000000\nport c x -\nport c y 02000000000c\n\
+    port d x 02000000000d\nroute a 490b a x\nroute a 490B b x\nroute a 490c c x\nroute c 490a a x\n\
+    route a 490 b x\nroute a 49 d x\nroute a 49 b y\ntick\nunit a b - - 00\ndeliver 1 a\nStart\nstart x\n\
+    tsap b bb\nis r 490900\nset life 1\n#\t\n#\u{e9}";
+
+/// Lines that are refused after the set-up and `start`.
+const REFUSED_LATER: &str =
+    "unit a b s - 00\nunit a b - p 00\nunit a b - - 0\nunit a b - - 0g\nunit a b - - \n\
+    unit a b - -\nunit a b - - 00 00\nunit a c - - 00\nunit c b - - 00\ndeliver 01 b\ndeliver 1234567890 b\n\
+    deliver -1 b\ndeliver 1 c\ndeliver 1\ntick 1\ntick \n tick\nsettle\nstart\nlan y 1 1497\nes d 490d00";
+
+/// What stands after the set-up, lines of which each one comes next, and the transcript.
+const LINES: [(&str, &str, &str); 3] = [
+    ("es c 490c00\n", TAKEN, "done\n"),
+    ("es c 490c00\n", REFUSED, "refused 9 1 word\n"),
+    ("start\n", REFUSED_LATER, "tick 0\nrefused 9 1 word\n"),
+];
+
+/// How a run ends that has this transcript.
+fn ending(transcript: &str) -> Status {
+    if transcript.ends_with("done\n") {
+        Status::Done
+    } else if transcript.ends_with("toomuch\n") {
+        Status::TooMuch
+    } else {
+        Status::RefusedLine
+    }
+}
+
+/// The script has the transcript.
+fn expect(
+    rt: &impl Abort,
+    alloc: Global,
+    script: &[&str],
+    transcript: &[&str],
+) -> Result<(), Fail> {
+    let wanted = transcript.concat(alloc)?;
+    let run = ["run".to_string(alloc)?];
+    let made = run_in_memory(alloc, &run, script.concat(alloc)?.as_bytes())?;
+    assert_eq!(rt; made.octets.as_slice(), wanted.as_bytes(), "at {script:?}");
+    assert_eq!(rt; made.status, ending(&wanted));
+    Ok(())
+}
+
+#[test]
+fn scripts_have_their_transcripts(rt: HostRuntime) -> Result<(), Fail> {
+    for [script, transcript] in RUNS {
+        expect(&rt, rt.alloc(), &[script], &[transcript])?;
+    }
+    let full = "refused 17 1 word\n";
+    expect(&rt, rt.alloc(), &[SIXTEEN], &["done\n"])?;
+    expect(&rt, rt.alloc(), &[SIXTEEN, "es q 1700\n"], &[full])?;
+    expect(&rt, rt.alloc(), &[SET_UP, AGE], &[AGE_SHOWN, "done\n"])?;
+    expect(&rt, rt.alloc(), &[SET_UP, THIRD], &[THIRD_SHOWN])
+}
+
+#[test]
+fn lines_have_their_answers(rt: HostRuntime) -> Result<(), Fail> {
+    for [events, shown] in EVENTS {
+        let script = [SET_UP, "start\n", events, "\n"];
+        expect(&rt, rt.alloc(), &script, &["tick 0\n", shown, "\ndone\n"])?;
+    }
+    for (front, lines, transcript) in LINES {
+        for line in lines.split('\n') {
+            expect(&rt, rt.alloc(), &[SET_UP, front, line, "\n"], &[transcript])?;
+        }
+    }
+    Ok(())
+}
+
+/// Units of so many octets that do not fit a frame of the LAN, that have no route, and that are too long for all.
+const LONG: [(&str, usize, &str); 3] = [
+    ("unit a b - - ", 1481, "no toolong\n"),
+    ("unit a a - - ", 16_384, "no noroute\n"),
+    ("unit a a - - ", 16_385, "no toolong\n"),
+];
+
+/// The line that ends in a unit of so many octets has this answer.
+fn expect_answer(
+    rt: &impl Abort,
+    alloc: Global,
+    line: &str,
+    count: usize,
+    answer: &str,
+) -> Result<(), Fail> {
+    let unit = "a5".repeat(alloc, count)?;
+    let script = [SET_UP, "start\n", line, &unit].concat(alloc)?;
+    expect(rt, alloc, &[&script], &["tick 0\n", answer, "done\n"])?;
+    Ok(())
+}
+
+#[test]
+fn a_long_unit_is_refused(rt: HostRuntime) -> Result<(), Fail> {
+    for (line, count, answer) in LONG {
+        expect_answer(&rt, rt.alloc(), line, count, answer)?;
+    }
+    Ok(())
+}
+
+/// How a run ends that reads a script in pieces of this size, and where these reads and writes fail.
+fn in_pieces(
+    alloc: Global,
+    script: &str,
+    size: usize,
+    reads: &[u32],
+    writes: &[u32],
+) -> Result<(Status, Vec<u8>), Fail> {
+    let sizes = [size].repeat(alloc, 300)?;
+    let mut source = MemSource::new(alloc, script.as_bytes(), &sizes, reads)?;
+    let mut sink = MemSink::new(alloc, writes)?;
+    let run = ["run".to_string(alloc)?];
+    let status = osi(alloc, &run, &mut source, &mut sink);
+    Ok((status, sink.written().to_vec(alloc)?))
+}
+
+#[test]
+fn a_failed_call_ends_the_run(rt: HostRuntime) -> Result<(), Fail> {
+    let again = "deliver 1 b\n#678901\n".repeat(rt.alloc(), 6)?;
+    let script = [SET_UP, AGE, &again].concat(rt.alloc())?;
+    let late = "late 1 b\n".repeat(rt.alloc(), 6)?;
+    let whole = [AGE_SHOWN, &late, "done\n"].concat(rt.alloc())?;
+    for size in [1, 20, 4096] {
+        let (status, written) = in_pieces(rt.alloc(), &script, size, &[], &[])?;
+        assert_eq!(rt; status, Status::Done);
+        assert_eq!(rt; written.as_slice(), whole.as_bytes());
+    }
+    for call in 1..=10 {
+        let (status, written) = in_pieces(rt.alloc(), &script, 20, &[call], &[])?;
+        assert_eq!(rt; status, Status::ReadFault);
+        assert!(rt; whole.as_bytes().starts_with(&written));
+        let (status, written) = in_pieces(rt.alloc(), &script, 20, &[], &[call])?;
+        assert_eq!(rt; status, Status::WriteFault);
+        assert!(rt; whole.as_bytes().starts_with(&written));
+    }
+    Ok(())
+}
+
+/// How many octets a comment has, how many lines of it there are, what stands after them, and the transcript.
+const LIMITS: [(usize, usize, &str, &str); 8] = [
+    (32_767, 512, "", "done\n"),
+    (32_767, 512, "#", "toomuch\n"),
+    (4094, 4097, "x\n", "toomuch\n"),
+    (0, 100_000, "", "done\n"),
+    (0, 100_000, "#", "toomuch\n"),
+    (0, 99_999, "x", "refused 100000 1 word\n"),
+    (40_000, 1, "", "done\n"),
+    (40_001, 1, "", "refused 1 1 word\n"),
+];
+
+/// So many comments of so many octets, and what stands after them, have the transcript.
+fn expect_end(
+    rt: &impl Abort,
+    alloc: Global,
+    size: usize,
+    count: usize,
+    rest: &str,
+    transcript: &str,
+) -> Result<(), Fail> {
+    let comment = "#".repeat(alloc, size)?;
+    let line = [comment.as_str(), "\n"].concat(alloc)?;
+    let lines = line.repeat(alloc, count)?;
+    expect(rt, alloc, &[&lines, rest], &[transcript])?;
+    Ok(())
+}
+
+#[test]
+fn an_input_has_limits(rt: HostRuntime) -> Result<(), Fail> {
+    for (size, count, rest, transcript) in LIMITS {
+        expect_end(&rt, rt.alloc(), size, count, rest, transcript)?;
+    }
+    Ok(())
+}
+
+#[test]
+fn other_words_are_refused(rt: HostRuntime) -> Result<(), Fail> {
+    let calls: [&[&str]; 3] = [&[], &["walk"], &["run", "run"]];
+    for call in calls {
+        let mut words = Vec::new(rt.alloc());
+        for word in call {
+            words.push(word.to_string(rt.alloc())?)?;
+        }
+        let mut source = PlainSource::new(rt.alloc(), b"start\n")?;
+        let mut sink = PlainSink::new(rt.alloc());
+        assert_eq!(rt;
+            osi(rt.alloc(), &words, &mut source, &mut sink),
+            Status::RefusedWords
+        );
+        assert_eq!(rt;
+            sink.written(),
+            b"usage: osi run | frames | decode | storm SEED COUNT\n".as_slice()
+        );
+        assert_eq!(rt; source.read(&mut [0; 8]), Ok(6));
+    }
+    Ok(())
+}
