@@ -1,5 +1,5 @@
 -- The header of a frame has 17 octets, two SNPAs among them.
-use Rattle.std.proofs.Common.{◌≡◌, ℕ, ◌+◌, ◌≤◌, List, [], ◌∷◌, ◌++◌, length, drop, refl, sym, ◌∙◌, ap, subst, arith}
+use Rattle.std.proofs.Common.{◌≡◌, ℕ, ◌≤◌, List, [], ◌∷◌, length, drop, refl, sym, ◌∙◌, ap, subst, arith}
 use Rattle.lan_bag.specs.Frames.{whole_frame, IsWhole}
 
 -- a list of six octets

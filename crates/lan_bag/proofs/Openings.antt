@@ -1,20 +1,17 @@
 -- The first frame that a system can take and has not taken: what changes do to it, and the least fresh pair.
-use Rattle.std.proofs.Common.{◌≡◌, ◌≢◌, ◌⊎◌, inl, inr, get_or, ℕ, zero, suc, ◌+◌, ◌<◌, ◌≤◌, Bool, true, false, not, ◌&&◌, ◌||◌, ◌==◌, nat_lt, IsTrue, is_some, if◌then◌else◌, List, [], ◌∷◌, ◌++◌, length, map, take, set, refl, sym, ◌∙◌, ap, subst, arith, Option, Some, None, slice_get, All}
+use Rattle.std.proofs.Common.{◌≡◌, ◌≢◌, ◌⊎◌, inl, inr, get_or, ℕ, zero, suc, ◌+◌, ◌<◌, ◌≤◌, Bool, true, false, not, ◌&&◌, ◌||◌, ◌==◌, nat_lt, IsTrue, if◌then◌else◌, List, [], ◌∷◌, ◌++◌, length, map, take, set, refl, sym, ◌∙◌, ap, subst, arith, Option, Some, None, slice_get, All}
 use Rattle.std.specs.List.{list_any}
-use Rattle.std.proofs.lemmas.Bool.{eqb-true, leb-true, le-leb}
 use Rattle.std.proofs.lemmas.Bool.Decides.{nat_tests, eqb_tells, leb_tells}
-use Rattle.std.proofs.lemmas.Grind.{common_steps}
 use Rattle.std.proofs.lemmas.List.Elements.{All-nil, All-cons, All-head, All-tail, All-more}
 use Rattle.std.proofs.lemmas.Option.{slice_get_past}
 use Rattle.osi_base.specs.declared.unit.Picked.TheVariants.{Late}
-use Rattle.nsap.specs.declared.port.Port.{Port}
 use Rattle.lan_bag.specs.declared.setup.Lan.{Lan}
 use Rattle.lan_bag.specs.declared.setup.PortRow.{PortRow}
 use Rattle.lan_bag.specs.Rows.{is_on}
-use Rattle.lan_bag.specs.Frames.{Frame, kept, has_taken, is_live, is_taken, picked, picked_of, picked_late, is_open_to, is_open, kept_at, marked, marked_at, marked_frame, IsClosedTo, IsFirstOpen, IsLeastOpen, IsLeastAmong, lesser_of}
-use Rattle.lan_bag.specs.Places.{push_cases, set_same, set_other, kept_places, marked_by, takes_in, takes_at}
-use Rattle.lan_bag.specs.Bag.{Bag, link_of, took_by, picked_in}
-use Rattle.osi_base.specs.Link.{Link, is_fresh, IsUpTo, IsLeastFresh}
+use Rattle.lan_bag.specs.Frames.{Frame, kept, has_taken, is_live, is_taken, picked_of, is_open_to, is_open, kept_at, marked, marked_at, marked_frame, IsClosedTo, IsFirstOpen, IsLeastOpen, IsLeastAmong, lesser_of}
+use Rattle.lan_bag.specs.Places.{set_same, set_other, kept_places, marked_by, takes_in, takes_at}
+use Rattle.lan_bag.specs.Bag.{Bag, link_of, took_by}
+use Rattle.osi_base.specs.Link.{is_fresh, IsUpTo, IsLeastFresh}
 
 order : (m n : ℕ) → (m < n) ⊎ (n ≤ m)
 order m n = elim (leb_tells n m) [ inl at_most ↦ inr at_most.1 | inr above ↦ inl above.1 ]

@@ -1,15 +1,15 @@
 -- The frames are the late ones that are gone from the front, and the slots behind them: what is done to the slots is done
 -- to the frames.
-use Rattle.std.proofs.Common.{◌≡◌, ◌⊎◌, inl, inr, ℕ, zero, suc, ◌+◌, ◌-◌, ◌<◌, ◌≤◌, Bool, true, false, is_some, IsTrue, if◌then◌else◌, cond, List, [], ◌∷◌, ◌++◌, length, map, take, drop, set, get_or, replicate, count_by, sum_by, refl, sym, ◌∙◌, ap, subst, arith, Option, Some, None, slice_get, zero-add}
+use Rattle.std.proofs.Common.{◌≡◌, ℕ, zero, suc, ◌+◌, ◌-◌, ◌<◌, ◌≤◌, Bool, true, false, is_some, if◌then◌else◌, cond, List, [], ◌∷◌, ◌++◌, length, map, take, drop, set, get_or, replicate, refl, sym, ◌∙◌, ap, subst, arith, Option, Some, None, slice_get, zero-add}
 use Rattle.std.specs.List.{list_any}
-use Rattle.std.proofs.lemmas.List.Sums.{sum_by-cons, sum_by-append, count_by-le-length}
+use Rattle.std.proofs.lemmas.List.Sums.{sum_by-cons}
 use Rattle.std.proofs.lemmas.Option.{slice_get_past, slice_get-get_or}
 use Rattle.osi_base.specs.declared.unit.Unit.{Unit as CarriedUnit}
 use Rattle.nsap.specs.declared.port.Port.{Port}
 use Rattle.lan_bag.specs.declared.setup.Lan.{Lan}
 use Rattle.lan_bag.specs.declared.setup.PortRow.{PortRow}
 use Rattle.lan_bag.specs.Rows.{sender_of, same_port}
-use Rattle.lan_bag.specs.Frames.{Frame, kept, frame_of, kept_at, is_live, live_count, marked, marked_in, marked_frame, marked_slot, marked_at, carries_live, IsStored}
+use Rattle.lan_bag.specs.Frames.{Frame, kept, kept_at, is_live, live_count, marked, marked_in, marked_frame, marked_slot, marked_at, carries_live, IsStored}
 
 pub any_behind : (clock : ℕ) (lans : List Lan) (unit : CarriedUnit Port) (gone : ℕ) (slots : List (Option Frame)) → list_any (carries_live clock lans unit) slots ≡ list_any (carries_live clock lans unit) (replicate gone None ++ slots)
 any_behind clock lans unit zero slots = refl

@@ -1,6 +1,5 @@
 -- Each step of the LANs keeps the link contract.
-use Rattle.std.proofs.Common.{◌≡◌, ◌≢◌, ◌⊎◌, inl, inr, ◌↔◌, ℕ, zero, suc, ◌+◌, ◌<◌, ◌≤◌, min, Bool, true, false, not, ◌&&◌, ◌||◌, ◌==◌, nat_lt, nat_le, IsTrue, if◌then◌else◌, List, [], ◌∷◌, ◌++◌, length, map, set, refl, sym, ◌∙◌, ap, subst, arith, Option, Some, None, slice_get, flat_map, Contains, All}
-use Rattle.std.proofs.lemmas.Grind.{common_steps}
+use Rattle.std.proofs.Common.{◌≡◌, ◌≢◌, ◌⊎◌, inl, inr, ℕ, zero, suc, ◌+◌, ◌≤◌, min, Bool, true, false, ◌&&◌, ◌||◌, ◌==◌, IsTrue, if◌then◌else◌, List, [], ◌∷◌, ◌++◌, length, map, set, refl, sym, ◌∙◌, ap, subst, arith, Option, Some, None, slice_get, flat_map, Contains, All}
 use Rattle.std.proofs.lemmas.Bool.{eqb-true, eq-eqb, leb-true, le-leb}
 use Rattle.std.proofs.lemmas.Bool.Decides.{nat_tests, eqb_tells}
 use Rattle.std.proofs.lemmas.List.{append-nil}
@@ -12,7 +11,6 @@ use Rattle.std.proofs.lemmas.Cmp.{nat_list_eq_equiv}
 use Rattle.osi_base.specs.declared.unit.Unit.{Unit as CarriedUnit}
 use Rattle.osi_base.specs.declared.unit.Up.{Up}
 use Rattle.osi_base.specs.declared.unit.Up.TheVariants.{Unit as Came, Note as Noted}
-use Rattle.osi_base.specs.declared.unit.Wish.{Wish}
 use Rattle.osi_base.specs.declared.unit.DropCause.{DropCause}
 use Rattle.osi_base.specs.declared.unit.Offered.{Offered}
 use Rattle.osi_base.specs.declared.unit.Offered.TheVariants.{Taken as WasTaken, Dropped}
@@ -20,13 +18,13 @@ use Rattle.osi_base.specs.declared.unit.Picked.{Picked}
 use Rattle.osi_base.specs.declared.unit.Picked.TheVariants.{Taken as WasPicked, NoSuch, Late, NotThere, NotOurs}
 use Rattle.osi_base.specs.declared.unit.Injected.{Injected}
 use Rattle.osi_base.specs.declared.unit.Injected.TheVariants.{Taken as WasInjected, NotThere as InjectedNowhere}
-use Rattle.osi_base.specs.Link.{Link, IsAfloat, IsNote, IsLawful, AreStrays}
-use Rattle.osi_base.specs.Calls.{Call, Offer, Choose, Inject, NextUp, Tick, IsSameLink, NothingNew, NothingLost, StillTakes, TookAlso, no_pair, pair_of, AddsNotes, Adds, Offers, Chooses, Injects, TakesUp, Ticks, Keeps, after_first}
+use Rattle.osi_base.specs.Link.{IsAfloat, IsNote, IsLawful, AreStrays}
+use Rattle.osi_base.specs.Calls.{Call, Offer, Choose, Inject, NextUp, Tick, IsSameLink, StillTakes, TookAlso, no_pair, pair_of, Adds, Offers, Chooses, Injects, TakesUp, Ticks, Keeps, after_first}
 use Rattle.nsap.specs.declared.port.Port.{Port}
 use Rattle.lan_bag.specs.declared.setup.Lan.{Lan}
 use Rattle.lan_bag.specs.declared.setup.PortRow.{PortRow}
-use Rattle.lan_bag.specs.Rows.{bound_on, is_on, sender_of, goes_to, same_port, same_snpa}
-use Rattle.lan_bag.specs.Frames.{Frame, kept, frame_of, has_taken, marked, marked_frame, marked_at, is_live, is_taken, picked, picked_late, picked_of, kept_at, is_of, carries_live, strays_of}
+use Rattle.lan_bag.specs.Rows.{bound_on, sender_of, goes_to, same_port, same_snpa}
+use Rattle.lan_bag.specs.Frames.{Frame, kept, frame_of, marked, marked_frame, is_live, is_taken, kept_at, is_of, carries_live, strays_of}
 use Rattle.lan_bag.specs.Reading.{ups_of}
 use Rattle.lan_bag.specs.Bag.{Bag, BagStep, link_of, entry_of, took_by, picked_in, after_offer, after_pick, after_choose, after_inject, frame_note}
 use Rattle.lan_bag.specs.Places.{push_cases, push_before, push_last, set_same, set_other, kept_places, takes_in, takes_at, takes_live, takes_sooner, marked_by, or_true, kept_was, live_kept, Floats, floats, in_floating}

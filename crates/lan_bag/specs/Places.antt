@@ -1,19 +1,16 @@
 -- What stands at each place of a list of frames after each change, and which pairs and units that means.
-use Rattle.std.proofs.Common.{◌≡◌, ◌≢◌, ◌⊎◌, inl, inr, get_or, ℕ, zero, suc, ◌+◌, ◌<◌, ◌≤◌, Bool, true, false, not, ◌&&◌, ◌||◌, ◌==◌, nat_lt, nat_le, IsTrue, is_some, if◌then◌else◌, List, [], ◌∷◌, ◌++◌, length, map, set, refl, sym, ◌∙◌, ap, subst, arith, Option, Some, None, slice_get, flat_map, Contains}
+use Rattle.std.proofs.Common.{◌≡◌, ◌⊎◌, inl, inr, get_or, ℕ, zero, suc, ◌+◌, ◌<◌, Bool, true, false, not, ◌||◌, ◌==◌, IsTrue, is_some, if◌then◌else◌, List, [], ◌∷◌, ◌++◌, length, map, set, refl, sym, ◌∙◌, ap, subst, arith, Option, Some, None, slice_get, flat_map, Contains}
 use Rattle.std.specs.List.{list_any}
-use Rattle.std.proofs.lemmas.Bool.{eqb-true, eq-eqb, leb-true, le-leb}
 use Rattle.std.proofs.lemmas.Bool.Decides.{nat_tests, eqb_tells}
-use Rattle.std.proofs.lemmas.Grind.{common_steps}
 use Rattle.std.proofs.lemmas.List.Folds.{list_any-append}
-use Rattle.std.proofs.lemmas.List.Elements.{Contains-append_left, Contains-append_right, Contains-append_cases}
+use Rattle.std.proofs.lemmas.List.Elements.{Contains-append_right}
 use Rattle.osi_base.specs.declared.unit.Unit.{Unit as CarriedUnit}
 use Rattle.osi_base.specs.declared.unit.Picked.TheVariants.{NoSuch}
 use Rattle.nsap.specs.declared.port.Port.{Port}
 use Rattle.lan_bag.specs.declared.setup.Lan.{Lan}
 use Rattle.lan_bag.specs.declared.setup.PortRow.{PortRow}
-use Rattle.lan_bag.specs.Rows.{bound_on}
-use Rattle.lan_bag.specs.Frames.{Frame, kept, frame_of, has_taken, marked, is_live, is_taken, picked, picked_late, picked_of, kept_at}
-use Rattle.lan_bag.specs.Bag.{entry_of, took_by}
+use Rattle.lan_bag.specs.Frames.{Frame, kept, has_taken, marked, is_live, is_taken, picked, picked_late, kept_at}
+use Rattle.lan_bag.specs.Bag.{entry_of}
 
 -- a place behind one more element is as before, or is that of the new one
 pub push_cases : {X : Type 0} (xs : List X) (y : X) (k : ℕ) → (slice_get (xs ++ y ∷ []) k ≡ slice_get xs k) ⊎ ((slice_get xs k ≡ None) × (slice_get (xs ++ y ∷ []) k ≡ Some y))

@@ -1,9 +1,12 @@
+ghost use Rattle.std.specs.Prelude.{◌≡◌, ◌∷◌, []};
+
 use crate::{Lan, LanBag, PortRow};
 use nsap::{Port, Snpa};
 use osi_base::{
     Arrival, Bytes, Carrier, DropCause, Injected, Note, Offered, Picked, Unit, Up, Wish, go_round,
 };
 use std::alloc::Global;
+use std::process::Abort;
 use std::test::Fail;
 
 const PLAIN: Wish = Wish {
@@ -16,19 +19,29 @@ const PLAIN: Wish = Wish {
 /// All end systems.
 const END_SYSTEMS: [u8; 6] = [9, 0, 0x2b, 0, 0, 4];
 
-fn port(lan: u8, last: u8) -> Port {
+fn port(lan: u8, last: u8) -> Port
+    ensures { result ≡ record { lan = lan; snpa = 2 ∷ 0 ∷ 0 ∷ 0 ∷ 0 ∷ last ∷ [] } }
+{
     Port {
         lan,
         snpa: Snpa::of([2, 0, 0, 0, 0, last]),
     }
 }
 
-fn row(system: u8, end: bool, lan: u8) -> PortRow {
+fn row(system: u8, end: bool, lan: u8, last: u8) -> PortRow
+    ensures { result ≡ record { system = system; end = end; port = record { lan = lan; snpa = 2 ∷ 0 ∷ 0 ∷ 0 ∷ 0 ∷ last ∷ [] } } }
+{
     PortRow {
         system,
         end,
-        port: port(lan, system + 10),
+        port: port(lan, last),
     }
+}
+
+fn pass(rt: &impl Abort, bag: &mut LanBag) -> Result<(), Fail> {
+    assert!(rt; bag.now() < 4_000_000_000);
+    bag.tick()?;
+    Ok(())
 }
 
 fn unit(alloc: Global, from: Port, to: Port, octets: &[u8]) -> Result<Unit<Port>, Fail> {
@@ -51,14 +64,12 @@ fn bag(alloc: Global) -> Result<LanBag, Fail> {
             room: 264,
         },
     ];
-    let mut other = row(3, false, 1);
-    other.port = port(1, 33);
     let rows = [
-        row(1, true, 0),
-        row(2, true, 0),
-        row(3, false, 0),
-        other,
-        row(4, true, 1),
+        row(1, true, 0, 11),
+        row(2, true, 0, 12),
+        row(3, false, 0, 13),
+        row(3, false, 1, 33),
+        row(4, true, 1, 14),
     ];
     Ok(LanBag::new(alloc, &lans, &rows)?)
 }
@@ -100,9 +111,9 @@ fn a_choice_is_answered_by_the_first_that_applies(rt: HostRuntime) -> Result<(),
     assert_eq!(rt; bag.choose(1, 4)?, Picked::NotThere);
     assert_eq!(rt; bag.choose(1, 1)?, Picked::NotOurs);
     assert_eq!(rt; bag.choose(1, 3)?, Picked::NotOurs);
-    bag.tick()?;
+    pass(&rt, &mut bag)?;
     assert_eq!(rt; bag.choose(1, 2)?, Picked::Taken);
-    bag.tick()?;
+    pass(&rt, &mut bag)?;
     assert_eq!(rt; bag.choose(1, 2)?, Picked::Late);
     assert_eq!(rt; bag.choose(1, 4)?, Picked::Late);
     assert!(rt; bag.frame_octets(1).is_none());
@@ -158,10 +169,10 @@ fn fresh_frames_are_forgotten_once_they_are_late(rt: HostRuntime) -> Result<(), 
     let mut bag = bag(alloc)?;
     bag.offer(unit(alloc, port(0, 11), port(0, 12), b"\x81")?, PLAIN)?;
     bag.offer(unit(alloc, port(1, 33), port(1, 14), b"\x81")?, PLAIN)?;
-    bag.tick()?;
-    bag.tick()?;
+    pass(&rt, &mut bag)?;
+    pass(&rt, &mut bag)?;
     assert_eq!(rt; bag.fresh(), Some((2, 4)));
-    bag.tick()?;
+    pass(&rt, &mut bag)?;
     assert_eq!(rt; bag.fresh(), None);
     bag.offer(unit(alloc, port(0, 11), port(0, 12), b"\x81")?, PLAIN)?;
     assert_eq!(rt; bag.fresh(), Some((3, 2)));
@@ -191,8 +202,8 @@ fn injected_octets_are_read_as_a_frame(rt: HostRuntime) -> Result<(), Fail> {
     bag.inject(0, 3, whole[..18].to_vec(alloc)?)?;
     assert!(rt; bag.next_up() == Some(Up::Note(Note::Alien { system: 3 })));
     assert_eq!(rt; bag.strays(), 0);
-    bag.tick()?;
-    bag.tick()?;
+    pass(&rt, &mut bag)?;
+    pass(&rt, &mut bag)?;
     bag.inject(0, 2, whole.to_vec(alloc)?)?;
     assert_eq!(rt; bag.strays(), 1);
     Ok(())
@@ -213,6 +224,7 @@ fn a_round_over_the_lans_hands_up_the_note_of_the_frame(rt: HostRuntime) -> Resu
     let alloc = rt.alloc();
     let mut bag = bag(alloc)?;
     let sent = unit(alloc, port(0, 11), port(0, 12), b"\x81")?;
+    assert!(rt; bag.now() < 4_000_000_000);
     let up = go_round(&mut bag, sent, PLAIN, 1, 2)?;
     let note = Note::Frame {
         number: 1,

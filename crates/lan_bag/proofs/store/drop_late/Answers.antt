@@ -1,5 +1,4 @@
-use Rattle.std.proofs.Common.{◌≡◌, ◌+◌, ◌<◌, cond, is_some, length, arith, ap, ◌∙◌, sym, refl}
-use Rattle.std.proofs.lemmas.Grind.{common_steps}
+use Rattle.std.proofs.Common.{◌≡◌, ◌+◌, ◌<◌, cond, is_some, length, arith, ◌∙◌}
 use Rattle.lan_bag.specs.Frames.{kept_at}
 use Rattle.lan_bag.proofs.Stored.{late_step}
 use Rattle.lan_bag.proofs.store.drop_late.Goals as goal

@@ -1,4 +1,4 @@
-use Rattle.std.proofs.Common.{◌≡◌, ◌<◌, ◌∙◌, ap, set, length, Option, arith}
+use Rattle.std.proofs.Common.{◌<◌, ◌∙◌, ap, set, length, Option, arith}
 use Rattle.lan_bag.specs.Frames.{Frame, marked_in}
 use Rattle.lan_bag.proofs.Stored.{slot_marked}
 use Rattle.lan_bag.proofs.store.mark_slot.Goals as goal

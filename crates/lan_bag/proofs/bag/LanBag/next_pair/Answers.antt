@@ -1,8 +1,8 @@
-use Rattle.std.proofs.Common.{◌≡◌, ◌+◌, ◌≤◌, ◌∙◌, List, Option, Some, None, ap, sym, subst, length, arith}
+use Rattle.std.proofs.Common.{◌+◌, ◌≤◌, ◌∙◌, List, Some, None, ap, sym, subst, length, arith}
 use Rattle.osi_base.specs.Link.{IsLeastFresh}
 use Rattle.lan_bag.specs.declared.setup.Lan.{Lan}
 use Rattle.lan_bag.specs.declared.setup.PortRow.{PortRow}
-use Rattle.lan_bag.specs.Frames.{Frame, is_open, IsLeastOpen}
+use Rattle.lan_bag.specs.Frames.{is_open, IsLeastOpen}
 use Rattle.lan_bag.specs.Bag.{Bag, link_of}
 use Rattle.lan_bag.proofs.Openings.{none_fresh, least_fresh, past_shut, shut}
 use Rattle.lan_bag.proofs.bag.LanBag.next_pair.Goals as goal

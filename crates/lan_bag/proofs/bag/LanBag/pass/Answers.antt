@@ -1,4 +1,4 @@
-use Rattle.std.proofs.Common.{◌+◌, ◌∙◌, ap, map, List, Option}
+use Rattle.std.proofs.Common.{◌+◌, ◌∙◌, ap, map, List}
 use Rattle.lan_bag.specs.declared.setup.Lan.{Lan}
 use Rattle.lan_bag.specs.Frames.{kept_at}
 use Rattle.lan_bag.proofs.Openings.{closed_ticked, closed_same}

@@ -1,4 +1,4 @@
-use Rattle.std.proofs.Common.{◌≡◌, ◌∙◌, ap, sym, List, Option}
+use Rattle.std.proofs.Common.{◌∙◌, ap, List, Option}
 use Rattle.std.specs.List.{list_any}
 use Rattle.lan_bag.specs.Frames.{Frame, carries_live}
 use Rattle.lan_bag.proofs.Stored.{any_behind}

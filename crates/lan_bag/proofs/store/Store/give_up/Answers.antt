@@ -1,4 +1,4 @@
-use Rattle.std.proofs.Common.{◌≡◌, ◌∙◌, ap, map, List, Option}
+use Rattle.std.proofs.Common.{◌∙◌, ap, map, List, Option}
 use Rattle.lan_bag.specs.Frames.{Frame, kept_at}
 use Rattle.lan_bag.proofs.Stored.{stored_given_up, given_up}
 use Rattle.lan_bag.proofs.store.Store.give_up.Goals as goal
