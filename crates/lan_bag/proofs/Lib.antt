@@ -2,3 +2,4 @@ pub mod Headers
 pub mod Offers
 pub mod Openings
 pub mod Stored
+pub mod Wheels

@@ -5,10 +5,11 @@ use Rattle.std.proofs.lemmas.Bool.Decides.{nat_tests, eqb_tells, leb_tells}
 use Rattle.std.proofs.lemmas.List.Elements.{All-nil, All-cons, All-head, All-tail, All-more}
 use Rattle.std.proofs.lemmas.Option.{slice_get_past}
 use Rattle.osi_base.specs.declared.unit.Picked.TheVariants.{Late}
+use Rattle.nsap.specs.declared.port.Port.{Port}
 use Rattle.lan_bag.specs.declared.setup.Lan.{Lan}
 use Rattle.lan_bag.specs.declared.setup.PortRow.{PortRow}
-use Rattle.lan_bag.specs.Rows.{is_on}
-use Rattle.lan_bag.specs.Frames.{Frame, kept, has_taken, is_live, is_taken, picked_of, is_open_to, is_open, kept_at, marked, marked_at, marked_frame, IsClosedTo, IsFirstOpen, IsLeastOpen, IsLeastAmong, lesser_of}
+use Rattle.lan_bag.specs.Rows.{is_one_of, goes_to}
+use Rattle.lan_bag.specs.Frames.{Frame, kept, has_taken, is_live, is_taken, picked_of, is_open_to, is_open_at, is_open, kept_at, marked, marked_at, marked_frame, IsClosedTo, IsFirstOpen, IsLeastOpen, IsLeastAmong, lesser_of}
 use Rattle.lan_bag.specs.Places.{set_same, set_other, kept_places, marked_by, takes_in, takes_at}
 use Rattle.lan_bag.specs.Bag.{Bag, link_of, took_by}
 use Rattle.osi_base.specs.Link.{is_fresh, IsUpTo, IsLeastFresh}
@@ -16,42 +17,49 @@ use Rattle.osi_base.specs.Link.{is_fresh, IsUpTo, IsLeastFresh}
 order : (m n : ℕ) → (m < n) ⊎ (n ≤ m)
 order m n = elim (leb_tells n m) [ inl at_most ↦ inr at_most.1 | inr above ↦ inl above.1 ]
 
--- one place more is closed
-pub closed_next : (clock : ℕ) (lans : List Lan) (rows : List PortRow) (frames : List (Option Frame)) (place : ℕ) → IsClosedTo clock lans rows frames place → is_open clock lans rows (kept (slice_get frames place)) ≡ false → IsClosedTo clock lans rows frames (place + 1)
-closed_next clock lans rows frames place h e k lt =
-    elim (eqb_tells k place) [
-      | inl same ↦ ap (λ (i : ℕ). is_open clock lans rows (kept (slice_get frames i))) same.1 ∙ e
-      | inr other ↦ let ne : k ≢ place = other.1 in h k (omega arith)
-    ]
-
--- the systems on a LAN are those of rows
-on_row : (P : ℕ → Type 0) (rows : List PortRow) (system lan : ℕ) → is_on rows system lan ≡ true → All (λ (row : PortRow). P row.system) rows → P system
-on_row P [] system lan h all = cc
-on_row P (row ∷ rows) system lan h all = here_or (λ (e : is_on rows system lan ≡ true). on_row P rows system lan e (All-tail (λ (r : PortRow). P r.system) row rows all)) (eqb_tells row.system system) h
-  where
-    here_or : (is_on rows system lan ≡ true → P system) → ((row.system == system) ≡ true) × (row.system ≡ system) ⊎ ((row.system == system) ≡ false) × (row.system ≢ system) → ((row.system == system && row.port.lan == lan) || is_on rows system lan) ≡ true → P system
-    here_or others (inl same) e = subst P same.1 (All-head (λ (r : PortRow). P r.system) row rows all)
-    here_or others (inr other) e = others (sym (ap (λ (b : Bool). (b && row.port.lan == lan) || is_on rows system lan) other.0) ∙ e)
-
-open_on : (clock : ℕ) (lans : List Lan) (rows : List PortRow) (frame : Frame) (system : ℕ) → is_open_to clock lans rows frame system ≡ true → is_on rows system frame.unit.to.lan ≡ true
-open_on clock lans rows frame system h = grind (arith, nat_tests)
-
 true_or_false : (b : Bool) → (b ≡ true) ⊎ (b ≡ false)
 true_or_false true = inl refl
 true_or_false false = inr refl
 
--- the least among all rows is the least of all systems
-pub least_open : (clock : ℕ) (lans : List Lan) (rows : List PortRow) (frame : Frame) (least : Option ℕ) → IsLeastAmong clock lans rows frame rows least → IsLeastOpen clock lans rows frame least
-least_open clock lans rows frame None h = λ system. none_least clock lans rows frame h system
+-- the systems of a destination are those of its ports
+on_port : (P : ℕ → Type 0) (rows : List PortRow) (to : Port) (system : ℕ) → goes_to rows to system ≡ true → All (λ (row : PortRow). is_one_of to row ≡ true → P row.system) rows → P system
+on_port P [] to system h all = cc
+on_port P (row ∷ rows) to system h all =
+    here_or (λ (e : goes_to rows to system ≡ true). on_port P rows to system e (All-tail (λ (r : PortRow). is_one_of to r ≡ true → P r.system) row rows all))
+    (eqb_tells row.system system) (true_or_false (is_one_of to row)) h
   where
-    none_least : (clock : ℕ) (lans : List Lan) (rows : List PortRow) (frame : Frame) → All (λ (row : PortRow). is_open_to clock lans rows frame row.system ≡ false) rows → (system : ℕ) → is_open_to clock lans rows frame system ≡ false
-    none_least clock lans rows frame h system =
-        elim (true_or_false (is_open_to clock lans rows frame system)) [
-          | inl open_to ↦ on_row (λ (s : ℕ). is_open_to clock lans rows frame s ≡ false) rows system frame.unit.to.lan (open_on clock lans rows frame system open_to) h
-          | inr closed ↦ closed
-        ]
-least_open clock lans rows frame (Some least) h =
-    (h.0, λ system open_to. on_row (λ (s : ℕ). is_open_to clock lans rows frame s ≡ true → least ≤ s) rows system frame.unit.to.lan (open_on clock lans rows frame system open_to) h.1 open_to)
+    here_or : (goes_to rows to system ≡ true → P system) → ((row.system == system) ≡ true) × (row.system ≡ system) ⊎ ((row.system == system) ≡ false) × (row.system ≢ system) → (is_one_of to row ≡ true) ⊎ (is_one_of to row ≡ false) → ((row.system == system && is_one_of to row) || goes_to rows to system) ≡ true → P system
+    here_or others (inl same) (inl one) e = subst P same.1 (All-head (λ (r : PortRow). is_one_of to r ≡ true → P r.system) row rows all one)
+    here_or others (inl same) (inr none) e = others (sym (ap (λ (b : Bool). b || goes_to rows to system) (ap (λ (b : Bool). b && is_one_of to row) same.0 ∙ none)) ∙ e)
+    here_or others (inr other) port e = others (sym (ap (λ (b : Bool). (b && is_one_of to row) || goes_to rows to system) other.0) ∙ e)
+
+open_goes : (clock : ℕ) (lans : List Lan) (rows : List PortRow) (frame : Frame) (system : ℕ) → is_open_to clock lans rows frame system ≡ true → goes_to rows frame.unit.to system ≡ true
+open_goes clock lans rows frame system h = grind (arith, nat_tests)
+
+and_open : (a b : Bool) → a ≡ true → (a && b) ≡ b
+and_open true b h = refl
+and_open false b h = cc
+
+-- what is open at no port is open to no system
+none_at : (clock : ℕ) (lans : List Lan) (rows : List PortRow) (frame : Frame) → All (λ (row : PortRow). is_open_at clock lans rows frame row ≡ false) rows → (system : ℕ) → is_open_to clock lans rows frame system ≡ false
+none_at clock lans rows frame h system =
+    elim (true_or_false (is_open_to clock lans rows frame system)) [
+      | inl open_to ↦
+          on_port (λ (s : ℕ). is_open_to clock lans rows frame s ≡ false) rows frame.unit.to system (open_goes clock lans rows frame system open_to)
+          (λ k d lt one. sym (and_open (is_one_of frame.unit.to (get_or rows k d)) (is_open_to clock lans rows frame (get_or rows k d).system) one) ∙ h k d lt)
+      | inr closed ↦ closed
+    ]
+
+-- the least at all ports is the least of all systems
+pub least_open : (clock : ℕ) (lans : List Lan) (rows : List PortRow) (frame : Frame) (least : Option ℕ) → IsLeastAmong clock lans rows frame rows least → IsLeastOpen clock lans rows frame least
+least_open clock lans rows frame None h = none_at clock lans rows frame h
+least_open clock lans rows frame (Some least) h = (
+  h.0,
+  λ system open_to.
+      on_port (λ (s : ℕ). is_open_to clock lans rows frame s ≡ true → least ≤ s) rows frame.unit.to system (open_goes clock lans rows frame system open_to)
+      (λ k d lt one opens. h.1 k d lt (and_open (is_one_of frame.unit.to (get_or rows k d)) (is_open_to clock lans rows frame (get_or rows k d).system) one ∙ opens))
+      open_to,
+)
 
 or_parts : (a b : Bool) → (a || b) ≡ false → (a ≡ false) × (b ≡ false)
 or_parts true b e = cc
@@ -113,10 +121,6 @@ length_frame : (frames : List (Option Frame)) (k system : ℕ) (slot : Option Fr
 length_frame frames k system None = refl
 length_frame frames k system (Some frame) = length_set frames k (Some (marked frame system))
 
-pub length_marked : (frames : List (Option Frame)) (number system : ℕ) → length (marked_at frames number system) ≡ length frames
-length_marked frames zero system = refl
-length_marked frames (suc k) system = length_frame frames k system (kept (slice_get frames k))
-
 less_sooner : (clock : ℕ) (lans : List Lan) (rows : List PortRow) (frame : Frame) (system : ℕ) → is_open_to clock lans rows frame system ≡ false → is_open_to (clock + 1) lans rows frame system ≡ false
 less_sooner clock lans rows frame system h = grind (arith, nat_tests)
 
@@ -133,10 +137,6 @@ tick_closes clock lans rows (Some frame) h = by_live (is_live (clock + 1) lans f
 pub closed_ticked : (clock : ℕ) (lans : List Lan) (rows : List PortRow) (frames : List (Option Frame)) (place : ℕ) → IsFirstOpen clock lans rows frames place → IsClosedTo (clock + 1) lans rows (map (kept_at (clock + 1) lans) frames) place
 closed_ticked clock lans rows frames place f k lt =
     ap (is_open (clock + 1) lans rows) (kept_places (clock + 1) lans frames k) ∙ tick_closes clock lans rows (kept (slice_get frames k)) (f.before k lt)
-
-pub length_kept : (clock : ℕ) (lans : List Lan) (frames : List (Option Frame)) → length (map (kept_at clock lans) frames) ≡ length frames
-length_kept clock lans [] = refl
-length_kept clock lans (frame ∷ frames) = ap suc (length_kept clock lans frames)
 
 -- the system may take what stands there, and has not
 abbrev open_in : ℕ → List Lan → List PortRow → Option Frame → ℕ → Bool
@@ -156,6 +156,10 @@ fresh_at bag k system =
     ap (λ (b : Bool). b && not (took_by (kept (slice_get bag.frames k)) system)) (takes_at bag.clock bag.lans bag.rows bag.frames k system)
     ∙ open_slot bag.clock bag.lans bag.rows (kept (slice_get bag.frames k)) system
 
+shut_at : (a b : Bool) → b ≡ false → (a && b) ≡ false
+shut_at true b h = h
+shut_at false b h = refl
+
 none_each : {X : Type 0} (p : X → Bool) (xs : List X) → list_any p xs ≡ false → All (λ (x : X). p x ≡ false) xs
 none_each p [] h = All-nil (λ x. p x ≡ false)
 none_each p (x ∷ xs) h =
@@ -165,17 +169,30 @@ none_each p (x ∷ xs) h =
 closed_to : (clock : ℕ) (lans : List Lan) (rows : List PortRow) (slot : Option Frame) (system : ℕ) → is_open clock lans rows slot ≡ false → open_in clock lans rows slot system ≡ false
 closed_to clock lans rows None system h = refl
 closed_to clock lans rows (Some frame) system h =
-    elim (true_or_false (is_open_to clock lans rows frame system)) [
-      | inl open_to ↦
-          on_row (λ (s : ℕ). is_open_to clock lans rows frame s ≡ false) rows system frame.unit.to.lan (open_on clock lans rows frame system open_to)
-          (none_each (λ (row : PortRow). is_open_to clock lans rows frame row.system) rows h)
-      | inr closed ↦ closed
-    ]
+    none_at clock lans rows frame
+    (λ k d lt. shut_at (is_one_of frame.unit.to (get_or rows k d)) (is_open_to clock lans rows frame (get_or rows k d).system) (none_each (λ (row : PortRow). is_open_to clock lans rows frame row.system) rows h k d lt))
+    system
 
 none_open : (clock : ℕ) (lans : List Lan) (rows : List PortRow) (frame : Frame) → ((system : ℕ) → is_open_to clock lans rows frame system ≡ false) → (some_rows : List PortRow) → list_any (λ (row : PortRow). is_open_to clock lans rows frame row.system) some_rows ≡ false
 none_open clock lans rows frame h [] = refl
 none_open clock lans rows frame h (row ∷ some_rows) =
     ap (λ (b : Bool). b || list_any (λ (r : PortRow). is_open_to clock lans rows frame r.system) some_rows) (h row.system) ∙ none_open clock lans rows frame h some_rows
+
+-- a frame is open to a system exactly where it is open at some port
+pub any_open : (clock : ℕ) (lans : List Lan) (rows : List PortRow) (frame : Frame) → list_any (λ (row : PortRow). is_open_at clock lans rows frame row) rows ≡ is_open clock lans rows (Some frame)
+any_open clock lans rows frame =
+    elim (true_or_false (list_any (λ (row : PortRow). is_open_at clock lans rows frame row) rows)) [
+      | inl some ↦ elim (true_or_false (is_open clock lans rows (Some frame))) [
+        | inl open_to ↦ some ∙ sym open_to
+        | inr closed ↦
+            any_less (λ (row : PortRow). is_open_to clock lans rows frame row.system) (λ (row : PortRow). is_open_at clock lans rows frame row)
+            (λ row e. shut_at (is_one_of frame.unit.to row) (is_open_to clock lans rows frame row.system) e) rows closed
+            ∙ sym closed
+      ]
+      | inr none ↦
+          none
+          ∙ sym (none_open clock lans rows frame (none_at clock lans rows frame (none_each (λ (row : PortRow). is_open_at clock lans rows frame row) rows none)) rows)
+    ]
 
 open_within : (clock : ℕ) (lans : List Lan) (rows : List PortRow) (frames : List (Option Frame)) (k system : ℕ) → open_in clock lans rows (kept (slice_get frames k)) system ≡ true → k < length frames
 open_within clock lans rows [] k system h = cc
@@ -228,37 +245,41 @@ least_fresh bag place frame least f at l = (one_fresh, upward)
 pub shut : (clock : ℕ) (lans : List Lan) (rows : List PortRow) (frame : Frame) → IsLeastOpen clock lans rows frame None → is_open clock lans rows (Some frame) ≡ false
 shut clock lans rows frame h = none_open clock lans rows frame h rows
 
+opens : (a b : Bool) → (a && b) ≡ true → b ≡ true
+opens true b h = h
+opens false b h = cc
+
 -- one row more among those that were looked at
-pub among_more : (clock : ℕ) (lans : List Lan) (all : List PortRow) (frame : Frame) (rows : List PortRow) (i : ℕ) (row : PortRow) (least : Option ℕ) → i < length rows → row ≡ get_or rows i row → IsLeastAmong clock lans all frame (take i rows) least → is_open_to clock lans all frame row.system ≡ true → IsLeastAmong clock lans all frame (take (i + 1) rows) (Some (lesser_of least row.system))
-among_more clock lans all frame rows i row None lt is h open_to = (
-  open_to,
-  All-more (λ (r : PortRow). is_open_to clock lans all frame r.system ≡ true → row.system ≤ r.system) rows i row lt
+pub among_more : (clock : ℕ) (lans : List Lan) (all : List PortRow) (frame : Frame) (rows : List PortRow) (i : ℕ) (row : PortRow) (least : Option ℕ) → i < length rows → row ≡ get_or rows i row → IsLeastAmong clock lans all frame (take i rows) least → is_open_at clock lans all frame row ≡ true → IsLeastAmong clock lans all frame (take (i + 1) rows) (Some (lesser_of least row.system))
+among_more clock lans all frame rows i row None lt is h open_at = (
+  opens (is_one_of frame.unit.to row) (is_open_to clock lans all frame row.system) open_at,
+  All-more (λ (r : PortRow). is_open_at clock lans all frame r ≡ true → row.system ≤ r.system) rows i row lt
       (λ k d l e. let shut_here = h k d l in cc)
       (λ e. omega (arith, ap (λ (r : PortRow). r.system) is)),
 )
-among_more clock lans all frame rows i row (Some found) lt is h open_to = by_test (nat_lt found row.system) refl
+among_more clock lans all frame rows i row (Some found) lt is h open_at = by_test (nat_lt found row.system) refl
   where
     by_test : (b : Bool) → nat_lt found row.system ≡ b → IsLeastAmong clock lans all frame (take (i + 1) rows) (Some (if b then found else row.system))
     by_test true e = (
       h.0,
-      All-more (λ (r : PortRow). is_open_to clock lans all frame r.system ≡ true → found ≤ r.system) rows i row lt h.1
+      All-more (λ (r : PortRow). is_open_at clock lans all frame r ≡ true → found ≤ r.system) rows i row lt h.1
           (λ _. let less : found < row.system = grind (arith, nat_tests) in omega (arith, less, ap (λ (r : PortRow). r.system) is)),
     )
     by_test false e = (
-      open_to,
-      All-more (λ (r : PortRow). is_open_to clock lans all frame r.system ≡ true → row.system ≤ r.system) rows i row lt
+      opens (is_one_of frame.unit.to row) (is_open_to clock lans all frame row.system) open_at,
+      All-more (λ (r : PortRow). is_open_at clock lans all frame r ≡ true → row.system ≤ r.system) rows i row lt
           (λ k d l o. let less : row.system ≤ found = grind (arith, nat_tests) in omega (arith, less, h.1 k d l o))
           (λ _. omega (arith, ap (λ (r : PortRow). r.system) is)),
     )
 
-pub among_same : (clock : ℕ) (lans : List Lan) (all : List PortRow) (frame : Frame) (rows : List PortRow) (i : ℕ) (row : PortRow) (least : Option ℕ) → i < length rows → row ≡ get_or rows i row → IsLeastAmong clock lans all frame (take i rows) least → is_open_to clock lans all frame row.system ≡ false → IsLeastAmong clock lans all frame (take (i + 1) rows) least
+pub among_same : (clock : ℕ) (lans : List Lan) (all : List PortRow) (frame : Frame) (rows : List PortRow) (i : ℕ) (row : PortRow) (least : Option ℕ) → i < length rows → row ≡ get_or rows i row → IsLeastAmong clock lans all frame (take i rows) least → is_open_at clock lans all frame row ≡ false → IsLeastAmong clock lans all frame (take (i + 1) rows) least
 among_same clock lans all frame rows i row None lt is h closed =
-    All-more (λ (r : PortRow). is_open_to clock lans all frame r.system ≡ false) rows i row lt h
-    (sym (ap (λ (r : PortRow). is_open_to clock lans all frame r.system) is) ∙ closed)
+    All-more (λ (r : PortRow). is_open_at clock lans all frame r ≡ false) rows i row lt h
+    (sym (ap (λ (r : PortRow). is_open_at clock lans all frame r) is) ∙ closed)
 among_same clock lans all frame rows i row (Some found) lt is h closed = (
   h.0,
-  All-more (λ (r : PortRow). is_open_to clock lans all frame r.system ≡ true → found ≤ r.system) rows i row lt h.1
-      (λ o. let e = ap (λ (r : PortRow). is_open_to clock lans all frame r.system) is in cc),
+  All-more (λ (r : PortRow). is_open_at clock lans all frame r ≡ true → found ≤ r.system) rows i row lt h.1
+      (λ o. let e = ap (λ (r : PortRow). is_open_at clock lans all frame r) is in cc),
 )
 
 pub take_rows : (rows : List PortRow) (i : ℕ) → length rows ≤ i → take i rows ≡ rows
@@ -272,6 +293,10 @@ pub closed_same : (clock : ℕ) (lans other_lans : List Lan) (rows other_rows : 
 closed_same clock lans other_lans rows other_rows frames other_frames place h l r f k lt =
     let same : is_open clock other_lans other_rows (kept (slice_get other_frames k)) ≡ is_open clock lans rows (kept (slice_get frames k)) = cc in
     same ∙ h k lt
+
+pub first_same : (clock : ℕ) (lans other_lans : List Lan) (rows other_rows : List PortRow) (frames : List (Option Frame)) (place : ℕ) → IsFirstOpen clock other_lans other_rows frames place → other_lans ≡ lans → other_rows ≡ rows → IsFirstOpen clock lans rows frames place
+first_same clock lans other_lans rows other_rows frames place first l r =
+    subst (λ (ls : List Lan). IsFirstOpen clock ls rows frames place) l (subst (λ (rs : List PortRow). IsFirstOpen clock other_lans rs frames place) r first)
 
 -- nothing stands past the last frame
 pub past_shut : (clock : ℕ) (lans : List Lan) (rows : List PortRow) (frames : List (Option Frame)) (place : ℕ) → length frames ≤ place → is_open clock lans rows (kept (slice_get frames place)) ≡ false

@@ -19,6 +19,7 @@ use Rattle.lan_bag.specs.declared.setup.PortRow.{PortRow}
 use Rattle.lan_bag.specs.Rows.{bound_on, room_on, is_on, sender_of, goes_to, IsLan}
 use Rattle.lan_bag.specs.Frames.{Frame, frame_of, has_taken, marked_at, is_taken, picked, offered, kept_at, strays_of, IsFirstOpen}
 use Rattle.lan_bag.specs.Reading.{ups_of}
+use Rattle.lan_bag.specs.Wheel.{AreDue}
 
 -- the LANs: the frame of number n stands at place n - 1, and nothing once it is late
 pub record Bag : Type 0 where
@@ -108,8 +109,10 @@ BagStep old (NextUp answer) new =
 BagStep old Tick new =
     new ≡ record old { clock = old.clock + 1; frames = map (kept_at (old.clock + 1) old.lans) old.frames }
 
--- what the LANs keep true: there is no stray before an injection, and the first open frame is at that place
-pub record IsStanding (bag : Bag) (open_at : ℕ) : Type 0 where
+-- what the LANs keep true: there is no stray before an injection, the first open frame is at that place, and each frame is
+-- listed for the ticks that are left to it
+pub record IsStanding (bag : Bag) (open_at : ℕ) (wheel : List (List ℕ)) : Type 0 where
   pub lans_fit : All IsLan bag.lans
   pub strays : bag.honest ≡ true → bag.strays ≡ 0
   pub first : IsFirstOpen bag.clock bag.lans bag.rows bag.frames open_at
+  pub due : AreDue bag.clock bag.lans bag.frames wheel

@@ -13,7 +13,7 @@ use Rattle.osi_base.specs.declared.unit.Picked.TheVariants.{Taken as WasPicked, 
 use Rattle.nsap.specs.declared.port.Port.{Port}
 use Rattle.lan_bag.specs.declared.setup.Lan.{Lan}
 use Rattle.lan_bag.specs.declared.setup.PortRow.{PortRow}
-use Rattle.lan_bag.specs.Rows.{bound_on, room_on, same_port, is_on, has_sent, sender_of, goes_to}
+use Rattle.lan_bag.specs.Rows.{bound_on, room_on, same_port, is_on, has_sent, sender_of, is_one_of, goes_to}
 
 -- the octets of a whole frame: destination, source, length, DSAP, SSAP and control, network PDU
 abbrev pub whole_frame : List ℕ → List ℕ → List ℕ → List ℕ
@@ -152,6 +152,10 @@ abbrev pub is_open_to : ℕ → List Lan → List PortRow → Frame → ℕ → 
 is_open_to clock lans rows frame system =
     is_live clock lans frame && is_taken (picked_of rows system frame) && not (has_taken frame system)
 
+-- the frame goes to the port of the row, and its system may take it, and has not
+abbrev pub is_open_at : ℕ → List Lan → List PortRow → Frame → PortRow → Bool
+is_open_at clock lans rows frame row = is_one_of frame.unit.to row && is_open_to clock lans rows frame row.system
+
 -- some system may take the frame, and has not
 abbrev pub is_open : ℕ → List Lan → List PortRow → Option Frame → Bool
 is_open clock lans rows None = false
@@ -175,9 +179,9 @@ IsLeastOpen clock lans rows frame (Some least) =
     (is_open_to clock lans rows frame least ≡ true)
     × ((system : ℕ) → is_open_to clock lans rows frame system ≡ true → least ≤ system)
 
--- the least of the systems of the first rows that can take a frame and have not
+-- the least of the systems that can take a frame, and have not, at the ports of the first rows
 abbrev pub IsLeastAmong : ℕ → List Lan → List PortRow → Frame → List PortRow → Option ℕ → Type 0
-IsLeastAmong clock lans rows frame some_rows None = All (λ row. is_open_to clock lans rows frame row.system ≡ false) some_rows
+IsLeastAmong clock lans rows frame some_rows None = All (λ row. is_open_at clock lans rows frame row ≡ false) some_rows
 IsLeastAmong clock lans rows frame some_rows (Some least) =
     (is_open_to clock lans rows frame least ≡ true)
-    × All (λ row. is_open_to clock lans rows frame row.system ≡ true → least ≤ row.system) some_rows
+    × All (λ row. is_open_at clock lans rows frame row ≡ true → least ≤ row.system) some_rows

@@ -48,9 +48,13 @@ abbrev pub sender_of : List PortRow → Port → Option ℕ
 sender_of [] port = None
 sender_of (row ∷ rows) port = if same_port row.port port then Some row.system else sender_of rows port
 
+-- the port of the row is one of that destination
+abbrev pub is_one_of : Port → PortRow → Bool
+is_one_of to row = row.port.lan == to.lan && is_named_by row to.snpa
+
 -- a frame to that port goes to that system
 abbrev pub goes_to : List PortRow → Port → ℕ → Bool
-goes_to rows to system = list_any (λ row. row.system == system && row.port.lan == to.lan && is_named_by row to.snpa) rows
+goes_to rows to system = list_any (λ row. row.system == system && is_one_of to row) rows
 
 -- bounds are 1 to 16 ticks, rooms 264 to 1,497 octets
 abbrev pub IsLan : Lan → Type 0

@@ -12,6 +12,7 @@ use crate::frame::{HEADER, Sent};
 use crate::reading::up_of;
 use crate::setup::{Lan, PortRow, bound_of, has_port, room_of, system_of};
 use crate::store::Store;
+use crate::wheel::Wheel;
 use nsap::{Port, Snpa};
 use osi_base::{Carrier, Injected, NoMemory, Note, Offered, Picked, Tick, Unit, Up, Wish};
 use std::alloc::Global;
@@ -26,13 +27,14 @@ pub struct LanBag {
     lans: Vec<Lan>,
     rows: Vec<PortRow>,
     frames: Store,
+    wheel: Wheel,
     fresh_at: u32,
     waiting: VecDeque<Up<Port>>,
     honest: bool,
     strays: u32,
 }
 
-// The first frame that a system may take and has not taken is at `fresh_at`.
+// The first frame that a system may take and has not taken is at `fresh_at`, and the place of each frame is in the wheel.
 impl Model for LanBag {
     ghost use Rattle.lan_bag.specs.Bag.{Bag, IsStanding};
 
@@ -40,7 +42,7 @@ impl Model for LanBag {
 
     ghost view = { λ a. record { clock = a.clock; lans = a.lans.items; rows = a.rows.items; frames = a.frames; waiting = a.waiting.items; honest = a.honest; strays = a.strays } };
 
-    ghost invariant = { λ a. IsStanding (record { clock = a.clock; lans = a.lans.items; rows = a.rows.items; frames = a.frames; waiting = a.waiting.items; honest = a.honest; strays = a.strays }) a.fresh_at };
+    ghost invariant = { λ a. IsStanding (record { clock = a.clock; lans = a.lans.items; rows = a.rows.items; frames = a.frames; waiting = a.waiting.items; honest = a.honest; strays = a.strays }) a.fresh_at a.wheel };
 }
 
 impl LanBag {
@@ -59,6 +61,7 @@ impl LanBag {
             lans: lans.to_vec(alloc)?,
             rows: ports.to_vec(alloc)?,
             frames: Store::new(alloc),
+            wheel: Wheel::new(alloc)?,
             fresh_at: 0,
             waiting: VecDeque::new(alloc),
             honest: true,
@@ -95,8 +98,9 @@ impl LanBag {
         ensures { OnOk result (self.new ≡ after_offer self.old unit.now WasTaken) }
     {
         let sent = Sent::new(self.alloc, self.clock, unit)?;
-        let number = self.frames.count() + 1;
-        tell(&self.rows, number, unit, &mut self.waiting)?;
+        let place = self.frames.count();
+        tell(&self.rows, place + 1, unit, &mut self.waiting)?;
+        self.wheel.list(bound_of(&self.lans, unit.to.lan), place)?;
         self.frames.push(sent)?;
         self.fresh_at = first_open(
             self.clock,
@@ -168,8 +172,9 @@ impl LanBag {
         requires { self.old.clock < 4000000000 }
         ensures { BagStep self.old OneTick self.new }
     {
+        let due = self.wheel.turn();
         self.clock += 1;
-        self.frames.give_up(self.clock, &self.lans);
+        self.frames.give_up(self.clock, &self.lans, &due);
         self.fresh_at = first_open(
             self.clock,
             &self.lans,

@@ -1,10 +1,13 @@
 //! Which answers offers and choices get, and which frame comes next (IEEE 802.3).
 
 ghost use Rattle.std.specs.Prelude.{◌≡◌, ◌≤◌, length, Some, option_copied};
-ghost use Rattle.lan_bag.specs.Frames.{offered, picked, picked_late, picked_of, is_open_to, is_open, IsClosedTo, IsFirstOpen, IsLeastOpen, lesser_of};
+ghost use Rattle.std.specs.List.{list_any};
+ghost use Rattle.lan_bag.specs.Frames.{offered, picked, picked_late, picked_of, is_open_to, is_open_at, is_open, IsClosedTo, IsFirstOpen, IsLeastOpen, lesser_of};
 
 use crate::frame::Sent;
-use crate::setup::{Lan, PortRow, bound_of, has_port, is_receiver, is_sender, room_of, system_of};
+use crate::setup::{
+    Lan, PortRow, bound_of, has_port, is_port_of, is_receiver, is_sender, room_of, system_of,
+};
 use crate::store::Store;
 use nsap::Port;
 use osi_base::{DropCause, Offered, Picked, Tick, Unit};
@@ -78,8 +81,8 @@ fn is_free_to(clock: Tick, lans: &[Lan], rows: &[PortRow], sent: &Sent, system: 
     ensures { result ≡ is_open_to clock lans.now rows.now sent.now system }
 {
     sent.is_live(clock, bound_of(lans, sent.to().lan))
-        && judge_system(rows, sent, system) == Picked::Taken
         && !sent.was_taken(system)
+        && judge_system(rows, sent, system) == Picked::Taken
 }
 
 /// Whether some system may take a frame, and has not.
@@ -87,17 +90,24 @@ fn is_free(clock: Tick, lans: &[Lan], rows: &[PortRow], frame: Option<&Sent>) ->
     ensures { result ≡ is_open clock lans.now rows.now (option_copied frame.entry) }
 {
     match frame {
-        Some(sent) => is_free_sent(clock, lans, rows, sent),
+        Some(sent) => has_free_port(clock, lans, rows, sent),
         None => false,
     }
 }
 
-/// Whether some system may take a frame that there is, and has not.
-fn is_free_sent(clock: Tick, lans: &[Lan], rows: &[PortRow], sent: &Sent) -> bool
-    ensures { result ≡ is_open clock lans.now rows.now (Some sent.now) }
+/// Whether a frame goes to some port whose system may take it, and has not.
+fn has_free_port(clock: Tick, lans: &[Lan], rows: &[PortRow], sent: &Sent) -> bool
+    ensures { result ≡ list_any (is_open_at clock lans.now rows.now sent.now) rows.now }
 {
     rows.iter()
-        .any(|row| is_free_to(clock, lans, rows, sent, row.system))
+        .any(|row| is_free_at(clock, lans, rows, sent, row))
+}
+
+/// Whether a frame goes to the port of a row, and its system may take it, and has not.
+fn is_free_at(clock: Tick, lans: &[Lan], rows: &[PortRow], sent: &Sent, row: &PortRow) -> bool
+    ensures { result ≡ is_open_at clock lans.now rows.now sent.now row.now }
+{
+    is_port_of(row, &sent.to()) && is_free_to(clock, lans, rows, sent, row.system)
 }
 
 /// The place of the first frame, from that place on, that a system may take and has not taken.
@@ -119,7 +129,7 @@ pub fn first_system(clock: Tick, lans: &[Lan], rows: &[PortRow], sent: &Sent) ->
 {
     let mut least = None;
     for row in rows {
-        if is_free_to(clock, lans, rows, sent, row.system) {
+        if is_free_at(clock, lans, rows, sent, row) {
             least = Some(lesser(least, row.system));
         }
     }

@@ -9,6 +9,7 @@ mod setup;
 mod store;
 #[cfg(test)]
 mod tests;
+mod wheel;
 
 pub use bag::LanBag;
 pub use setup::{Lan, PortRow};

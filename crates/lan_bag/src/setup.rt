@@ -1,7 +1,7 @@
 //! The LANs and which system has which port (IEEE 802.3; ISO 9542, subnetwork addresses).
 
 ghost use Rattle.std.specs.Prelude.{◌≡◌};
-ghost use Rattle.lan_bag.specs.Rows.{bound_on, room_on, is_on, sender_of, has_sent, goes_to, is_named_by, group_of_kind};
+ghost use Rattle.lan_bag.specs.Rows.{bound_on, room_on, is_on, sender_of, has_sent, goes_to, is_one_of, is_named_by, group_of_kind};
 
 use nsap::{Port, Snpa};
 
@@ -89,7 +89,15 @@ pub fn is_sender(rows: &[PortRow], system: u8, from: &Port) -> bool
 pub fn is_receiver(rows: &[PortRow], system: u8, to: &Port) -> bool
     ensures { result ≡ goes_to rows.now to.now system }
 {
-    rows.iter().any(|row| row.system == system && row.port.lan == to.lan && is_named(row, &to.snpa))
+    rows.iter()
+        .any(|row| row.system == system && is_port_of(row, to))
+}
+
+/// Whether the port of a row is one of a destination.
+pub fn is_port_of(row: &PortRow, to: &Port) -> bool
+    ensures { result ≡ is_one_of to.now row.now }
+{
+    row.port.lan == to.lan && is_named(row, &to.snpa)
 }
 
 /// Whether an SNPA is that of a row, or that of the group of its kind of system.

@@ -1,8 +1,9 @@
 //! The frames by their numbers (IEEE 802.3).
 
-ghost use Rattle.std.specs.Prelude.{◌≡◌, ◌<◌, ◌≤◌, ◌+◌, ◌++◌, ◌∷◌, [], Some, None, ◌||◌, nat_le, length, map, is_some, option_copied, replicate, slice_get, OnOk, OnErr};
+ghost use Rattle.std.specs.Prelude.{◌≡◌, ◌<◌, ◌≤◌, ◌+◌, ◌++◌, ◌∷◌, [], Some, None, if◌then◌else◌, not, ◌&&◌, ◌||◌, nat_le, length, map, is_some, option_copied, replicate, slice_get, OnOk, OnErr};
 ghost use Rattle.std.specs.List.{list_any};
 ghost use Rattle.lan_bag.specs.Frames.{kept, frame_of, kept_at, live_count, marked_at, marked_in, marked_slot, carries_live};
+ghost use Rattle.lan_bag.specs.Wheel.{AreLateAmong, given_up_at};
 
 use crate::frame::Sent;
 use crate::setup::{Lan, bound_of};
@@ -121,13 +122,35 @@ impl Store {
         Ok(())
     }
 
-    /// Gives up the frames that are late.
-    pub fn give_up(&mut self, clock: Tick, lans: &[Lan])
+    /// Gives up the frames that are late, which stand at some of these places.
+    pub fn give_up(&mut self, clock: Tick, lans: &[Lan], places: &[u32])
+        requires { AreLateAmong clock lans.now places.now self.old }
         ensures { self.new ≡ map (kept_at clock lans.now) self.old }
     {
-        let live = drop_late(&mut self.slots, clock, lans);
+        for place in places {
+            self.give_up_at(clock, lans, *place);
+        }
+        self.trim();
+    }
+
+    /// Gives up the frame at a place where it is late.
+    fn give_up_at(&mut self, clock: Tick, lans: &[Lan], place: u32)
+        ensures { self.new ≡ given_up_at clock lans.now self.old place }
+    {
+        if place < self.gone {
+            return;
+        }
+        let index = (place - self.gone) as usize;
+        if empty_late(&mut self.slots, index, clock, lans) {
+            self.live -= 1;
+        }
+    }
+
+    /// Gives up the empty slots at the front.
+    fn trim(&mut self)
+        ensures { self.new ≡ self.old }
+    {
         let count = drop_front(&mut self.slots);
-        self.live = live;
         self.gone += count;
     }
 }
@@ -174,41 +197,30 @@ fn mark_sent(slot: &mut Option<Sent>, system: u8) -> Result<(), NoMemory>
     }
 }
 
-/// Empties the slots of the late frames; the answer is how many frames are left.
-fn drop_late(slots: &mut VecDeque<Option<Sent>>, clock: Tick, lans: &[Lan]) -> u32
-    requires { length slots.old.items ≤ 4294967295 }
-    ensures slots { slots.new.items ≡ map (kept_at clock lans.now) slots.old.items }
-    ensures live { result ≡ live_count slots.new.items }
+/// Empties a slot where its frame is late; the answer is whether it was.
+fn empty_late(slots: &mut VecDeque<Option<Sent>>, index: usize, clock: Tick, lans: &[Lan]) -> bool
+    ensures slots { slots.new.items ≡ given_up_at clock lans.now slots.old.items index }
+    ensures late { live_count slots.old.items ≡ live_count slots.new.items + (if result then 1 else 0) }
 {
-    let mut live = 0;
-    for index in 0..slots.len() {
-        if keep_live(&mut slots[index], clock, lans) {
-            live += 1;
-        }
-    }
-    live
-}
-
-/// Gives up the frame in a slot where it is late; the answer is whether there is one left.
-fn keep_live(slot: &mut Option<Sent>, clock: Tick, lans: &[Lan]) -> bool
-    ensures slot { slot.new ≡ kept_at clock lans.now slot.old }
-    ensures left { result ≡ is_some (kept_at clock lans.now slot.old) }
-{
-    let live = is_kept(slot, clock, lans);
-    if !live {
-        *slot = None;
-    }
-    live
-}
-
-/// Whether a slot holds a frame that is not late.
-fn is_kept(slot: &Option<Sent>, clock: Tick, lans: &[Lan]) -> bool
-    ensures { result ≡ is_some (kept_at clock lans.now slot.now) }
-{
-    match slot {
-        Some(sent) => sent.is_live(clock, bound_of(lans, sent.to().lan)),
+    match slots.get_mut(index) {
+        Some(slot) => empty_if_late(slot, clock, lans),
         None => false,
     }
+}
+
+/// Empties a slot where its frame is late; the answer is whether it was.
+fn empty_if_late(slot: &mut Option<Sent>, clock: Tick, lans: &[Lan]) -> bool
+    ensures slot { slot.new ≡ kept_at clock lans.now slot.old }
+    ensures late { result ≡ (is_some slot.old && not (is_some slot.new)) }
+{
+    let late = match slot {
+        Some(sent) => !sent.is_live(clock, bound_of(lans, sent.to().lan)),
+        None => false,
+    };
+    if late {
+        *slot = None;
+    }
+    late
 }
 
 /// Takes the empty slots from the front; the answer is how many they were.

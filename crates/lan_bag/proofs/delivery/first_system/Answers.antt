@@ -3,19 +3,19 @@ use Rattle.lan_bag.specs.declared.setup.PortRow.{PortRow}
 use Rattle.lan_bag.specs.Frames.{IsLeastAmong}
 use Rattle.lan_bag.proofs.Openings.{among_more, among_same, least_open, take_rows}
 use Rattle.lan_bag.proofs.delivery.first_system.Goals as goal
-use Rattle.lan_bag.proofs.delivery.first_system.Goals.{then-is_free_to, else-is_free_to}
+use Rattle.lan_bag.proofs.delivery.first_system.Goals.{then-is_free_at, else-is_free_at}
 
 pub loop-row-preserved : goal.loop-row-preserved
 loop-row-preserved c =
-    elim c.if-is_free_to.branch [
-      | then-is_free_to w ↦
+    elim c.if-is_free_at.branch [
+      | then-is_free_at w ↦
           subst (λ (o : Option ℕ). IsLeastAmong c.args.clock c.args.lans.now c.args.rows.now c.args.sent.now (take (c.loop-row.row-index + 1) c.args.rows.now) o) (sym (w.least-is ∙ ap (λ (s : ℕ). Some s) w.lesser.ensures))
           (among_more c.args.clock c.args.lans.now c.args.rows.now c.args.sent.now c.args.rows.now c.loop-row.row-index c.row-item.result c.loop-row.least
-          c.loop-row-test.true c.row-item.is c.loop-row.invariant (sym c.is_free_to.ensures ∙ w.if-is_free_to.true))
-      | else-is_free_to w ↦
+          c.loop-row-test.true c.row-item.is c.loop-row.invariant (sym c.is_free_at.ensures ∙ w.if-is_free_at.true))
+      | else-is_free_at w ↦
           subst (λ (o : Option ℕ). IsLeastAmong c.args.clock c.args.lans.now c.args.rows.now c.args.sent.now (take (c.loop-row.row-index + 1) c.args.rows.now) o) (sym w.least-is)
           (among_same c.args.clock c.args.lans.now c.args.rows.now c.args.sent.now c.args.rows.now c.loop-row.row-index c.row-item.result c.loop-row.least
-          c.loop-row-test.true c.row-item.is c.loop-row.invariant (sym c.is_free_to.ensures ∙ w.if-is_free_to.false))
+          c.loop-row-test.true c.row-item.is c.loop-row.invariant (sym c.is_free_at.ensures ∙ w.if-is_free_at.false))
     ]
 
 pub returns : goal.returns

@@ -1,17 +1,17 @@
-use Rattle.std.proofs.Common.{◌∙◌, ap, map, List, Option}
-use Rattle.lan_bag.specs.Frames.{Frame, kept_at}
-use Rattle.lan_bag.proofs.Stored.{stored_given_up, given_up}
+use Rattle.std.proofs.Common.{◌∙◌, ◌≤◌, length, sym, subst, arith, List, ℕ}
+use Rattle.std.proofs.Math.ListN.{drop_of_length-le}
+use Rattle.lan_bag.specs.Wheel.{AreLateAmong}
+use Rattle.lan_bag.proofs.Wheels.{one_given_up, none_late}
 use Rattle.lan_bag.proofs.store.Store.give_up.Goals as goal
 
-pub invariant_of-self : goal.invariant_of-self
-invariant_of-self c =
-    stored_given_up c.args.clock c.args.lans.now c.self.inside.gone c.drop_front-count.result c.self.inside.live c.drop_late-live.result
-    c.self.inside.slots.items c.drop_late-live.new.slots.items c.drop_front-count.new.slots.items
-    c.self.invariant c.drop_late-live.ensures.slots c.drop_late-live.ensures.live c.drop_front-count.ensures
+pub loop-place-preserved : goal.loop-place-preserved
+loop-place-preserved c =
+    let step = one_given_up c.args.clock c.args.lans.now c.args.self.now c.loop-place.self c.give_up_at.new.self c.args.places.now c.loop-place.place-index
+    c.loop-place-test.true c.give_up_at.ensures c.loop-place.invariant.among c.loop-place.invariant.same in
+    record { among = step.0; same = step.1 }
 
 pub returns : goal.returns
 returns c =
-    given_up c.args.clock c.args.lans.now c.self.inside.gone c.drop_front-count.result
-    c.self.inside.slots.items c.drop_late-live.new.slots.items c.drop_front-count.new.slots.items
-    c.drop_late-live.ensures.slots c.drop_front-count.ensures
-    ∙ ap (λ (frames : List (Option Frame)). map (kept_at c.args.clock c.args.lans.now) frames) c.self.view_is
+    let past : length c.args.places.now ≤ c.loop-place.place-index = omega (arith, c.loop-place-test.false) in
+    let none = subst (λ (places : List ℕ). AreLateAmong c.args.clock c.args.lans.now places c.loop-place.self) (drop_of_length-le c.args.places.now past) c.loop-place.invariant.among in
+    c.trim.ensures ∙ (sym (none_late c.args.clock c.args.lans.now c.loop-place.self none) ∙ c.loop-place.invariant.same)
