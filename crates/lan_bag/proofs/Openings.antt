@@ -3,7 +3,6 @@ use Rattle.std.proofs.Common.{◌≡◌, ◌≢◌, ◌⊎◌, inl, inr, get_or,
 use Rattle.std.specs.List.{list_any}
 use Rattle.std.proofs.lemmas.Bool.Decides.{nat_tests, eqb_tells, leb_tells}
 use Rattle.std.proofs.lemmas.List.Elements.{All-nil, All-cons, All-head, All-tail, All-more}
-use Rattle.std.proofs.lemmas.Option.{slice_get_past}
 use Rattle.osi_base.specs.declared.unit.Picked.TheVariants.{Late}
 use Rattle.nsap.specs.declared.port.Port.{Port}
 use Rattle.lan_bag.specs.declared.setup.Lan.{Lan}
@@ -116,10 +115,6 @@ length_set : {X : Type 0} (xs : List X) (k : ℕ) (y : X) → length (set xs k y
 length_set [] k y = refl
 length_set (x ∷ xs) zero y = refl
 length_set (x ∷ xs) (suc k) y = ap suc (length_set xs k y)
-
-length_frame : (frames : List (Option Frame)) (k system : ℕ) (slot : Option Frame) → length (marked_frame frames k system slot) ≡ length frames
-length_frame frames k system None = refl
-length_frame frames k system (Some frame) = length_set frames k (Some (marked frame system))
 
 less_sooner : (clock : ℕ) (lans : List Lan) (rows : List PortRow) (frame : Frame) (system : ℕ) → is_open_to clock lans rows frame system ≡ false → is_open_to (clock + 1) lans rows frame system ≡ false
 less_sooner clock lans rows frame system h = grind (arith, nat_tests)
@@ -289,15 +284,11 @@ take_rows (row ∷ rows) zero h = absurd (omega arith)
 take_rows (row ∷ rows) (suc i) h = ap (λ (rs : List PortRow). row ∷ rs) (take_rows rows i (omega arith))
 
 -- closed at equal frames
-pub closed_same : (clock : ℕ) (lans other_lans : List Lan) (rows other_rows : List PortRow) (frames other_frames : List (Option Frame)) (place : ℕ) → IsClosedTo clock lans rows frames place → other_lans ≡ lans → other_rows ≡ rows → other_frames ≡ frames → IsClosedTo clock other_lans other_rows other_frames place
-closed_same clock lans other_lans rows other_rows frames other_frames place h l r f k lt =
-    let same : is_open clock other_lans other_rows (kept (slice_get other_frames k)) ≡ is_open clock lans rows (kept (slice_get frames k)) = cc in
-    same ∙ h k lt
+pub closed_same : (clock : ℕ) (lans : List Lan) (rows : List PortRow) (frames other : List (Option Frame)) (place : ℕ) → IsClosedTo clock lans rows frames place → other ≡ frames → IsClosedTo clock lans rows other place
+closed_same clock lans rows frames other place h e = subst (λ (fs : List (Option Frame)). IsClosedTo clock lans rows fs place) (sym e) h
 
-pub first_same : (clock : ℕ) (lans other_lans : List Lan) (rows other_rows : List PortRow) (frames : List (Option Frame)) (place : ℕ) → IsFirstOpen clock other_lans other_rows frames place → other_lans ≡ lans → other_rows ≡ rows → IsFirstOpen clock lans rows frames place
-first_same clock lans other_lans rows other_rows frames place first l r =
-    subst (λ (ls : List Lan). IsFirstOpen clock ls rows frames place) l (subst (λ (rs : List PortRow). IsFirstOpen clock other_lans rs frames place) r first)
-
--- nothing stands past the last frame
-pub past_shut : (clock : ℕ) (lans : List Lan) (rows : List PortRow) (frames : List (Option Frame)) (place : ℕ) → length frames ≤ place → is_open clock lans rows (kept (slice_get frames place)) ≡ false
-past_shut clock lans rows frames place h = ap (λ (o : Option (Option Frame)). is_open clock lans rows (kept o)) (slice_get_past frames place h)
+-- what stands somewhere stands within
+pub stands_within : (frames : List (Option Frame)) (place : ℕ) (frame : Frame) → Some frame ≡ kept (slice_get frames place) → place < length frames
+stands_within [] place frame h = cc
+stands_within (first ∷ frames) zero frame h = omega arith
+stands_within (first ∷ frames) (suc place) frame h = omega (arith, stands_within frames place frame h)

@@ -14,26 +14,8 @@ pub any_behind : (clock : ℕ) (lans : List Lan) (unit : CarriedUnit Port) (gone
 any_behind clock lans unit zero slots = refl
 any_behind clock lans unit (suc gone) slots = any_behind clock lans unit gone slots
 
-more_gone : (gone more : ℕ) (slots : List (Option Frame)) → replicate (gone + more) None ++ slots ≡ replicate gone None ++ (replicate more None ++ slots)
-more_gone zero more slots = ap (λ (k : ℕ). replicate k None ++ slots) (zero-add more)
-more_gone (suc gone) more slots =
-    let e : suc gone + more ≡ suc (gone + more) = omega arith in
-    ap (λ (k : ℕ). replicate k None ++ slots) e ∙ ap (λ (frames : List (Option Frame)). None ∷ frames) (more_gone gone more slots)
-
--- the empty slots at the front go
-pub trimmed : (gone more : ℕ) (slots rest : List (Option Frame)) → slots ≡ replicate more None ++ rest → replicate (gone + more) None ++ rest ≡ replicate gone None ++ slots
-trimmed gone more slots rest e = more_gone gone more rest ∙ ap (λ (frames : List (Option Frame)). replicate gone None ++ frames) (sym e)
-
 count_cons : (slot : Option Frame) (slots : List (Option Frame)) → live_count (slot ∷ slots) ≡ cond (is_some slot) 1 0 + live_count slots
 count_cons slot slots = sum_by-cons (λ (x : Option Frame). cond (is_some x) 1 0) slot slots
-
-pub count_behind : (gone : ℕ) (slots : List (Option Frame)) → live_count (replicate gone None ++ slots) ≡ live_count slots
-count_behind zero slots = refl
-count_behind (suc gone) slots = count_cons None (replicate gone None ++ slots) ∙ (omega (arith, count_behind gone slots))
-
-length_behind : (n : ℕ) (slots : List (Option Frame)) → length (replicate n None ++ slots) ≡ n + length slots
-length_behind zero slots = sym (zero-add (length slots))
-length_behind (suc n) slots = omega (arith, length_behind n slots)
 
 -- a frame is given up where it is late
 
@@ -94,11 +76,6 @@ number_marked gone zero system slots h = absurd (omega arith)
 number_marked gone (suc place) system slots h =
     let e : gone + (suc place - 1 - gone) ≡ place = omega arith in
     sym (marked_behind gone (suc place - 1 - gone) system slots) ∙ ap (λ (i : ℕ). marked_slot (replicate gone None ++ slots) i system) e
-
-none_before : (gone place : ℕ) (slots : List (Option Frame)) → place < gone → kept (slice_get (replicate gone None ++ slots) place) ≡ None
-none_before zero place slots h = absurd (omega arith)
-none_before (suc gone) zero slots h = refl
-none_before (suc gone) (suc place) slots h = none_before gone place slots (omega arith)
 
 count_set : (slots : List (Option Frame)) (k : ℕ) (frame other : Frame) → slice_get slots k ≡ Some (Some frame) → live_count (set slots k (Some other)) ≡ live_count slots
 count_set [] k frame other h = cc

@@ -198,10 +198,8 @@ one_given_up clock lans initial frames after places i lt is among same =
 
 -- the same, as the calls tell it
 
-pub late_same : (clock : ℕ) (lans other_lans : List Lan) (places other_places : List ℕ) (frames : List (Option Frame)) → AreLateAmong clock lans places frames → other_lans ≡ lans → other_places ≡ places → AreLateAmong clock other_lans other_places frames
-late_same clock lans other_lans places other_places frames among l p =
-    subst (λ (ls : List Lan). AreLateAmong clock ls other_places frames) (sym l)
-    (subst (λ (ps : List ℕ). AreLateAmong clock lans ps frames) (sym p) among)
+pub late_same : (clock : ℕ) (lans : List Lan) (places other : List ℕ) (frames : List (Option Frame)) → AreLateAmong clock lans places frames → other ≡ places → AreLateAmong clock lans other frames
+late_same clock lans places other frames among e = subst (λ (ps : List ℕ). AreLateAmong clock lans ps frames) (sym e) among
 
 pub due_same : (clock : ℕ) (lans : List Lan) (frames other_frames : List (Option Frame)) (wheel other_wheel : List (List ℕ)) → AreDue clock lans frames wheel → other_frames ≡ frames → other_wheel ≡ wheel → AreDue clock lans other_frames other_wheel
 due_same clock lans frames other_frames wheel other_wheel due f w =
@@ -209,13 +207,12 @@ due_same clock lans frames other_frames wheel other_wheel due f w =
     (subst (λ (ws : List (List ℕ)). AreDue clock lans frames ws) (sym w) due)
 
 -- an offer that is taken
-pub due_offered : (clock : ℕ) (lans other_lans : List Lan) (frames after : List (Option Frame)) (wheel other_wheel : List (List ℕ)) (frame : Frame) (unit : CarriedUnit Port) (ticks place : ℕ) → AreDue clock lans frames wheel → frame ≡ record { tick = clock; unit = unit; taken = [] } → other_lans ≡ lans → ticks ≡ bound_on other_lans unit.to.lan → place ≡ length frames → ticks < 17 → length wheel ≡ 17 → other_wheel ≡ listed wheel ticks place → after ≡ frames ++ Some frame ∷ [] → AreDue clock lans after other_wheel
-due_offered clock lans other_lans frames after wheel other_wheel frame unit ticks place due is l t p lt long w a =
-    let same_bound : ticks ≡ bound_on lans frame.unit.to.lan =
-    t ∙ (ap (λ (ls : List Lan). bound_on ls unit.to.lan) l ∙ ap (λ (f : Frame). bound_on lans f.unit.to.lan) (sym is)) in
+pub due_offered : (clock : ℕ) (lans : List Lan) (frames after : List (Option Frame)) (wheel fuller : List (List ℕ)) (frame : Frame) (unit : CarriedUnit Port) (ticks place : ℕ) → AreDue clock lans frames wheel → frame ≡ record { tick = clock; unit = unit; taken = [] } → ticks ≡ bound_on lans unit.to.lan → place ≡ length frames → ticks < 17 → length wheel ≡ 17 → fuller ≡ listed wheel ticks place → after ≡ frames ++ Some frame ∷ [] → AreDue clock lans after fuller
+due_offered clock lans frames after wheel fuller frame unit ticks place due is t p lt long w a =
+    let same_bound : ticks ≡ bound_on lans frame.unit.to.lan = t ∙ ap (λ (f : Frame). bound_on lans f.unit.to.lan) (sym is) in
     let fits : bound_on lans frame.unit.to.lan < length wheel = omega (arith, same_bound, lt, long) in
     let sent : frame.tick ≡ clock = ap (λ (f : Frame). f.tick) is in
-    due_same clock lans (frames ++ Some frame ∷ []) after (listed wheel (bound_on lans frame.unit.to.lan) (length frames)) other_wheel
+    due_same clock lans (frames ++ Some frame ∷ []) after (listed wheel (bound_on lans frame.unit.to.lan) (length frames)) fuller
     (due_pushed clock lans frames wheel frame due sent fits) a (w ∙ (ap (λ (b : ℕ). listed wheel b place) same_bound ∙ ap (λ (k : ℕ). listed wheel (bound_on lans frame.unit.to.lan) k) p))
 
 -- the wheel as lists

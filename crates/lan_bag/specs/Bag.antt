@@ -57,6 +57,7 @@ link_of bag = record {
   bound = λ to. bound_on bag.lans to.lan;
   room = λ to. room_on bag.lans to.lan;
   belongs = goes_to bag.rows;
+  given = length bag.frames;
   takes = λ pick system. is_taken (picked_in bag pick system);
   took = λ pick system. took_by (frame_of bag.frames pick) system;
 }

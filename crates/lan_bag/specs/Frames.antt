@@ -1,5 +1,5 @@
 -- Frames, and which answer an offer and a choice get (IEEE 802.3, MAC frame structure).
-use Rattle.std.specs.Prelude.{◌≡◌, ℕ, zero, suc, ◌<◌, ◌≤◌, ◌+◌, ◌/◌, ◌%◌, Bool, true, false, not, ◌&&◌, ◌||◌, ◌==◌, nat_lt, nat_le, nat_eq, is_some, if◌then◌else◌, List, [], ◌∷◌, ◌++◌, length, drop, count_by, Option, Some, None, slice_get, slice_set}
+use Rattle.std.specs.Prelude.{◌≡◌, ℕ, zero, suc, ◌<◌, ◌≤◌, ◌+◌, Bool, true, false, not, ◌&&◌, ◌||◌, ◌==◌, nat_lt, nat_le, nat_eq, is_some, if◌then◌else◌, List, [], ◌∷◌, ◌++◌, length, drop, count_by, Option, Some, None, slice_get, slice_set}
 use Rattle.std.specs.Cmp.Lexicographic.{pointwise}
 use Rattle.std.specs.List.{list_any, All}
 use Rattle.osi_base.specs.declared.unit.Unit.{Unit as CarriedUnit}
@@ -11,14 +11,10 @@ use Rattle.osi_base.specs.declared.unit.DropCause.TheVariants.{TooLong, NoRoute,
 use Rattle.osi_base.specs.declared.unit.Picked.{Picked}
 use Rattle.osi_base.specs.declared.unit.Picked.TheVariants.{Taken as WasPicked, NoSuch, Late, NotThere, NotOurs}
 use Rattle.nsap.specs.declared.port.Port.{Port}
+use Rattle.lan_frame.specs.Frame.{whole_frame}
 use Rattle.lan_bag.specs.declared.setup.Lan.{Lan}
 use Rattle.lan_bag.specs.declared.setup.PortRow.{PortRow}
 use Rattle.lan_bag.specs.Rows.{bound_on, room_on, same_port, is_on, has_sent, sender_of, is_one_of, goes_to}
-
--- the octets of a whole frame: destination, source, length, DSAP, SSAP and control, network PDU
-abbrev pub whole_frame : List ℕ → List ℕ → List ℕ → List ℕ
-whole_frame to from pdu =
-    to ++ from ++ (length pdu + 3) / 256 ∷ (length pdu + 3) % 256 ∷ [] ++ 254 ∷ 254 ∷ 3 ∷ [] ++ pdu
 
 -- the octets are those of the whole frame of what follows its header
 pub record IsWhole (to from whole : List ℕ) : Type 0 where

@@ -1,8 +1,9 @@
 -- Each step of the LANs keeps the link contract.
-use Rattle.std.proofs.Common.{◌≡◌, ◌≢◌, ◌⊎◌, inl, inr, ℕ, zero, suc, ◌+◌, ◌≤◌, min, Bool, true, false, ◌&&◌, ◌||◌, ◌==◌, IsTrue, if◌then◌else◌, List, [], ◌∷◌, ◌++◌, length, map, set, refl, sym, ◌∙◌, ap, subst, arith, Option, Some, None, slice_get, flat_map, Contains, All}
+use Rattle.std.proofs.Common.{◌≡◌, ◌≢◌, ◌⊎◌, inl, inr, ℕ, zero, suc, ◌+◌, ◌<◌, ◌≤◌, min, Bool, true, false, ◌&&◌, ◌||◌, ◌==◌, IsTrue, if◌then◌else◌, List, [], ◌∷◌, ◌++◌, length, map, set, refl, sym, ◌∙◌, ap, subst, arith, Option, Some, None, slice_get, flat_map, Contains, All}
 use Rattle.std.proofs.lemmas.Bool.{eqb-true, eq-eqb, leb-true, le-leb}
 use Rattle.std.proofs.lemmas.Bool.Decides.{nat_tests, eqb_tells}
-use Rattle.std.proofs.lemmas.List.{append-nil}
+use Rattle.std.proofs.lemmas.List.{append-nil, length-append, length-map, length-set}
+use Rattle.std.proofs.lemmas.Option.{slice_get_within}
 use Rattle.std.proofs.lemmas.List.Elements.{All-nil, All-cons}
 use Rattle.std.specs.List.{list_any}
 use Rattle.std.specs.Prelude.{nat_eq}
@@ -18,8 +19,8 @@ use Rattle.osi_base.specs.declared.unit.Picked.{Picked}
 use Rattle.osi_base.specs.declared.unit.Picked.TheVariants.{Taken as WasPicked, NoSuch, Late, NotThere, NotOurs}
 use Rattle.osi_base.specs.declared.unit.Injected.{Injected}
 use Rattle.osi_base.specs.declared.unit.Injected.TheVariants.{Taken as WasInjected, NotThere as InjectedNowhere}
-use Rattle.osi_base.specs.Link.{IsAfloat, IsNote, IsLawful, AreStrays}
-use Rattle.osi_base.specs.Calls.{Call, Offer, Choose, Inject, NextUp, Tick, IsSameLink, StillTakes, TookAlso, no_pair, pair_of, Adds, Offers, Chooses, Injects, TakesUp, Ticks, Keeps, after_first}
+use Rattle.osi_base.specs.Link.{IsGiven, IsAfloat, IsNote, IsLawful, AreStrays}
+use Rattle.osi_base.specs.Calls.{Call, Offer, Choose, Inject, NextUp, Tick, IsSameLink, StillTakes, TookAlso, no_pair, pair_of, Adds, GivesPicks, Offers, Chooses, Injects, TakesUp, Ticks, Keeps, after_first}
 use Rattle.nsap.specs.declared.port.Port.{Port}
 use Rattle.lan_bag.specs.declared.setup.Lan.{Lan}
 use Rattle.lan_bag.specs.declared.setup.PortRow.{PortRow}
@@ -68,6 +69,28 @@ alike_itself old new c l r f = record {
   took = λ k system. cc;
 }
 
+-- the picks that a bag gave are the numbers of its frames
+
+takes_some : (clock : ℕ) (lans : List Lan) (rows : List PortRow) (slot : Option (Option Frame)) (system : ℕ) → takes_in clock lans rows (kept slot) system ≡ true → (frame : Frame) × (slot ≡ Some (Some frame))
+takes_some clock lans rows None system h = cc
+takes_some clock lans rows (Some None) system h = cc
+takes_some clock lans rows (Some (Some frame)) system h = (frame, refl)
+
+pub bag_given : (bag : Bag) → IsGiven (link_of bag)
+bag_given bag zero system h = omega arith
+bag_given bag (suc k) system h =
+    let stands = takes_some bag.clock bag.lans bag.rows (slice_get bag.frames k) system (sym (takes_at bag.clock bag.lans bag.rows bag.frames k system) ∙ h) in
+    slice_get_within bag.frames k (Some stands.0) stands.1
+
+alike_picks : (old new : Bag) → IsAlike old new → length new.frames ≡ length old.frames → GivesPicks (link_of old) (link_of new)
+alike_picks old new a long = record { given = omega (arith, long); again = again }
+  where
+    again : (pick system : ℕ) → IsTrue (is_taken (picked_in new pick system)) → IsTrue (is_taken (picked_in old pick system)) ⊎ (length old.frames < pick)
+    again zero system h = cc
+    again (suc k) system h =
+        inl (takes_at old.clock old.lans old.rows old.frames k system
+        ∙ (sym (a.takes k system) ∙ (sym (takes_at new.clock new.lans new.rows new.frames k system) ∙ h)))
+
 -- an offer
 
 offer_grows : (frames : List (Option Frame)) (frame : Frame) (entry : ℕ × CarriedUnit Port) → Contains (flat_map entry_of (frames ++ Some frame ∷ [])) entry → Contains (flat_map entry_of frames) entry ⊎ (entry ≡ (frame.tick, frame.unit))
@@ -94,11 +117,6 @@ offer_keeps frames frame entry h =
 offer_adds : (frames : List (Option Frame)) (frame : Frame) → Contains (flat_map entry_of (frames ++ Some frame ∷ [])) (frame.tick, frame.unit)
 offer_adds frames frame = in_floating (frames ++ Some frame ∷ []) (length frames) frame (ap kept (push_last frames (Some frame)))
 
-takes_some : (clock : ℕ) (lans : List Lan) (rows : List PortRow) (slot : Option (Option Frame)) (system : ℕ) → takes_in clock lans rows (kept slot) system ≡ true → (frame : Frame) × (slot ≡ Some (Some frame))
-takes_some clock lans rows None system h = cc
-takes_some clock lans rows (Some None) system h = cc
-takes_some clock lans rows (Some (Some frame)) system h = (frame, refl)
-
 offer_takes : (old new : Bag) (frame : Frame) → new.clock ≡ old.clock → new.lans ≡ old.lans → new.rows ≡ old.rows → new.frames ≡ old.frames ++ Some frame ∷ [] → StillTakes (link_of old) (link_of new)
 offer_takes old new frame c l r f zero system h = cc
 offer_takes old new frame c l r f (suc k) system h =
@@ -122,6 +140,27 @@ offer_took old new frame n c l r f (suc k) system h =
           untaken ∙ none_of (is_taken (picked_in old (suc k) system)) (took_by (kept (slice_get old.frames k)) system) no
     ]
 
+none_stands : {X : Type 0} (xs : List X) (k : ℕ) → slice_get xs k ≡ None → length xs ≤ k
+none_stands [] k h = omega arith
+none_stands (x ∷ xs) zero h = cc
+none_stands (x ∷ xs) (suc k) h = omega (arith, none_stands xs k h)
+
+offer_picks : (old new : Bag) (frame : Frame) → new.clock ≡ old.clock → new.lans ≡ old.lans → new.rows ≡ old.rows → new.frames ≡ old.frames ++ Some frame ∷ [] → GivesPicks (link_of old) (link_of new)
+offer_picks old new frame c l r f = record {
+  given = omega (arith, ap length f, length-append old.frames (Some frame ∷ []));
+  again = again;
+}
+  where
+    again : (pick system : ℕ) → IsTrue (is_taken (picked_in new pick system)) → IsTrue (is_taken (picked_in old pick system)) ⊎ (length old.frames < pick)
+    again zero system h = cc
+    again (suc k) system h =
+        elim (push_cases old.frames (Some frame) k) [
+          | inl same ↦
+              let stays : slice_get new.frames k ≡ slice_get old.frames k = ap (λ (fs : List (Option Frame)). slice_get fs k) f ∙ same in
+              inl (takes_at old.clock old.lans old.rows old.frames k system ∙ ((cc) ∙ (sym (takes_at new.clock new.lans new.rows new.frames k system) ∙ h)))
+          | inr last ↦ inr (omega (arith, none_stands old.frames k last.0))
+        ]
+
 notes_alone : (number : ℕ) (sender : Option ℕ) (unit : CarriedUnit Port) → All IsNote (frame_note number sender unit)
 notes_alone number None unit = All-nil IsNote
 notes_alone number (Some system) unit = All-cons IsNote _ [] tt (All-nil IsNote)
@@ -140,6 +179,7 @@ offers_taken old unit =
       lost = λ entry h _. offer_keeps old.frames frame entry h;
       notes = record { notes = frame_note (length old.frames + 1) (sender_of old.rows unit.from) unit; all_notes = notes_alone (length old.frames + 1) (sender_of old.rows unit.from) unit; waiting = refl };
       takes = offer_takes old new frame refl refl refl refl;
+      picks = offer_picks old new frame refl refl refl refl;
       took = offer_took old new frame refl refl refl refl refl;
     }
 
@@ -154,6 +194,7 @@ offers_dropped old unit cause = record {
   lost = λ entry h _. h;
   notes = record { notes = []; all_notes = All-nil IsNote; waiting = sym (append-nil old.waiting) };
   takes = alike_takes old old (alike_itself old old refl refl refl refl);
+  picks = alike_picks old old (alike_itself old old refl refl refl refl) refl;
   took = alike_took old old (alike_itself old old refl refl refl refl);
 }
 
@@ -196,6 +237,7 @@ choice_refused old pick system answer other is = record {
   refused = λ not_picked. All-nil IsNote;
   answers = ((λ e. absurd (other e)), (λ t. taken_is answer (ap is_taken is ∙ t)));
   takes = alike_takes old old (alike_itself old old refl refl refl refl);
+  picks = alike_picks old old (alike_itself old old refl refl refl refl) refl;
   took = λ p s t.
       alike_took old old (alike_itself old old refl refl refl refl) p s t
       ∙ ap (λ (b : Bool). is_taken (picked_in old p s) && took_by (frame_of old.frames p) s || b) (sym (no_pair_of pick system answer p s other));
@@ -265,6 +307,19 @@ choice_takes old place system frame at (suc k) s h =
     takes_at old.clock old.lans old.rows (set old.frames place (Some (marked frame system))) k s
     ∙ (choice_slot old place system frame at k s ∙ (sym (takes_at old.clock old.lans old.rows old.frames k s) ∙ h))
 
+choice_picks : (old : Bag) (place system : ℕ) (frame : Frame) → slice_get old.frames place ≡ Some (Some frame) → GivesPicks (link_of old) (link_of (arrived old place system frame))
+choice_picks old place system frame at = record {
+  given = omega (arith, length-set old.frames place (Some (marked frame system)));
+  again = again;
+}
+  where
+    again : (pick s : ℕ) → IsTrue (is_taken (picked_in (arrived old place system frame) pick s)) → IsTrue (is_taken (picked_in old pick s)) ⊎ (length old.frames < pick)
+    again zero s h = cc
+    again (suc k) s h =
+        inl (takes_at old.clock old.lans old.rows old.frames k s
+        ∙ (sym (choice_slot old place system frame at k s)
+        ∙ (sym (takes_at old.clock old.lans old.rows (set old.frames place (Some (marked frame system))) k s) ∙ h)))
+
 both_or : (a b c d : Bool) → a ≡ true → c ≡ true → (b || d) ≡ (a && b || c && d)
 both_or true b true d h i = refl
 both_or true b false d h i = cc
@@ -327,6 +382,7 @@ choice_taken old place system frame at may t =
       refused = λ not_picked. absurd (not_picked refl);
       answers = ((λ e. t), (λ e. refl));
       takes = choice_takes old place system frame at;
+      picks = choice_picks old place system frame at;
       took = choice_took old place system frame at;
     }
 
@@ -455,6 +511,7 @@ injects_ok old lan system octets InjectedNowhere new e =
       adds = adds_nothing old;
       refused = λ _. All-nil IsNote;
       takes = alike_takes old old (alike_itself old old refl refl refl refl);
+      picks = alike_picks old old (alike_itself old old refl refl refl refl) refl;
       took = alike_took old old (alike_itself old old refl refl refl refl);
     })
 injects_ok old lan system octets WasInjected new e =
@@ -475,6 +532,7 @@ injects_ok old lan system octets WasInjected new e =
       };
       refused = λ other. absurd (other refl);
       takes = alike_takes old (after_inject old lan system octets WasInjected) (alike_itself old (after_inject old lan system octets WasInjected) refl refl refl refl);
+      picks = alike_picks old (after_inject old lan system octets WasInjected) (alike_itself old (after_inject old lan system octets WasInjected) refl refl refl refl) refl;
       took = alike_took old (after_inject old lan system octets WasInjected) (alike_itself old (after_inject old lan system octets WasInjected) refl refl refl refl);
     })
 
@@ -491,10 +549,14 @@ takes_up old answer rest w n = record {
   waiting = w;
   none = n;
   takes = alike_takes old (record old { waiting = rest }) (alike_itself old (record old { waiting = rest }) refl refl refl refl);
+  picks = alike_picks old (record old { waiting = rest }) (alike_itself old (record old { waiting = rest }) refl refl refl refl) refl;
   took = alike_took old (record old { waiting = rest }) (alike_itself old (record old { waiting = rest }) refl refl refl refl);
 }
 
 -- a tick
+
+abbrev ticked : Bag → Bag
+ticked old = record old { clock = old.clock + 1; frames = map (kept_at (old.clock + 1) old.lans) old.frames }
 
 tick_grows : (clock : ℕ) (lans : List Lan) (frames : List (Option Frame)) (entry : ℕ × CarriedUnit Port) → Floats (map (kept_at clock lans) frames) entry → Contains (flat_map entry_of frames) entry
 tick_grows clock lans frames entry f =
@@ -509,30 +571,48 @@ tick_lost clock lans frames entry f live =
     moved frames (map (kept_at clock lans) frames) entry f.place f.frame f.frame f.is
     (kept_places clock lans frames f.place ∙ (ap (kept_at clock lans) f.at ∙ live_kept clock lans f.frame lives)) refl refl
 
-tick_took : (old : Bag) → TookAlso (link_of old) no_pair (link_of (record old { clock = old.clock + 1; frames = map (kept_at (old.clock + 1) old.lans) old.frames }))
+if_live : (b : Bool) (frame : Frame) (old : Bag) (s : ℕ) → takes_in (old.clock + 1) old.lans old.rows (if b then Some frame else None) s ≡ true → takes_in (old.clock + 1) old.lans old.rows (Some frame) s ≡ true
+if_live true frame old s h = h
+if_live false frame old s h = cc
+
+kept_some : (old : Bag) (slot : Option Frame) (s : ℕ) → takes_in (old.clock + 1) old.lans old.rows (kept_at (old.clock + 1) old.lans slot) s ≡ true → (frame : Frame) × (slot ≡ Some frame) × (takes_in (old.clock + 1) old.lans old.rows (Some frame) s ≡ true)
+kept_some old None s h = cc
+kept_some old (Some frame) s h = (frame, refl, if_live (is_live (old.clock + 1) old.lans frame) frame old s h)
+
+-- the frame that can be taken at the next tick can be taken now
+tick_stands : (old : Bag) (k s : ℕ) → IsTrue (is_taken (picked_in (ticked old) (suc k) s)) → (frame : Frame) × (kept (slice_get old.frames k) ≡ Some frame) × (takes_in (old.clock + 1) old.lans old.rows (Some frame) s ≡ true)
+tick_stands old k s h =
+    kept_some old (kept (slice_get old.frames k)) s
+    (ap (λ (f : Option Frame). takes_in (old.clock + 1) old.lans old.rows f s) (sym (kept_places (old.clock + 1) old.lans old.frames k))
+    ∙ (sym (takes_at (old.clock + 1) old.lans old.rows (map (kept_at (old.clock + 1) old.lans) old.frames) k s) ∙ h))
+
+tick_sooner : (old : Bag) (k s : ℕ) → IsTrue (is_taken (picked_in (ticked old) (suc k) s)) → IsTrue (is_taken (picked_in old (suc k) s))
+tick_sooner old k s h =
+    let at = tick_stands old k s h in
+    takes_at old.clock old.lans old.rows old.frames k s
+    ∙ (ap (λ (f : Option Frame). takes_in old.clock old.lans old.rows f s) at.1 ∙ takes_sooner old.clock old.lans old.rows at.0 s at.2)
+
+tick_picks : (old : Bag) → GivesPicks (link_of old) (link_of (ticked old))
+tick_picks old = record {
+  given = omega (arith, length-map old.frames (kept_at (old.clock + 1) old.lans));
+  again = again;
+}
+  where
+    again : (pick s : ℕ) → IsTrue (is_taken (picked_in (ticked old) pick s)) → IsTrue (is_taken (picked_in old pick s)) ⊎ (length old.frames < pick)
+    again zero s h = cc
+    again (suc k) s h = inl (tick_sooner old k s h)
+
+tick_took : (old : Bag) → TookAlso (link_of old) no_pair (link_of (ticked old))
 tick_took old zero s h = cc
 tick_took old (suc k) s h =
-    let may : takes_in (old.clock + 1) old.lans old.rows (kept_at (old.clock + 1) old.lans (kept (slice_get old.frames k))) s ≡ true =
-    ap (λ (f : Option Frame). takes_in (old.clock + 1) old.lans old.rows f s) (sym (kept_places (old.clock + 1) old.lans old.frames k))
-    ∙ (sym (takes_at (old.clock + 1) old.lans old.rows (map (kept_at (old.clock + 1) old.lans) old.frames) k s) ∙ h) in
-    let at = kept_some old (kept (slice_get old.frames k)) s may in
+    let at = tick_stands old k s h in
     ap (λ (f : Option Frame). took_by f s) (kept_places (old.clock + 1) old.lans old.frames k)
     ∙ (ap (λ (f : Option Frame). took_by (kept_at (old.clock + 1) old.lans f) s) at.1
     ∙ (ap (λ (f : Option Frame). took_by f s) (live_kept (old.clock + 1) old.lans at.0 (takes_live (old.clock + 1) old.lans old.rows at.0 s at.2))
     ∙ (ap (λ (f : Option Frame). took_by f s) (sym at.1)
-    ∙ both (is_taken (picked_in old (suc k) s)) (took_by (kept (slice_get old.frames k)) s)
-    (takes_at old.clock old.lans old.rows old.frames k s
-    ∙ (ap (λ (f : Option Frame). takes_in old.clock old.lans old.rows f s) at.1 ∙ takes_sooner old.clock old.lans old.rows at.0 s at.2)))))
-  where
-    if_live : (b : Bool) (frame : Frame) (old : Bag) (s : ℕ) → takes_in (old.clock + 1) old.lans old.rows (if b then Some frame else None) s ≡ true → takes_in (old.clock + 1) old.lans old.rows (Some frame) s ≡ true
-    if_live true frame old s h = h
-    if_live false frame old s h = cc
+    ∙ both (is_taken (picked_in old (suc k) s)) (took_by (kept (slice_get old.frames k)) s) (tick_sooner old k s h))))
 
-    kept_some : (old : Bag) (slot : Option Frame) (s : ℕ) → takes_in (old.clock + 1) old.lans old.rows (kept_at (old.clock + 1) old.lans slot) s ≡ true → (frame : Frame) × (slot ≡ Some frame) × (takes_in (old.clock + 1) old.lans old.rows (Some frame) s ≡ true)
-    kept_some old None s h = cc
-    kept_some old (Some frame) s h = (frame, refl, if_live (is_live (old.clock + 1) old.lans frame) frame old s h)
-
-ticks : (old : Bag) → Ticks (link_of old) (link_of (record old { clock = old.clock + 1; frames = map (kept_at (old.clock + 1) old.lans) old.frames }))
+ticks : (old : Bag) → Ticks (link_of old) (link_of (ticked old))
 ticks old = record {
   same = record { bound = λ to. refl; room = λ to. refl; belongs = λ to s. refl };
   clock = refl;
@@ -541,6 +621,7 @@ ticks old = record {
   grows = λ entry h. tick_grows (old.clock + 1) old.lans old.frames entry (floats (map (kept_at (old.clock + 1) old.lans) old.frames) entry h);
   lost = λ entry h live. tick_lost (old.clock + 1) old.lans old.frames entry (floats old.frames entry h) live;
   notes = record { notes = []; all_notes = All-nil IsNote; waiting = sym (append-nil old.waiting) };
+  picks = tick_picks old;
   took = tick_took old;
 }
 

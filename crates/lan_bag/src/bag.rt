@@ -8,28 +8,30 @@ ghost use Rattle.lan_bag.specs.Bag.{frame_note};
 ghost use Rattle.lan_bag.specs.Frames.{live_frame, octets_of, offered, frame_of, strays_of};
 
 use crate::delivery::{answer_to, first_open, first_system, judge};
-use crate::frame::{HEADER, Sent};
-use crate::reading::up_of;
-use crate::setup::{Lan, PortRow, bound_of, has_port, room_of, system_of};
+use crate::frame::{Sent, up_of};
+use crate::setup::{Lan, PortRow, Setup};
 use crate::store::Store;
 use crate::wheel::Wheel;
-use nsap::{Port, Snpa};
+use lan_frame::HEADER;
+use nsap::Port;
 use osi_base::{Carrier, Injected, NoMemory, Note, Offered, Picked, Tick, Unit, Up, Wish};
 use std::alloc::Global;
 use std::collections::VecDeque;
 use std::marker::Model;
+
+/// What waits to be taken up.
+type Ups = VecDeque<Up<Port>>;
 
 /// LANs that deliver a frame unaltered, to the systems that it goes to, while it is not late.
 #[derive(Drop)]
 pub struct LanBag {
     alloc: Global,
     clock: Tick,
-    lans: Vec<Lan>,
-    rows: Vec<PortRow>,
+    setup: Setup,
     frames: Store,
     wheel: Wheel,
     fresh_at: u32,
-    waiting: VecDeque<Up<Port>>,
+    waiting: Ups,
     honest: bool,
     strays: u32,
 }
@@ -40,9 +42,9 @@ impl Model for LanBag {
 
     ghost Value = { Bag };
 
-    ghost view = { λ a. record { clock = a.clock; lans = a.lans.items; rows = a.rows.items; frames = a.frames; waiting = a.waiting.items; honest = a.honest; strays = a.strays } };
+    ghost view = { λ a. record { clock = a.clock; lans = a.setup.lans; rows = a.setup.rows; frames = a.frames; waiting = a.waiting.items; honest = a.honest; strays = a.strays } };
 
-    ghost invariant = { λ a. IsStanding (record { clock = a.clock; lans = a.lans.items; rows = a.rows.items; frames = a.frames; waiting = a.waiting.items; honest = a.honest; strays = a.strays }) a.fresh_at a.wheel };
+    ghost invariant = { λ a. IsStanding (record { clock = a.clock; lans = a.setup.lans; rows = a.setup.rows; frames = a.frames; waiting = a.waiting.items; honest = a.honest; strays = a.strays }) a.fresh_at a.wheel };
 }
 
 impl LanBag {
@@ -58,8 +60,7 @@ impl LanBag {
         Ok(LanBag {
             alloc,
             clock: 0,
-            lans: lans.to_vec(alloc)?,
-            rows: ports.to_vec(alloc)?,
+            setup: Setup::new(alloc, lans, ports)?,
             frames: Store::new(alloc),
             wheel: Wheel::new(alloc)?,
             fresh_at: 0,
@@ -74,10 +75,8 @@ impl LanBag {
         ensures { option_copied result ≡ octets_of (live_frame self.now.clock self.now.lans self.now.frames number) }
     {
         let sent = self.frames.get(number)?;
-        if !sent.is_live(self.clock, bound_of(&self.lans, sent.to().lan)) {
-            return None;
-        }
-        Some(sent.whole())
+        sent.is_live(self.clock, &self.setup)
+            .then_some(sent.whole())
     }
 
     /// Offers the frame of a unit.
@@ -85,7 +84,7 @@ impl LanBag {
         ensures { IfOk result (λ answer. BagStep self.old (Offer unit.now wish answer) self.new) }
     {
         let _ = wish;
-        let answer = answer_to(&self.lans, &self.rows, &self.frames, unit);
+        let answer = answer_to(&self.setup, &self.frames, unit);
         if answer == Offered::Taken {
             self.keep(unit)?;
         }
@@ -99,16 +98,10 @@ impl LanBag {
     {
         let sent = Sent::new(self.alloc, self.clock, unit)?;
         let place = self.frames.count();
-        tell(&self.rows, place + 1, unit, &mut self.waiting)?;
-        self.wheel.list(bound_of(&self.lans, unit.to.lan), place)?;
+        tell(&self.setup, place + 1, unit, &mut self.waiting)?;
+        self.wheel.list(self.setup.bound(unit.to.lan), place)?;
         self.frames.push(sent)?;
-        self.fresh_at = first_open(
-            self.clock,
-            &self.lans,
-            &self.rows,
-            &self.frames,
-            self.fresh_at,
-        );
+        self.fresh_at = first_open(self.clock, &self.setup, &self.frames, self.fresh_at);
         Ok(())
     }
 
@@ -116,14 +109,7 @@ impl LanBag {
     fn deliver(&mut self, pick: u32, system: u8) -> Result<Picked, NoMemory>
         ensures { IfOk result (λ answer. BagStep self.old (Choose pick system answer) self.new) }
     {
-        let answer = judge(
-            self.clock,
-            &self.lans,
-            &self.rows,
-            &self.frames,
-            pick,
-            system,
-        );
+        let answer = judge(self.clock, &self.setup, &self.frames, pick, system);
         if answer == Picked::Taken {
             self.arrive(pick, system)?;
         }
@@ -140,13 +126,7 @@ impl LanBag {
         let arrival = sent.arrival(self.alloc, system)?;
         self.waiting.push_back(Up::Unit(arrival))?;
         self.frames.mark(pick, system)?;
-        self.fresh_at = first_open(
-            self.clock,
-            &self.lans,
-            &self.rows,
-            &self.frames,
-            self.fresh_at,
-        );
+        self.fresh_at = first_open(self.clock, &self.setup, &self.frames, self.fresh_at);
         Ok(())
     }
 
@@ -154,16 +134,14 @@ impl LanBag {
     fn receive(&mut self, lan: u8, system: u8, octets: &[u8]) -> Result<Injected, NoMemory>
         ensures { IfOk result (λ answer. BagStep self.old (Inject lan system octets.now answer) self.new) }
     {
-        if !has_port(&self.rows, system, lan) {
+        if !self.setup.has_port(system, lan) {
             return Ok(Injected::NotThere);
         }
         let up = up_of(self.alloc, lan, system, octets)?;
-        let stray = is_stray(self.clock, &self.lans, &self.frames, &up);
+        let strays = strays_in(self.clock, &self.setup, &self.frames, &up);
         self.waiting.push_back(up)?;
         self.honest = false;
-        if stray {
-            self.strays = self.strays.saturating_add(1);
-        }
+        self.strays = self.strays.saturating_add(strays);
         Ok(Injected::Taken)
     }
 
@@ -174,79 +152,47 @@ impl LanBag {
     {
         let due = self.wheel.turn();
         self.clock += 1;
-        self.frames.give_up(self.clock, &self.lans, &due);
-        self.fresh_at = first_open(
-            self.clock,
-            &self.lans,
-            &self.rows,
-            &self.frames,
-            self.fresh_at,
-        );
+        self.frames.give_up(self.clock, &self.setup, &due);
+        self.fresh_at = first_open(self.clock, &self.setup, &self.frames, self.fresh_at);
     }
 
     /// The least pair that a choice would take and has not taken.
     fn next_pair(&self) -> Option<(u32, u8)>
         ensures { IsLeastFresh (link_of self.now) result }
     {
-        if self.fresh_at >= self.frames.count() {
-            return None;
-        }
-        let Some(sent) = self.frames.at(self.fresh_at) else {
-            return None;
-        };
-        match first_system(self.clock, &self.lans, &self.rows, sent) {
-            Some(system) => Some((self.fresh_at + 1, system)),
-            None => None,
-        }
+        let sent = self.frames.at(self.fresh_at)?;
+        let system = first_system(self.clock, &self.setup, sent)?;
+        Some((self.fresh_at + 1, system))
     }
 }
 
 /// Tells of a frame that is sent.
-fn tell(
-    rows: &[PortRow],
-    number: u32,
-    unit: &Unit<Port>,
-    waiting: &mut VecDeque<Up<Port>>,
-) -> Result<(), NoMemory>
+fn tell(setup: &Setup, number: u32, unit: &Unit<Port>, ups: &mut Ups) -> Result<(), NoMemory>
     requires { length unit.now.octets ≤ 1497 }
-    ensures { OnOk result (waiting.new.items ≡ waiting.old.items ++ frame_note number (sender_of rows.now unit.now.from) unit.now) }
+    ensures { OnOk result (ups.new.items ≡ ups.old.items ++ frame_note number (sender_of setup.now.rows unit.now.from) unit.now) }
 {
-    if let Some(system) = system_of(rows, &unit.from) {
-        waiting.push_back(Up::Note(note_of(number, system, unit)))?;
+    if let Some(system) = setup.system_of(&unit.from) {
+        let mut snpa = [0; 6];
+        snpa.copy_from_slice(unit.to.snpa.octets());
+        let note = Note::Frame {
+            number,
+            lan: unit.to.lan,
+            system,
+            snpa,
+            length: (unit.octets.as_slice().len() + HEADER) as u32,
+        };
+        ups.push_back(Up::Note(note))?;
     }
     Ok(())
 }
 
-/// The note of a frame.
-fn note_of(number: u32, system: u8, unit: &Unit<Port>) -> Note
-    requires { length unit.now.octets ≤ 1497 }
-    ensures { result ≡ FrameSent number unit.now.to.lan system unit.now.to.snpa (length unit.now.octets + 17) }
-{
-    Note::Frame {
-        number,
-        lan: unit.to.lan,
-        system,
-        snpa: snpa_octets(&unit.to.snpa),
-        length: (unit.octets.as_slice().len() + HEADER) as u32,
-    }
-}
-
-/// The octets of an SNPA.
-fn snpa_octets(snpa: &Snpa) -> [u8; 6]
-    ensures { result ≡ snpa.now }
-{
-    let mut octets = [0; 6];
-    octets.copy_from_slice(snpa.octets());
-    octets
-}
-
-/// Whether what came equals no live frame.
-fn is_stray(clock: Tick, lans: &[Lan], frames: &Store, up: &Up<Port>) -> bool
-    ensures { (if result then 1 else 0) ≡ strays_of clock lans.now frames.now up.now }
+/// How many arrivals there are in what came that equal no live frame.
+fn strays_in(clock: Tick, setup: &Setup, frames: &Store, up: &Up<Port>) -> u32
+    ensures { result ≡ strays_of clock setup.now.lans frames.now up.now }
 {
     match up {
-        Up::Unit(arrival) => !frames.carries(clock, lans, &arrival.unit),
-        Up::Note(_) => false,
+        Up::Unit(arrival) => u32::from(!frames.carries(clock, setup, &arrival.unit)),
+        Up::Note(_) => 0,
     }
 }
 
@@ -293,11 +239,11 @@ impl Carrier for LanBag {
     }
 
     fn bound(&self, to: &Port) -> u32 {
-        bound_of(&self.lans, to.lan)
+        self.setup.bound(to.lan)
     }
 
     fn room(&self, to: &Port) -> u32 {
-        room_of(&self.lans, to.lan)
+        self.setup.room(to.lan)
     }
 
     fn now(&self) -> Tick {
@@ -312,7 +258,9 @@ impl Carrier for LanBag {
         self.strays
     }
 
-    ghost use Rattle.lan_bag.specs.Laws.{bag_keeps};
+    ghost use Rattle.lan_bag.specs.Laws.{bag_given, bag_keeps};
+
+    ghost given = { bag_given };
 
     ghost keeps = { bag_keeps };
 }

@@ -1,18 +1,16 @@
 //! A frame on a LAN (IEEE 802.3, MAC frame structure; ISO/IEC 8802-2, LLC PDU).
 
 ghost use Rattle.std.specs.Prelude.{◌≡◌, ◌≤◌, ◌+◌, [], nat_le, length, IfOk, OnErr, OnOk};
-ghost use Rattle.lan_bag.specs.Frames.{whole_frame, has_taken, marked, is_of};
+ghost use Rattle.lan_frame.specs.Frame.{whole_frame};
+ghost use Rattle.lan_bag.specs.Frames.{is_live, has_taken, marked, is_of};
+ghost use Rattle.lan_bag.specs.Reading.{ups_of};
 
-use nsap::{Port, Snpa};
-use osi_base::{Arrival, Bytes, NoMemory, Tick, Unit};
+use crate::setup::Setup;
+use lan_frame::{HEADER, read_frame, write_frame};
+use nsap::Port;
+use osi_base::{Arrival, Bytes, NoMemory, Note, Tick, Unit, Up};
 use std::alloc::Global;
 use std::marker::Model;
-
-/// DSAP, SSAP and control of the network layer's LLC PDU.
-pub const LLC: [u8; 3] = [0xfe, 0xfe, 0x03];
-
-/// The octets of a frame before its network PDU.
-pub const HEADER: usize = 17;
 
 /// A frame that was sent, and the systems that took it.
 #[derive(Drop, Debug)]
@@ -42,16 +40,12 @@ impl Sent {
         requires { length unit.now.octets ≤ 1497 }
         ensures { IfOk result (λ sent. sent ≡ record { tick = tick; unit = unit.now; taken = [] }) }
     {
+        let pdu = unit.octets.as_slice();
         Ok(Sent {
             tick,
             from: unit.from,
             to: unit.to,
-            whole: write_frame(
-                alloc,
-                &unit.to.snpa,
-                &unit.from.snpa,
-                unit.octets.as_slice(),
-            )?,
+            whole: write_frame(alloc, &unit.to.snpa, &unit.from.snpa, pdu)?,
             taken: Vec::new(alloc),
         })
     }
@@ -70,11 +64,11 @@ impl Sent {
         self.to
     }
 
-    /// Whether it is at most that old.
-    pub fn is_live(&self, clock: Tick, bound: u32) -> bool
-        ensures { result ≡ nat_le clock (self.now.tick + bound) }
+    /// Whether it may still be taken.
+    pub fn is_live(&self, clock: Tick, setup: &Setup) -> bool
+        ensures { result ≡ is_live clock setup.now.lans self.now }
     {
-        u64::from(clock) <= u64::from(self.tick) + u64::from(bound)
+        u64::from(clock) <= u64::from(self.tick) + u64::from(setup.bound(self.to.lan))
     }
 
     /// Whether a system took it.
@@ -104,14 +98,12 @@ impl Sent {
     pub fn arrival(&self, alloc: Global, system: u8) -> Result<Arrival<Port>, NoMemory>
         ensures { IfOk result (λ arrival. arrival ≡ record { system = system; unit = self.now.unit }) }
     {
-        Ok(Arrival {
-            system,
-            unit: Unit {
-                from: self.from,
-                to: self.to,
-                octets: Bytes::of(self.whole[HEADER..].to_vec(alloc)?),
-            },
-        })
+        let unit = Unit {
+            from: self.from,
+            to: self.to,
+            octets: Bytes::of(self.whole[HEADER..].to_vec(alloc)?),
+        };
+        Ok(Arrival { system, unit })
     }
 
     /// A system took it.
@@ -128,20 +120,19 @@ impl Sent {
     }
 }
 
-/// The octets of a whole frame.
-fn write_frame(alloc: Global, to: &Snpa, from: &Snpa, pdu: &[u8]) -> Result<Vec<u8>, NoMemory>
-    requires { length pdu.now ≤ 1497 }
-    ensures whole { IfOk result (λ whole. whole.items ≡ whole_frame to.now from.now pdu.now) }
-    ensures to { length to.now ≡ 6 }
-    ensures from { length from.now ≡ 6 }
+/// What a system gets of octets on a LAN: an arrival, or the note that they are no frame of the
+/// network.
+pub fn up_of(alloc: Global, lan: u8, system: u8, octets: &[u8]) -> Result<Up<Port>, NoMemory>
+    ensures { IfOk result (λ up. up ≡ ups_of lan system octets.now) }
 {
-    let (to, from) = (to.octets(), from.octets());
-    let length = pdu.len() + LLC.len();
-    let mut whole = to.to_vec(alloc)?;
-    whole.extend_from_slice(from)?;
-    whole.push((length / 256) as u8)?;
-    whole.push((length % 256) as u8)?;
-    whole.extend_from_slice(&LLC)?;
-    whole.extend_from_slice(pdu)?;
-    Ok(whole)
+    let Some(frame) = read_frame(octets) else {
+        return Ok(Up::Note(Note::Alien { system }));
+    };
+    let (to, from) = (frame.to, frame.from);
+    let unit = Unit {
+        from: Port { lan, snpa: from },
+        to: Port { lan, snpa: to },
+        octets: Bytes::of(frame.pdu.to_vec(alloc)?),
+    };
+    Ok(Up::Unit(Arrival { system, unit }))
 }

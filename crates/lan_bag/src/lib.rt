@@ -4,7 +4,6 @@
 mod bag;
 mod delivery;
 mod frame;
-mod reading;
 mod setup;
 mod store;
 #[cfg(test)]

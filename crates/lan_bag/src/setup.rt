@@ -1,15 +1,18 @@
 //! The LANs and which system has which port (IEEE 802.3; ISO 9542, subnetwork addresses).
 
-ghost use Rattle.std.specs.Prelude.{◌≡◌};
-ghost use Rattle.lan_bag.specs.Rows.{bound_on, room_on, is_on, sender_of, has_sent, goes_to, is_one_of, is_named_by, group_of_kind};
+ghost use Rattle.std.specs.Prelude.{◌≡◌, IfOk};
+ghost use Rattle.lan_bag.specs.Rows.{bound_on, room_on, is_on, sender_of, has_sent, goes_to, is_one_of, group_of_kind};
 
 use nsap::{Port, Snpa};
+use osi_base::NoMemory;
+use std::alloc::Global;
+use std::marker::Model;
 
-/// The bound of a LAN that is not listed, in ticks.
-const NO_BOUND: u32 = 1;
-
-/// The room of a LAN that is not listed, in octets.
-const NO_ROOM: u32 = 264;
+/// The numbers of a LAN that is not listed.
+const UNLISTED: Lan = Lan {
+    bound: 1,
+    room: 264,
+};
 
 /// The group of all end systems (ISO 9542, multicast addresses).
 const ALL_END_SYSTEMS: [u8; 6] = [0x09, 0x00, 0x2b, 0x00, 0x00, 0x04];
@@ -37,74 +40,98 @@ pub struct PortRow {
     pub port: Port,
 }
 
-/// The bound of a LAN.
-pub fn bound_of(lans: &[Lan], lan: u8) -> u32
-    ensures { result ≡ bound_on lans.now lan }
-{
-    match lans.get(usize::from(lan)) {
-        Some(found) => found.bound,
-        None => NO_BOUND,
+/// The LANs, numbered from 0, and the ports of the systems.
+#[derive(Drop)]
+pub struct Setup {
+    lans: Vec<Lan>,
+    rows: Vec<PortRow>,
+}
+
+impl Model for Setup {
+    ghost use Rattle.lan_bag.specs.Rows.{Setting};
+
+    ghost Value = { Setting };
+
+    ghost view = { λ s. record { lans = s.lans.items; rows = s.rows.items } };
+}
+
+impl Setup {
+    /// These LANs and ports.
+    pub fn new(alloc: Global, lans: &[Lan], rows: &[PortRow]) -> Result<Setup, NoMemory>
+        ensures { IfOk result (λ setup. setup ≡ record { lans = lans.now; rows = rows.now }) }
+    {
+        let (lans, rows) = (lans.to_vec(alloc)?, rows.to_vec(alloc)?);
+        Ok(Setup { lans, rows })
     }
-}
 
-/// The room of a LAN.
-pub fn room_of(lans: &[Lan], lan: u8) -> u32
-    ensures { result ≡ room_on lans.now lan }
-{
-    match lans.get(usize::from(lan)) {
-        Some(found) => found.room,
-        None => NO_ROOM,
+    /// The ports.
+    pub fn rows(&self) -> &[PortRow]
+        ensures { result.now ≡ self.now.rows }
+    {
+        &self.rows
     }
-}
 
-/// Whether a system has a port on a LAN.
-pub fn has_port(rows: &[PortRow], system: u8, lan: u8) -> bool
-    ensures { result ≡ is_on rows.now system lan }
-{
-    rows.iter()
-        .any(|row| row.system == system && row.port.lan == lan)
-}
+    /// The bound of a LAN.
+    pub fn bound(&self, lan: u8) -> u32
+        ensures { result ≡ bound_on self.now.lans lan }
+    {
+        self.lans.get(usize::from(lan)).unwrap_or(&UNLISTED).bound
+    }
 
-/// The system that has a port; None exactly where none has.
-pub fn system_of(rows: &[PortRow], port: &Port) -> Option<u8>
-    ensures { result ≡ sender_of rows.now port.now }
-{
-    for row in rows {
-        if row.port == *port {
-            return Some(row.system);
+    /// The room of a LAN.
+    pub fn room(&self, lan: u8) -> u32
+        ensures { result ≡ room_on self.now.lans lan }
+    {
+        self.lans.get(usize::from(lan)).unwrap_or(&UNLISTED).room
+    }
+
+    /// Whether a system has a port on a LAN.
+    pub fn has_port(&self, system: u8, lan: u8) -> bool
+        ensures { result ≡ is_on self.now.rows system lan }
+    {
+        self.rows
+            .iter()
+            .any(|row| row.system == system && row.port.lan == lan)
+    }
+
+    /// The system that has a port; None exactly where none has.
+    pub fn system_of(&self, port: &Port) -> Option<u8>
+        ensures { result ≡ sender_of self.now.rows port.now }
+    {
+        for row in &self.rows {
+            if row.port == *port {
+                return Some(row.system);
+            }
         }
+        None
     }
-    None
+
+    /// Whether a port is one of a system.
+    pub fn is_sender(&self, system: u8, from: &Port) -> bool
+        ensures { result ≡ has_sent self.now.rows system from.now }
+    {
+        self.rows
+            .iter()
+            .any(|row| row.system == system && row.port == *from)
+    }
+
+    /// Whether a system is one of a destination.
+    pub fn is_receiver(&self, system: u8, to: &Port) -> bool
+        ensures { result ≡ goes_to self.now.rows to.now system }
+    {
+        self.rows
+            .iter()
+            .any(|row| row.system == system && row.is_one_of(to))
+    }
 }
 
-/// Whether a port is one of a system.
-pub fn is_sender(rows: &[PortRow], system: u8, from: &Port) -> bool
-    ensures { result ≡ has_sent rows.now system from.now }
-{
-    rows.iter()
-        .any(|row| row.system == system && row.port == *from)
-}
-
-/// Whether a system is one of a destination.
-pub fn is_receiver(rows: &[PortRow], system: u8, to: &Port) -> bool
-    ensures { result ≡ goes_to rows.now to.now system }
-{
-    rows.iter()
-        .any(|row| row.system == system && is_port_of(row, to))
-}
-
-/// Whether the port of a row is one of a destination.
-pub fn is_port_of(row: &PortRow, to: &Port) -> bool
-    ensures { result ≡ is_one_of to.now row.now }
-{
-    row.port.lan == to.lan && is_named(row, &to.snpa)
-}
-
-/// Whether an SNPA is that of a row, or that of the group of its kind of system.
-fn is_named(row: &PortRow, snpa: &Snpa) -> bool
-    ensures { result ≡ is_named_by row.now snpa.now }
-{
-    row.port.snpa == *snpa || group_of(row.end) == *snpa
+impl PortRow {
+    /// Whether the port is one of a destination: it has the SNPA, or is of the kind of the group.
+    pub fn is_one_of(&self, to: &Port) -> bool
+        ensures { result ≡ is_one_of to.now self.now }
+    {
+        self.port.lan == to.lan && (self.port.snpa == to.snpa || group_of(self.end) == to.snpa)
+    }
 }
 
 /// The group of a kind of system.

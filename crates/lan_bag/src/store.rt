@@ -6,7 +6,7 @@ ghost use Rattle.lan_bag.specs.Frames.{kept, frame_of, kept_at, live_count, mark
 ghost use Rattle.lan_bag.specs.Wheel.{AreLateAmong, given_up_at};
 
 use crate::frame::Sent;
-use crate::setup::{Lan, bound_of};
+use crate::setup::Setup;
 use nsap::Port;
 use osi_base::{NoMemory, Tick, Unit};
 use std::alloc::Global;
@@ -64,33 +64,25 @@ impl Store {
 
     /// The frame at a place, which is its number less one; None where it is late or there is none.
     pub fn at(&self, place: u32) -> Option<&Sent>
-        ensures { option_copied result ≡ kept (slice_get self.now place) }
+        ensures frame { option_copied result ≡ kept (slice_get self.now place) }
+        ensures numbers { length self.now ≤ 4294967295 }
     {
-        if place < self.gone {
-            return None;
-        }
-        match self.slots.get((place - self.gone) as usize) {
-            Some(Some(sent)) => Some(sent),
-            Some(None) => None,
-            None => None,
-        }
+        let index = place.checked_sub(self.gone)?;
+        self.slots.get(index as usize)?.as_ref()
     }
 
     /// The frame of a number; None where it is late or there is none.
     pub fn get(&self, number: u32) -> Option<&Sent>
         ensures { option_copied result ≡ frame_of self.now number }
     {
-        if number == 0 {
-            return None;
-        }
-        self.at(number - 1)
+        self.at(number.checked_sub(1)?)
     }
 
     /// Whether a live frame carries that unit.
-    pub fn carries(&self, clock: Tick, lans: &[Lan], unit: &Unit<Port>) -> bool
-        ensures { result ≡ list_any (carries_live clock lans.now unit.now) self.now }
+    pub fn carries(&self, clock: Tick, setup: &Setup, unit: &Unit<Port>) -> bool
+        ensures { result ≡ list_any (carries_live clock setup.now.lans unit.now) self.now }
     {
-        has_unit(&self.slots, clock, lans, unit)
+        has_unit(&self.slots, clock, setup, unit)
     }
 
     /// One frame more, with the next number.
@@ -123,25 +115,25 @@ impl Store {
     }
 
     /// Gives up the frames that are late, which stand at some of these places.
-    pub fn give_up(&mut self, clock: Tick, lans: &[Lan], places: &[u32])
-        requires { AreLateAmong clock lans.now places.now self.old }
-        ensures { self.new ≡ map (kept_at clock lans.now) self.old }
+    pub fn give_up(&mut self, clock: Tick, setup: &Setup, places: &[u32])
+        requires { AreLateAmong clock setup.now.lans places.now self.old }
+        ensures { self.new ≡ map (kept_at clock setup.now.lans) self.old }
     {
         for place in places {
-            self.give_up_at(clock, lans, *place);
+            self.give_up_at(clock, setup, *place);
         }
         self.trim();
     }
 
     /// Gives up the frame at a place where it is late.
-    fn give_up_at(&mut self, clock: Tick, lans: &[Lan], place: u32)
-        ensures { self.new ≡ given_up_at clock lans.now self.old place }
+    fn give_up_at(&mut self, clock: Tick, setup: &Setup, place: u32)
+        ensures { self.new ≡ given_up_at clock setup.now.lans self.old place }
     {
         if place < self.gone {
             return;
         }
         let index = (place - self.gone) as usize;
-        if empty_late(&mut self.slots, index, clock, lans) {
+        if empty_late(&mut self.slots, index, clock, setup) {
             self.live -= 1;
         }
     }
@@ -150,28 +142,21 @@ impl Store {
     fn trim(&mut self)
         ensures { self.new ≡ self.old }
     {
-        let count = drop_front(&mut self.slots);
-        self.gone += count;
+        while let Some(None) = self.slots.front() {
+            let _ = self.slots.pop_front();
+            self.gone += 1;
+        }
     }
 }
 
 /// Whether a live frame in a slot carries that unit.
-fn has_unit(slots: &VecDeque<Option<Sent>>, clock: Tick, lans: &[Lan], unit: &Unit<Port>) -> bool
-    ensures { result ≡ list_any (carries_live clock lans.now unit.now) slots.now.items }
+fn has_unit(slots: &VecDeque<Option<Sent>>, clock: Tick, setup: &Setup, unit: &Unit<Port>) -> bool
+    ensures { result ≡ list_any (carries_live clock setup.now.lans unit.now) slots.now.items }
 {
-    slots
-        .iter()
-        .any(|slot| slot_carries(slot, clock, lans, unit))
-}
-
-/// Whether a slot has a live frame that carries that unit.
-fn slot_carries(slot: &Option<Sent>, clock: Tick, lans: &[Lan], unit: &Unit<Port>) -> bool
-    ensures { result ≡ carries_live clock lans.now unit.now slot.now }
-{
-    match slot {
-        Some(sent) => sent.is_live(clock, bound_of(lans, sent.to().lan)) && sent.carries(unit),
+    slots.iter().any(|slot| match slot {
+        Some(sent) => sent.is_live(clock, setup) && sent.carries(unit),
         None => false,
-    }
+    })
 }
 
 /// A system took the frame in a slot.
@@ -179,11 +164,10 @@ fn mark_slot(slots: &mut VecDeque<Option<Sent>>, index: usize, system: u8) -> Re
     ensures ok { OnOk result (slots.new.items ≡ marked_slot slots.old.items index system) }
     ensures err { OnErr result (slots.new.items ≡ slots.old.items) }
 {
-    if index >= slots.len() {
-        return Ok(());
+    match slots.get_mut(index) {
+        Some(slot) => mark_sent(slot, system),
+        None => Ok(()),
     }
-    mark_sent(&mut slots[index], system)?;
-    Ok(())
 }
 
 /// A system took the frame that there is.
@@ -198,43 +182,26 @@ fn mark_sent(slot: &mut Option<Sent>, system: u8) -> Result<(), NoMemory>
 }
 
 /// Empties a slot where its frame is late; the answer is whether it was.
-fn empty_late(slots: &mut VecDeque<Option<Sent>>, index: usize, clock: Tick, lans: &[Lan]) -> bool
-    ensures slots { slots.new.items ≡ given_up_at clock lans.now slots.old.items index }
+fn empty_late(slots: &mut VecDeque<Option<Sent>>, index: usize, clock: Tick, setup: &Setup) -> bool
+    ensures slots { slots.new.items ≡ given_up_at clock setup.now.lans slots.old.items index }
     ensures late { live_count slots.old.items ≡ live_count slots.new.items + (if result then 1 else 0) }
 {
     match slots.get_mut(index) {
-        Some(slot) => empty_if_late(slot, clock, lans),
+        Some(slot) => empty_if_late(slot, clock, setup),
         None => false,
     }
 }
 
 /// Empties a slot where its frame is late; the answer is whether it was.
-fn empty_if_late(slot: &mut Option<Sent>, clock: Tick, lans: &[Lan]) -> bool
-    ensures slot { slot.new ≡ kept_at clock lans.now slot.old }
+fn empty_if_late(slot: &mut Option<Sent>, clock: Tick, setup: &Setup) -> bool
+    ensures slot { slot.new ≡ kept_at clock setup.now.lans slot.old }
     ensures late { result ≡ (is_some slot.old && not (is_some slot.new)) }
 {
-    let late = match slot {
-        Some(sent) => !sent.is_live(clock, bound_of(lans, sent.to().lan)),
-        None => false,
-    };
-    if late {
-        *slot = None;
-    }
-    late
-}
-
-/// Takes the empty slots from the front; the answer is how many they were.
-fn drop_front(slots: &mut VecDeque<Option<Sent>>) -> u32
-    requires { length slots.old.items ≤ 4294967295 }
-    ensures { slots.old.items ≡ replicate result None ++ slots.new.items }
-{
-    let mut count = 0;
-    while let Some(front) = slots.front() {
-        if front.is_some() {
-            break;
+    match slot {
+        Some(sent) if !sent.is_live(clock, setup) => {
+            *slot = None;
+            true
         }
-        let _ = slots.pop_front();
-        count += 1;
+        _ => false,
     }
-    count
 }

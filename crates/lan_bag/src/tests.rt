@@ -3,7 +3,8 @@ ghost use Rattle.std.specs.Prelude.{◌≡◌, ◌∷◌, []};
 use crate::{Lan, LanBag, PortRow};
 use nsap::{Port, Snpa};
 use osi_base::{
-    Arrival, Bytes, Carrier, DropCause, Injected, Note, Offered, Picked, Unit, Up, Wish, go_round,
+    Arrival, Bytes, Carrier, DropCause, Injected, Note, Offered, Picked, Unit, Up, Wish, gather,
+    go_round,
 };
 use std::alloc::Global;
 use std::process::Abort;
@@ -235,5 +236,25 @@ fn a_round_over_the_lans_hands_up_the_note_of_the_frame(rt: HostRuntime) -> Resu
     };
     assert!(rt; up == Some(Up::Note(note)));
     assert_eq!(rt; bag.now(), 1);
+    Ok(())
+}
+
+#[test]
+fn all_that_waits_is_taken_up_in_order(rt: HostRuntime) -> Result<(), Fail> {
+    let alloc = rt.alloc();
+    let mut bag = bag(alloc)?;
+    bag.offer(unit(alloc, port(0, 11), port(0, 12), b"\x81")?, PLAIN)?;
+    bag.choose(1, 2)?;
+    let mut ups = gather(alloc, &mut bag)?;
+    assert_eq!(rt; ups.len(), 2);
+    assert!(rt;
+        matches!(
+            ups.pop_front(),
+            Some(Up::Note(Note::Frame { number: 1, .. }))
+        )
+    );
+    let unit = unit(alloc, port(0, 11), port(0, 12), b"\x81")?;
+    assert!(rt; ups.pop_front() == Some(Up::Unit(Arrival { system: 2, unit })));
+    assert!(rt; bag.next_up().is_none());
     Ok(())
 }

@@ -1,14 +1,14 @@
 -- What each call keeps, a chain keeps.
-use Rattle.std.proofs.Common.{◌≡◌, ℕ, ◌+◌, ◌≤◌, true, List, [], ◌∷◌, inl, inr, refl, sym, ◌∙◌, ap, subst, arith}
-use Rattle.std.specs.Prelude.{min}
+use Rattle.std.proofs.Common.{◌≡◌, ℕ, ◌+◌, ◌≤◌, true, List, [], ◌∷◌, ◌++◌, inl, inr, refl, sym, ◌∙◌, ap, subst, arith}
+use Rattle.std.specs.Prelude.{min, Bool, false, ◌&&◌, ◌||◌, IsTrue}
 use Rattle.std.specs.List.{All}
 use Rattle.std.proofs.lemmas.List.Elements.{All-head, All-tail}
 use Rattle.osi_base.specs.declared.unit.Up.{Up}
 use Rattle.osi_base.specs.declared.unit.Up.TheVariants.{Unit as Came, Note as Noted}
 use Rattle.osi_base.specs.declared.unit.Injected.{Injected}
 use Rattle.osi_base.specs.declared.unit.Injected.TheVariants.{Taken as WasInjected, NotThere}
-use Rattle.osi_base.specs.Link.{Link, IsNote, IsLawful, AreStrays}
-use Rattle.osi_base.specs.Calls.{Call, Offer, Choose, Inject, NextUp, Tick, Keeps, Chain, IsSameLink, Injects}
+use Rattle.osi_base.specs.Link.{Link, IsNote, IsLawful, AreStrays, IsSpent}
+use Rattle.osi_base.specs.Calls.{Call, Offer, Choose, Inject, NextUp, Tick, Keeps, Chain, IsSameLink, GivesPicks, pair_of, Injects}
 
 clock_kept : {A : Type 0} (old : Link A) (call : Call A) (new : Link A) → Keeps old call new → old.clock ≤ new.clock
 clock_kept old (Offer unit wish answer) new k = omega (arith, k.clock)
@@ -67,12 +67,51 @@ strays_kept old (Inject lan system octets answer) new k h z = inject_strays old 
 strays_kept old (NextUp answer) new k h z = k.strays ∙ z
 strays_kept old Tick new k h z = k.strays ∙ z
 
-same_on : {A : Type 0} (first mid last : Link A) → IsSameLink first mid → IsSameLink mid last → IsSameLink first last
+picks_kept : {A : Type 0} (old : Link A) (call : Call A) (new : Link A) → Keeps old call new → GivesPicks old new
+picks_kept old (Offer unit wish answer) new k = k.picks
+picks_kept old (Choose pick system answer) new k = k.picks
+picks_kept old (Inject lan system octets answer) new k = k.picks
+picks_kept old (NextUp answer) new k = k.picks
+picks_kept old Tick new k = k.picks
+
+also : (a b this now : Bool) → now ≡ (a && b || this) → IsTrue a → IsTrue b → IsTrue now
+also true true this now e h k = e
+also true false this now e h k = cc
+also false b this now e h k = cc
+
+took_kept : {A : Type 0} (old : Link A) (call : Call A) (new : Link A) → Keeps old call new → (pick system : ℕ) → IsTrue (new.takes pick system) → IsTrue (old.takes pick system) → IsTrue (old.took pick system) → IsTrue (new.took pick system)
+took_kept old (Offer unit wish answer) new k p s t may was = also (old.takes p s) (old.took p s) false (new.took p s) (k.took p s t) may was
+took_kept old (Choose pick system answer) new k p s t may was = also (old.takes p s) (old.took p s) (pair_of pick system answer p s) (new.took p s) (k.took p s t) may was
+took_kept old (Inject lan system octets answer) new k p s t may was = also (old.takes p s) (old.took p s) false (new.took p s) (k.took p s t) may was
+took_kept old (NextUp answer) new k p s t may was = also (old.takes p s) (old.took p s) false (new.took p s) (k.took p s t) may was
+took_kept old Tick new k p s t may was = also (old.takes p s) (old.took p s) false (new.took p s) (k.took p s t) may was
+
+spent_kept : {A : Type 0} (old : Link A) (call : Call A) (new : Link A) → Keeps old call new → (pick system : ℕ) → IsSpent old pick system → IsSpent new pick system
+spent_kept old call new k pick system spent = (
+  omega (arith, spent.0, (picks_kept old call new k).given),
+  λ t. elim ((picks_kept old call new k).again pick system t) [
+    | inl may ↦ took_kept old call new k pick system t may (spent.1 may)
+    | inr later ↦ absurd (omega (arith, later, spent.0))
+  ],
+)
+
+pub same_on : {A : Type 0} (first mid last : Link A) → IsSameLink first mid → IsSameLink mid last → IsSameLink first last
 same_on first mid last h k = record {
   bound = λ to. k.bound to ∙ h.bound to;
   room = λ to. k.room to ∙ h.room to;
   belongs = λ to system. k.belongs to system ∙ h.belongs to system;
 }
+
+pub picks_on : {A : Type 0} (first mid last : Link A) → GivesPicks first mid → GivesPicks mid last → GivesPicks first last
+picks_on first mid last h k = record {
+  given = omega (arith, h.given, k.given);
+  again = λ pick system t. elim (k.again pick system t) [ inl may ↦ h.again pick system may | inr later ↦ inr (omega (arith, later, h.given)) ];
+}
+
+-- one chain behind another
+pub chain_on : {S A : Type 0} (steps : S → Call A → S → Type 0) (old : S) (before : List (Call A)) (mid : S) (after : List (Call A)) (new : S) → Chain steps old before mid → Chain steps mid after new → Chain steps old (before ++ after) new
+chain_on {S} steps old [] mid after new h k = subst (λ (s : S). Chain steps s after new) h k
+chain_on steps old (call ∷ before) mid after new h k = (h.0, h.1, chain_on steps h.0 before mid after new h.2 k)
 
 module _ {S A : Type 0} (link : S → Link A) (steps : S → Call A → S → Type 0) (law : (old : S) (call : Call A) (new : S) → steps old call new → Keeps (link old) call (link new)) where
   pub clock_runs : (old new : S) (calls : List (Call A)) → Chain steps old calls new → (link old).clock ≤ (link new).clock
@@ -91,3 +130,12 @@ module _ {S A : Type 0} (link : S → Link A) (steps : S → Call A → S → Ty
   strays_runs old new [] h e z = ap (λ (s : S). (link s).strays) h ∙ z
   strays_runs old new (call ∷ calls) h e z =
       strays_runs h.0 new calls h.2 e (strays_kept (link old) call (link h.0) (law old call h.0 h.1) (honest_runs h.0 new calls h.2 e) z)
+
+  pub picks_runs : (old new : S) (calls : List (Call A)) → Chain steps old calls new → GivesPicks (link old) (link new)
+  picks_runs old new [] h = subst (λ (s : S). GivesPicks (link old) (link s)) (sym h) (record { given = omega arith; again = λ pick system t. inl t })
+  picks_runs old new (call ∷ calls) h = picks_on (link old) (link h.0) (link new) (picks_kept (link old) call (link h.0) (law old call h.0 h.1)) (picks_runs h.0 new calls h.2)
+
+  pub spent_runs : (old new : S) (calls : List (Call A)) → Chain steps old calls new → (pick system : ℕ) → IsSpent (link old) pick system → IsSpent (link new) pick system
+  spent_runs old new [] h pick system spent = subst (λ (s : S). IsSpent (link s) pick system) (sym h) spent
+  spent_runs old new (call ∷ calls) h pick system spent =
+      spent_runs h.0 new calls h.2 pick system (spent_kept (link old) call (link h.0) (law old call h.0 h.1) pick system spent)

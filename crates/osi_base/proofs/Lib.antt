@@ -5,6 +5,8 @@ mod FletcherRest
 pub mod FletcherSealed
 pub mod FletcherSums
 pub mod Fronts
+pub mod Gatherings
 pub mod Numbers
 mod RoundTrips
+pub mod Standings
 pub mod Young

@@ -1,5 +1,5 @@
 -- What each call of a carrier does, to what those above see of it.
-use Rattle.std.specs.Prelude.{◌≡◌, ◌≢◌, ◌⊎◌, ◌↔◌, ℕ, ◌+◌, ◌≤◌, ◌==◌, min, Bool, true, false, ◌&&◌, ◌||◌, List, [], ◌∷◌, ◌++◌, Option, Some, None, IsTrue}
+use Rattle.std.specs.Prelude.{◌≡◌, ◌≢◌, ◌⊎◌, ◌↔◌, ℕ, ◌+◌, ◌<◌, ◌≤◌, ◌==◌, min, Bool, true, false, ◌&&◌, ◌||◌, List, [], ◌∷◌, ◌++◌, Option, Some, None, IsTrue}
 use Rattle.std.specs.List.{Contains, All}
 use Rattle.osi_base.specs.declared.unit.Unit.{Unit as CarriedUnit}
 use Rattle.osi_base.specs.declared.unit.Up.{Up}
@@ -45,6 +45,11 @@ TookAlso old this new =
     (pick system : ℕ) → IsTrue (new.takes pick system)
     → new.took pick system ≡ (old.takes pick system && old.took pick system || this pick system)
 
+-- picks are given upward, and only one that was not given yet can come to be taken
+pub record GivesPicks {A : Type 0} (old new : Link A) : Type 0 where
+  pub given : old.given ≤ new.given
+  pub again : (pick system : ℕ) → IsTrue (new.takes pick system) → IsTrue (old.takes pick system) ⊎ (old.given < pick)
+
 abbrev pub no_pair : ℕ → ℕ → Bool
 no_pair pick system = false
 
@@ -80,6 +85,7 @@ pub record Offers {A : Type 0} (old : Link A) (unit : CarriedUnit A) (answer : O
   pub lost : NothingLost old new
   pub notes : AddsNotes old new
   pub takes : StillTakes old new
+  pub picks : GivesPicks old new
   pub took : TookAlso old no_pair new
 
 -- what comes up was afloat, as long as the carrier is honest
@@ -95,6 +101,7 @@ pub record Chooses {A : Type 0} (old : Link A) (pick system : ℕ) (answer : Pic
   pub refused : answer ≢ WasPicked → All IsNote ups
   pub answers : (answer ≡ WasPicked) ↔ IsTrue (old.takes pick system)
   pub takes : StillTakes old new
+  pub picks : GivesPicks old new
   pub took : TookAlso old (pair_of pick system answer) new
 
 -- the carrier is no longer honest where octets were injected
@@ -109,6 +116,7 @@ pub record Injects {A : Type 0} (old : Link A) (answer : Injected) (new : Link A
   pub adds : Adds old ups new
   pub refused : answer ≢ WasInjected → All IsNote ups
   pub takes : StillTakes old new
+  pub picks : GivesPicks old new
   pub took : TookAlso old no_pair new
 
 -- the first of what waits, before the rest
@@ -127,6 +135,7 @@ pub record TakesUp {A : Type 0} (old : Link A) (answer : Option (Up A)) (new : L
   pub waiting : old.waiting ≡ after_first answer new.waiting
   pub none : answer ≡ None → old.waiting ≡ []
   pub takes : StillTakes old new
+  pub picks : GivesPicks old new
   pub took : TookAlso old no_pair new
 
 -- one tick more
@@ -138,6 +147,7 @@ pub record Ticks {A : Type 0} (old new : Link A) : Type 0 where
   pub grows : NothingNew old new
   pub lost : NothingLost old new
   pub notes : AddsNotes old new
+  pub picks : GivesPicks old new
   pub took : TookAlso old no_pair new
 
 -- what a call does by the link contract

@@ -2,6 +2,7 @@ pub mod Calls
 pub mod Ends
 pub mod Fletcher
 pub mod Floated
+pub mod Gathering
 pub mod Link
 pub mod Memory
 pub mod Rounds

@@ -21,6 +21,8 @@ pub record Link (A : Type 0) : Type 0 where
   pub room : A → ℕ
   -- the system is one of that destination
   pub belongs : A → ℕ → Bool
+  -- the picks up to that number were given
+  pub given : ℕ
   -- a choice of that pick for that system would be taken, and one was
   pub takes : ℕ → ℕ → Bool
   pub took : ℕ → ℕ → Bool
@@ -51,6 +53,14 @@ AreStrays link (Came arrival ∷ ups) count =
 -- the pair can be taken, and was not yet
 abbrev pub is_fresh : {A : Type 0} → Link A → ℕ → ℕ → Bool
 is_fresh link pick system = link.takes pick system && not (link.took pick system)
+
+-- what can be taken has a pick that was given
+abbrev pub IsGiven : {A : Type 0} → Link A → Type 0
+IsGiven link = (pick system : ℕ) → IsTrue (link.takes pick system) → pick ≤ link.given
+
+-- the pick was given, and the pair cannot be taken, or was: it is fresh never again
+abbrev pub IsSpent : {A : Type 0} → Link A → ℕ → ℕ → Type 0
+IsSpent link pick system = (pick ≤ link.given) × (IsTrue (link.takes pick system) → IsTrue (link.took pick system))
 
 -- the pair is that one, or comes before it
 abbrev pub IsUpTo : ℕ × ℕ → ℕ → ℕ → Type 0

@@ -8,7 +8,7 @@ use crate::{Injected, NoMemory, Offered, Picked, Tick, Unit, Up, Wish};
 /// Those above choose what arrives next. What waits is handed up in order.
 pub trait Carrier {
     ghost use Rattle.std.specs.Prelude.{◌≡◌, ◌<◌, ℕ, IfOk, true};
-    ghost use Rattle.osi_base.specs.Link.{Link, IsLeastFresh};
+    ghost use Rattle.osi_base.specs.Link.{Link, IsGiven, IsLeastFresh};
     ghost use Rattle.osi_base.specs.Calls.{Call, Offer, Choose, Inject, NextUp, Tick, Offers, Chooses, Injects, TakesUp, Ticks, Keeps};
 
     /// The addresses between which it carries units.
@@ -72,6 +72,9 @@ pub trait Carrier {
     fn strays(&self) -> u32
         ensures count { result ≡ (link self.now).strays }
         ensures none { (link self.now).honest ≡ true → result ≡ 0 };
+
+    /// What can be taken has a pick that was given.
+    ghost given: { (carrier : Self) → IsGiven (link carrier) };
 
     /// Each step of a carrier keeps the link contract.
     ghost keeps: { (old : Self) (call : Call Self.Addr) (new : Self) → steps old call new → Keeps (link old) call (link new) };

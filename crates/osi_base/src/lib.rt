@@ -29,7 +29,7 @@ pub use memory::{MemSink, MemSource, PlainSink, PlainSource};
 pub use note::{HelloCause, HelloKind, Note};
 pub use octets::Octets;
 pub use refusal::{Failed, HeaderRefusal, NoMemory, WriteRefusal};
-pub use runs::{go_round, over_runs};
+pub use runs::{gather, go_round, over_runs};
 pub use sink::Sink;
 pub use source::Source;
 pub use standard::{StdSink, StdSource};

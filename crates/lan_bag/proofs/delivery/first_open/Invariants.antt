@@ -5,7 +5,7 @@ use Rattle.lan_bag.proofs.delivery.first_open.Given as goal
 abbrev pub invariant-loop-place : goal.invariant-loop-place
 invariant-loop-place l = record {
   within : l.place ≤ length l.frames;
-  before : IsClosedTo l.clock l.lans l.rows l.frames l.place;
+  before : IsClosedTo l.clock l.setup.lans l.setup.rows l.frames l.place;
 }
 
 abbrev pub decreases-loop-place : goal.decreases-loop-place

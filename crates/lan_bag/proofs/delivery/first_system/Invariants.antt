@@ -3,4 +3,4 @@ use Rattle.lan_bag.specs.Frames.{IsLeastAmong}
 use Rattle.lan_bag.proofs.delivery.first_system.Given as goal
 
 abbrev pub invariant-loop-row : goal.invariant-loop-row
-invariant-loop-row l = IsLeastAmong l.clock l.lans l.rows l.sent (take l.row-index l.rows) l.least
+invariant-loop-row l = IsLeastAmong l.clock l.setup.lans l.setup.rows l.sent (take l.row-index l.row-items) l.least

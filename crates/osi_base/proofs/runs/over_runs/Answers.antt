@@ -1,4 +1,4 @@
-use Rattle.osi_base.proofs.Chains.{clock_runs, same_runs, honest_runs, strays_runs}
+use Rattle.osi_base.proofs.Chains.{clock_runs, same_runs, honest_runs, strays_runs, picks_runs, spent_runs}
 use Rattle.osi_base.proofs.runs.over_runs.Goals as goal
 
 pub returns-clause-clock : goal.returns-clause-clock
@@ -12,3 +12,9 @@ returns-clause-honest g c = honest_runs g.C.Carrier.link g.C.Carrier.steps g.met
 
 pub returns-clause-strays : goal.returns-clause-strays
 returns-clause-strays g c = strays_runs g.C.Carrier.link g.C.Carrier.steps g.met.C.Carrier.keeps
+
+pub returns-clause-picks : goal.returns-clause-picks
+returns-clause-picks g c = picks_runs g.C.Carrier.link g.C.Carrier.steps g.met.C.Carrier.keeps
+
+pub returns-clause-spent : goal.returns-clause-spent
+returns-clause-spent g c = spent_runs g.C.Carrier.link g.C.Carrier.steps g.met.C.Carrier.keeps

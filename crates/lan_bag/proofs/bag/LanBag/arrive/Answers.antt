@@ -1,23 +1,21 @@
-use Rattle.lan_bag.specs.Frames.{marked_at}
 use Rattle.std.proofs.Common.{refl}
-use Rattle.lan_bag.proofs.Openings.{closed_marked, closed_same, first_same}
+use Rattle.lan_bag.specs.Frames.{marked_at}
+use Rattle.lan_bag.proofs.Openings.{closed_marked, closed_same}
 use Rattle.lan_bag.proofs.Wheels.{due_marked, due_same}
 use Rattle.lan_bag.proofs.bag.LanBag.arrive.Goals as goal
 
 pub first_open-self-inside-requires-clause-closed : goal.first_open-self-inside-requires-clause-closed
 first_open-self-inside-requires-clause-closed c =
-    closed_same c.self.inside.clock c.self.inside.lans.items c.deref.result.now c.self.inside.rows.items c.deref-2.result.now
-    (marked_at c.self.inside.frames c.args.pick c.args.system) c.mark.new.self c.self.inside.fresh_at
-    (closed_marked c.self.inside.clock c.self.inside.lans.items c.self.inside.rows.items c.self.inside.frames c.self.inside.fresh_at c.args.pick c.args.system c.self.invariant.first)
-    c.deref.ensures.value c.deref-2.ensures.value c.in_ok-mark.ensures.ok
+    closed_same c.self.inside.clock c.self.inside.setup.lans c.self.inside.setup.rows (marked_at c.self.inside.frames c.args.pick c.args.system) c.mark.new.self c.self.inside.fresh_at
+    (closed_marked c.self.inside.clock c.self.inside.setup.lans c.self.inside.setup.rows c.self.inside.frames c.self.inside.fresh_at c.args.pick c.args.system c.self.invariant.first)
+    c.in_ok-mark.ensures.ok
 
 pub invariant_of-self-2 : goal.invariant_of-self-2
 invariant_of-self-2 c = record {
   lans_fit = c.self.invariant.lans_fit;
   strays = c.self.invariant.strays;
-  first = first_same c.self.inside.clock c.self.inside.lans.items c.deref.result.now c.self.inside.rows.items c.deref-2.result.now c.mark.new.self c.first_open-self-inside.result
-      c.first_open-self-inside.ensures c.deref.ensures.value c.deref-2.ensures.value;
-  due = due_same c.self.inside.clock c.self.inside.lans.items (marked_at c.self.inside.frames c.args.pick c.args.system) c.mark.new.self c.self.inside.wheel c.self.inside.wheel
-      (due_marked c.self.inside.clock c.self.inside.lans.items c.self.inside.frames c.self.inside.wheel c.args.pick c.args.system c.self.invariant.due)
+  first = c.first_open-self-inside.ensures;
+  due = due_same c.self.inside.clock c.self.inside.setup.lans (marked_at c.self.inside.frames c.args.pick c.args.system) c.mark.new.self c.self.inside.wheel c.self.inside.wheel
+      (due_marked c.self.inside.clock c.self.inside.setup.lans c.self.inside.frames c.self.inside.wheel c.args.pick c.args.system c.self.invariant.due)
       c.in_ok-mark.ensures.ok refl;
 }

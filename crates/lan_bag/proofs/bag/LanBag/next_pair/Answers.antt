@@ -1,35 +1,32 @@
-use Rattle.std.proofs.Common.{◌+◌, ◌≤◌, ◌∙◌, List, Some, None, ap, sym, subst, length, arith}
+use Rattle.std.proofs.Common.{◌+◌, ◌∙◌, ℕ, Option, None, Some, ap, sym, subst, option_copied, arith}
 use Rattle.osi_base.specs.Link.{IsLeastFresh}
-use Rattle.lan_bag.specs.declared.setup.Lan.{Lan}
-use Rattle.lan_bag.specs.declared.setup.PortRow.{PortRow}
-use Rattle.lan_bag.specs.Frames.{is_open, IsLeastOpen}
+use Rattle.lan_bag.specs.Frames.{is_open}
 use Rattle.lan_bag.specs.Bag.{Bag, link_of}
-use Rattle.lan_bag.proofs.Openings.{none_fresh, least_fresh, past_shut, shut}
+use Rattle.lan_bag.proofs.Openings.{none_fresh, least_fresh, shut, stands_within}
 use Rattle.lan_bag.proofs.bag.LanBag.next_pair.Goals as goal
 
-pub returns-then-self-count : goal.returns-then-self-count
-returns-then-self-count c =
-    let bag : Bag = record { clock = c.self.inside.clock; lans = c.self.inside.lans.items; rows = c.self.inside.rows.items; frames = c.self.inside.frames; waiting = c.self.inside.waiting.items; honest = c.self.inside.honest; strays = c.self.inside.strays } in
-    let past : length c.self.inside.frames ≤ c.self.inside.fresh_at = omega (arith, c.if-self-count.true, c.count.ensures) in
-    subst (λ (b : Bag). IsLeastFresh (link_of b) None) c.self.view_is
-    (none_fresh bag c.self.inside.fresh_at c.self.invariant.first (past_shut c.self.inside.clock c.self.inside.lans.items c.self.inside.rows.items c.self.inside.frames c.self.inside.fresh_at past))
-
-pub returns-in-Some-first_system : goal.returns-in-Some-first_system
-returns-in-Some-first_system c =
-    let bag : Bag = record { clock = c.self.inside.clock; lans = c.self.inside.lans.items; rows = c.self.inside.rows.items; frames = c.self.inside.frames; waiting = c.self.inside.waiting.items; honest = c.self.inside.honest; strays = c.self.inside.strays } in
-    let least : IsLeastOpen c.self.inside.clock c.self.inside.lans.items c.self.inside.rows.items c.in-Some.sent.now (Some c.in-Some-first_system.system) =
-    subst (λ (lans : List Lan). IsLeastOpen c.self.inside.clock lans c.self.inside.rows.items c.in-Some.sent.now (Some c.in-Some-first_system.system)) c.deref.ensures.value
-    (subst (λ (rows : List PortRow). IsLeastOpen c.self.inside.clock c.deref.result.now rows c.in-Some.sent.now (Some c.in-Some-first_system.system)) c.deref-2.ensures.value c.in-Some-first_system.ensures) in
-    subst (λ (b : Bag). IsLeastFresh (link_of b) (Some (c.self.inside.fresh_at + 1, c.in-Some-first_system.system))) c.self.view_is
-    (least_fresh bag c.self.inside.fresh_at c.in-Some.sent.now c.in-Some-first_system.system c.self.invariant.first (sym c.in-Some.ensures) least)
-
-pub returns-in-None : goal.returns-in-None
-returns-in-None c =
-    let bag : Bag = record { clock = c.self.inside.clock; lans = c.self.inside.lans.items; rows = c.self.inside.rows.items; frames = c.self.inside.frames; waiting = c.self.inside.waiting.items; honest = c.self.inside.honest; strays = c.self.inside.strays } in
-    let none : IsLeastOpen c.self.inside.clock c.self.inside.lans.items c.self.inside.rows.items c.in-Some.sent.now None =
-    subst (λ (lans : List Lan). IsLeastOpen c.self.inside.clock lans c.self.inside.rows.items c.in-Some.sent.now None) c.deref.ensures.value
-    (subst (λ (rows : List PortRow). IsLeastOpen c.self.inside.clock c.deref.result.now rows c.in-Some.sent.now None) c.deref-2.ensures.value c.in-None.ensures) in
-    subst (λ (b : Bag). IsLeastFresh (link_of b) None) c.self.view_is
+pub returns-in_err-sent : goal.returns-in_err-sent
+returns-in_err-sent c =
+    let bag : Bag = record { clock = c.self.inside.clock; lans = c.self.inside.setup.lans; rows = c.self.inside.setup.rows; frames = c.self.inside.frames; waiting = c.self.inside.waiting.items; honest = c.self.inside.honest; strays = c.self.inside.strays } in
+    subst (λ (pair : Option (ℕ × ℕ)). IsLeastFresh (link_of c.args.self.now) pair) (sym c.from_residual.ensures)
+    (subst (λ (b : Bag). IsLeastFresh (link_of b) None) c.self.view_is
     (none_fresh bag c.self.inside.fresh_at c.self.invariant.first
-    (ap (is_open c.self.inside.clock c.self.inside.lans.items c.self.inside.rows.items) (sym c.in-Some.ensures)
-    ∙ shut c.self.inside.clock c.self.inside.lans.items c.self.inside.rows.items c.in-Some.sent.now none))
+    (ap (is_open c.self.inside.clock c.self.inside.setup.lans c.self.inside.setup.rows) (sym c.at.ensures.frame ∙ ap (λ sent. option_copied sent) c.in_err-sent.was))))
+
+pub returns-in_err-system : goal.returns-in_err-system
+returns-in_err-system c =
+    let bag : Bag = record { clock = c.self.inside.clock; lans = c.self.inside.setup.lans; rows = c.self.inside.setup.rows; frames = c.self.inside.frames; waiting = c.self.inside.waiting.items; honest = c.self.inside.honest; strays = c.self.inside.strays } in
+    subst (λ (pair : Option (ℕ × ℕ)). IsLeastFresh (link_of c.args.self.now) pair) (sym c.from_residual-in_err-system.ensures)
+    (subst (λ (b : Bag). IsLeastFresh (link_of b) None) c.self.view_is
+    (none_fresh bag c.self.inside.fresh_at c.self.invariant.first
+    (ap (is_open c.self.inside.clock c.self.inside.setup.lans c.self.inside.setup.rows) (sym c.in_ok-sent.ensures.frame)
+    ∙ shut c.self.inside.clock c.self.inside.setup.lans c.self.inside.setup.rows c.in_ok-sent.sent.now c.in_err-system.ensures)))
+
+pub overflow_add-result : goal.overflow_add-result
+overflow_add-result c = omega (arith, stands_within c.self.inside.frames c.self.inside.fresh_at c.in_ok-sent.sent.now c.in_ok-sent.ensures.frame, c.at.ensures.numbers)
+
+pub returns : goal.returns
+returns c =
+    let bag : Bag = record { clock = c.self.inside.clock; lans = c.self.inside.setup.lans; rows = c.self.inside.setup.rows; frames = c.self.inside.frames; waiting = c.self.inside.waiting.items; honest = c.self.inside.honest; strays = c.self.inside.strays } in
+    subst (λ (b : Bag). IsLeastFresh (link_of b) (Some (c.self.inside.fresh_at + 1, c.in_ok-system.system))) c.self.view_is
+    (least_fresh bag c.self.inside.fresh_at c.in_ok-sent.sent.now c.in_ok-system.system c.self.invariant.first (sym c.in_ok-sent.ensures.frame) c.in_ok-system.ensures)

@@ -1,33 +1,28 @@
-use Rattle.std.proofs.Common.{◌+◌, ◌∙◌, ap, map, List}
-use Rattle.lan_bag.specs.declared.setup.Lan.{Lan}
+use Rattle.std.proofs.Common.{◌+◌, ◌∙◌, map}
 use Rattle.lan_bag.specs.Frames.{kept_at}
 use Rattle.lan_bag.specs.Wheel.{list_at, turned}
-use Rattle.lan_bag.proofs.Openings.{closed_ticked, closed_same, first_same}
+use Rattle.lan_bag.proofs.Openings.{closed_ticked, closed_same}
 use Rattle.lan_bag.proofs.Wheels.{due_ticked, due_same, late_listed, late_same}
 use Rattle.lan_bag.proofs.bag.LanBag.pass.Goals as goal
 
 pub first_open-self-inside-requires-clause-closed : goal.first_open-self-inside-requires-clause-closed
 first_open-self-inside-requires-clause-closed c =
-    closed_same (c.self.inside.clock + 1) c.self.inside.lans.items c.deref-3.result.now c.self.inside.rows.items c.deref-4.result.now
-    (map (kept_at (c.self.inside.clock + 1) c.self.inside.lans.items) c.self.inside.frames) c.give_up.new.self c.self.inside.fresh_at
-    (closed_ticked c.self.inside.clock c.self.inside.lans.items c.self.inside.rows.items c.self.inside.frames c.self.inside.fresh_at c.self.invariant.first)
-    c.deref-3.ensures.value c.deref-4.ensures.value
-    (c.give_up.ensures ∙ ap (λ (lans : List Lan). map (kept_at (c.self.inside.clock + 1) lans) c.self.inside.frames) c.deref.ensures.value)
+    closed_same (c.self.inside.clock + 1) c.self.inside.setup.lans c.self.inside.setup.rows (map (kept_at (c.self.inside.clock + 1) c.self.inside.setup.lans) c.self.inside.frames) c.give_up.new.self c.self.inside.fresh_at
+    (closed_ticked c.self.inside.clock c.self.inside.setup.lans c.self.inside.setup.rows c.self.inside.frames c.self.inside.fresh_at c.self.invariant.first)
+    c.give_up.ensures
 
 pub give_up-requires : goal.give_up-requires
 give_up-requires c =
-    late_same (c.self.inside.clock + 1) c.self.inside.lans.items c.deref.result.now (list_at c.self.inside.wheel 0) c.deref-2.result.now c.self.inside.frames
-    (late_listed c.self.inside.clock c.self.inside.lans.items c.self.inside.frames c.self.inside.wheel c.self.invariant.due)
-    c.deref.ensures.value (c.deref-2.ensures.value ∙ c.turn-due.ensures.due)
+    late_same (c.self.inside.clock + 1) c.self.inside.setup.lans (list_at c.self.inside.wheel 0) c.deref.result.now c.self.inside.frames
+    (late_listed c.self.inside.clock c.self.inside.setup.lans c.self.inside.frames c.self.inside.wheel c.self.invariant.due)
+    (c.deref.ensures.value ∙ c.turn-due.ensures.due)
 
 pub invariant_of-self : goal.invariant_of-self
 invariant_of-self c = record {
   lans_fit = c.self.invariant.lans_fit;
   strays = c.self.invariant.strays;
-  first = first_same (c.self.inside.clock + 1) c.self.inside.lans.items c.deref-3.result.now c.self.inside.rows.items c.deref-4.result.now c.give_up.new.self c.first_open-self-inside.result
-      c.first_open-self-inside.ensures c.deref-3.ensures.value c.deref-4.ensures.value;
-  due = due_same (c.self.inside.clock + 1) c.self.inside.lans.items (map (kept_at (c.self.inside.clock + 1) c.self.inside.lans.items) c.self.inside.frames) c.give_up.new.self (turned c.self.inside.wheel) c.turn-due.new.self
-      (due_ticked c.self.inside.clock c.self.inside.lans.items c.self.inside.frames c.self.inside.wheel c.self.invariant.due)
-      (c.give_up.ensures ∙ ap (λ (lans : List Lan). map (kept_at (c.self.inside.clock + 1) lans) c.self.inside.frames) c.deref.ensures.value)
-      c.turn-due.ensures.rest;
+  first = c.first_open-self-inside.ensures;
+  due = due_same (c.self.inside.clock + 1) c.self.inside.setup.lans (map (kept_at (c.self.inside.clock + 1) c.self.inside.setup.lans) c.self.inside.frames) c.give_up.new.self (turned c.self.inside.wheel) c.turn-due.new.self
+      (due_ticked c.self.inside.clock c.self.inside.setup.lans c.self.inside.frames c.self.inside.wheel c.self.invariant.due)
+      c.give_up.ensures c.turn-due.ensures.rest;
 }

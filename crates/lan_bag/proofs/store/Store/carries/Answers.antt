@@ -7,5 +7,5 @@ use Rattle.lan_bag.proofs.store.Store.carries.Goals as goal
 pub returns : goal.returns
 returns c =
     c.has_unit.ensures
-    ∙ (any_behind c.args.clock c.args.lans.now c.args.unit.now c.self.inside.gone c.self.inside.slots.items
-    ∙ ap (λ (frames : List (Option Frame)). list_any (carries_live c.args.clock c.args.lans.now c.args.unit.now) frames) c.self.view_is)
+    ∙ (any_behind c.args.clock c.args.setup.now.lans c.args.unit.now c.self.inside.gone c.self.inside.slots.items
+    ∙ ap (λ (frames : List (Option Frame)). list_any (carries_live c.args.clock c.args.setup.now.lans c.args.unit.now) frames) c.self.view_is)

@@ -5,6 +5,6 @@ use Rattle.lan_bag.proofs.store.Store.give_up.Given as goal
 
 abbrev pub invariant-loop-place : goal.invariant-loop-place
 invariant-loop-place l = record {
-  among : AreLateAmong l.clock l.lans (drop l.place-index l.places) l.self;
-  same : map (kept_at l.clock l.lans) l.self ≡ map (kept_at l.clock l.lans) l.initial.self;
+  among : AreLateAmong l.clock l.setup.lans (drop l.place-index l.places) l.self;
+  same : map (kept_at l.clock l.setup.lans) l.self ≡ map (kept_at l.clock l.setup.lans) l.initial.self;
 }

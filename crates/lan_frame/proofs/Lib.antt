@@ -1,0 +1,2 @@
+mod Framing
+pub mod Header
