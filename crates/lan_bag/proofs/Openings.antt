@@ -1,7 +1,8 @@
 -- The first frame that a system can take and has not taken: what changes do to it, and the least fresh pair.
 use Rattle.std.proofs.Common.{◌≡◌, ◌≢◌, ◌⊎◌, inl, inr, get_or, ℕ, zero, suc, ◌+◌, ◌<◌, ◌≤◌, Bool, true, false, not, ◌&&◌, ◌||◌, ◌==◌, nat_lt, IsTrue, if◌then◌else◌, List, [], ◌∷◌, ◌++◌, length, map, take, set, refl, sym, ◌∙◌, ap, subst, arith, Option, Some, None, slice_get, All}
 use Rattle.std.specs.List.{list_any}
-use Rattle.std.proofs.lemmas.Bool.Decides.{nat_tests, eqb_tells, leb_tells}
+use Rattle.std.proofs.lemmas.Bool.{cases_Bool, cases_lt}
+use Rattle.std.proofs.lemmas.Bool.Decides.{nat_tests, eqb_tells}
 use Rattle.std.proofs.lemmas.List.Elements.{All-nil, All-cons, All-head, All-tail, All-more}
 use Rattle.osi_base.specs.declared.unit.Picked.TheVariants.{Late}
 use Rattle.nsap.specs.declared.port.Port.{Port}
@@ -13,19 +14,12 @@ use Rattle.lan_bag.specs.Places.{set_same, set_other, kept_places, marked_by, ta
 use Rattle.lan_bag.specs.Bag.{Bag, link_of, took_by}
 use Rattle.osi_base.specs.Link.{is_fresh, IsUpTo, IsLeastFresh}
 
-order : (m n : ℕ) → (m < n) ⊎ (n ≤ m)
-order m n = elim (leb_tells n m) [ inl at_most ↦ inr at_most.1 | inr above ↦ inl above.1 ]
-
-true_or_false : (b : Bool) → (b ≡ true) ⊎ (b ≡ false)
-true_or_false true = inl refl
-true_or_false false = inr refl
-
 -- the systems of a destination are those of its ports
 on_port : (P : ℕ → Type 0) (rows : List PortRow) (to : Port) (system : ℕ) → goes_to rows to system ≡ true → All (λ (row : PortRow). is_one_of to row ≡ true → P row.system) rows → P system
 on_port P [] to system h all = cc
 on_port P (row ∷ rows) to system h all =
     here_or (λ (e : goes_to rows to system ≡ true). on_port P rows to system e (All-tail (λ (r : PortRow). is_one_of to r ≡ true → P r.system) row rows all))
-    (eqb_tells row.system system) (true_or_false (is_one_of to row)) h
+    (eqb_tells row.system system) (cases_Bool (is_one_of to row)) h
   where
     here_or : (goes_to rows to system ≡ true → P system) → ((row.system == system) ≡ true) × (row.system ≡ system) ⊎ ((row.system == system) ≡ false) × (row.system ≢ system) → (is_one_of to row ≡ true) ⊎ (is_one_of to row ≡ false) → ((row.system == system && is_one_of to row) || goes_to rows to system) ≡ true → P system
     here_or others (inl same) (inl one) e = subst P same.1 (All-head (λ (r : PortRow). is_one_of to r ≡ true → P r.system) row rows all one)
@@ -42,7 +36,7 @@ and_open false b h = cc
 -- what is open at no port is open to no system
 none_at : (clock : ℕ) (lans : List Lan) (rows : List PortRow) (frame : Frame) → All (λ (row : PortRow). is_open_at clock lans rows frame row ≡ false) rows → (system : ℕ) → is_open_to clock lans rows frame system ≡ false
 none_at clock lans rows frame h system =
-    elim (true_or_false (is_open_to clock lans rows frame system)) [
+    elim (cases_Bool (is_open_to clock lans rows frame system)) [
       | inl open_to ↦
           on_port (λ (s : ℕ). is_open_to clock lans rows frame s ≡ false) rows frame.unit.to system (open_goes clock lans rows frame system open_to)
           (λ k d lt one. sym (and_open (is_one_of frame.unit.to (get_or rows k d)) (is_open_to clock lans rows frame (get_or rows k d).system) one) ∙ h k d lt)
@@ -111,11 +105,6 @@ pub closed_marked : (clock : ℕ) (lans : List Lan) (rows : List PortRow) (frame
 closed_marked clock lans rows frames place zero system f k lt = f.before k lt
 closed_marked clock lans rows frames place (suc i) system f k lt = marked_closed clock lans rows frames i system k (slice_get frames i) refl (f.before k lt)
 
-length_set : {X : Type 0} (xs : List X) (k : ℕ) (y : X) → length (set xs k y) ≡ length xs
-length_set [] k y = refl
-length_set (x ∷ xs) zero y = refl
-length_set (x ∷ xs) (suc k) y = ap suc (length_set xs k y)
-
 less_sooner : (clock : ℕ) (lans : List Lan) (rows : List PortRow) (frame : Frame) (system : ℕ) → is_open_to clock lans rows frame system ≡ false → is_open_to (clock + 1) lans rows frame system ≡ false
 less_sooner clock lans rows frame system h = grind (arith, nat_tests)
 
@@ -176,8 +165,8 @@ none_open clock lans rows frame h (row ∷ some_rows) =
 -- a frame is open to a system exactly where it is open at some port
 pub any_open : (clock : ℕ) (lans : List Lan) (rows : List PortRow) (frame : Frame) → list_any (λ (row : PortRow). is_open_at clock lans rows frame row) rows ≡ is_open clock lans rows (Some frame)
 any_open clock lans rows frame =
-    elim (true_or_false (list_any (λ (row : PortRow). is_open_at clock lans rows frame row) rows)) [
-      | inl some ↦ elim (true_or_false (is_open clock lans rows (Some frame))) [
+    elim (cases_Bool (list_any (λ (row : PortRow). is_open_at clock lans rows frame row) rows)) [
+      | inl some ↦ elim (cases_Bool (is_open clock lans rows (Some frame))) [
         | inl open_to ↦ some ∙ sym open_to
         | inr closed ↦
             any_less (λ (row : PortRow). is_open_to clock lans rows frame row.system) (λ (row : PortRow). is_open_at clock lans rows frame row)
@@ -198,10 +187,10 @@ open_within clock lans rows (frame ∷ frames) (suc k) system h = omega (arith, 
 pub none_fresh : (bag : Bag) (place : ℕ) → IsFirstOpen bag.clock bag.lans bag.rows bag.frames place → is_open bag.clock bag.lans bag.rows (kept (slice_get bag.frames place)) ≡ false → IsLeastFresh (link_of bag) None
 none_fresh bag place f shut zero system = refl
 none_fresh bag place f shut (suc k) system =
-    elim (true_or_false (is_fresh (link_of bag) (suc k) system)) [
+    elim (cases_Bool (is_fresh (link_of bag) (suc k) system)) [
       | inl fresh ↦
           let lt = open_within bag.clock bag.lans bag.rows bag.frames k system (sym (fresh_at bag k system) ∙ fresh) in
-          elim (order place (length bag.frames)) [
+          elim (cases_lt place (length bag.frames)) [
             | inl inside ↦ let yes = f.here inside in cc
             | inr past ↦ fresh_at bag k system ∙ closed_to bag.clock bag.lans bag.rows (kept (slice_get bag.frames k)) system (f.before k (omega (arith, lt)))
           ]
@@ -224,7 +213,7 @@ least_fresh bag place frame least f at l = (one_fresh, upward)
     upward zero system h = cc
     upward (suc k) system h =
         let opened = sym (fresh_at bag k system) ∙ h in
-        elim (order k place) [
+        elim (cases_lt k place) [
           | inl before ↦ let shut = closed_to bag.clock bag.lans bag.rows (kept (slice_get bag.frames k)) system (f.before k before) in cc
           | inr after ↦ elim (eqb_tells k place) [
             | inl same ↦

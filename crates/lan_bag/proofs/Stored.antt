@@ -2,6 +2,7 @@
 -- to the frames.
 use Rattle.std.proofs.Common.{◌≡◌, ℕ, zero, suc, ◌+◌, ◌-◌, ◌<◌, ◌≤◌, is_some, cond, List, [], ◌∷◌, ◌++◌, length, set, get_or, replicate, refl, sym, ◌∙◌, ap, arith, Option, Some, None, slice_get, zero-add}
 use Rattle.std.specs.List.{list_any}
+use Rattle.std.proofs.lemmas.List.{length-set}
 use Rattle.std.proofs.lemmas.List.Sums.{sum_by-cons}
 use Rattle.std.proofs.lemmas.Option.{slice_get-get_or}
 use Rattle.osi_base.specs.declared.unit.Unit.{Unit as CarriedUnit}
@@ -85,18 +86,13 @@ count_set (slot ∷ slots) zero frame other h =
 count_set (slot ∷ slots) (suc k) frame other h =
     omega (arith, count_cons slot (set slots k (Some other)), count_cons slot slots, count_set slots k frame other h)
 
-length_set : (slots : List (Option Frame)) (k : ℕ) (slot : Option Frame) → length (set slots k slot) ≡ length slots
-length_set [] k slot = refl
-length_set (x ∷ slots) zero slot = refl
-length_set (x ∷ slots) (suc k) slot = ap suc (length_set slots k slot)
-
 marked_stored : (gone live k system : ℕ) (slots : List (Option Frame)) (o : Option (Option Frame)) → slice_get slots k ≡ o → IsStored gone slots live → IsStored gone (marked_frame slots k system (kept o)) live
 marked_stored gone live k system slots None h s = s
 marked_stored gone live k system slots (Some None) h s = s
 marked_stored gone live k system slots (Some (Some frame)) h s = record {
   counted = s.counted ∙ sym (count_set slots k frame (marked frame system) h);
   most = s.most;
-  numbers = omega (arith, s.numbers, length_set slots k (Some (marked frame system)));
+  numbers = omega (arith, s.numbers, length-set slots k (Some (marked frame system)));
 }
 
 pub slot_stored : (gone live k system : ℕ) (slots : List (Option Frame)) → IsStored gone slots live → IsStored gone (marked_slot slots k system) live

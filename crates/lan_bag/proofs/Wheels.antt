@@ -1,7 +1,7 @@
 -- The wheel through each change: a frame keeps its place in a list for the ticks that are left to it, so the frames that the
 -- next tick makes late stand in the first list. To give up the late ones among these places is to give up all that are late.
-use Rattle.std.proofs.Common.{◌≡◌, ◌≢◌, ◌⊎◌, inl, inr, get_or, ℕ, zero, suc, ◌+◌, ◌<◌, Bool, true, false, nat_le, if◌then◌else◌, List, [], ◌∷◌, ◌++◌, length, map, drop, set, refl, sym, ◌∙◌, ap, subst, arith, Option, Some, None, slice_get, Contains, Result, Ok, Err, OnErr}
-use Rattle.std.proofs.lemmas.Bool.{false≢true}
+use Rattle.std.proofs.Common.{◌≡◌, ◌≢◌, inl, inr, get_or, ℕ, zero, suc, ◌+◌, ◌<◌, Bool, true, false, nat_le, if◌then◌else◌, List, [], ◌∷◌, ◌++◌, length, map, drop, set, refl, sym, ◌∙◌, ap, subst, arith, Option, Some, None, slice_get, Contains, Result, Ok, Err, OnErr}
+use Rattle.std.proofs.lemmas.Bool.{false≢true, cases_Bool}
 use Rattle.std.proofs.lemmas.Bool.Decides.{nat_tests, eqb_tells}
 use Rattle.std.proofs.lemmas.List.{get_or-set_same, drop_more}
 use Rattle.std.proofs.lemmas.List.Elements.{Contains-push, Contains-append_left}
@@ -28,10 +28,6 @@ nothing h = absurd (omega (arith, h.1))
 behind_first : (first : ℕ) (places : List ℕ) (place : ℕ) → place ≢ first → Contains (first ∷ places) place → Contains places place
 behind_first first places place other (zero, lt, is) = absurd (other (sym is))
 behind_first first places place other (suc k, lt, is) = (k, omega (arith, lt), is)
-
-true_or_false : (b : Bool) → (b ≡ true) ⊎ (b ≡ false)
-true_or_false true = inl refl
-true_or_false false = inr refl
 
 -- what is left to a frame at the next tick
 
@@ -179,7 +175,7 @@ none_is_late clock lans [] none = refl
 none_is_late clock lans (None ∷ frames) none =
     ap (λ (slots : List (Option Frame)). None ∷ slots) (none_is_late clock lans frames (λ place frame at late. none (suc place) frame at late))
 none_is_late clock lans (Some frame ∷ frames) none =
-    let live : is_live clock lans frame ≡ true = elim (true_or_false (is_live clock lans frame)) [ inl lives ↦ lives | inr late ↦ absurd (none zero frame refl late) ] in
+    let live : is_live clock lans frame ≡ true = elim (cases_Bool (is_live clock lans frame)) [ inl lives ↦ lives | inr late ↦ absurd (none zero frame refl late) ] in
     ap (λ (slots : List (Option Frame)). kept_at clock lans (Some frame) ∷ slots) (none_is_late clock lans frames (λ place other at late. none (suc place) other at late))
     ∙ ap (λ (slot : Option Frame). slot ∷ frames) (live_kept clock lans frame live)
 

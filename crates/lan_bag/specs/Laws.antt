@@ -1,5 +1,6 @@
 -- Each step of the LANs keeps the link contract.
 use Rattle.std.proofs.Common.{◌≡◌, ◌≢◌, ◌⊎◌, inl, inr, ℕ, zero, suc, ◌+◌, ◌<◌, ◌≤◌, min, Bool, true, false, ◌&&◌, ◌||◌, ◌==◌, IsTrue, if◌then◌else◌, List, [], ◌∷◌, ◌++◌, length, map, set, refl, sym, ◌∙◌, ap, subst, arith, Option, Some, None, slice_get, flat_map, Contains, All}
+use Rattle.std.proofs.Math.Bool.{or-true}
 use Rattle.std.proofs.lemmas.Bool.{eqb-true, eq-eqb, leb-true, le-leb}
 use Rattle.std.proofs.lemmas.Bool.Decides.{nat_tests, eqb_tells}
 use Rattle.std.proofs.lemmas.List.{append-nil, length-append, length-map, length-set}
@@ -28,7 +29,7 @@ use Rattle.lan_bag.specs.Rows.{bound_on, sender_of, goes_to, same_port, same_snp
 use Rattle.lan_bag.specs.Frames.{Frame, kept, frame_of, marked, marked_frame, is_live, is_taken, kept_at, is_of, carries_live, strays_of}
 use Rattle.lan_bag.specs.Reading.{ups_of}
 use Rattle.lan_bag.specs.Bag.{Bag, BagStep, link_of, entry_of, took_by, picked_in, after_offer, after_pick, after_choose, after_inject, frame_note}
-use Rattle.lan_bag.specs.Places.{push_cases, push_before, push_last, set_same, set_other, kept_places, takes_in, takes_at, takes_live, takes_sooner, marked_by, or_true, kept_was, live_kept, Floats, floats, in_floating}
+use Rattle.lan_bag.specs.Places.{push_cases, push_before, push_last, set_same, set_other, kept_places, takes_in, takes_at, takes_live, takes_sooner, marked_by, kept_was, live_kept, Floats, floats, in_floating}
 
 -- the pairs of a bag that has these frames at the same clock
 
@@ -465,7 +466,7 @@ carries clock lans unit (Some other ∷ frames) zero frame at live is =
     (ap (λ (f : Frame). is_live clock lans f && is_of unit f) e ∙ (ap (λ (b : Bool). b && is_of unit frame) live ∙ is))
 carries clock lans unit (None ∷ frames) (suc k) frame at live is = carries clock lans unit frames k frame at live is
 carries clock lans unit (Some other ∷ frames) (suc k) frame at live is =
-    ap (λ (b : Bool). (is_live clock lans other && is_of unit other) || b) (carries clock lans unit frames k frame at live is) ∙ or_true (is_live clock lans other && is_of unit other)
+    ap (λ (b : Bool). (is_live clock lans other && is_of unit other) || b) (carries clock lans unit frames k frame at live is) ∙ or-true (is_live clock lans other && is_of unit other)
 
 is_afloat : (old : Bag) (unit : CarriedUnit Port) → Carries old.clock old.lans unit old.frames → IsAfloat (link_of old) unit
 is_afloat old unit c =

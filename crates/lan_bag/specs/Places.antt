@@ -1,6 +1,7 @@
 -- What stands at each place of a list of frames after each change, and which pairs and units that means.
 use Rattle.std.proofs.Common.{◌≡◌, ◌⊎◌, inl, inr, get_or, ℕ, zero, suc, ◌+◌, ◌<◌, Bool, true, false, not, ◌||◌, ◌==◌, IsTrue, is_some, if◌then◌else◌, List, [], ◌∷◌, ◌++◌, length, map, set, refl, sym, ◌∙◌, ap, subst, arith, Option, Some, None, slice_get, flat_map, Contains}
 use Rattle.std.specs.List.{list_any}
+use Rattle.std.proofs.Math.Bool.{or-false}
 use Rattle.std.proofs.lemmas.Bool.Decides.{nat_tests, eqb_tells}
 use Rattle.std.proofs.lemmas.List.Folds.{list_any-append}
 use Rattle.std.proofs.lemmas.List.Elements.{Contains-append_right}
@@ -67,14 +68,6 @@ takes_live clock lans rows frame system h = grind (arith, nat_tests)
 pub takes_sooner : (clock : ℕ) (lans : List Lan) (rows : List PortRow) (frame : Frame) (system : ℕ) → IsTrue (takes_in (clock + 1) lans rows (Some frame) system) → IsTrue (takes_in clock lans rows (Some frame) system)
 takes_sooner clock lans rows frame system h = grind (arith, nat_tests)
 
-or_false : (b : Bool) → (b || false) ≡ b
-or_false true = refl
-or_false false = refl
-
-pub or_true : (b : Bool) → (b || true) ≡ true
-or_true true = refl
-or_true false = refl
-
 turned : (m n : ℕ) → (m == n) ≡ (n == m)
 turned m n = grind (arith, nat_tests)
 
@@ -83,13 +76,13 @@ marked_again takers marker system h =
     elim (eqb_tells system marker) [
       | inl same ↦
           rw same.0 (subst (λ (s : ℕ). list_any (λ taker. taker == s) takers ≡ (list_any (λ taker. taker == s) takers || true)) (sym same.1) (rw h refl))
-      | inr other ↦ rw other.0 (sym (or_false (list_any (λ taker. taker == system) takers)))
+      | inr other ↦ rw other.0 (sym (or-false (list_any (λ taker. taker == system) takers)))
     ]
 
 marked_more : (takers : List ℕ) (marker system : ℕ) → list_any (λ taker. taker == system) (takers ++ marker ∷ []) ≡ (list_any (λ taker. taker == system) takers || system == marker)
 marked_more takers marker system =
     list_any-append (λ taker. taker == system) takers (marker ∷ [])
-    ∙ ap (λ (b : Bool). list_any (λ taker. taker == system) takers || b) (or_false (marker == system) ∙ turned marker system)
+    ∙ ap (λ (b : Bool). list_any (λ taker. taker == system) takers || b) (or-false (marker == system) ∙ turned marker system)
 
 marked_list : (takers : List ℕ) (marker system : ℕ) (b : Bool) → list_any (λ taker. taker == marker) takers ≡ b → list_any (λ taker. taker == system) (if b then takers else takers ++ marker ∷ []) ≡ (list_any (λ taker. taker == system) takers || system == marker)
 marked_list takers marker system true h = marked_again takers marker system h
