@@ -1,0 +1,8 @@
+pub mod Checksum
+pub mod Field
+pub mod FirstFault
+pub mod Front
+pub mod Lent
+pub mod Number
+pub mod Parameter
+pub mod steps

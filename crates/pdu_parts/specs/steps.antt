@@ -1,0 +1,2 @@
+-- What only carries proofs: reading from left to right.
+pub mod Reading
