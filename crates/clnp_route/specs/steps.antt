@@ -1,0 +1,2 @@
+-- What only carries a proof.
+pub mod Best

@@ -1,0 +1,10 @@
+//! The rows by which a system finds the next hop of a PDU (X.233, route PDU function).
+#![tactic(auto)]
+
+mod laws;
+mod table;
+#[cfg(test)]
+mod tests;
+
+pub use laws::{next_is_longest, one_next};
+pub use table::{AddRefusal, RouteRow, Table};
