@@ -1,8 +1,7 @@
 -- An octet is known by its bits: tried for each octet.
 use Rattle.std.proofs.Common.{◌≡◌, ◌==◌, ◌&&◌, ◌||◌, not, ℕ, zero, suc, ◌<◌, Bool, true, false, refl, subst, arith, inl, inr}
 use Rattle.std.proofs.lemmas.Bool.{cases_lt, eqb-true}
-use Rattle.clnp_header.specs.Grammar.{flags_octet}
-use Rattle.clnp_header.specs.Faults.{is_dt, is_er, is_segmented, has_more, wants_report}
+use Rattle.clnp_header.specs.Flags.{flags_octet, is_dt, is_er, is_segmented, has_more, wants_report}
 
 -- a test holds of each number below
 abbrev all_below : ℕ → (ℕ → Bool) → Bool

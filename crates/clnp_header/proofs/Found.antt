@@ -1,32 +1,30 @@
 -- What is read is in the grammar: each reader tells what stands at its place, and the places follow one another.
 use Rattle.std.proofs.Common.{◌≡◌, ◌||◌, not, ℕ, ◌+◌, ◌-◌, ◌*◌, ◌/◌, ◌%◌, ◌<◌, ◌≤◌, Bool, true, false, List, [], ◌∷◌, ◌++◌, length, get_or, take, drop, map, Option, Some, None, Ok, refl, sym, ap, subst, ◌∙◌, arith, inl, inr, ◌⊎◌, length-append, length-drop, length-take-le, get_or-take}
-use Rattle.std.proofs.lemmas.List.{take-append-drop, drop_more, drop-drop}
+use Rattle.std.proofs.lemmas.List.{take-append-drop, drop_more}
 use Rattle.std.proofs.Math.Seq.{take-add}
 use Rattle.clnp_options.specs.Grammar.{IsOptions}
-use Rattle.clnp_options.specs.Options.{Parameter}
-use Rattle.clnp_options.specs.declared.fault.PduKind.{PduKind}
-use Rattle.clnp_options.specs.declared.fault.PduKind.TheVariants.{Dt, Er}
+use Rattle.pdu_parts.specs.Parameter.{Parameter}
+use Rattle.clnp_options.specs.declared.reason.PduKind.{PduKind}
+use Rattle.clnp_options.specs.declared.reason.PduKind.TheVariants.{Dt, Er}
 use Rattle.clnp_header.specs.declared.pdu.Pdu.{Pdu}
 use Rattle.clnp_header.specs.declared.pdu.SegmentPart.{SegmentPart}
-use Rattle.clnp_header.specs.declared.reading.Flags.{Flags}
-use Rattle.clnp_header.specs.Grammar.{IsChecksum, MayBeSegment, AreFlags, AreErFlags, BeginsWith, address, flags_octet, is_followed, is_segment, own, parameters, segment_part, two_octets}
-use Rattle.clnp_header.specs.Faults.{number_at, is_segmented, has_more, wants_report}
-use Rattle.clnp_header.specs.Reading.{header_at, checksum_at, flags_at, address_at, segment_at, segment_octets, options_at, body_at, placed_at, pdu_at}
+use Rattle.clnp_header.specs.declared.flags.Flags.{Flags}
+use Rattle.pdu_parts.specs.Checksum.{IsChecksum}
+use Rattle.clnp_header.specs.Grammar.{MayBeSegment, segment_part}
+use Rattle.clnp_header.specs.Flags.{AreFlags, AreErFlags, flags_octet, is_segmented, has_more, wants_report}
+use Rattle.pdu_parts.specs.Front.{BeginsWith}
+use Rattle.pdu_parts.specs.Field.{field}
+use Rattle.clnp_header.specs.Values.{is_followed, is_segment, own, parameters}
+use Rattle.pdu_parts.specs.Number.{two_octets, number_at}
+use Rattle.clnp_header.specs.Writing.{header_length}
+use Rattle.clnp_header.specs.Grammar.{IsPdu}
+use Rattle.clnp_header.specs.steps.Reading.{header_read, checksum_read, flags_read, address_read, segment_read, segment_octets, options_read, body_read, placed_read, pdu_read}
 use Rattle.clnp_header.proofs.FlagBits.{flags_of_dt, flags_of_er}
-use Rattle.clnp_header.proofs.Parts.{AreOctets, AreOctets-take, HasFields, parts_of}
+use Rattle.clnp_header.proofs.Parts.{length-header, AreOctets, AreOctets-take, HasFields, parts_of}
 use Rattle.clnp_header.proofs.Stages.{made, from_placed, from_body, from_options, from_segment, from_source, from_destination, from_flags, from_checksum, in_stages, bind_ok, ok_is, HeaderFound, header_found, checksum_found, FlagsFound, ErFound, flags_found, AddressFound, address_found, NoSegment, SegmentFound, segment_found, options_found, BodyFound, body_found, PlacedIf, placed_found}
 
 not_more : (segmented more : Bool) → (segmented || not more) ≡ true → segmented ≡ false → more ≡ false
 not_more segmented more e whole = grind arith
-
--- an address that was found stands behind its length
-address_stands : (header octets : List ℕ) (at : ℕ) → AddressFound header octets at → drop at header ≡ address octets ++ drop (at + 1 + length octets) header
-address_stands header octets at h =
-    let first : drop at header ≡ get_or header at 0 ∷ drop (at + 1) header = drop_more header at 0 (omega (arith, h.within)) in
-    let split : drop (at + 1) header ≡ take (length octets) (drop (at + 1) header) ++ drop (length octets) (drop (at + 1) header) = sym (take-append-drop (length octets) (drop (at + 1) header)) in
-    let behind : drop (length octets) (drop (at + 1) header) ≡ drop (at + 1 + length octets) header = drop-drop (length octets) (at + 1) header in
-    first ∙ ap (λ (n : ℕ). n ∷ drop (at + 1) header) h.count
-    ∙ ap (λ (xs : List ℕ). length octets ∷ xs) (split ∙ ap (λ (xs : List ℕ). xs ++ drop (length octets) (drop (at + 1) header)) (sym h.is) ∙ ap (λ (xs : List ℕ). octets ++ xs) behind)
 
 -- ---- the flags
 
@@ -145,19 +143,19 @@ length-body : (octets body : List ℕ) (header : ℕ) (more : Bool) → BodyFoun
 length-body octets body header more h =
     ap length h.is ∙ length-take-le (number_at 5 octets - header) (drop header octets) (omega (arith, length-drop header octets, h.most, h.least))
 
-all_found : (octets header : List ℕ) (pdu : Pdu) → AreOctets octets → pdu_at octets ≡ Ok (header, pdu) → AllFound octets header pdu
+all_found : (octets header : List ℕ) (pdu : Pdu) → AreOctets octets → pdu_read octets ≡ Ok (header, pdu) → AllFound octets header pdu
 all_found octets header pdu fits e =
     let target : List ℕ × Pdu = (header, pdu) in
-    let a = bind_ok (header_at octets) (from_checksum octets) target (sym (in_stages octets) ∙ e) in
-    let b = bind_ok (checksum_at a.0) (from_flags octets a.0) target a.2 in
-    let c = bind_ok (flags_at (get_or a.0 4 0)) (from_destination octets a.0 b.0) target b.2 in
-    let d = bind_ok (address_at a.0 9) (from_source octets a.0 b.0 c.0) target c.2 in
-    let s = bind_ok (address_at a.0 (10 + length d.0)) (from_segment octets a.0 b.0 c.0 d.0) target d.2 in
+    let a = bind_ok (header_read octets) (from_checksum octets) target (sym (in_stages octets) ∙ e) in
+    let b = bind_ok (checksum_read a.0) (from_flags octets a.0) target a.2 in
+    let c = bind_ok (flags_read (get_or a.0 4 0)) (from_destination octets a.0 b.0) target b.2 in
+    let d = bind_ok (address_read a.0 9) (from_source octets a.0 b.0 c.0) target c.2 in
+    let s = bind_ok (address_read a.0 (10 + length d.0)) (from_segment octets a.0 b.0 c.0 d.0) target d.2 in
     let at = 11 + length d.0 + length s.0 in
-    let g = bind_ok (segment_at a.0 at c.0) (from_options octets a.0 b.0 c.0 d.0 s.0) target s.2 in
-    let o = bind_ok (options_at a.0 (at + segment_octets g.0) c.0) (from_body octets a.0 b.0 c.0 d.0 s.0 g.0) target g.2 in
-    let v = bind_ok (body_at octets (length a.0) c.0) (from_placed a.0 b.0 c.0 d.0 s.0 g.0 o.0) target o.2 in
-    let p = bind_ok (placed_at g.0 (length a.0 + length v.0) (at + 5) c.0.report) (λ nothing. Ok (a.0, made a.0 b.0 c.0 d.0 s.0 g.0 o.0 v.0)) target v.2 in
+    let g = bind_ok (segment_read a.0 at c.0) (from_options octets a.0 b.0 c.0 d.0 s.0) target s.2 in
+    let o = bind_ok (options_read a.0 (at + segment_octets g.0) c.0) (from_body octets a.0 b.0 c.0 d.0 s.0 g.0) target g.2 in
+    let v = bind_ok (body_read octets (length a.0) c.0) (from_placed a.0 b.0 c.0 d.0 s.0 g.0 o.0) target o.2 in
+    let p = bind_ok (placed_read g.0 (length a.0 + length v.0) (at + 5) c.0.report) (λ nothing. Ok (a.0, made a.0 b.0 c.0 d.0 s.0 g.0 o.0 v.0)) target v.2 in
     let value = made a.0 b.0 c.0 d.0 s.0 g.0 o.0 v.0 in
     let header_part = header_found octets a.0 a.1 in
     let P : List ℕ → Type 0 = AreOctets in
@@ -191,9 +189,9 @@ fields_stand octets header pdu pdu_length fits h number-is =
     let at : (i : ℕ) → i < 13 → get_or header i 0 ≡ get_or octets i 0 =
     λ i lt. ap (λ (xs : List ℕ). get_or xs i 0) h.header_part.is ∙ get_or-take (get_or octets 1 0) octets i 0 (omega (arith, h.header_part.least)) in
     let parts = two_octets_of (get_or octets 5 0) (get_or octets 6 0) (fits 6) in
-    let first : drop 9 header ≡ address pdu.destination ++ drop (10 + length pdu.destination) header = address_stands header pdu.destination 9 h.destination_part in
-    let second : drop (10 + length pdu.destination) header ≡ address pdu.source ++ drop (11 + length pdu.destination + length pdu.source) header =
-    address_stands header pdu.source (10 + length pdu.destination) h.source_part ∙ ap (λ (n : ℕ). address pdu.source ++ drop n header) (omega arith) in
+    let first : drop 9 header ≡ field pdu.destination ++ drop (10 + length pdu.destination) header = h.destination_part.stands in
+    let second : drop (10 + length pdu.destination) header ≡ field pdu.source ++ drop (11 + length pdu.destination + length pdu.source) header =
+    h.source_part.stands ∙ ap (λ (n : ℕ). field pdu.source ++ drop n header) (omega arith) in
     record {
       identifier = at 0 (omega arith) ∙ h.header_part.identifier;
       indicator = at 1 (omega arith) ∙ sym len;
@@ -204,10 +202,16 @@ fields_stand octets header pdu pdu_length fits h number-is =
       lower = at 6 (omega arith) ∙ parts.1 ∙ ap (λ (n : ℕ). n % 256) number-is;
       first_is = refl;
       second_is = refl;
-      variable = first ∙ ap (λ (xs : List ℕ). address pdu.destination ++ xs) (second ∙ ap (λ (xs : List ℕ). address pdu.source ++ xs) h.segment_stand);
+      variable = first ∙ ap (λ (xs : List ℕ). field pdu.destination ++ xs) (second ∙ ap (λ (xs : List ℕ). field pdu.source ++ xs) h.segment_stand);
     }
 
-pub found : (octets header : List ℕ) (pdu : Pdu) → AreOctets octets → pdu_at octets ≡ Ok (header, pdu) → BeginsWith octets header pdu
+-- a PDU stands at the front, and this is its header
+pub record FrontFound (octets header : List ℕ) (pdu : Pdu) : Type 0 where
+  pub rest : List ℕ
+  pub begins : BeginsWith IsPdu octets pdu rest
+  pub header_is : header ≡ take (header_length pdu) octets
+
+pub found : (octets header : List ℕ) (pdu : Pdu) → AreOctets octets → pdu_read octets ≡ Ok (header, pdu) → FrontFound octets header pdu
 found octets header pdu fits e =
     let h = all_found octets header pdu fits e in
     let count = number_at 5 octets in
@@ -225,26 +229,25 @@ found octets header pdu fits e =
     let fields = fields_stand octets header pdu (length front) fits h (sym length-front) in
     let most : count ≤ 65535 = omega (arith, fits 5, fits 6) in
     let P : ℕ → Type 0 = λ n. MayBeSegment pdu.segment n (length pdu.body) in
+    let is_pdu : IsPdu front pdu = record {
+      header = header;
+      options = h.options;
+      flags = get_or header 4 0;
+      first = get_or header 7 0;
+      second = get_or header 8 0;
+      whole = refl;
+      parts = parts_of header pdu (get_or header 4 0) (length front) (get_or header 7 0) (get_or header 8 0) h.options (omega (arith, h.header_part.least)) fields;
+      flags_part = h.flags_part;
+      checksum = h.checksum_part;
+      destination = h.destination_part.is_address;
+      source = h.source_part.is_address;
+      segment = subst P (sym (length-append header pdu.body)) h.segment_fits;
+      options_part = h.options_part;
+      header_fits = omega (arith, h.header_part.most);
+      pdu_fits = omega arith;
+    } in
     record {
-      front = front;
       rest = rest;
-      whole = sym (take-append-drop count octets) ∙ ap (λ (xs : List ℕ). xs ++ rest) (sym front_is);
-      is_pdu = record {
-        header = header;
-        options = h.options;
-        flags = get_or header 4 0;
-        first = get_or header 7 0;
-        second = get_or header 8 0;
-        whole = refl;
-        parts = parts_of header pdu (get_or header 4 0) (length front) (get_or header 7 0) (get_or header 8 0) h.options (omega (arith, h.header_part.least)) fields;
-        flags_part = h.flags_part;
-        checksum = h.checksum_part;
-        destination = record { some = h.destination_part.some; most = h.destination_part.most };
-        source = record { some = h.source_part.some; most = h.source_part.most };
-        segment = subst P (sym (length-append header pdu.body)) h.segment_fits;
-        options_part = h.options_part;
-        header_fits = omega (arith, h.header_part.most);
-        pdu_fits = omega arith;
-      };
-      parts = refl;
+      begins = record { front = front; whole = sym (take-append-drop count octets) ∙ ap (λ (xs : List ℕ). xs ++ rest) (sym front_is); stands = is_pdu };
+      header_is = header_is ∙ ap (λ (n : ℕ). take n octets) (length-header front pdu is_pdu);
     }

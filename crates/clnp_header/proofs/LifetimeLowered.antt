@@ -3,8 +3,11 @@ use Rattle.std.proofs.Common.{◌≡◌, ◌≢◌, ◌==◌, not, ℕ, zero, su
 use Rattle.std.proofs.lemmas.Bool.{cases_lt}
 use Rattle.std.proofs.lemmas.List.{get_or-append_right, get_or_append_left, set-append_left, take_at, drop_at, take-append-drop}
 use Rattle.clnp_header.specs.declared.pdu.Pdu.{Pdu}
-use Rattle.clnp_header.specs.Grammar.{IsPdu, IsChecksum, MayBeSegment, fixed_part, variable_part}
-use Rattle.clnp_header.specs.Lifetime.{HasLifetime, IsFollowed, Lowers, lowered, lower_fourth}
+use Rattle.clnp_header.specs.Grammar.{IsPdu, MayBeSegment, fixed_part, variable_part}
+use Rattle.pdu_parts.specs.Checksum.{IsChecksum}
+use Rattle.clnp_header.specs.Lifetime.{HasLifetime, lowered}
+use Rattle.pdu_parts.specs.Front.{BeginsWith}
+use Rattle.clnp_header.specs.steps.Lowering.{Lowers, lower_fourth}
 use Rattle.clnp_header.specs.Writing.{SealsIf}
 use Rattle.clnp_header.proofs.Parts.{fields_of, first_nine, length-variable}
 use Rattle.clnp_header.proofs.Written.{HasChecksum, checksum_written}
@@ -18,19 +21,20 @@ pub record Fits (octets : List ℕ) (by : ℕ) : Type 0 where
 
 pub fits_from : (octets : List ℕ) (by : ℕ) → HasLifetime octets by → Fits octets by
 fits_from octets by l =
-    let h = l.is_pdu in
-    let pdu = l.pdu in
-    let fields = fields_of h.header pdu h.flags (length h.header) (length l.front) h.first h.second h.options refl h.parts in
+    let pdu = l.0 in
+    let rest = l.1 in
+    let h = l.2.stands in
+    let fields = fields_of h.header pdu h.flags (length h.header) (length l.2.front) h.first h.second h.options refl h.parts in
     let variable = length-variable pdu h.options in
     let len : length h.header ≡ 9 + length (variable_part pdu h.options) = ap length h.parts ∙ omega arith in
-    let parts : octets ≡ h.header ++ (pdu.body ++ l.rest) = l.whole ∙ ap (λ (xs : List ℕ). xs ++ l.rest) h.whole ∙ append_assoc h.header pdu.body l.rest in
+    let parts : octets ≡ h.header ++ (pdu.body ++ rest) = l.2.whole ∙ ap (λ (xs : List ℕ). xs ++ rest) h.whole ∙ append_assoc h.header pdu.body rest in
     let least : 13 ≤ length h.header = omega (arith, h.destination.some, h.source.some) in
-    let indicator : get_or octets 1 0 ≡ length h.header = ap (λ (xs : List ℕ). get_or xs 1 0) parts ∙ get_or_append_left h.header (pdu.body ++ l.rest) 0 1 (omega arith) ∙ fields.indicator in
-    let lifetime : get_or octets 3 0 ≡ pdu.lifetime = ap (λ (xs : List ℕ). get_or xs 3 0) parts ∙ get_or_append_left h.header (pdu.body ++ l.rest) 0 3 (omega arith) ∙ fields.lifetime in
+    let indicator : get_or octets 1 0 ≡ length h.header = ap (λ (xs : List ℕ). get_or xs 1 0) parts ∙ get_or_append_left h.header (pdu.body ++ rest) 0 1 (omega arith) ∙ fields.indicator in
+    let lifetime : get_or octets 3 0 ≡ pdu.lifetime = ap (λ (xs : List ℕ). get_or xs 3 0) parts ∙ get_or_append_left h.header (pdu.body ++ rest) 0 3 (omega arith) ∙ fields.lifetime in
     record {
       least = omega arith;
-      inside = omega (arith, ap length parts, length-append h.header (pdu.body ++ l.rest));
-      enough = omega (arith, l.enough);
+      inside = omega (arith, ap length parts, length-append h.header (pdu.body ++ rest));
+      enough = omega (arith, l.3);
     }
 
 -- ---- what it does
@@ -69,8 +73,11 @@ lowered_is_pdu front pdu by h header c =
       pdu_fits = omega (arith, h.pdu_fits);
     }
 
-pub is_lowered : (old : List ℕ) (by : ℕ) (new : List ℕ) → Lowers old by new → (front rest : List ℕ) (pdu : Pdu) → old ≡ front ++ rest → IsPdu front pdu → IsFollowed new (lowered by pdu) rest
-is_lowered old by new l front rest pdu e h =
+pub is_lowered : (old : List ℕ) (by : ℕ) (new : List ℕ) → Lowers old by new → (pdu : Pdu) (rest : List ℕ) → BeginsWith IsPdu old pdu rest → BeginsWith IsPdu new (lowered by pdu) rest
+is_lowered old by new l pdu rest begins =
+    let front = begins.front in
+    let e = begins.whole in
+    let h = begins.stands in
     let header = h.header in
     let n = length header in
     let m = length front in
@@ -101,7 +108,7 @@ is_lowered old by new l front rest pdu e h =
     record {
       front = l.header ++ pdu.body;
       whole = l.parts ∙ ap (λ (xs : List ℕ). l.header ++ xs) behind_is ∙ sym (append_assoc l.header pdu.body rest);
-      is_pdu = lowered_is_pdu front pdu by h l.header c;
+      stands = lowered_is_pdu front pdu by h l.header c;
     }
 
 -- ---- what stays

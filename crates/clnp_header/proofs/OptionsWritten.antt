@@ -1,9 +1,9 @@
 -- Options one after another: what is behind an index is the option there and what is behind it.
 use Rattle.std.proofs.Common.{◌≡◌, ℕ, zero, suc, ◌+◌, ◌<◌, ◌≤◌, List, [], ◌∷◌, ◌++◌, length, get_or, drop, sym, ap, ◌∙◌, arith, length-append}
 use Rattle.std.proofs.lemmas.List.{drop_more, drop_all}
-use Rattle.clnp_options.specs.Options.{spelled, spelled_one}
+use Rattle.pdu_parts.specs.Parameter.{spelled, spelled_one}
 use Rattle.clnp_header.specs.declared.pdu.OwnOpt.{OwnOpt}
-use Rattle.clnp_header.specs.Grammar.{parameter, parameters}
+use Rattle.clnp_header.specs.Values.{parameter, parameters}
 
 pub spelled_behind : (options : List OwnOpt) (i : ℕ) (option : OwnOpt) → i < length options → option ≡ get_or options i option
     → spelled (parameters (drop i options)) ≡ spelled_one (parameter option) ++ spelled (parameters (drop (i + 1) options))

@@ -1,11 +1,13 @@
 -- The parts of a header, one after another, and where each stands.
-use Rattle.std.proofs.Common.{◌≡◌, ℕ, ◌+◌, ◌/◌, ◌%◌, ◌<◌, ◌≤◌, List, [], ◌∷◌, ◌++◌, length, get_or, take, drop, refl, ap, ◌∙◌, arith, length-append, length-take, get_or-take}
-use Rattle.std.proofs.Common.{inl, inr}
+use Rattle.std.proofs.Common.{◌≡◌, ℕ, ◌+◌, ◌/◌, ◌%◌, ◌<◌, ◌≤◌, List, [], ◌∷◌, ◌++◌, length, get_or, take, drop, refl, ap, ◌∙◌, arith, length-append, length-take, get_or-take, inl, inr}
 use Rattle.std.proofs.lemmas.Bool.{cases_lt}
 use Rattle.std.proofs.lemmas.List.{get_or_past}
-use Rattle.clnp_options.specs.Options.{spelled}
+use Rattle.pdu_parts.specs.Parameter.{spelled}
 use Rattle.clnp_header.specs.declared.pdu.Pdu.{Pdu}
-use Rattle.clnp_header.specs.Grammar.{IsPdu, address, fixed_part, header_length, parameters, segment_part, variable_part}
+use Rattle.clnp_header.specs.Grammar.{IsPdu, fixed_part, segment_part, variable_part}
+use Rattle.pdu_parts.specs.Field.{field}
+use Rattle.clnp_header.specs.Writing.{header_length}
+use Rattle.clnp_header.specs.Values.{parameters}
 
 -- each octet is one
 abbrev pub AreOctets : List ℕ → Type 0
@@ -72,9 +74,9 @@ pub length-variable : (pdu : Pdu) (options : List ℕ)
     → length (variable_part pdu options) ≡ 2 + length pdu.destination + length pdu.source + length (segment_part pdu.segment) + length options
 length-variable pdu options =
     let behind : length (segment_part pdu.segment ++ options) ≡ length (segment_part pdu.segment) + length options = length-append (segment_part pdu.segment) options in
-    let source : length (address pdu.source ++ (segment_part pdu.segment ++ options)) ≡ 1 + length pdu.source + length (segment_part pdu.segment ++ options) =
-    length-append (address pdu.source) (segment_part pdu.segment ++ options) ∙ omega arith in
-    length-append (address pdu.destination) (address pdu.source ++ (segment_part pdu.segment ++ options)) ∙ omega arith
+    let source : length (field pdu.source ++ (segment_part pdu.segment ++ options)) ≡ 1 + length pdu.source + length (segment_part pdu.segment ++ options) =
+    length-append (field pdu.source) (segment_part pdu.segment ++ options) ∙ omega arith in
+    length-append (field pdu.destination) (field pdu.source ++ (segment_part pdu.segment ++ options)) ∙ omega arith
 
 -- the header of a PDU has its length
 pub length-header : (octets : List ℕ) (pdu : Pdu) (h : IsPdu octets pdu) → length h.header ≡ header_length pdu

@@ -1,11 +1,16 @@
 -- A DT PDU has one spelling: its lengths follow from its fields, and so do all octets but the checksum, of which there is one that can be used.
-use Rattle.std.proofs.Common.{◌≡◌, ℕ, ◌+◌, Bool, true, false, List, ◌∷◌, ◌++◌, length, Option, refl, sym, ap, subst, ◌∙◌, arith, length-append}
+use Rattle.std.proofs.Common.{◌≡◌, ℕ, ◌+◌, Bool, true, false, List, ◌∷◌, ◌++◌, length, Option, refl, sym, take, drop, ap, subst, ◌∙◌, arith, length-append}
 use Rattle.osi_base.proofs.FletcherPair.{one_pair}
-use Rattle.clnp_options.specs.declared.fault.PduKind.{PduKind}
-use Rattle.clnp_options.specs.declared.fault.PduKind.TheVariants.{Dt, Er}
+use Rattle.clnp_options.specs.declared.reason.PduKind.{PduKind}
+use Rattle.clnp_options.specs.declared.reason.PduKind.TheVariants.{Dt, Er}
 use Rattle.clnp_header.specs.declared.pdu.Pdu.{Pdu}
 use Rattle.clnp_header.specs.declared.pdu.SegmentPart.{SegmentPart}
-use Rattle.clnp_header.specs.Grammar.{AreFlags, IsPdu, IsChecksum, fixed_part, two_octets, variable_part}
+use Rattle.clnp_header.specs.Flags.{AreFlags}
+use Rattle.clnp_header.specs.Grammar.{IsPdu, fixed_part, variable_part}
+use Rattle.pdu_parts.specs.Checksum.{IsChecksum}
+use Rattle.pdu_parts.specs.Number.{two_octets}
+use Rattle.osi_base.specs.Fletcher.{Sealed}
+use Rattle.clnp_header.specs.Writing.{IsWritten, SealsIf, plain_header}
 use Rattle.clnp_header.proofs.Parts.{length-header}
 
 one_checksum : (used : Bool) (before after : List ℕ) (x y u v : ℕ) → IsChecksum used x y (before ++ x ∷ y ∷ after) → IsChecksum used u v (before ++ u ∷ v ∷ after) → (x ≡ u) × (y ≡ v)
@@ -36,3 +41,19 @@ one_list octets others pdu dt h k =
     let same = one_checksum pdu.checksum_used before after h.first h.second k.first k.second first second in
     let headers : h.header ≡ k.header = h.parts ∙ ap (λ (x : ℕ). spelled x h.second) same.0 ∙ ap (λ (y : ℕ). spelled k.first y) same.1 ∙ sym other_parts in
     h.whole ∙ ap (λ (xs : List ℕ). xs ++ pdu.body) headers ∙ sym k.whole
+
+-- ---- what is written
+
+one_sealed : (used : Bool) (plain one other : List ℕ) → SealsIf used plain one → SealsIf used plain other → one ≡ other
+one_sealed false plain one other h k = h ∙ sym k
+one_sealed true plain one other h k =
+    let before = take 7 plain in
+    let after = drop 9 plain in
+    let same =
+    one_pair before after h.first h.second k.first k.second h.first_used.0 h.first_used.1 h.second_used.0 h.second_used.1 k.first_used.0 k.first_used.1 k.second_used.0 k.second_used.1
+    (subst Sealed h.written h.sealed) (subst Sealed k.written k.sealed) in
+    h.written ∙ ap (λ (x : ℕ). before ++ x ∷ h.second ∷ after) same.0 ∙ ap (λ (y : ℕ). before ++ k.first ∷ y ∷ after) same.1 ∙ sym k.written
+
+pub one_writing : (pdu : Pdu) (octets others : List ℕ) → IsWritten pdu octets → IsWritten pdu others → octets ≡ others
+one_writing pdu octets others h k =
+    h.whole ∙ ap (λ (xs : List ℕ). xs ++ pdu.body) (one_sealed pdu.checksum_used (plain_header pdu) h.header k.header h.sealed k.sealed) ∙ sym k.whole

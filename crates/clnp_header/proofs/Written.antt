@@ -1,13 +1,17 @@
 -- What is written is in the grammar: the parts stand one after another, and sealing changes the checksum alone.
-use Rattle.std.proofs.Common.{◌≡◌, ℕ, ◌+◌, ◌≤◌, Bool, true, false, List, [], ◌∷◌, ◌++◌, length, Option, None, refl, sym, ap, subst, ◌∙◌, arith, length-append}
+use Rattle.std.proofs.Common.{◌≡◌, ℕ, ◌≤◌, Bool, true, false, List, [], ◌∷◌, ◌++◌, length, Option, None, refl, sym, ap, subst, ◌∙◌, arith, length-append}
 use Rattle.clnp_options.specs.Grammar.{AreAllowed}
-use Rattle.clnp_options.specs.Options.{Parameter, spelled}
-use Rattle.clnp_options.specs.declared.fault.PduKind.{PduKind}
-use Rattle.clnp_options.specs.declared.fault.PduKind.TheVariants.{Dt, Er}
+use Rattle.pdu_parts.specs.Parameter.{Parameter, spelled}
+use Rattle.clnp_options.specs.declared.reason.PduKind.{PduKind}
+use Rattle.clnp_options.specs.declared.reason.PduKind.TheVariants.{Dt, Er}
 use Rattle.clnp_header.specs.declared.pdu.Pdu.{Pdu}
 use Rattle.clnp_header.specs.declared.pdu.SegmentPart.{SegmentPart}
-use Rattle.clnp_header.specs.Grammar.{AreFlags, HasKind, IsPdu, IsAddress, IsChecksum, IsWritable, MayBeSegment, fixed_part, header_length, parameters, variable_part, written_flags}
-use Rattle.clnp_header.specs.Writing.{SealsIf}
+use Rattle.clnp_header.specs.Flags.{AreFlags, written_flags}
+use Rattle.clnp_header.specs.Grammar.{IsPdu, MayBeSegment, fixed_part, variable_part}
+use Rattle.pdu_parts.specs.Field.{IsAddress}
+use Rattle.pdu_parts.specs.Checksum.{IsChecksum}
+use Rattle.clnp_header.specs.Values.{parameters}
+use Rattle.clnp_header.specs.Writing.{HasKind, IsWritable, IsWritten, SealsIf, header_length, pdu_length, plain_header}
 use Rattle.clnp_header.proofs.Parts.{length-variable}
 
 -- the header of a PDU with these lengths, flags and octets of the checksum
@@ -36,43 +40,40 @@ flags_written : (kind : PduKind) (segment : Option SegmentPart) (report : Bool) 
 flags_written Dt segment report h = refl
 flags_written Er segment report h = record { more_bit = false; report_bit = false; parts = refl; whole = h.0; unreported = h.1 }
 
--- what was pushed, what stands after the checksum was written, and the data behind it
-pub record Pushed (pdu : Pdu) (n m : ℕ) (plain header octets : List ℕ) : Type 0 where
-  pub plain_is : plain ≡ fixed_part n pdu.lifetime (written_flags pdu.kind pdu.segment pdu.report) m 0 0 ++ variable_part pdu (spelled (parameters pdu.options))
-  pub sealed : SealsIf pdu.checksum_used plain header
-  pub behind : octets ≡ header ++ pdu.body
-  pub header_is : n ≡ header_length pdu
-  pub whole_is : m ≡ n + length pdu.body
-  pub header_fits : n ≤ 254
-  pub pdu_fits : m ≤ 65535
+-- what a value that can be written has beside
+pub record Fitting (pdu : Pdu) : Type 0 where
+  pub header_fits : header_length pdu ≤ 254
+  pub pdu_fits : pdu_length pdu ≤ 65535
   pub destination : IsAddress pdu.destination
   pub source : IsAddress pdu.source
 
-pub is_written : (pdu : Pdu) (n m : ℕ) (plain header octets : List ℕ) → Pushed pdu n m plain header octets → IsWritable pdu → IsPdu octets pdu
-is_written pdu n m plain header octets h writable =
+pub is_pdu : (pdu : Pdu) (octets : List ℕ) → IsWritten pdu octets → Fitting pdu → IsWritable pdu → IsPdu octets pdu
+is_pdu pdu octets h fits writable =
     let options = spelled (parameters pdu.options) in
     let flags = written_flags pdu.kind pdu.segment pdu.report in
-    let c = checksum_written pdu.checksum_used pdu flags n m options plain header 0 0 h.plain_is (λ unused. (refl, refl)) h.sealed in
+    let n = header_length pdu in
+    let m = pdu_length pdu in
+    let c = checksum_written pdu.checksum_used pdu flags n m options (plain_header pdu) h.header 0 0 refl (λ unused. (refl, refl)) h.sealed in
     let variable = length-variable pdu options in
-    let length_is : length header ≡ n = ap length c.parts ∙ omega (arith, variable, h.header_is) in
-    let whole_is : length octets ≡ m = ap length h.behind ∙ length-append header pdu.body ∙ omega (arith, h.whole_is) in
+    let length_is : length h.header ≡ n = ap length c.parts ∙ omega (arith, variable) in
+    let whole_is : length octets ≡ m = ap length h.whole ∙ length-append h.header pdu.body ∙ omega (arith, length_is) in
     let P : ℕ → Type 0 = λ k. MayBeSegment pdu.segment k (length pdu.body) in
     record {
-      header = header;
+      header = h.header;
       options = options;
       flags = flags;
       first = c.first;
       second = c.second;
-      whole = h.behind;
+      whole = h.whole;
       parts = c.parts ∙ rw (length_is, whole_is) refl;
       flags_part = flags_written pdu.kind pdu.segment pdu.report writable.kind;
       checksum = c.checksum;
-      destination = h.destination;
-      source = h.source;
-      segment = subst P (sym (whole_is ∙ h.whole_is ∙ ap (λ (k : ℕ). k + length pdu.body) h.header_is)) writable.segment;
+      destination = fits.destination;
+      source = fits.source;
+      segment = subst P (sym whole_is) writable.segment;
       options_part = record { parts = refl; allowed = writable.options };
-      header_fits = omega (arith, h.header_fits);
-      pdu_fits = omega (arith, h.pdu_fits);
+      header_fits = omega (arith, fits.header_fits, length_is);
+      pdu_fits = omega (arith, fits.pdu_fits, whole_is);
     }
 
 -- no options are allowed in a DT PDU

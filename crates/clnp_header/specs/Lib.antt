@@ -1,5 +1,7 @@
 pub mod Faults
+pub mod Flags
 pub mod Grammar
 pub mod Lifetime
-pub mod Reading
+pub mod Values
 pub mod Writing
+pub mod steps

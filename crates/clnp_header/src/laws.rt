@@ -1,20 +1,27 @@
-//! What holds of the grammar of PDUs and of its faults, for all lists of octets.
+//! What holds of the grammar of PDUs, of their faults and of what is written, for all lists of octets.
 
-ghost use Rattle.std.specs.Prelude.{◌≡◌, ◌<◌, ◌++◌, ℕ, List, None, All};
-ghost use Rattle.clnp_options.specs.declared.fault.Fault.{Fault};
-ghost use Rattle.clnp_options.specs.declared.fault.PduKind.TheVariants.{Dt};
+ghost use Rattle.std.specs.Prelude.{◌≡◌, ℕ, List};
+ghost use Rattle.pdu_parts.specs.Front.{Apart, FrontOrFault, OneFront, OneValue};
+ghost use Rattle.clnp_options.specs.declared.reason.PduKind.TheVariants.{Dt};
 ghost use Rattle.clnp_header.specs.declared.pdu.Pdu.{Pdu};
-ghost use Rattle.clnp_header.specs.Faults.{PduFault, first_fault};
-ghost use Rattle.clnp_header.specs.Grammar.{IsPdu, BeginsWith};
+ghost use Rattle.clnp_header.specs.Faults.{IsPduFault};
+ghost use Rattle.clnp_header.specs.Grammar.{IsPdu};
+ghost use Rattle.clnp_header.specs.Writing.{IsWritten};
 
-/// A list of octets is one PDU.
+/// A list of octets is one PDU at most.
 pub fn one_value()
-    ensures { (octets : List ℕ) (pdu other : Pdu) → IsPdu octets pdu → IsPdu octets other → pdu ≡ other }
+    ensures { OneValue IsPdu }
 {}
 
 /// Octets begin with one PDU at most, whatever follows it.
 pub fn one_front()
-    ensures { (front rest other more : List ℕ) (pdu second : Pdu) → front ++ rest ≡ other ++ more → IsPdu front pdu → IsPdu other second → (front ≡ other) × (rest ≡ more) × (pdu ≡ second) }
+    ensures { OneFront IsPdu }
+{}
+
+/// A PDU at the front of the octets and a fault exclude each other, and one of the two is there.
+pub fn front_or_fault()
+    ensures apart { Apart IsPdu IsPduFault }
+    ensures all { FrontOrFault IsPdu IsPduFault }
 {}
 
 /// A DT PDU has one list of octets: also its checksum is the only one that can be used. In an ER PDU two bits are ignored.
@@ -22,8 +29,7 @@ pub fn one_spelling()
     ensures { (octets others : List ℕ) (pdu : Pdu) → pdu.kind ≡ Dt → IsPdu octets pdu → IsPdu others pdu → octets ≡ others }
 {}
 
-/// A PDU at the front of the octets and a fault exclude each other, and one of the two is there.
-pub fn no_fault()
-    ensures excludes { (octets front rest : List ℕ) (pdu : Pdu) (fault : Fault) → octets ≡ front ++ rest → IsPdu front pdu → PduFault octets fault → ⊥ }
-    ensures otherwise { (octets : List ℕ) → All (λ octet. octet < 256) octets → first_fault octets ≡ None → (header : List ℕ) × (pdu : Pdu) × BeginsWith octets header pdu }
+/// What is written for a value is one list of octets.
+pub fn one_writing()
+    ensures { (pdu : Pdu) (octets others : List ℕ) → IsWritten pdu octets → IsWritten pdu others → octets ≡ others }
 {}

@@ -2,18 +2,19 @@
 #![tactic(auto)]
 
 mod fault;
+mod flags;
 mod laws;
 mod lifetime;
 mod pdu;
 mod reading;
 mod writing;
 
-pub use clnp_options::{Fault, PduKind};
-pub use laws::{no_fault, one_front, one_spelling, one_value};
+pub use clnp_options::{Fault, PduKind, Reason};
+pub use laws::{front_or_fault, one_front, one_spelling, one_value, one_writing};
 pub use lifetime::lower_lifetime;
 pub use pdu::{OwnOpt, Pdu, PduRef, SegmentPart};
 pub use reading::read_pdu;
-pub use writing::write_pdu;
+pub use writing::{header_length, write_pdu};
 
 #[cfg(test)]
 mod tests;

@@ -1,9 +1,11 @@
 //! The lifetime of a PDU, lowered in place (X.233, PDU lifetime control).
 
-ghost use Rattle.std.specs.Prelude.{◌≡◌, ◌≢◌, ◌≤◌, ◌++◌, ℕ, List, length, slice_index};
+ghost use Rattle.std.specs.Prelude.{◌≡◌, ◌≢◌, ◌≤◌, ℕ, List, length, slice_index};
+ghost use Rattle.pdu_parts.specs.Front.{BeginsWith};
 ghost use Rattle.clnp_header.specs.declared.pdu.Pdu.{Pdu};
 ghost use Rattle.clnp_header.specs.Grammar.{IsPdu};
-ghost use Rattle.clnp_header.specs.Lifetime.{HasLifetime, IsFollowed, Lowers, lowered};
+ghost use Rattle.clnp_header.specs.Lifetime.{HasLifetime, lowered};
+ghost use Rattle.clnp_header.specs.steps.Lowering.{Lowers};
 
 use crate::pdu::CHECKSUM;
 use crate::writing::seal;
@@ -13,7 +15,7 @@ use crate::writing::seal;
 /// No other octet changes. `by` is at most the lifetime.
 pub fn lower_lifetime(octets: &mut [u8], by: u8)
     requires { HasLifetime octets.old by }
-    ensures lowered { (front rest : List ℕ) (pdu : Pdu) → octets.old ≡ front ++ rest → IsPdu front pdu → IsFollowed octets.new (lowered by pdu) rest }
+    ensures lowered { (pdu : Pdu) (rest : List ℕ) → BeginsWith IsPdu octets.old pdu rest → BeginsWith IsPdu octets.new (lowered by pdu) rest }
     ensures kept { (at : ℕ) → at ≢ 3 → at ≢ 7 → at ≢ 8 → slice_index octets.new at ≡ slice_index octets.old at }
 {
     lower(octets, by);

@@ -80,24 +80,6 @@ pub const PROTOCOL: u8 = 0x81;
 /// The protocol version.
 pub const VERSION: u8 = 0x01;
 
-/// Segmentation is permitted, and the header has a segmentation part.
-pub const SEGMENTATION_PERMITTED: u8 = 0x80;
-
-/// More segments follow.
-pub const MORE_SEGMENTS: u8 = 0x40;
-
-/// The source wants an error report.
-pub const ERROR_REPORT: u8 = 0x20;
-
-/// The bits of the type.
-pub const TYPE_BITS: u8 = 0x1f;
-
-/// The type DT.
-pub const DT: u8 = 0x1c;
-
-/// The type ER.
-pub const ER: u8 = 0x01;
-
 /// The octets of the fixed part.
 pub const FIXED_PART: usize = 9;
 

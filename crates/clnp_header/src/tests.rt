@@ -23,16 +23,19 @@ const REPORT: [u8; 21] = [
     0x02, 0xc1, 0x02, 0xa0, 0x04,
 ];
 
+/// A fault: the code of its reason, its place, and whether it is reportable.
+type Told = (u8, u8, bool);
+
 /// The fault of the octets, where they are no PDU.
-fn fault_of(octets: &[u8]) -> Option<Fault> {
+fn fault_of(octets: &[u8]) -> Option<Told> {
     match read_pdu(octets) {
         Ok(_) => None,
-        Err(fault) => Some(fault),
+        Err(fault) => Some((fault.reason.code(), fault.place, fault.reportable)),
     }
 }
 
 /// The fault of the segment with some of its octets changed.
-fn fault_with(changes: &[(usize, u8)]) -> Option<Fault> {
+fn fault_with(changes: &[(usize, u8)]) -> Option<Told> {
     let mut octets = SEGMENT;
     for (at, octet) in changes {
         if let Some(place) = octets.get_mut(*at) {
@@ -40,15 +43,6 @@ fn fault_with(changes: &[(usize, u8)]) -> Option<Fault> {
         }
     }
     fault_of(&octets)
-}
-
-/// The fault with this reason and place.
-fn fault(reason: u8, place: u8, reportable: bool) -> Option<Fault> {
-    Some(Fault {
-        reason,
-        place,
-        reportable,
-    })
 }
 
 /// The address of these octets.
@@ -138,7 +132,7 @@ fn a_report_reads_without_its_flags_and_is_written_without(rt: HostRuntime) -> R
     assert_eq!(rt; octets.as_slice(), REPORT.as_slice());
     let mut bare = REPORT;
     bare[1] = 17;
-    assert_eq!(rt; fault_of(&bare), fault(0x04, 0, false));
+    assert_eq!(rt; fault_of(&bare), Some((0x04, 0, false)));
     Ok(())
 }
 
@@ -146,14 +140,14 @@ fn a_report_reads_without_its_flags_and_is_written_without(rt: HostRuntime) -> R
 fn a_checksum_of_zeros_is_unused(rt: HostRuntime) {
     let mut octets = HELLO;
     octets[7] = 0;
-    assert_eq!(rt; fault_of(&octets), fault(0x02, 8, false));
+    assert_eq!(rt; fault_of(&octets), Some((0x02, 8, false)));
     octets[8] = 0;
     assert!(rt; matches!(read_pdu(&octets), Ok(read) if !read.checksum_used));
 }
 
 #[test]
 fn each_step_fails_where_no_earlier_one_does(rt: HostRuntime) {
-    assert_eq!(rt; fault_of(&SEGMENT[..8]), fault(0x06, 0, false));
+    assert_eq!(rt; fault_of(&SEGMENT[..8]), Some((0x06, 0, false)));
     let changes: [(&[(usize, u8)], u8, u8, bool); 25] = [
         (&[(0, 0x80)], 0x04, 1, false),
         (&[(1, 12)], 0x04, 2, false),
@@ -184,7 +178,7 @@ fn each_step_fails_where_no_earlier_one_does(rt: HostRuntime) {
     for (change, reason, place, reportable) in changes {
         assert_eq!(rt;
             fault_with(change),
-            fault(reason, place, reportable),
+            Some((reason, place, reportable)),
             "{change:?}"
         );
     }
@@ -194,7 +188,7 @@ fn each_step_fails_where_no_earlier_one_does(rt: HostRuntime) {
 fn of_two_steps_that_fail_the_earlier_answers(rt: HostRuntime) {
     let mut short = SEGMENT;
     short[0] = 0x80;
-    assert_eq!(rt; fault_of(&short[..8]), fault(0x06, 0, false));
+    assert_eq!(rt; fault_of(&short[..8]), Some((0x06, 0, false)));
     let changes: [(&[(usize, u8)], u8, u8, bool); 13] = [
         (&[(0, 0x80), (1, 12)], 0x04, 1, false),
         (&[(1, 255)], 0x04, 2, false),
@@ -213,7 +207,7 @@ fn of_two_steps_that_fail_the_earlier_answers(rt: HostRuntime) {
     for (change, reason, place, reportable) in changes {
         assert_eq!(rt;
             fault_with(change),
-            fault(reason, place, reportable),
+            Some((reason, place, reportable)),
             "{change:?}"
         );
     }

@@ -1,7 +1,7 @@
 -- A code that stands among options is one whose value is found.
 use Rattle.std.proofs.Common.{◌≡◌, ℕ, Bool, true, false, cond, List, [], ◌∷◌, Option, Some, None, refl, sym, ap, ◌∙◌, option_map, is_some, eqb, ◌||◌}
-use Rattle.clnp_options.specs.Options.{Parameter, value_of}
-use Rattle.clnp_options.specs.Grammar.{has}
+use Rattle.pdu_parts.specs.Parameter.{Parameter}
+use Rattle.clnp_options.specs.Options.{value_of, has}
 
 mapped : {A B : Type 0} (f : A → B) (o : Option A) → is_some (option_map f o) ≡ is_some o
 mapped f None = refl

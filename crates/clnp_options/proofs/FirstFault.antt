@@ -3,17 +3,19 @@ use Rattle.std.proofs.Common.{◌≡◌, ℕ, zero, suc, ◌+◌, ◌<◌, ◌�
 use Rattle.std.proofs.lemmas.Bool.{eqb-true, eqb-false, eq-eqb, ne_eqb, cases_Bool, and_parts, not-true}
 use Rattle.std.proofs.lemmas.List.{append_assoc, append-nil, length-append, get_or_at}
 use Rattle.std.proofs.lemmas.Option.{same_Some, none-some}
-use Rattle.clnp_options.specs.declared.fault.Fault.{Fault}
-use Rattle.clnp_options.specs.declared.fault.PduKind.{PduKind}
-use Rattle.clnp_options.specs.declared.fault.PduKind.TheVariants.{Dt, Er}
-use Rattle.clnp_options.specs.declared.fault.TheConstants.{HEADER_SYNTAX, DUPLICATE_OPTION}
-use Rattle.clnp_options.specs.declared.option.TheConstants.{PADDING, REASON}
-use Rattle.clnp_options.specs.Options.{Parameter, spelled_one, spelled, front_option, options_after}
-use Rattle.clnp_options.specs.Grammar.{IsKnown, IsOnce, has}
-use Rattle.clnp_options.specs.Faults.{fault_at, is_repeated, option_reason, value_reason, each_fault, missing_fault, fault_after, options_fault, IsFaultAfter, Unfit, Twice, Unknown, Missing, IsFirstFault}
-use Rattle.clnp_options.proofs.Walk.{fronts, front_again}
+use Rattle.clnp_options.specs.declared.reason.Fault.{Fault}
+use Rattle.clnp_options.specs.declared.reason.Reason.{Reason}
+use Rattle.clnp_options.specs.declared.reason.PduKind.{PduKind}
+use Rattle.clnp_options.specs.declared.reason.PduKind.TheVariants.{Dt, Er}
+use Rattle.clnp_options.specs.declared.reason.Reason.TheVariants.{HeaderSyntax, DuplicateOption}
+use Rattle.pdu_parts.specs.Parameter.{Parameter, spelled_one, spelled, front_parameter, parameters_after}
+use Rattle.clnp_options.specs.Grammar.{IsKnown, IsOnce}
+use Rattle.clnp_options.specs.Options.{has}
+use Rattle.clnp_options.specs.Faults.{fault_at, is_repeated, value_step, IsFaultAfter, Unfit, Twice, Unknown, Missing, IsFirstFault}
+use Rattle.clnp_options.specs.steps.Walking.{option_reason, each_fault, missing_fault, fault_after, walked_fault}
+use Rattle.pdu_parts.proofs.Parameters.{stands_first, front_again}
 use Rattle.clnp_options.proofs.Steps.{fault_step, reason_first, cut_first}
-use Rattle.clnp_options.proofs.Laws.{IsFine, fine_from, fine_again, once_test, once_again, parted}
+use Rattle.clnp_options.proofs.Allowing.{IsFine, fine_from, fine_again, once_test, once_again, parted}
 
 -- each of the options is fine after the others and those before it
 abbrev AreFine : PduKind → List Parameter → List Parameter → Type 0
@@ -46,34 +48,34 @@ walks kind place others (option ∷ options) rest fine =
 
 -- ---- the fault of what stands after options
 
-twice_reason : (kind : PduKind) (before : List Parameter) (option : Parameter) → has option.code before ≡ true → (option.code ≡ PADDING → ⊥) → option_reason kind before option ≡ Some DUPLICATE_OPTION
+twice_reason : (kind : PduKind) (before : List Parameter) (option : Parameter) → has option.code before ≡ true → (option.code ≡ 0xcc → ⊥) → option_reason kind before option ≡ Some DuplicateOption
 unfolding option_reason
-twice_reason kind before option stood other = rw (ne_eqb option.code PADDING other, stood) refl
+twice_reason kind before option stood other = rw (ne_eqb option.code 0xcc other, stood) refl
 
-value_only : (kind : PduKind) (before : List Parameter) (option : Parameter) → (has option.code before ≡ true → option.code ≡ PADDING) → option_reason kind before option ≡ value_reason kind option
+value_only : (kind : PduKind) (before : List Parameter) (option : Parameter) → (has option.code before ≡ true → option.code ≡ 0xcc) → option_reason kind before option ≡ value_step kind option
 unfolding option_reason
 value_only kind before option once =
-    rw (once_again (eqb option.code PADDING) (has option.code before) (λ stood. eq-eqb option.code PADDING (once stood))) refl
+    rw (once_again (eqb option.code 0xcc) (has option.code before) (λ stood. eq-eqb option.code 0xcc (once stood))) refl
 
-unfit_none : (rest : List ℕ) (found : Option (Parameter × List ℕ)) → found ≡ front_option rest → ((option : Parameter) (after : List ℕ) → rest ≡ spelled_one option ++ after → ⊥) → None ≡ front_option rest
+unfit_none : (rest : List ℕ) (found : Option (Parameter × List ℕ)) → found ≡ front_parameter rest → ((option : Parameter) (after : List ℕ) → rest ≡ spelled_one option ++ after → ⊥) → None ≡ front_parameter rest
 unfit_none rest None same unfit = same
-unfit_none rest (Some found) same unfit = absurd (unfit found.0 found.1 (fronts rest found.0 found.1 same).parts)
+unfit_none rest (Some found) same unfit = absurd (unfit found.0 found.1 (stands_first rest found.0 found.1 same).parts)
 
-missing_none : (kind : PduKind) (before : List Parameter) → kind ≡ Er → has REASON before ≡ false → missing_fault kind before ≡ Some (fault_at 0 HEADER_SYNTAX)
+missing_none : (kind : PduKind) (before : List Parameter) → kind ≡ Er → has 0xc1 before ≡ false → missing_fault kind before ≡ Some (fault_at 0 HeaderSyntax)
 missing_none Dt before is none = absurd cc
 missing_none Er before is none = rw none refl
 
 -- with nothing left, only the reason of an error report can be missing
 nothing_left : (kind : PduKind) (place : ℕ) (before : List Parameter) → fault_after kind place before [] ≡ missing_fault kind before
-unfolding fault_after each_fault options_after
+unfolding fault_after each_fault parameters_after
 nothing_left kind place before = ap (missing_fault kind) (append-nil before)
 
 fails_some : (kind : PduKind) (place : ℕ) (before : List Parameter) (rest : List ℕ) (fault : Fault) → IsFaultAfter kind place before rest fault → fault_after kind place before rest ≡ Some fault
 fails_some kind place before rest fault (Unfit some unfit is) =
-    cut_first kind place before rest (unfit_none rest (front_option rest) refl unfit) some ∙ ap (λ (f : Fault). Some f) (sym is)
+    cut_first kind place before rest (unfit_none rest (front_parameter rest) refl unfit) some ∙ ap (λ (f : Fault). Some f) (sym is)
 fails_some kind place before rest fault (Twice option after parts stood other is) =
     ap (fault_after kind place before) parts
-    ∙ reason_first kind place before (spelled_one option ++ after) option after DUPLICATE_OPTION (sym (front_again option after)) (twice_reason kind before option stood other)
+    ∙ reason_first kind place before (spelled_one option ++ after) option after DuplicateOption (sym (front_again option after)) (twice_reason kind before option stood other)
     ∙ ap (λ (f : Fault). Some f) (sym is)
 fails_some kind place before rest fault (Unknown option after reason parts once why is) =
     ap (fault_after kind place before) parts
@@ -90,9 +92,9 @@ fine_from_parts kind before known once front after option same =
           (known (length front) option (omega (arith, ap length same, length-append front (option ∷ after))));
     })
 
-pub fault_from_first : (kind : PduKind) (first : ℕ) (octets : List ℕ) (fault : Fault) → IsFirstFault kind first octets fault → options_fault kind first octets ≡ Some fault
+pub fault_from_first : (kind : PduKind) (first : ℕ) (octets : List ℕ) (fault : Fault) → IsFirstFault kind first octets fault → walked_fault kind first octets ≡ Some fault
 fault_from_first kind first octets fault is =
-    ap (options_fault kind first) is.parts
+    ap (walked_fault kind first) is.parts
     ∙ walks kind first [] is.before is.rest (fine_from_parts kind is.before is.known is.once)
     ∙ fails_some kind (first + length (spelled is.before)) is.before is.rest fault is.fails
 
@@ -136,18 +138,18 @@ one_later kind place others octets option after fault parts here front = (
       (subst (λ (xs : List Parameter). IsFaultAfter kind ((place + (length option.value + 2)) + length (spelled front.0)) xs front.1 fault) (append_assoc others (option ∷ []) front.0) front.4),
 )
 
-reason_fails : (kind : PduKind) (place : ℕ) (before : List Parameter) (rest : List ℕ) (option : Parameter) (after : List ℕ) (reason : ℕ) → rest ≡ spelled_one option ++ after
-    → (repeated : Bool) → repeated ≡ is_repeated before option.code → cond repeated (Some DUPLICATE_OPTION) (value_reason kind option) ≡ Some reason
+reason_fails : (kind : PduKind) (place : ℕ) (before : List Parameter) (rest : List ℕ) (option : Parameter) (after : List ℕ) (reason : Reason) → rest ≡ spelled_one option ++ after
+    → (repeated : Bool) → repeated ≡ is_repeated before option.code → cond repeated (Some DuplicateOption) (value_step kind option) ≡ Some reason
     → IsFaultAfter kind place before rest (fault_at place reason)
 reason_fails kind place before rest option after reason parts true same why =
-    let both = and_parts (not (eqb option.code PADDING)) (has option.code before) (sym same) in
-    let is : DUPLICATE_OPTION ≡ reason = cc in
-    Twice option after parts both.1 (eqb-false option.code PADDING (not-true (eqb option.code PADDING) both.0)) (ap (fault_at place) (sym is))
+    let both = and_parts (not (eqb option.code 0xcc)) (has option.code before) (sym same) in
+    let is : DuplicateOption ≡ reason = cc in
+    Twice option after parts both.1 (eqb-false option.code 0xcc (not-true (eqb option.code 0xcc) both.0)) (ap (fault_at place) (sym is))
 reason_fails kind place before rest option after reason parts false same why =
-    Unknown option after reason parts (λ stood. eqb-true option.code PADDING (once_test (eqb option.code PADDING) (has option.code before) (sym same) stood)) why refl
+    Unknown option after reason parts (λ stood. eqb-true option.code 0xcc (once_test (eqb option.code 0xcc) (has option.code before) (sym same) stood)) why refl
 
 -- the fault of an option after others
-option_fails : (kind : PduKind) (place : ℕ) (before : List Parameter) (rest : List ℕ) (option : Parameter) (after : List ℕ) (reason : ℕ) → rest ≡ spelled_one option ++ after
+option_fails : (kind : PduKind) (place : ℕ) (before : List Parameter) (rest : List ℕ) (option : Parameter) (after : List ℕ) (reason : Reason) → rest ≡ spelled_one option ++ after
     → option_reason kind before option ≡ Some reason → IsFaultAfter kind place before rest (fault_at place reason)
 unfolding option_reason
 option_fails kind place before rest option after reason parts why =
@@ -159,33 +161,33 @@ same_fault one other same = same_Some one other same
 missing_fails : (kind : PduKind) (place : ℕ) (before : List Parameter) (fault : Fault) → missing_fault kind before ≡ Some fault → IsFaultAfter kind place before [] fault
 missing_fails Dt place before fault why = absurd cc
 missing_fails Er place before fault why =
-    elim (cases_Bool (has REASON before)) as (λ _. IsFaultAfter Er place before [] fault) [
+    elim (cases_Bool (has 0xc1 before)) as (λ _. IsFaultAfter Er place before [] fault) [
       | inl there ↦ absurd (let none : missing_fault Er before ≡ None = rw there refl in cc)
-      | inr none ↦ Missing refl refl none (same_fault fault (fault_at 0 HEADER_SYNTAX) (sym why ∙ missing_none Er before refl none))
+      | inr none ↦ Missing refl refl none (same_fault fault (fault_at 0 HeaderSyntax) (sym why ∙ missing_none Er before refl none))
     ]
 
-unfit_fails : (kind : PduKind) (place : ℕ) (before : List Parameter) (octets : List ℕ) (fault : Fault) → None ≡ front_option octets
+unfit_fails : (kind : PduKind) (place : ℕ) (before : List Parameter) (octets : List ℕ) (fault : Fault) → None ≡ front_parameter octets
     → fault_after kind place before octets ≡ Some fault → IsFaultAfter kind place before octets fault
 unfit_fails kind place before [] fault none why = missing_fails kind place before fault (sym (nothing_left kind place before) ∙ why)
 unfit_fails kind place before (octet ∷ octets) fault none why =
     Unfit (omega arith)
-    (λ option after parts. absurd (let some : None ≡ Some (option, after) = none ∙ ap front_option parts ∙ front_again option after in none-some (option, after) some))
-    (same_fault fault (fault_at place HEADER_SYNTAX) (sym why ∙ cut_first kind place before (octet ∷ octets) none (omega arith)))
+    (λ option after parts. absurd (let some : None ≡ Some (option, after) = none ∙ ap front_parameter parts ∙ front_again option after in none-some (option, after) some))
+    (same_fault fault (fault_at place HeaderSyntax) (sym why ∙ cut_first kind place before (octet ∷ octets) none (omega arith)))
 
-fails_or_later : (kind : PduKind) (place : ℕ) (others : List Parameter) (octets : List ℕ) (option : Parameter) (after : List ℕ) (fault : Fault) → Some (option, after) ≡ front_option octets
+fails_or_later : (kind : PduKind) (place : ℕ) (others : List Parameter) (octets : List ℕ) (option : Parameter) (after : List ℕ) (fault : Fault) → Some (option, after) ≡ front_parameter octets
     → fault_after kind place others octets ≡ Some fault
     → (fault_after kind (place + (length option.value + 2)) (others ++ option ∷ []) after ≡ Some fault → Front kind (place + (length option.value + 2)) (others ++ option ∷ []) after fault)
-    → (reason : Option ℕ) → reason ≡ option_reason kind others option → Front kind place others octets fault
+    → (reason : Option Reason) → reason ≡ option_reason kind others option → Front kind place others octets fault
 fails_or_later kind place others octets option after fault found why later None same =
-    one_later kind place others octets option after fault (fronts octets option after found).parts (sym same)
+    one_later kind place others octets option after fault (stands_first octets option after found).parts (sym same)
     (later (sym (fault_step kind place others octets option after found (sym same)) ∙ why))
 fails_or_later kind place others octets option after fault found why later (Some reason) same =
     let is : fault ≡ fault_at place reason = same_fault fault (fault_at place reason) (sym why ∙ reason_first kind place others octets option after reason found (sym same)) in
     at_once kind place others octets fault
     (subst (IsFaultAfter kind place others octets) (sym is)
-    (option_fails kind place others octets option after reason (fronts octets option after found).parts (sym same)))
+    (option_fails kind place others octets option after reason (stands_first octets option after found).parts (sym same)))
 
-front_from : (kind : PduKind) (place : ℕ) (others : List Parameter) (octets : List ℕ) (fault : Fault) (found : Option (Parameter × List ℕ)) → found ≡ front_option octets
+front_from : (kind : PduKind) (place : ℕ) (others : List Parameter) (octets : List ℕ) (fault : Fault) (found : Option (Parameter × List ℕ)) → found ≡ front_parameter octets
     → fault_after kind place others octets ≡ Some fault
     → ((place : ℕ) (others : List Parameter) (after : List ℕ) → length after < length octets → fault_after kind place others after ≡ Some fault → Front kind place others after fault)
     → Front kind place others octets fault
@@ -193,7 +195,7 @@ front_from kind place others octets fault None same why shorter = at_once kind p
 front_from kind place others octets fault (Some found) same why shorter =
     let option : Parameter = found.0 in
     let after : List ℕ = found.1 in
-    let front = fronts octets option after same in
+    let front = stands_first octets option after same in
     fails_or_later kind place others octets option after fault same why
     (λ left. shorter (place + (length option.value + 2)) (others ++ option ∷ []) after (omega (arith, front.lengths)) left)
     (option_reason kind others option) refl
@@ -201,11 +203,11 @@ front_from kind place others octets fault (Some found) same why shorter =
 front_within : (n : ℕ) (kind : PduKind) (place : ℕ) (others : List Parameter) (octets : List ℕ) (fault : Fault) → length octets ≤ n
     → fault_after kind place others octets ≡ Some fault → Front kind place others octets fault
 front_within zero kind place others octets fault le why =
-    front_from kind place others octets fault (front_option octets) refl why (λ place others after lt left. absurd (omega arith))
+    front_from kind place others octets fault (front_parameter octets) refl why (λ place others after lt left. absurd (omega arith))
 front_within (suc n) kind place others octets fault le why =
-    front_from kind place others octets fault (front_option octets) refl why (λ place others after lt left. front_within n kind place others after fault (omega arith) left)
+    front_from kind place others octets fault (front_parameter octets) refl why (λ place others after lt left. front_within n kind place others after fault (omega arith) left)
 
-pub first_from_fault : (kind : PduKind) (first : ℕ) (octets : List ℕ) (fault : Fault) → options_fault kind first octets ≡ Some fault → IsFirstFault kind first octets fault
+pub first_from_fault : (kind : PduKind) (first : ℕ) (octets : List ℕ) (fault : Fault) → walked_fault kind first octets ≡ Some fault → IsFirstFault kind first octets fault
 first_from_fault kind first octets fault why =
     let front = front_within (length octets) kind first [] octets fault (omega arith) why in
     let fine : (before after : List Parameter) (option : Parameter) → front.0 ≡ before ++ option ∷ after → IsFine kind before option =

@@ -5,11 +5,11 @@ use Rattle.std.specs.List.{list_any}
 use Rattle.std.proofs.lemmas.List.{map-append}
 use Rattle.std.proofs.lemmas.Option.{same_Some}
 use Rattle.std.proofs.lemmas.List.Elements.{All-head, All-tail, All-append, All-cons}
-use Rattle.clnp_options.specs.declared.fault.PduKind.{PduKind}
-use Rattle.clnp_options.specs.declared.fault.PduKind.TheVariants.{Er}
-use Rattle.clnp_options.specs.declared.option.TheConstants.{SOURCE_ROUTING, RECORDING, REASON}
-use Rattle.clnp_options.specs.Options.{Parameter, value_of}
-use Rattle.clnp_options.specs.Grammar.{AreAllowed, IsOnce, has, IsKnown, Padding, Route, Record, Quality, Priority, Discarded}
+use Rattle.clnp_options.specs.declared.reason.PduKind.{PduKind}
+use Rattle.clnp_options.specs.declared.reason.PduKind.TheVariants.{Er}
+use Rattle.pdu_parts.specs.Parameter.{Parameter}
+use Rattle.clnp_options.specs.Options.{value_of, has}
+use Rattle.clnp_options.specs.Grammar.{AreAllowed, IsOnce, IsKnown, Padding, Route, Record, Quality, Priority, Discarded}
 use Rattle.clnp_options.specs.SourceRoute.{HasSourceRoute}
 use Rattle.clnp_options.specs.Recording.{IsRecording}
 use Rattle.clnp_options.proofs.Routes.{All-left, All-right}
@@ -33,7 +33,7 @@ found_known kind (option ∷ options) code value known found =
           found_known kind options code value (All-tail (IsKnown kind) option options known) (sym later ∙ found)
     ]
 
-pub known_route : (kind : PduKind) (value : List ℕ) → IsKnown kind (option_of SOURCE_ROUTING value) → HasSourceRoute value
+pub known_route : (kind : PduKind) (value : List ℕ) → IsKnown kind (option_of 0xc8 value) → HasSourceRoute value
 known_route kind value (Padding code) = absurd (omega arith)
 known_route kind value (Route code route) = route
 known_route kind value (Record code recording) = absurd (omega arith)
@@ -41,7 +41,7 @@ known_route kind value (Quality code some) = absurd (omega arith)
 known_route kind value (Priority code one) = absurd (omega arith)
 known_route kind value (Discarded code er two) = absurd (omega arith)
 
-pub known_recording : (kind : PduKind) (value : List ℕ) → IsKnown kind (option_of RECORDING value) → IsRecording value
+pub known_recording : (kind : PduKind) (value : List ℕ) → IsKnown kind (option_of 0xcb value) → IsRecording value
 known_recording kind value (Padding code) = absurd (omega arith)
 known_recording kind value (Route code route) = absurd (omega arith)
 known_recording kind value (Record code recording) = recording
@@ -49,7 +49,7 @@ known_recording kind value (Quality code some) = absurd (omega arith)
 known_recording kind value (Priority code one) = absurd (omega arith)
 known_recording kind value (Discarded code er two) = absurd (omega arith)
 
-pub known_reason : (kind : PduKind) (value : List ℕ) → IsKnown kind (option_of REASON value) → (kind ≡ Er) × (length value ≡ 2)
+pub known_reason : (kind : PduKind) (value : List ℕ) → IsKnown kind (option_of 0xc1 value) → (kind ≡ Er) × (length value ≡ 2)
 known_reason kind value (Padding code) = absurd (omega arith)
 known_reason kind value (Route code route) = absurd (omega arith)
 known_reason kind value (Record code recording) = absurd (omega arith)
@@ -127,8 +127,8 @@ allowed_changed kind before after option changed allowed same known =
           (All-cons (IsKnown kind) changed after known (All-tail (IsKnown kind) option after (All-right (IsKnown kind) before (option ∷ after) allowed.known)));
       once = once_by_codes (before ++ option ∷ after) (before ++ changed ∷ after) codes allowed.once;
       reason = λ er.
-          has_among REASON (before ++ changed ∷ after)
-          ∙ ap (among REASON) (sym codes)
-          ∙ sym (has_among REASON (before ++ option ∷ after))
+          has_among 0xc1 (before ++ changed ∷ after)
+          ∙ ap (among 0xc1) (sym codes)
+          ∙ sym (has_among 0xc1 (before ++ option ∷ after))
           ∙ allowed.reason er;
     }

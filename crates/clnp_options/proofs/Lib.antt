@@ -1,11 +1,13 @@
+pub mod Allowing
 pub mod Codes
 pub mod Entries
-pub mod Laws
+pub mod FirstFault
+pub mod Found
+pub mod Moves
+pub mod Reasons
 pub mod Routes
 pub mod Steps
+pub mod Tables
 pub mod Values
 pub mod Walk
 pub mod Written
-pub mod Moves
-pub mod FirstFault
-pub mod Found

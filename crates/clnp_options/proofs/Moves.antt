@@ -1,11 +1,11 @@
--- Changes in place: the value is cut at its offset, and what the offset then counts is one entry more.
-use Rattle.std.proofs.Common.{◌≡◌, ℕ, ◌+◌, ◌-◌, ◌<◌, ◌≤◌, ◌||◌, cond, eqb, ltb, false, List, [], ◌∷◌, ◌++◌, length, take, drop, set, get_or, slice_get, Option, Some, None, refl, sym, ap, ◌∙◌, subst, arith, All, inl, inr}
+-- Changes in place: the value is cut at its offset, and what the offset then counts is one field more.
+use Rattle.std.proofs.Common.{◌≡◌, ℕ, ◌+◌, ◌-◌, ◌<◌, ◌≤◌, List, [], ◌∷◌, ◌++◌, length, take, drop, set, get_or, slice_get, option_map, Option, Some, None, refl, sym, ap, ◌∙◌, subst, arith, All, inl, inr}
 use Rattle.std.specs.Prelude.{IsSome, ◌↔◌}
-use Rattle.std.proofs.lemmas.Bool.{false≢true, ne_eqb, le-ltb, cases_eq}
+use Rattle.std.proofs.lemmas.Bool.{false≢true, cases_eq}
 use Rattle.std.proofs.lemmas.List.{append_assoc, append-nil, length-append, length-set, length-drop, take_at, drop_at, drop-drop, get_or-drop}
 use Rattle.std.proofs.lemmas.List.Elements.{All-append, All-cons, All-nil}
-use Rattle.std.proofs.lemmas.Option.{same_Some}
-use Rattle.clnp_options.specs.Titles.{IsTitle, entry, entries, front_title}
+use Rattle.pdu_parts.specs.Field.{IsAddress, field, address_at}
+use Rattle.clnp_options.specs.Titles.{entries}
 use Rattle.clnp_options.specs.SourceRoute.{SourceRoute, IsSourceRoute, HasSourceRoute, IsOnTheWay, moved}
 use Rattle.clnp_options.specs.Recording.{Recording, IsOpen, IsRecording, recording_octets, with_title}
 use Rattle.clnp_options.proofs.Entries.{entries-append, some_entries, some_octets, title_again}
@@ -31,7 +31,7 @@ pub length_is : (value : List ℕ) (route : SourceRoute) → IsSourceRoute value
 length_is value route is =
     ap length is.parts ∙ omega (arith, ap length (entries-append route.passed route.ahead), length-append (entries route.passed) (entries route.ahead))
 
--- the length at the offset, and where the entry ends
+-- the length at the offset, and where the field ends
 pub record Moves (value : List ℕ) (len : ℕ) : Type 0 where
   pub length_there : get_or value (get_or value 1 0 - 1) 0 ≡ len
   pub within : get_or value 1 0 + (len + 1) ≤ 255
@@ -66,11 +66,11 @@ moved_at value kind passed (title ∷ rest) is some =
     let offset : ℕ = get_or value 1 0 + (get_or value (get_or value 1 0 - 1) 0 + 1) in
     let same : (passed ++ title ∷ []) ++ rest ≡ passed ++ (title ∷ rest) = append_assoc passed (title ∷ []) rest in
     let counted : offset ≡ 3 + length (entries (passed ++ title ∷ [])) =
-    omega (arith, there.length_there, offset_is value route is, ap length (entries-append passed (title ∷ [])), length-append (entries passed) (entries (title ∷ [])), ap length (append-nil (entry title))) in
+    omega (arith, there.length_there, offset_is value route is, ap length (entries-append passed (title ∷ [])), length-append (entries passed) (entries (title ∷ [])), ap length (append-nil (field title))) in
     record {
       kind = is.kind;
       some = subst (λ (titles : List (List ℕ)). 0 < length titles) (sym same) is.some;
-      titles = subst (All IsTitle) (sym same) is.titles;
+      titles = subst (All IsAddress) (sym same) is.titles;
       parts =
           ap (λ (xs : List ℕ). set xs 1 offset) is.parts
           ∙ ap (λ (n : ℕ). kind ∷ n ∷ entries (passed ++ (title ∷ rest))) counted
@@ -87,35 +87,16 @@ moved_is value route way is =
 
 -- ---- the next hop
 
-first_title : (titles : List (List ℕ)) → All IsTitle titles → (found : Option (List ℕ × List ℕ)) → found ≡ front_title (entries titles)
-    → (title : List ℕ) (after : List ℕ) → found ≡ Some (title, after) → IsTitle title × (Some title ≡ slice_get titles 0)
-first_title [] each found same title after is = absurd cc
-first_title (title' ∷ titles) each found same title after is =
-    let is_title : IsTitle title' = each 0 title' (omega arith) in
-    let again : ◌≡◌ {A = Option (List ℕ × List ℕ)} (Some (title, after)) (Some (title', entries titles)) = sym is ∙ same ∙ title_again title' (entries titles) is_title in
-    let wanted : List ℕ × List ℕ = (title, after) in
-    let made : List ℕ × List ℕ = (title', entries titles) in
-    let pair : ◌≡◌ {A = List ℕ × List ℕ} wanted made = same_Some {A = List ℕ × List ℕ} wanted made again in
-    let first : title ≡ title' = ap (λ (x : List ℕ × List ℕ). x.0) pair in
-    (subst IsTitle (sym first) is_title, ap (λ (x : List ℕ). Some x) first)
+hop_at : (titles : List (List ℕ)) → All IsAddress titles → option_map (λ (x : List ℕ × List ℕ). x.0) (address_at (entries titles)) ≡ slice_get titles 0
+unfolding address_at
+hop_at [] each = refl
+hop_at (title ∷ titles) each = ap (option_map (λ (x : List ℕ × List ℕ). x.0)) (title_again title (entries titles) (each 0 title (omega arith)))
 
-none_ahead : (titles : List (List ℕ)) → All IsTitle titles → None ≡ front_title (entries titles) → None ≡ slice_get titles 0
-none_ahead [] each none = refl
-none_ahead (title ∷ titles) each none =
-    absurd (let again : front_title (entries (title ∷ titles)) ≡ Some (title, entries titles) = title_again title (entries titles) (each 0 title (omega arith)) in cc)
-
-pub hop_none : (value rest : List ℕ) (route : SourceRoute) → rest ≡ drop (get_or value 1 0 - 1) value → None ≡ front_title rest → IsSourceRoute value route
-    → None ≡ slice_get route.ahead 0
-hop_none value rest route same none is =
-    none_ahead route.ahead (All-right IsTitle route.passed route.ahead is.titles) (none ∙ ap front_title (same ∙ ahead_is value route is))
-
-pub hop_some : (value rest title after : List ℕ) (hop : Option (List ℕ)) (route : SourceRoute) → rest ≡ drop (get_or value 1 0 - 1) value → Some (title, after) ≡ front_title rest
-    → hop ≡ cond (eqb (length title) 0 || ltb 20 (length title)) None (Some title) → IsSourceRoute value route → hop ≡ slice_get route.ahead 0
-hop_some value rest title after hop route same found made is =
-    let first = first_title route.ahead (All-right IsTitle route.passed route.ahead is.titles) (Some (title, after)) (found ∙ ap front_title (same ∙ ahead_is value route is)) title after refl in
-    let some : eqb (length title) 0 ≡ false = ne_eqb (length title) 0 (λ e. absurd (omega (arith, first.0.least, e))) in
-    let most : ltb 20 (length title) ≡ false = le-ltb 20 (length title) first.0.most in
-    made ∙ rw (some, most) first.1
+pub hop_is : (value rest : List ℕ) (route : SourceRoute) → rest ≡ drop (get_or value 1 0 - 1) value → IsSourceRoute value route
+    → option_map (λ (x : List ℕ × List ℕ). x.0) (address_at rest) ≡ slice_get route.ahead 0
+hop_is value rest route same is =
+    ap (λ (xs : List ℕ). option_map (λ (x : List ℕ × List ℕ). x.0) (address_at xs)) (same ∙ ahead_is value route is)
+    ∙ hop_at route.ahead (All-right IsAddress route.passed route.ahead is.titles)
 
 -- ---- recordings
 
@@ -143,10 +124,10 @@ ends_valid value is =
       },
     )
 
--- the value after an entry was written at the offset and the offset moved past it
+-- the value after an field was written at the offset and the offset moved past it
 abbrev pub recorded_at : List ℕ → ℕ → List ℕ → List ℕ
 recorded_at value position title =
-    set (take position value ++ (entry title ++ drop (position + (length title + 1)) value)) 1 (position + (length title + 1) + 1)
+    set (take position value ++ (field title ++ drop (position + (length title + 1)) value)) 1 (position + (length title + 1) + 1)
 
 pub recorded_is : (value title : List ℕ) (position : ℕ) (recording : Recording) → IsOpen value recording → position ≡ get_or value 1 0 - 1
     → recorded_at value position title ≡ recording_octets (with_title recording title)
@@ -161,17 +142,17 @@ recorded_is value title position recording is at_offset =
     sym (drop-drop (length title + 1) position value)
     ∙ ap (drop (length title + 1)) (ap (drop position) parted ∙ drop_at front recording.space position len)
     ∙ ap (λ (n : ℕ). drop n recording.space) (omega arith) in
-    let more : entries (recording.recorded ++ title ∷ []) ≡ old ++ entry title =
-    entries-append recording.recorded (title ∷ []) ∙ ap (λ (xs : List ℕ). old ++ xs) (append-nil (entry title)) in
+    let more : entries (recording.recorded ++ title ∷ []) ≡ old ++ field title =
+    entries-append recording.recorded (title ∷ []) ∙ ap (λ (xs : List ℕ). old ++ xs) (append-nil (field title)) in
     let rest : List ℕ = drop (1 + length title) recording.space in
     let counted : position + (length title + 1) + 1 ≡ 3 + length (entries (recording.recorded ++ title ∷ [])) =
-    omega (arith, len, ap length more, length-append old (entry title)) in
-    ap (λ (xs : List ℕ). set (xs ++ (entry title ++ drop (position + (length title + 1)) value)) 1 (position + (length title + 1) + 1)) taken
-    ∙ ap (λ (xs : List ℕ). recording.kind ∷ (position + (length title + 1) + 1) ∷ (old ++ (entry title ++ xs))) dropped
-    ∙ ap (λ (xs : List ℕ). recording.kind ∷ (position + (length title + 1) + 1) ∷ xs) (sym (append_assoc old (entry title) rest) ∙ ap (λ (xs : List ℕ). xs ++ rest) (sym more))
+    omega (arith, len, ap length more, length-append old (field title)) in
+    ap (λ (xs : List ℕ). set (xs ++ (field title ++ drop (position + (length title + 1)) value)) 1 (position + (length title + 1) + 1)) taken
+    ∙ ap (λ (xs : List ℕ). recording.kind ∷ (position + (length title + 1) + 1) ∷ (old ++ (field title ++ xs))) dropped
+    ∙ ap (λ (xs : List ℕ). recording.kind ∷ (position + (length title + 1) + 1) ∷ xs) (sym (append_assoc old (field title) rest) ∙ ap (λ (xs : List ℕ). xs ++ rest) (sym more))
     ∙ ap (λ (n : ℕ). recording.kind ∷ n ∷ (entries (recording.recorded ++ title ∷ []) ++ rest)) counted
 
-open_or_ended : (value : List ℕ) (recording : Recording) → recording.kind ≤ 1 → All IsTitle recording.recorded → value ≡ recording_octets recording
+open_or_ended : (value : List ℕ) (recording : Recording) → recording.kind ≤ 1 → All IsAddress recording.recorded → value ≡ recording_octets recording
     → length value < 255 → 3 + length (entries recording.recorded) ≤ 255 → IsRecording value
 open_or_ended value recording kind each parts short le =
     elim (cases_eq (3 + length (entries recording.recorded)) 255) as (λ _. IsRecording value) [
@@ -187,7 +168,7 @@ open_or_ended value recording kind each parts short le =
       | inr other ↦ inl (recording, record { kind = kind; titles = each; parts = parts; goes_on = omega (arith, other); short = short })
     ]
 
-open_valid : (value title : List ℕ) (position : ℕ) (recording : Recording) → IsOpen value recording → IsTitle title → position ≡ get_or value 1 0 - 1
+open_valid : (value title : List ℕ) (position : ℕ) (recording : Recording) → IsOpen value recording → IsAddress title → position ≡ get_or value 1 0 - 1
     → position + (length title + 1) ≤ length value → IsRecording (recorded_at value position title)
 open_valid value title position recording is is_title at_offset within =
     let now : Recording = with_title recording title in
@@ -195,18 +176,18 @@ open_valid value title position recording is is_title at_offset within =
     let old = entries recording.recorded in
     let offset : get_or value 1 0 ≡ 3 + length old = ap (λ (xs : List ℕ). get_or xs 1 0) is.parts in
     let more : length (entries (recording.recorded ++ title ∷ [])) ≡ length old + (1 + length title) =
-    ap length (entries-append recording.recorded (title ∷ [])) ∙ length-append old (entries (title ∷ [])) ∙ omega (arith, ap length (append-nil (entry title))) in
+    ap length (entries-append recording.recorded (title ∷ [])) ∙ length-append old (entries (title ∷ [])) ∙ omega (arith, ap length (append-nil (field title))) in
     let whole : length value ≡ 2 + (length old + length recording.space) = ap length is.parts ∙ omega (arith, length-append old recording.space) in
     let left : length (drop (1 + length title) recording.space) ≡ length recording.space - (1 + length title) = length-drop (1 + length title) recording.space in
     let total : length (recorded_at value position title) ≡ length value =
     ap length same ∙ omega (arith, length-append (entries (recording.recorded ++ title ∷ [])) (drop (1 + length title) recording.space), more, whole, left, offset, at_offset, within) in
-    open_or_ended (recorded_at value position title) now is.kind (All-append IsTitle recording.recorded (title ∷ []) is.titles (All-cons IsTitle title [] is_title (All-nil IsTitle)))
+    open_or_ended (recorded_at value position title) now is.kind (All-append IsAddress recording.recorded (title ∷ []) is.titles (All-cons IsAddress title [] is_title (All-nil IsAddress)))
     same (omega (arith, total, is.short)) (omega (arith, more, offset, at_offset, within, is.short))
 
 pub recorded_valid : (value title : List ℕ) (position : ℕ) → IsRecording value → (get_or value 1 0 ≡ 255 → ⊥) → 0 < length title → length title ≤ 20 → position ≡ get_or value 1 0 - 1
     → position + (length title + 1) ≤ length value → IsRecording (recorded_at value position title)
 recorded_valid value title position (inl going) other least most at_offset within =
-    open_valid value title position going.0 going.1 (record { least = least; most = most }) at_offset within
+    open_valid value title position going.0 going.1 (record { some = least; most = most }) at_offset within
 recorded_valid value title position (inr ended) other least most at_offset within =
     absurd (other (ap (λ (xs : List ℕ). get_or xs 1 0) ended.2.parts))
 

@@ -4,7 +4,8 @@ use Rattle.std.specs.Prelude.{nat_le, nat_lt}
 use Rattle.std.proofs.lemmas.Bool.{leb-true, le-leb, lt-ltb, ltb-true, and_parts, and_from, or_right, eqb-true, eqb-false, cases_Bool}
 use Rattle.std.proofs.lemmas.List.{take-append-drop, length-append, drop_at, get_or_append_left}
 use Rattle.std.proofs.lemmas.List.Elements.{All-append}
-use Rattle.clnp_options.specs.Titles.{IsTitle, entries, are_entries, are_entries_to}
+use Rattle.pdu_parts.specs.Field.{IsAddress}
+use Rattle.clnp_options.specs.Titles.{entries, are_entries, are_entries_to}
 use Rattle.clnp_options.specs.SourceRoute.{SourceRoute, IsSourceRoute, HasSourceRoute, is_source_route}
 use Rattle.clnp_options.specs.Recording.{Recording, IsOpen, IsEnded, IsRecording, is_recording}
 use Rattle.clnp_options.proofs.Entries.{entries_again, titles_of, entries-append, some_entries, some_octets, fills_to, fills_again}
@@ -36,7 +37,7 @@ route_found (kind ∷ offset ∷ octets) holds =
       record {
         kind = leb-true kind 1 p0.0;
         some = some_entries (passed.0 ++ ahead.0) (omega (arith, ap length filled, ltb-true 0 (length octets) p1.1));
-        titles = All-append IsTitle passed.0 ahead.0 passed.1.each ahead.1.each;
+        titles = All-append IsAddress passed.0 ahead.0 passed.1.each ahead.1.each;
         parts = ap (λ (n : ℕ). kind ∷ n ∷ octets) passed.1.offset_is ∙ ap (λ (xs : List ℕ). kind ∷ (3 + length (entries passed.0)) ∷ xs) filled;
         short = omega (arith, ltb-true (length octets) 253 p0.1);
       },
@@ -51,10 +52,10 @@ route_again value route is =
     let count : (3 + length passed) - 3 ≡ length passed = omega arith in
     let len : length value ≡ 2 + length octets = ap length is.parts ∙ omega arith in
     let fills : are_entries_to (3 + length passed) octets ≡ true =
-    ap (are_entries_to (3 + length passed)) parted ∙ fills_again route.passed ahead (All-left IsTitle route.passed route.ahead is.titles) in
+    ap (are_entries_to (3 + length passed)) parted ∙ fills_again route.passed ahead (All-left IsAddress route.passed route.ahead is.titles) in
     let rest : are_entries (drop ((3 + length passed) - 3) octets) ≡ true =
     ap are_entries (ap (λ (n : ℕ). drop n octets) count ∙ ap (drop (length passed)) parted ∙ drop_at passed ahead (length passed) refl)
-    ∙ entries_again route.ahead (All-right IsTitle route.passed route.ahead is.titles) in
+    ∙ entries_again route.ahead (All-right IsAddress route.passed route.ahead is.titles) in
     ap is_source_route is.parts
     ∙ and_from _ _ (and_from _ _ (and_from _ _ (and_from _ _ (le-leb route.kind 1 is.kind) (lt-ltb (length octets) 253 (omega (arith, is.short, len)))) (lt-ltb 0 (length octets) (some_octets (route.passed ++ route.ahead) is.some))) fills) rest
 

@@ -2,8 +2,8 @@
 use Rattle.std.proofs.Common.{◌≡◌, ℕ, ◌+◌, ◌≤◌, List, [], ◌∷◌, ◌++◌, length, take, drop, refl, sym, ap, ◌∙◌, arith}
 use Rattle.std.specs.Prelude.{slice_range}
 use Rattle.std.proofs.lemmas.List.{append_assoc, length-append, length-take-le, length-drop, take_at, drop_at, take-append-drop, drop-drop}
-use Rattle.clnp_options.specs.declared.fault.PduKind.{PduKind}
-use Rattle.clnp_options.specs.Options.{Parameter, spelled_one, spelled}
+use Rattle.clnp_options.specs.declared.reason.PduKind.{PduKind}
+use Rattle.pdu_parts.specs.Parameter.{Parameter, spelled_one, spelled}
 use Rattle.clnp_options.specs.Grammar.{AreAllowed, IsOptions}
 use Rattle.clnp_options.specs.Writing.{AreWritten}
 

@@ -1,101 +1,82 @@
 -- What is wrong with an options part: the first fault in order (X.233, reason for discard).
-use Rattle.std.specs.Prelude.{◌≡◌, ℕ, ◌+◌, ◌<◌, ◌==◌, All, List, [], ◌∷◌, ◌++◌, length, Bool, true, false, not, ◌&&◌, nat_lt, if◌then◌else◌, option_map, Option, Some, None, Result, Ok, Err}
-use Rattle.clnp_options.specs.declared.fault.Fault.{Fault}
-use Rattle.clnp_options.specs.declared.fault.PduKind.{PduKind}
-use Rattle.clnp_options.specs.declared.fault.PduKind.TheVariants.{Dt, Er}
-use Rattle.clnp_options.specs.declared.fault.TheConstants.{HEADER_SYNTAX, DUPLICATE_OPTION, SOURCE_ROUTING_SYNTAX, UNSUPPORTED_OPTION, UNSUPPORTED_SECURITY}
-use Rattle.clnp_options.specs.declared.option.TheConstants.{PADDING, SECURITY, SOURCE_ROUTING, RECORDING, QUALITY, PRIORITY, REASON}
-use Rattle.clnp_options.specs.Options.{Parameter, spelled_one, spelled, options_in}
-use Rattle.clnp_options.specs.Grammar.{has, IsKnown, IsOnce}
+use Rattle.std.specs.Prelude.{◌≡◌, ℕ, ◌+◌, ◌<◌, ◌==◌, All, List, [], ◌∷◌, ◌++◌, length, Bool, true, false, not, ◌&&◌, nat_lt, nat_le, if◌then◌else◌, option_map, Option, Some, None}
+use Rattle.pdu_parts.specs.FirstFault.{must, first_failing}
+use Rattle.pdu_parts.specs.Parameter.{Parameter, spelled_one, spelled, parameters_in}
+use Rattle.clnp_options.specs.declared.reason.Fault.{Fault}
+use Rattle.clnp_options.specs.declared.reason.PduKind.{PduKind}
+use Rattle.clnp_options.specs.declared.reason.PduKind.TheVariants.{Dt, Er}
+use Rattle.clnp_options.specs.declared.reason.Reason.{Reason}
+use Rattle.clnp_options.specs.declared.reason.Reason.TheVariants.{HeaderSyntax, DuplicateOption, SourceRoutingSyntax, UnsupportedOption, UnsupportedSecurity}
+use Rattle.clnp_options.specs.Options.{has}
+use Rattle.clnp_options.specs.Grammar.{IsKnown, IsOnce}
 use Rattle.clnp_options.specs.SourceRoute.{is_source_route}
 use Rattle.clnp_options.specs.Recording.{is_recording}
 
--- a reason where the test fails
-abbrev pub reason_unless : Bool → ℕ → Option ℕ
-reason_unless holds reason = if holds then None else Some reason
+-- a fault at a place. Whether it is reportable is for the header to say
+abbrev pub fault_at : ℕ → Reason → Fault
+fault_at place reason = record { reason = reason; place = place; reportable = false }
 
--- only an error report gives a reason for discard
-abbrev pub discard_reason : PduKind → List ℕ → Option ℕ
-discard_reason Dt value = Some UNSUPPORTED_OPTION
-discard_reason Er value = reason_unless (length value == 2) HEADER_SYNTAX
+-- what must hold of a reason for discard: only an error report gives one
+abbrev pub discard_step : PduKind → List ℕ → Option Reason
+discard_step Dt value = Some UnsupportedOption
+discard_step Er value = must (length value == 2) HeaderSyntax
 
--- what is wrong with an option by itself
-unfoldable pub value_reason : PduKind → Parameter → Option ℕ
-value_reason kind option =
-    if option.code == PADDING then None
-    else if option.code == SECURITY then Some UNSUPPORTED_SECURITY
-    else if option.code == SOURCE_ROUTING then reason_unless (is_source_route option.value) SOURCE_ROUTING_SYNTAX
-    else if option.code == RECORDING then reason_unless (is_recording option.value) HEADER_SYNTAX
-    else if option.code == QUALITY then reason_unless (nat_lt 0 (length option.value)) HEADER_SYNTAX
-    else if option.code == PRIORITY then reason_unless (length option.value == 1) HEADER_SYNTAX
-    else if option.code == REASON then discard_reason kind option.value
-    else Some UNSUPPORTED_OPTION
+-- what must hold of an option by itself, by its code
+unfoldable pub value_step : PduKind → Parameter → Option Reason
+value_step kind option =
+    if option.code == 0xcc then None
+    else if option.code == 0xc5 then Some UnsupportedSecurity
+    else if option.code == 0xc8 then must (is_source_route option.value) SourceRoutingSyntax
+    else if option.code == 0xcb then must (is_recording option.value) HeaderSyntax
+    else if option.code == 0xc3 then must (nat_lt 0 (length option.value)) HeaderSyntax
+    else if option.code == 0xcd then must (length option.value == 1) HeaderSyntax
+    else if option.code == 0xc1 then discard_step kind option.value
+    else Some UnsupportedOption
 
 -- the code stood before, padding excepted
 abbrev pub is_repeated : List Parameter → ℕ → Bool
-is_repeated before code = not (code == PADDING) && has code before
+is_repeated before code = not (code == 0xcc) && has code before
 
--- what is wrong with an option that stands after others: its code stood before, or its value
-unfoldable pub option_reason : PduKind → List Parameter → Parameter → Option ℕ
-option_reason kind before option =
-    if is_repeated before option.code then Some DUPLICATE_OPTION
-    else value_reason kind option
+-- the steps of options that stand after others, the first of them at that place: of each its code, and then its value
+unfoldable pub each_steps : PduKind → ℕ → List Parameter → List Parameter → List (Option Fault)
+each_steps kind place before [] = []
+each_steps kind place before (option ∷ options) =
+    must (not (is_repeated before option.code)) (fault_at place DuplicateOption)
+    ∷ option_map (fault_at place) (value_step kind option)
+    ∷ each_steps kind (place + (length option.value + 2)) (before ++ option ∷ []) options
 
--- a fault at a place. Whether it is reportable is for the header to say
-abbrev pub fault_at : ℕ → ℕ → Fault
-fault_at place reason = record { reason = reason; place = place; reportable = false }
+-- an error report gives its reason
+abbrev pub gives_reason : PduKind → List Parameter → Bool
+gives_reason Dt options = true
+gives_reason Er options = has 0xc1 options
 
--- the first of two faults
-abbrev pub or_fault : Option Fault → Option Fault → Option Fault
-or_fault (Some fault) later = Some fault
-or_fault None later = later
+-- The steps of an options part whose first octet has that place in the header: option by option, then that no octet
+-- is left behind the options, and then that no option is missing.
+abbrev pub steps : PduKind → ℕ → List ℕ → List (Option Fault)
+steps kind first octets =
+    let options = parameters_in octets in
+    each_steps kind first [] options
+    ++ must (nat_le (length octets) (length (spelled options))) (fault_at (first + length (spelled options)) HeaderSyntax)
+    ∷ must (gives_reason kind options) (fault_at 0 HeaderSyntax)
+    ∷ []
 
--- the first fault of options that stand after others, the first of them at that place
-unfoldable pub each_fault : PduKind → ℕ → List Parameter → List Parameter → Option Fault
-each_fault kind place before [] = None
-each_fault kind place before (option ∷ options) =
-    or_fault (option_map (fault_at place) (option_reason kind before option))
-    (each_fault kind (place + (length option.value + 2)) (before ++ option ∷ []) options)
+-- the fault of the first step that fails
+unfoldable pub first_fault : PduKind → ℕ → List ℕ → Option Fault
+first_fault kind first octets = first_failing (steps kind first octets)
 
--- octets are left after these options: the option there does not fit
-abbrev pub cut_fault : ℕ → List ℕ → List Parameter → Option Fault
-cut_fault place octets options =
-    if nat_lt (length (spelled options)) (length octets) then Some (fault_at (place + length (spelled options)) HEADER_SYNTAX) else None
+abbrev pub IsOptionsFault : PduKind → ℕ → List ℕ → Fault → Type 0
+IsOptionsFault kind first octets fault = first_fault kind first octets ≡ Some fault
 
--- an error report has no reason for discard
-abbrev pub missing_fault : PduKind → List Parameter → Option Fault
-missing_fault Dt options = None
-missing_fault Er options = if has REASON options then None else Some (fault_at 0 HEADER_SYNTAX)
-
--- the first fault of the octets that stand after other options, the first of them at that place
-unfoldable pub fault_after : PduKind → ℕ → List Parameter → List ℕ → Option Fault
-fault_after kind place before octets =
-    or_fault (each_fault kind place before (options_in octets))
-    (or_fault (cut_fault place octets (options_in octets)) (missing_fault kind (before ++ options_in octets)))
-
--- the first fault of an options part whose first octet has that place in the header: option by option, and then what is missing
-abbrev pub options_fault : PduKind → ℕ → List ℕ → Option Fault
-options_fault kind first octets = fault_after kind first [] octets
-
--- a position, unless there is a reason against it
-abbrev pub position_unless : ℕ → Option ℕ → Result ℕ ℕ
-position_unless position None = Ok position
-position_unless position (Some reason) = Err reason
-
--- the position after the option that was found, or the reason of its fault
-abbrev pub position_after : PduKind → ℕ → List Parameter → Option (Parameter × List ℕ) → Result ℕ ℕ
-position_after kind at before None = Err HEADER_SYNTAX
-position_after kind at before (Some found) = position_unless (at + (length found.0.value + 2)) (option_reason kind before found.0)
-
--- What is wrong where options without a fault end: no option fits, its code stood before, its value is not of its form, or the reason of an error report is missing.
+-- What is wrong where options without a fault end: no option fits, its code stood before, its value is not of its form,
+-- or the reason of an error report is missing.
 pub data IsFaultAfter (kind : PduKind) (place : ℕ) (before : List Parameter) (rest : List ℕ) (fault : Fault) : Type 0 where
   Unfit : 0 < length rest → ((option : Parameter) (after : List ℕ) → rest ≡ spelled_one option ++ after → ⊥)
-      → fault ≡ fault_at place HEADER_SYNTAX → IsFaultAfter kind place before rest fault
-  Twice : (option : Parameter) (after : List ℕ) → rest ≡ spelled_one option ++ after → has option.code before ≡ true → (option.code ≡ PADDING → ⊥)
-      → fault ≡ fault_at place DUPLICATE_OPTION → IsFaultAfter kind place before rest fault
-  Unknown : (option : Parameter) (after : List ℕ) (reason : ℕ) → rest ≡ spelled_one option ++ after → (has option.code before ≡ true → option.code ≡ PADDING)
-      → value_reason kind option ≡ Some reason → fault ≡ fault_at place reason → IsFaultAfter kind place before rest fault
-  Missing : rest ≡ [] → kind ≡ Er → has REASON before ≡ false → fault ≡ fault_at 0 HEADER_SYNTAX → IsFaultAfter kind place before rest fault
+      → fault ≡ fault_at place HeaderSyntax → IsFaultAfter kind place before rest fault
+  Twice : (option : Parameter) (after : List ℕ) → rest ≡ spelled_one option ++ after → has option.code before ≡ true → (option.code ≡ 0xcc → ⊥)
+      → fault ≡ fault_at place DuplicateOption → IsFaultAfter kind place before rest fault
+  Unknown : (option : Parameter) (after : List ℕ) (reason : Reason) → rest ≡ spelled_one option ++ after → (has option.code before ≡ true → option.code ≡ 0xcc)
+      → value_step kind option ≡ Some reason → fault ≡ fault_at place reason → IsFaultAfter kind place before rest fault
+  Missing : rest ≡ [] → kind ≡ Er → has 0xc1 before ≡ false → fault ≡ fault_at 0 HeaderSyntax → IsFaultAfter kind place before rest fault
 
 -- The octets begin with options that have no fault, and what stands after them has this one.
 pub record IsFirstFault (kind : PduKind) (first : ℕ) (octets : List ℕ) (fault : Fault) : Type 0 where

@@ -1,8 +1,9 @@
 pub mod Faults
 pub mod Grammar
-pub mod Listed
 pub mod Options
+pub mod Reasons
 pub mod Recording
 pub mod SourceRoute
 pub mod Titles
 pub mod Writing
+pub mod steps

@@ -1,6 +1,7 @@
 -- The value of the option on recording of route (X.233, record route): kind, offset, the entries recorded, and space.
 use Rattle.std.specs.Prelude.{◌≡◌, ℕ, ◌+◌, ◌<◌, ◌≤◌, ◌==◌, ◌⊎◌, List, [], ◌∷◌, ◌++◌, length, drop, Bool, false, ◌&&◌, ◌||◌, nat_lt, nat_le, All}
-use Rattle.clnp_options.specs.Titles.{IsTitle, entries, are_entries_to}
+use Rattle.pdu_parts.specs.Field.{IsAddress}
+use Rattle.clnp_options.specs.Titles.{entries, are_entries_to}
 
 -- a recording that goes on: its kind (0 partial, 1 complete), the titles recorded, and the octets of space after them
 pub record Recording : Type 0 where
@@ -20,7 +21,7 @@ with_title recording title = record recording { recorded = recording.recorded ++
 -- The value is that recording. The offset counts from 1 over the value and is that of the space.
 pub record IsOpen (value : List ℕ) (recording : Recording) : Type 0 where
   pub kind : recording.kind ≤ 1
-  pub titles : All IsTitle recording.recorded
+  pub titles : All IsAddress recording.recorded
   pub parts : value ≡ recording_octets recording
   pub goes_on : 3 + length (entries recording.recorded) < 255
   pub short : length value < 255

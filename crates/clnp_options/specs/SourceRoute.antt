@@ -1,6 +1,7 @@
 -- The value of the source routing option (X.233, source routing): kind, offset, and the entries of the route.
 use Rattle.std.specs.Prelude.{◌≡◌, ℕ, ◌+◌, ◌-◌, ◌<◌, ◌≤◌, List, [], ◌∷◌, ◌++◌, length, take, drop, Bool, false, ◌&&◌, nat_lt, nat_le, All}
-use Rattle.clnp_options.specs.Titles.{IsTitle, entries, are_entries, are_entries_to}
+use Rattle.pdu_parts.specs.Field.{IsAddress}
+use Rattle.clnp_options.specs.Titles.{entries, are_entries, are_entries_to}
 
 -- a route: its kind (0 partial, 1 complete), the titles that were passed, and those ahead, none where the route has expired
 pub record SourceRoute : Type 0 where
@@ -12,7 +13,7 @@ pub record SourceRoute : Type 0 where
 pub record IsSourceRoute (value : List ℕ) (route : SourceRoute) : Type 0 where
   pub kind : route.kind ≤ 1
   pub some : 0 < length (route.passed ++ route.ahead)
-  pub titles : All IsTitle (route.passed ++ route.ahead)
+  pub titles : All IsAddress (route.passed ++ route.ahead)
   pub parts : value ≡ route.kind ∷ (3 + length (entries route.passed)) ∷ entries (route.passed ++ route.ahead)
   pub short : length value < 255
 

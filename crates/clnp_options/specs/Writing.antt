@@ -1,6 +1,6 @@
 -- Options written in place.
 use Rattle.std.specs.Prelude.{◌≡◌, ℕ, ◌+◌, List, [], ◌∷◌, ◌++◌, length, take, drop}
-use Rattle.clnp_options.specs.Options.{Parameter, spelled_one}
+use Rattle.pdu_parts.specs.Parameter.{Parameter, spelled_one}
 
 -- the option stands at that position, and all octets before and after it stayed
 abbrev pub IsWritten : List ℕ → ℕ → Parameter → List ℕ → Type 0

@@ -1,26 +1,28 @@
 //! The options of a CLNP PDU (ISO/IEC 8473-1 and X.233, structure of PDUs, options part).
 #![tactic(auto)]
 
-mod fault;
+mod laws;
 mod option;
 mod reading;
+mod reason;
 mod recording;
 mod source_route;
 mod titles;
 mod writing;
 
-pub use fault::{
-    DUPLICATE_OPTION, Fault, HEADER_SYNTAX, PduKind, SOURCE_ROUTING_SYNTAX, UNSUPPORTED_OPTION,
-    UNSUPPORTED_SECURITY,
+pub use laws::{
+    changed_value, first_fault, known_values, list_or_fault, one_code, one_list, written_options,
 };
 pub use option::{
-    Opt, OptionsRef, PADDING, PRIORITY, QUALITY, REASON, RECORDING, SECURITY, SOURCE_ROUTING, get,
-    nth,
+    Options, OptionsRef, PADDING, PRIORITY, QUALITY, REASON, RECORDING, SECURITY, SOURCE_ROUTING,
+    get, nth,
 };
-pub use reading::{changed_value, first_fault, known_values, no_fault, one_list, read_options};
+pub use pdu_parts::ParameterRef as Opt;
+pub use reading::read_options;
+pub use reason::{Fault, PduKind, Reason};
 pub use recording::record_here;
 pub use source_route::{advance_source, next_source_hop};
-pub use writing::{TooSmall, write_option, written_options};
+pub use writing::{TooSmall, write_option};
 
 #[cfg(test)]
 mod tests;

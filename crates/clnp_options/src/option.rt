@@ -1,7 +1,9 @@
 //! One option and a list of options (X.233, options part).
 ghost use Rattle.std.specs.Prelude.{◌≡◌, option_map, slice_get};
-ghost use Rattle.clnp_options.specs.Options.{Parameter, front_option, value_of};
-ghost use Rattle.clnp_options.specs.Listed.{parameter_of, listed};
+ghost use Rattle.pdu_parts.specs.Lent.{parameter_of};
+ghost use Rattle.clnp_options.specs.Options.{left, listed, value_of};
+
+use pdu_parts::{ParameterRef as Opt, split_parameter};
 
 /// Padding, to bring the header to a length.
 pub const PADDING: u8 = 0xcc;
@@ -24,15 +26,6 @@ pub const PRIORITY: u8 = 0xcd;
 /// Reason for discard.
 pub const REASON: u8 = 0xc1;
 
-/// An option: `code, length, value` in the octets.
-#[derive(Clone, Copy, Debug, PartialEq, Eq)]
-pub struct Opt<'a> {
-    /// The parameter code.
-    pub code: u8,
-    /// The parameter value.
-    pub value: &'a [u8],
-}
-
 /// A checked options part. Contracts see it as the list of its options, `listed`.
 #[derive(Clone, Copy, Debug, PartialEq, Eq)]
 pub struct OptionsRef<'a> {
@@ -46,6 +39,36 @@ impl<'a> OptionsRef<'a> {
     {
         OptionsRef { octets }
     }
+
+    /// The options, in order.
+    pub fn iter(&self) -> Options<'a>
+        ensures { left result ≡ listed self.now }
+    {
+        Options { rest: self.octets }
+    }
+}
+
+/// The options that are left of a checked options part, in order.
+#[derive(Clone, Copy, Debug)]
+pub struct Options<'a> {
+    rest: &'a [u8],
+}
+
+impl<'a> Iterator for Options<'a> {
+    ghost use Rattle.std.specs.Iterator.{YieldsFirstBy, item_count};
+    ghost use Rattle.clnp_options.specs.Options.{left};
+
+    type Item = Opt<'a>;
+
+    ghost next_gives = { YieldsFirstBy parameter_of left };
+
+    ghost remaining = { item_count left };
+
+    fn next(&mut self) -> Option<Opt<'a>> {
+        let (option, after) = split_parameter(self.rest)?;
+        self.rest = after;
+        Some(option)
+    }
 }
 
 /// The value of the first option of that code. None exactly where there is none.
@@ -53,7 +76,7 @@ pub fn get<'a>(options: &OptionsRef<'a>, code: u8) -> Option<&'a [u8]>
     ensures { option_map (λ value. value.now) result ≡ value_of code (listed options.now) }
 {
     let mut rest = options.octets;
-    while let Some((option, after)) = split_option(rest) {
+    while let Some((option, after)) = split_parameter(rest) {
         if option.code == code {
             return Some(option.value);
         }
@@ -68,22 +91,9 @@ pub fn nth<'a>(options: &OptionsRef<'a>, index: usize) -> Option<Opt<'a>>
 {
     let mut rest = options.octets;
     for _ in 0..index {
-        let (_, after) = split_option(rest)?;
+        let (_, after) = split_parameter(rest)?;
         rest = after;
     }
-    let (option, _) = split_option(rest)?;
+    let (option, _) = split_parameter(rest)?;
     Some(option)
-}
-
-/// The option at the front of the octets, and the octets after it. None exactly where none stands there whole.
-pub(crate) fn split_option(octets: &[u8]) -> Option<(Opt<'_>, &[u8])>
-    ensures { option_map (λ x. (parameter_of x.0, x.1.now)) result ≡ front_option octets.now }
-{
-    match octets {
-        [code, len, rest @ ..] if usize::from(*len) <= rest.len() => {
-            let (value, after) = rest.split_at(usize::from(*len));
-            Some((Opt { code: *code, value }, after))
-        }
-        _ => None,
-    }
 }

@@ -1,24 +1,18 @@
 //! Reading of an options part, from the front (X.233, options part).
 //!
 //! Profile: the security option, and each option that is not named here, is a fault. In a data PDU so is a reason for discard.
-ghost use Rattle.std.specs.Prelude.{◌≡◌, ◌∷◌, ◌++◌, ◌↔◌, ℕ, ◌+◌, ◌<◌, ◌≤◌, List, length, take, drop, Some, None, IfOk, IfErr, IsOkAnd, MatchResult, is_some};
-ghost use Rattle.clnp_options.specs.declared.fault.PduKind.{PduKind};
-ghost use Rattle.clnp_options.specs.declared.fault.Fault.{Fault};
-ghost use Rattle.clnp_options.specs.SourceRoute.{HasSourceRoute};
-ghost use Rattle.clnp_options.specs.Recording.{IsRecording};
-ghost use Rattle.clnp_options.specs.Options.{Parameter, front_option, options_in, value_of};
-ghost use Rattle.clnp_options.specs.Listed.{parameter_of, listed};
-ghost use Rattle.clnp_options.specs.Grammar.{AreAllowed, IsOptions, IsKnown, has};
-ghost use Rattle.clnp_options.specs.Faults.{options_fault, IsFirstFault, option_reason, is_repeated, value_reason, position_after, discard_reason, reason_unless, missing_fault, fault_at};
+ghost use Rattle.std.specs.Prelude.{◌≡◌, ◌+◌, ◌<◌, ◌≤◌, List, length, take, drop, IfOk, IfErr, IsOkAnd, is_some};
+ghost use Rattle.pdu_parts.specs.FirstFault.{must};
+ghost use Rattle.pdu_parts.specs.Lent.{parameter_of};
+ghost use Rattle.pdu_parts.specs.Parameter.{Parameter, front_parameter, parameters_in};
+ghost use Rattle.clnp_options.specs.Options.{has, listed};
+ghost use Rattle.clnp_options.specs.Grammar.{IsOptions};
+ghost use Rattle.clnp_options.specs.Faults.{IsOptionsFault, IsFirstFault, discard_step, fault_at, is_repeated, value_step};
+ghost use Rattle.clnp_options.specs.steps.Walking.{Answers, missing_fault, option_reason, position_after};
 
-use crate::fault::{
-    DUPLICATE_OPTION, HEADER_SYNTAX, SOURCE_ROUTING_SYNTAX, UNSUPPORTED_OPTION,
-    UNSUPPORTED_SECURITY,
-};
-use crate::option::{
-    PADDING, PRIORITY, QUALITY, REASON, RECORDING, SECURITY, SOURCE_ROUTING, get, split_option,
-};
-use crate::{Fault, Opt, OptionsRef, PduKind, recording, source_route};
+use crate::option::{PADDING, PRIORITY, QUALITY, REASON, RECORDING, SECURITY, SOURCE_ROUTING, get};
+use crate::{Fault, Opt, OptionsRef, PduKind, Reason, recording, source_route};
+use pdu_parts::split_parameter;
 
 /// The options that the octets are. `first` is the place of the first octet in the header.
 ///
@@ -29,7 +23,7 @@ pub fn read_options(octets: &[u8], kind: PduKind, first: u8) -> Result<OptionsRe
     requires { first + length octets.now ≤ 255 }
     ensures ok { IfOk result (λ options. IsOptions kind octets.now (listed options)) }
     ensures only { (options : List Parameter) → IsOptions kind octets.now options → IsOkAnd result (λ found. listed found ≡ options) }
-    ensures fault { IfErr result (λ fault. options_fault kind first octets.now ≡ Some fault) }
+    ensures fault { IfErr result (λ fault. IsOptionsFault kind first octets.now fault) }
     ensures first { IfErr result (λ fault. IsFirstFault kind first octets.now fault) }
 {
     checked(octets, kind, first)
@@ -38,7 +32,7 @@ pub fn read_options(octets: &[u8], kind: PduKind, first: u8) -> Result<OptionsRe
 // The options, or the first fault.
 fn checked(octets: &[u8], kind: PduKind, first: u8) -> Result<OptionsRef<'_>, Fault>
     requires { first + length octets.now ≤ 255 }
-    ensures { MatchResult result (λ options. (options.octets.now ≡ octets.now) × (options_fault kind first octets.now ≡ None)) (λ fault. options_fault kind first octets.now ≡ Some fault) }
+    ensures { Answers kind first octets.now result }
 {
     let mut at = 0;
     while at < octets.len() {
@@ -49,18 +43,18 @@ fn checked(octets: &[u8], kind: PduKind, first: u8) -> Result<OptionsRef<'_>, Fa
     }
     let options = OptionsRef::of(octets);
     if lacks_reason(kind, &options) {
-        return Err(fault_of(0, HEADER_SYNTAX));
+        return Err(fault_of(0, Reason::HeaderSyntax));
     }
     Ok(options)
 }
 
 // The position after the option at `at`, or the reason of its fault.
-fn next_option(octets: &[u8], at: usize, kind: PduKind) -> Result<usize, u8>
+fn next_option(octets: &[u8], at: usize, kind: PduKind) -> Result<usize, Reason>
     requires { at < length octets.now }
-    ensures { result ≡ position_after kind at (options_in (take at octets.now)) (front_option (drop at octets.now)) }
+    ensures { result ≡ position_after kind at (parameters_in (take at octets.now)) (front_parameter (drop at octets.now)) }
 {
-    let Some((option, _)) = split_option(&octets[at..]) else {
-        return Err(HEADER_SYNTAX);
+    let Some((option, _)) = split_parameter(&octets[at..]) else {
+        return Err(Reason::HeaderSyntax);
     };
     let before = OptionsRef::of(&octets[..at]);
     match reason_of(kind, &before, &option) {
@@ -70,12 +64,12 @@ fn next_option(octets: &[u8], at: usize, kind: PduKind) -> Result<usize, u8>
 }
 
 // What is wrong with an option that stands after others.
-#[tactic(auto, unfolding(crate::specs::Faults::option_reason))]
-fn reason_of(kind: PduKind, before: &OptionsRef<'_>, option: &Opt<'_>) -> Option<u8>
+#[tactic(auto, unfolding(crate::specs::steps::Walking::option_reason))]
+fn reason_of(kind: PduKind, before: &OptionsRef<'_>, option: &Opt<'_>) -> Option<Reason>
     ensures { result ≡ option_reason kind (listed before.now) (parameter_of option.now) }
 {
     if is_repeat(before, option.code) {
-        return Some(DUPLICATE_OPTION);
+        return Some(Reason::DuplicateOption);
     }
     reason_of_value(kind, option)
 }
@@ -95,36 +89,36 @@ fn is_among(options: &OptionsRef<'_>, code: u8) -> bool
 }
 
 // What is wrong with an option by itself.
-#[tactic(auto, unfolding(crate::specs::Faults::value_reason))]
-fn reason_of_value(kind: PduKind, option: &Opt<'_>) -> Option<u8>
-    ensures { result ≡ value_reason kind (parameter_of option.now) }
+#[tactic(auto, unfolding(crate::specs::Faults::value_step))]
+fn reason_of_value(kind: PduKind, option: &Opt<'_>) -> Option<Reason>
+    ensures { result ≡ value_step kind (parameter_of option.now) }
 {
     let value = option.value;
     match option.code {
         PADDING => None,
-        SECURITY => Some(UNSUPPORTED_SECURITY),
-        SOURCE_ROUTING => unless(source_route::is_route(value), SOURCE_ROUTING_SYNTAX),
-        RECORDING => unless(recording::is_record(value), HEADER_SYNTAX),
-        QUALITY => unless(!value.is_empty(), HEADER_SYNTAX),
-        PRIORITY => unless(value.len() == 1, HEADER_SYNTAX),
+        SECURITY => Some(Reason::UnsupportedSecurity),
+        SOURCE_ROUTING => unless(source_route::is_route(value), Reason::SourceRoutingSyntax),
+        RECORDING => unless(recording::is_record(value), Reason::HeaderSyntax),
+        QUALITY => unless(!value.is_empty(), Reason::HeaderSyntax),
+        PRIORITY => unless(value.len() == 1, Reason::HeaderSyntax),
         REASON => reason_of_discard(kind, value),
-        _ => Some(UNSUPPORTED_OPTION),
+        _ => Some(Reason::UnsupportedOption),
     }
 }
 
 // Only an error report gives a reason for discard.
-fn reason_of_discard(kind: PduKind, value: &[u8]) -> Option<u8>
-    ensures { result ≡ discard_reason kind value.now }
+fn reason_of_discard(kind: PduKind, value: &[u8]) -> Option<Reason>
+    ensures { result ≡ discard_step kind value.now }
 {
     match kind {
-        PduKind::Dt => Some(UNSUPPORTED_OPTION),
-        PduKind::Er => unless(value.len() == 2, HEADER_SYNTAX),
+        PduKind::Dt => Some(Reason::UnsupportedOption),
+        PduKind::Er => unless(value.len() == 2, Reason::HeaderSyntax),
     }
 }
 
 // A reason where the test fails.
-fn unless(holds: bool, reason: u8) -> Option<u8>
-    ensures { result ≡ reason_unless holds reason }
+fn unless(holds: bool, reason: Reason) -> Option<Reason>
+    ensures { result ≡ must holds reason }
 {
     if holds { None } else { Some(reason) }
 }
@@ -140,7 +134,7 @@ fn lacks_reason(kind: PduKind, options: &OptionsRef<'_>) -> bool
 }
 
 // A fault that is not reportable here.
-fn fault_of(place: u8, reason: u8) -> Fault
+fn fault_of(place: u8, reason: Reason) -> Fault
     ensures { result ≡ fault_at place reason }
 {
     Fault {
@@ -149,32 +143,3 @@ fn fault_of(place: u8, reason: u8) -> Fault
         reportable: false,
     }
 }
-
-/// Law: octets have no fault exactly where they are options.
-pub fn no_fault()
-    ensures { (kind : PduKind) (first : ℕ) (octets : List ℕ) → (options_fault kind first octets ≡ None) ↔ ((options : List Parameter) × IsOptions kind octets options) }
-{}
-
-/// Law: the fault of octets is that of what stands in them behind options that have none.
-pub fn first_fault()
-    ensures { (kind : PduKind) (first : ℕ) (octets : List ℕ) (fault : Fault) → (options_fault kind first octets ≡ Some fault) ↔ IsFirstFault kind first octets fault }
-{}
-
-/// Law: octets are at most one list of options.
-pub fn one_list()
-    ensures { (kind : PduKind) (octets : List ℕ) (one other : List Parameter) → IsOptions kind octets one → IsOptions kind octets other → one ≡ other }
-{}
-
-/// Law: the value of a code among options has the form that its code asks for.
-pub fn known_values()
-    ensures known { (kind : PduKind) (octets value : List ℕ) (options : List Parameter) (code : ℕ) → IsOptions kind octets options → value_of code options ≡ Some value → IsKnown kind (record { code = code; value = value }) }
-    ensures route { (kind : PduKind) (octets value : List ℕ) (options : List Parameter) → IsOptions kind octets options → value_of SOURCE_ROUTING options ≡ Some value → HasSourceRoute value }
-    ensures recording { (kind : PduKind) (octets value : List ℕ) (options : List Parameter) → IsOptions kind octets options → value_of RECORDING options ≡ Some value → IsRecording value }
-    ensures reason { (kind : PduKind) (octets value : List ℕ) (options : List Parameter) → IsOptions kind octets options → value_of REASON options ≡ Some value → (kind ≡ PduKind.Er) × (length value ≡ 2) }
-{}
-
-/// Law: options that may stand in a PDU still may where one's value changes to another of its form.
-pub fn changed_value()
-    ensures { (kind : PduKind) (before after : List Parameter) (option changed : Parameter) → AreAllowed kind (before ++ option ∷ after)
-        → changed.code ≡ option.code → IsKnown kind changed → AreAllowed kind (before ++ changed ∷ after) }
-{}

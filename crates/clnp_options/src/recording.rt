@@ -17,8 +17,10 @@ const ENDED: u8 = 255;
 /// the offset becomes 255, which ends the recording. A recording that ended stays. Both kinds are treated alike.
 pub fn record_here(value: &mut [u8], title: &Nsap)
     requires { IsRecording value.old }
-    ensures written { (recording : Recording) → IsOpen value.old recording → 1 + length title.now ≤ length recording.space → value.new ≡ recording_octets (with_title recording title.now) }
-    ensures full { (recording : Recording) → IsOpen value.old recording → length recording.space < 1 + length title.now → value.new ≡ slice_set value.old 1 255 }
+    ensures written { (recording : Recording) → IsOpen value.old recording → 1 + length title.now ≤ length recording.space
+        → value.new ≡ recording_octets (with_title recording title.now) }
+    ensures full { (recording : Recording) → IsOpen value.old recording → length recording.space < 1 + length title.now
+        → value.new ≡ slice_set value.old 1 255 }
     ensures ended { (kind : ℕ) (rest : List ℕ) → IsEnded value.old kind rest → value.new ≡ value.old }
     ensures valid { IsRecording value.new }
 {

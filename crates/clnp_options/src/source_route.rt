@@ -6,6 +6,7 @@ ghost use Rattle.clnp_options.specs.SourceRoute.{SourceRoute, IsSourceRoute, IsO
 
 use crate::titles::{self, FIRST_ENTRY, MOST_OCTETS, OFFSET};
 use nsap::Nsap;
+use pdu_parts::address_at;
 
 /// The greatest kind: 0 is a partial route and 1 a complete one.
 pub const COMPLETE: u8 = 1;
@@ -16,8 +17,10 @@ pub fn next_source_hop(value: &[u8]) -> Option<Nsap>
     ensures title { (route : SourceRoute) → IsSourceRoute value.now route → result ≡ slice_get route.ahead 0 }
     ensures way { IsSome result ↔ IsOnTheWay value.now }
 {
-    let (title, _) = titles::split_title(ahead(value))?;
-    Nsap::of(title)
+    match address_at(ahead(value)) {
+        Some(found) => Some(found.0),
+        None => None,
+    }
 }
 
 /// Moves the offset of a source route past the entry at which it stands. All else stays.

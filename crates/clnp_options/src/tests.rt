@@ -10,7 +10,7 @@ fn fault_of(octets: &[u8], kind: PduKind) -> Option<(u8, u8)> {
         return None;
     }
     let fault = read_options(octets, kind, 18).err()?;
-    Some((fault.reason, fault.place))
+    Some((fault.reason.code(), fault.place))
 }
 
 #[test]
@@ -47,13 +47,18 @@ fn an_error_report_gives_its_reason(rt: HostRuntime) {
 }
 
 #[test]
+fn an_option_that_does_not_fit_changes_nothing(rt: HostRuntime) -> Result<(), Fail> {
+    let mut octets = [7; 2];
+    assert_eq!(rt; write_option(&mut octets, 0, PRIORITY, &[5]), Err(TooSmall));
+    assert_eq!(rt; octets, [7; 2]);
+    let text = format!(in rt.alloc(); "{TooSmall}")?;
+    assert_eq!(rt; text.as_str(), "an option that does not fit");
+    Ok(())
+}
+
+#[test]
 fn written_options_are_read(rt: HostRuntime) -> Result<(), Fail> {
     let mut octets = [7; 6];
-    assert_eq!(rt;
-        write_option(&mut octets[..2], 0, PRIORITY, &[5]),
-        Err(TooSmall)
-    );
-    assert_eq!(rt; octets, [7; 6]);
     let next = write_option(&mut octets, 0, PRIORITY, &[5])
         .ok()
         .ok_or("it fits")?;
@@ -76,8 +81,10 @@ fn written_options_are_read(rt: HostRuntime) -> Result<(), Fail> {
         })
     );
     assert_eq!(rt; nth(&options, 2), None);
-    let text = format!(in rt.alloc(); "{TooSmall}")?;
-    assert_eq!(rt; text.as_str(), "an option that does not fit");
+    let mut codes = options.iter().map(|option| option.code);
+    assert_eq!(rt; codes.next(), Some(PRIORITY));
+    assert_eq!(rt; codes.next(), Some(PADDING));
+    assert_eq!(rt; codes.next(), None);
     Ok(())
 }
 

@@ -1,9 +1,6 @@
 //! Writing of an option in place (X.233, options part).
-ghost use Rattle.std.specs.Prelude.{◌≡◌, ◌+◌, ◌≤◌, ◌↔◌, ℕ, List, length, take, drop, slice_range, IfOk, IfErr, IsOk};
-ghost use Rattle.clnp_options.specs.declared.fault.PduKind.{PduKind};
-ghost use Rattle.clnp_options.specs.Options.{Parameter, spelled};
-ghost use Rattle.clnp_options.specs.Grammar.{AreAllowed, IsOptions};
-ghost use Rattle.clnp_options.specs.Writing.{IsWritten, AreWritten};
+ghost use Rattle.std.specs.Prelude.{◌≡◌, ◌+◌, ◌≤◌, ◌↔◌, length, IfOk, IfErr, IsOk};
+ghost use Rattle.clnp_options.specs.Writing.{IsWritten};
 
 use thiserror::Error;
 
@@ -15,6 +12,7 @@ pub struct TooSmall;
 /// Writes code, length and value from position `at` on, and answers the position after them.
 ///
 /// TooSmall exactly where they do not fit, and all octets stay then. The octets before and after them stay in any case.
+/// It is for a header that has its room already; to append to octets that grow there is `pdu_parts::push_parameter`.
 pub fn write_option(into: &mut [u8], at: usize, code: u8, value: &[u8]) -> Result<usize, TooSmall>
     requires place { at ≤ length into.old }
     requires short { length value.now ≤ 252 }
@@ -33,13 +31,3 @@ pub fn write_option(into: &mut [u8], at: usize, code: u8, value: &[u8]) -> Resul
     into[start..end].copy_from_slice(value);
     Ok(end)
 }
-
-/// Law: options that may stand in a PDU, written one after another, read to their list, and all other octets stay.
-pub fn written_options()
-    ensures read { (kind : PduKind) (old new : List ℕ) (position : ℕ) (options : List Parameter) → AreAllowed kind options → AreWritten old position options new
-        → position + length (spelled options) ≤ length old
-        → IsOptions kind (slice_range new position (position + length (spelled options))) options }
-    ensures kept { (old new : List ℕ) (position : ℕ) (options : List Parameter) → AreWritten old position options new
-        → position + length (spelled options) ≤ length old
-        → (take position new ≡ take position old) × (drop (position + length (spelled options)) new ≡ drop (position + length (spelled options)) old) }
-{}

@@ -1,7 +1,9 @@
 -- Addresses one after another, as the loops over them go: the first of them, and then those of the octets
 -- after it.
 use Rattle.std.proofs.Common.{◌≡◌, ℕ, zero, suc, ◌-◌, ◌+◌, ◌<◌, ◌≤◌, List, [], ◌∷◌, length, Option, Some, None, option_map, slice_get, refl, sym, ap, arith}
-use Rattle.esis_pdu.specs.Fields.{◌>>=◌, address_at, addresses_at, addresses_in, after_addresses, in_front}
+use Rattle.pdu_parts.specs.Field.{address_at}
+use Rattle.esis_pdu.specs.Addresses.{◌>>=◌, addresses_at, addresses_in, in_front}
+use Rattle.esis_pdu.specs.steps.Reading.{after_addresses}
 
 -- ---- the octets after them
 
@@ -14,10 +16,7 @@ after_none (suc count) octets some none = rw none refl
 abbrev put_first : List ℕ → List (List ℕ) × List ℕ → Option (List (List ℕ) × List ℕ)
 put_first address x = Some (address ∷ x.0, x.1)
 
-abbrev rest_of : List (List ℕ) × List ℕ → Option (List ℕ)
-rest_of x = Some x.1
-
-after_rest : (address : List ℕ) (read : Option (List (List ℕ) × List ℕ)) → ((read >>= put_first address) >>= rest_of) ≡ (read >>= rest_of)
+after_rest : (address : List ℕ) (read : Option (List (List ℕ) × List ℕ)) → option_map (λ found. found.1) (read >>= put_first address) ≡ option_map (λ found. found.1) read
 after_rest address (Some x) = refl
 after_rest address None = refl
 

@@ -1,10 +1,11 @@
 -- Lengths of addresses, one after another.
-use Rattle.std.proofs.Common.{◌≡◌, ℕ, zero, suc, ◌+◌, ◌<◌, ◌≤◌, List, [], ◌∷◌, length, take, get_or, Some, None, cond, false, refl, arith}
+use Rattle.std.proofs.Common.{◌≡◌, ℕ, zero, suc, ◌+◌, ◌<◌, ◌≤◌, List, [], ◌∷◌, length, take, get_or, None, false, refl, arith}
 use Rattle.std.specs.Prelude.{nat_le}
 use Rattle.std.specs.List.{AllByRecursion, flat_map}
 use Rattle.std.proofs.lemmas.Bool.{lt-leb}
 use Rattle.std.proofs.lemmas.List.{length-append}
-use Rattle.esis_pdu.specs.Hellos.{IsAddress, field}
+use Rattle.pdu_parts.specs.Field.{IsAddress, field}
+use Rattle.esis_pdu.specs.steps.Writing.{within}
 
 -- one address more
 pub length_more : (addresses : List (List ℕ)) (i : ℕ) (d : List ℕ) → i < length addresses
@@ -39,7 +40,7 @@ count_within (address ∷ addresses) = omega (arith, count_within addresses, len
 -- where some of the addresses are too long, all are
 pub too_long : (addresses : List (List ℕ)) (i : ℕ) (d : List ℕ) → i < length addresses
     → 254 < length (flat_map field (take i addresses)) + length (field (get_or addresses i d))
-    → None ≡ cond (nat_le (length (flat_map field addresses)) 254) (Some (length (flat_map field addresses))) None
+    → None ≡ within 254 (length (flat_map field addresses))
 too_long addresses i d within long =
     let above : nat_le (length (flat_map field addresses)) 254 ≡ false =
     lt-leb _ _ (omega (arith, front_within addresses (i + 1), length_more addresses i d within)) in

@@ -1,9 +1,8 @@
 pub mod Addresses
+pub mod Checksums
 pub mod Drafts
 pub mod Fields
 pub mod Grammar
 pub mod Lengths
-pub mod Options
 pub mod Outcome
 pub mod Parts
-pub mod Steps

@@ -1,50 +1,61 @@
--- What must hold of octets that begin with a PDU of ES-IS, step by step, and the first step that fails
--- (ISO 9542, PDU header analysis; structure and encoding of PDUs).
-use Rattle.std.specs.Prelude.{◌≡◌, ◌⊎◌, ℕ, ◌%◌, ◌<◌, ◌≤◌, List, ◌++◌, length, take, drop, slice_index}
-use Rattle.esis_pdu.specs.declared.hello.Hello.{Hello}
+-- What must hold of octets that begin with a PDU of ES-IS, and the first fault (ISO 9542, PDU header analysis).
+use Rattle.std.specs.Prelude.{◌≡◌, ◌==◌, ◌&&◌, ◌||◌, ℕ, ◌%◌, Bool, false, nat_le, List, [], ◌∷◌, length, take, drop, slice_index, Option, Some, None}
+use Rattle.std.specs.Option.{is_some}
+use Rattle.pdu_parts.specs.Checksum.{checksum_in}
+use Rattle.pdu_parts.specs.FirstFault.{first_failing, must}
+use Rattle.pdu_parts.specs.Number.{number_at}
+use Rattle.pdu_parts.specs.Parameter.{left_in}
 use Rattle.esis_pdu.specs.declared.fault.EsisFault.{EsisFault}
 use Rattle.esis_pdu.specs.declared.fault.EsisFault.TheVariants as faults
-use Rattle.esis_pdu.specs.Hellos.{AreOptions, IsAddressed, IsChecked, parts, type_of}
+use Rattle.esis_pdu.specs.Addresses.{parts_at}
+use Rattle.esis_pdu.specs.Hellos.{Esis}
 
--- the length indicator
+-- the length indicator, and the octets that it counts
 abbrev pub indicator : List ℕ → ℕ
 indicator octets = slice_index octets 1
 
--- the octets that the length indicator counts
-abbrev pub header : List ℕ → List ℕ
-header octets = take (indicator octets) octets
+abbrev pub front : List ℕ → List ℕ
+front octets = take (indicator octets) octets
 
--- the type, in the low five bits of its octet
+-- the least and the most that a length indicator may be, and no more than the octets given
+abbrev pub is_length : ℕ → ℕ → Bool
+is_length len given = nat_le 10 len && nat_le len 254 && nat_le len given
+
+-- the protocol and its version
+abbrev pub is_version : List ℕ → Bool
+is_version pdu = (slice_index pdu 0 == 130) && (slice_index pdu 2 == 1)
+
+-- the type, in the low five bits of its octet: ESH, ISH or RD
 abbrev pub type_in : List ℕ → ℕ
-type_in octets = slice_index octets 4 % 32
+type_in pdu = slice_index pdu 4 % 32
 
--- behind the fixed part stand the addresses of that PDU, of the type that is named, and then the rest
-pub record HasParts (octets : List ℕ) (hello : Hello) (rest : List ℕ) : Type 0 where
-  pub type_is : type_of hello ≡ type_in octets
-  pub addressed : IsAddressed hello
-  pub written : drop 9 (header octets) ≡ parts hello ++ rest
+abbrev pub is_type : ℕ → Bool
+is_type type = (type == 2) || (type == 4) || (type == 6)
 
--- what each step wants of the octets
-abbrev pub Holds : List ℕ → EsisFault → Type 0
-Holds octets faults.Short = 10 ≤ length octets
-Holds octets faults.Length = (10 ≤ indicator octets) × (indicator octets ≤ 254) × (indicator octets ≤ length octets)
-Holds octets faults.Version = (slice_index octets 0 ≡ 130) × (slice_index octets 2 ≡ 1)
-Holds octets faults.Checksum = IsChecked (slice_index octets 7) (slice_index octets 8) (header octets)
-Holds octets faults.Kind = (type_in octets ≡ 2) ⊎ (type_in octets ≡ 4) ⊎ (type_in octets ≡ 6)
-Holds octets faults.Address = (hello : Hello) × (rest : List ℕ) × HasParts octets hello rest
-Holds octets faults.Option = (hello : Hello) × (rest : List ℕ) × HasParts octets hello rest × AreOptions rest
+-- the addresses behind the fixed part, and the octets after them
+abbrev pub parts_in : List ℕ → Option Esis
+parts_in pdu = parts_at (type_in pdu) (number_at 5 pdu) (drop 9 pdu)
 
--- the order of the steps
-abbrev pub step_of : EsisFault → ℕ
-step_of faults.Short = 1
-step_of faults.Length = 2
-step_of faults.Version = 3
-step_of faults.Checksum = 4
-step_of faults.Kind = 5
-step_of faults.Address = 6
-step_of faults.Option = 7
+-- the octets after the addresses are options, with nothing left behind them
+abbrev pub has_options : Option Esis → Bool
+has_options None = false
+has_options (Some pdu) = length (left_in pdu.options) == 0
 
--- that step is the first that fails
-pub record IsEsisFault (octets : List ℕ) (fault : EsisFault) : Type 0 where
-  pub fails : Holds octets fault → ⊥
-  pub before : (earlier : EsisFault) → step_of earlier < step_of fault → Holds octets earlier
+-- what must hold, in the order in which it is looked at
+unfoldable pub steps : List ℕ → List (Option EsisFault)
+steps octets =
+    must (nat_le 10 (length octets)) faults.Short
+    ∷ must (is_length (indicator octets) (length octets)) faults.Length
+    ∷ must (is_version (front octets)) faults.Version
+    ∷ must (is_some (checksum_in (front octets))) faults.Checksum
+    ∷ must (is_type (type_in (front octets))) faults.Kind
+    ∷ must (is_some (parts_in (front octets))) faults.Address
+    ∷ must (has_options (parts_in (front octets))) faults.Option
+    ∷ []
+
+abbrev pub first_fault : List ℕ → Option EsisFault
+first_fault octets = first_failing (steps octets)
+
+-- this is the first that fails
+abbrev pub IsEsisFault : List ℕ → EsisFault → Type 0
+IsEsisFault octets fault = first_fault octets ≡ Some fault

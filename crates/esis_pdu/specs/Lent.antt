@@ -5,7 +5,8 @@ use Rattle.esis_pdu.specs.declared.hello.Hello.{Hello}
 use Rattle.esis_pdu.specs.declared.hello.Hello.TheVariants.{Esh, Ish, Rd}
 use Rattle.esis_pdu.specs.declared.hello.HelloRef.{HelloRef}
 use Rattle.esis_pdu.specs.declared.hello.HelloRef.TheVariants as lent
-use Rattle.esis_pdu.specs.Fields.{addresses_in}
+use Rattle.esis_pdu.specs.Addresses.{addresses_in}
+use Rattle.esis_pdu.specs.Hellos.{Esis}
 
 -- the addresses, in order
 abbrev pub listed : AddressesRef → List (List ℕ)
@@ -24,5 +25,5 @@ options_of (lent.Ish hold title options) = options.now
 options_of (lent.Rd hold address snpa title options) = options.now
 
 -- both
-abbrev pub seen : HelloRef → Hello × List ℕ
-seen hello = (value_of hello, options_of hello)
+abbrev pub esis_of : HelloRef → Esis
+esis_of hello = record { hello = value_of hello; options = options_of hello }

@@ -1,5 +1,5 @@
+pub mod Addresses
 pub mod Faults
-pub mod Fields
 pub mod Hellos
 pub mod Lent
-pub mod Reading
+pub mod steps

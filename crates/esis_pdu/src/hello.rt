@@ -1,12 +1,12 @@
 //! The PDUs of ES-IS as values: ESH, ISH and RD (ISO 9542, structure and encoding of PDUs).
 
 ghost use Rattle.std.specs.Prelude.{◌≡◌, ◌≤◌, length, option_map, slice_get};
-ghost use Rattle.esis_pdu.specs.Fields.{address_at};
+ghost use Rattle.pdu_parts.specs.Field.{address_at};
 ghost use Rattle.esis_pdu.specs.Lent.{listed};
 
-use crate::reading::address_at;
 use nsap::{Nsap, Snpa};
 use osi_base::Items;
+use pdu_parts::address_at;
 
 /// The addresses of an ESH, checked: `length, address` each. Contracts see them as the list `listed`.
 #[derive(Clone, Copy, Debug, PartialEq, Eq)]

@@ -4,6 +4,7 @@
 
 mod fault;
 mod hello;
+mod laws;
 mod reading;
 #[cfg(test)]
 mod tests;
@@ -11,5 +12,6 @@ mod writing;
 
 pub use fault::EsisFault;
 pub use hello::{AddressesRef, Hello, HelloRef};
-pub use reading::{one_reading, read_esis};
+pub use laws::{front_or_fault, one_front, one_value, one_writing};
+pub use reading::read_esis;
 pub use writing::write_esis;

@@ -1,17 +1,20 @@
 //! Reading a PDU of ES-IS (ISO 9542, structure and encoding of PDUs).
 
-ghost use Rattle.std.specs.Prelude.{◌≡◌, ◌≤◌, ◌%◌, ◌⊎◌, ℕ, List, length, slice_index, option_map, IfOk, IfErr, IsOkAnd, Err};
+ghost use Rattle.std.specs.Prelude.{◌≡◌, ◌≤◌, ◌%◌, List, ℕ, length, slice_index, option_map, IfOk, IfErr, IsOkAnd, Err};
+ghost use Rattle.std.specs.Option.{is_some};
+ghost use Rattle.pdu_parts.specs.Front.{BeginsWith};
+ghost use Rattle.pdu_parts.specs.Number.{number_at};
+ghost use Rattle.pdu_parts.specs.steps.Reading.{Gives};
 ghost use Rattle.esis_pdu.specs.declared.fault.EsisFault.{EsisFault};
-ghost use Rattle.esis_pdu.specs.declared.hello.Hello.{Hello};
-ghost use Rattle.esis_pdu.specs.Faults.{IsEsisFault, type_in};
-ghost use Rattle.esis_pdu.specs.Fields.{address_at, addresses_in, after_addresses, after_option, counted_at, esh_at, field_at, ish_at, options_after, rd_at, snpa_at, title_at};
-ghost use Rattle.esis_pdu.specs.Hellos.{Fronts};
-ghost use Rattle.esis_pdu.specs.Lent.{listed, options_of, seen, value_of};
-ghost use Rattle.esis_pdu.specs.Reading.{Gives, esis_at, hello_at, is_checked, is_version, whole_at, with_options};
+ghost use Rattle.esis_pdu.specs.Addresses.{counted_at, esh_at, ish_at, rd_at, snpa_at, title_at};
+ghost use Rattle.esis_pdu.specs.Faults.{IsEsisFault, is_version, type_in};
+ghost use Rattle.esis_pdu.specs.Hellos.{Esis, IsEsis};
+ghost use Rattle.esis_pdu.specs.Lent.{esis_of, listed};
+ghost use Rattle.esis_pdu.specs.steps.Reading.{after_addresses, esis_at, front_at, hello_at, with_options};
 
 use crate::{AddressesRef, EsisFault, HelloRef};
 use nsap::{Nsap, Snpa};
-use osi_base::fletcher_ok;
+use pdu_parts::{address_at, are_parameters, checksum_in, field_at};
 
 /// The network layer protocol identifier of ES-IS.
 pub(crate) const PROTOCOL: u8 = 0x82;
@@ -45,47 +48,32 @@ pub(crate) const MOST: usize = 254;
 /// The reserved octet and the high bits of the type are ignored. An `Err` comes exactly where there is no
 /// PDU at the front, and is the first fault in the order of [`EsisFault`].
 pub fn read_esis(octets: &[u8]) -> Result<HelloRef<'_>, EsisFault>
-    ensures ok { IfOk result (λ hello. Fronts octets.now (value_of hello) (options_of hello)) }
-    ensures each { (hello : Hello) (options : List ℕ) → Fronts octets.now hello options
-        → IsOkAnd result (λ read. (value_of read ≡ hello) × (options_of read ≡ options)) }
-
+    ensures ok { IfOk result (λ read. (rest : List ℕ) × BeginsWith IsEsis octets.now (esis_of read) rest) }
+    ensures only { (pdu : Esis) (rest : List ℕ) → BeginsWith IsEsis octets.now pdu rest → IsOkAnd result (λ read. esis_of read ≡ pdu) }
     ensures fault { IfErr result (IsEsisFault octets.now) }
     ensures each_fault { (fault : EsisFault) → IsEsisFault octets.now fault → result ≡ Err fault }
 {
     front_pdu(octets)
 }
 
-/// Octets begin with one PDU or have one first fault, and not both.
-pub fn one_reading()
-    ensures one_value { (octets options others : List ℕ) (hello other : Hello)
-        → Fronts octets hello options → Fronts octets other others → (hello ≡ other) × (options ≡ others) }
-    ensures one_fault { (octets : List ℕ) (fault other : EsisFault)
-        → IsEsisFault octets fault → IsEsisFault octets other → fault ≡ other }
-    ensures apart { (octets options : List ℕ) (hello : Hello) (fault : EsisFault)
-        → Fronts octets hello options → IsEsisFault octets fault → ⊥ }
-    ensures all { (octets : List ℕ)
-        → ((hello : Hello) × (options : List ℕ) × Fronts octets hello options)
-        ⊎ ((fault : EsisFault) × IsEsisFault octets fault) }
-{}
-
 /// The PDU at the front of the octets, or the first fault.
 fn front_pdu(octets: &[u8]) -> Result<HelloRef<'_>, EsisFault>
-    ensures { Gives seen result (esis_at octets.now) }
+    ensures { Gives esis_of result (esis_at octets.now) }
 {
-    let pdu = whole(octets)?;
+    let pdu = front(octets)?;
     if !is_version(pdu) {
         return Err(EsisFault::Version);
     }
-    if !is_checked(pdu) {
+    if checksum_in(pdu).is_none() {
         return Err(EsisFault::Checksum);
     }
     hello_in(pdu)
 }
 
 /// The octets that the length indicator counts.
-#[tactic(auto, unfolding(crate::specs::Reading::whole_at))]
-fn whole(octets: &[u8]) -> Result<&[u8], EsisFault>
-    ensures gives { Gives (λ pdu. pdu.now) result (whole_at octets.now) }
+#[tactic(auto, unfolding(crate::specs::steps::Reading::front_at))]
+fn front(octets: &[u8]) -> Result<&[u8], EsisFault>
+    ensures gives { Gives (λ pdu. pdu.now) result (front_at octets.now) }
     ensures least { IfOk result (λ pdu. 10 ≤ length pdu.now) }
 {
     if octets.len() < LEAST {
@@ -105,24 +93,12 @@ fn is_version(pdu: &[u8]) -> bool
     pdu[0] == PROTOCOL && pdu[2] == VERSION
 }
 
-/// Whether the checksum is not used, both octets 0, or neither is 0 and it holds.
-fn is_checked(pdu: &[u8]) -> bool
-    requires { 10 ≤ length pdu.now }
-    ensures { result ≡ is_checked pdu.now }
-{
-    match (pdu[7], pdu[8]) {
-        (0, 0) => true,
-        (0, _) | (_, 0) => false,
-        _ => fletcher_ok(pdu),
-    }
-}
-
-#[tactic(auto, unfolding(crate::specs::Reading::body_at, crate::specs::Fields::parts_at))]
+#[tactic(auto, unfolding(crate::specs::steps::Reading::body_at, crate::specs::Addresses::parts_at))]
 fn hello_in(pdu: &[u8]) -> Result<HelloRef<'_>, EsisFault>
     requires { 10 ≤ length pdu.now }
-    ensures { Gives seen result (hello_at pdu.now) }
+    ensures { Gives esis_of result (hello_at pdu.now) }
 {
-    let hold = u16::from_be_bytes([pdu[5], pdu[6]]);
+    let hold = hold_in(pdu);
     let body = &pdu[FIXED..];
     match type_in(pdu) {
         ESH => esh(hold, body),
@@ -132,6 +108,14 @@ fn hello_in(pdu: &[u8]) -> Result<HelloRef<'_>, EsisFault>
     }
 }
 
+/// The holding time in seconds.
+fn hold_in(pdu: &[u8]) -> u16
+    requires { 10 ≤ length pdu.now }
+    ensures { result ≡ number_at 5 pdu.now }
+{
+    u16::from_be_bytes([pdu[5], pdu[6]])
+}
+
 fn type_in(pdu: &[u8]) -> u8
     requires { 10 ≤ length pdu.now }
     ensures { result ≡ type_in pdu.now }
@@ -139,14 +123,14 @@ fn type_in(pdu: &[u8]) -> u8
     pdu[4] & TYPE
 }
 
-#[tactic(auto, unfolding(crate::specs::Fields::esh_at))]
+#[tactic(auto, unfolding(crate::specs::Addresses::esh_at))]
 fn esh(hold: u16, body: &[u8]) -> Result<HelloRef<'_>, EsisFault>
-    ensures { Gives seen result (with_options (esh_at hold body.now)) }
+    ensures { Gives esis_of result (with_options (esh_at hold body.now)) }
 {
     let Some((addresses, options)) = addresses_at(body) else {
         return Err(EsisFault::Address);
     };
-    if !are_options(options) {
+    if !are_parameters(options) {
         return Err(EsisFault::Option);
     }
     Ok(HelloRef::Esh {
@@ -156,14 +140,14 @@ fn esh(hold: u16, body: &[u8]) -> Result<HelloRef<'_>, EsisFault>
     })
 }
 
-#[tactic(auto, unfolding(crate::specs::Fields::ish_at))]
+#[tactic(auto, unfolding(crate::specs::Addresses::ish_at))]
 fn ish(hold: u16, body: &[u8]) -> Result<HelloRef<'_>, EsisFault>
-    ensures { Gives seen result (with_options (ish_at hold body.now)) }
+    ensures { Gives esis_of result (with_options (ish_at hold body.now)) }
 {
     let Some((title, options)) = address_at(body) else {
         return Err(EsisFault::Address);
     };
-    if !are_options(options) {
+    if !are_parameters(options) {
         return Err(EsisFault::Option);
     }
     Ok(HelloRef::Ish {
@@ -173,9 +157,9 @@ fn ish(hold: u16, body: &[u8]) -> Result<HelloRef<'_>, EsisFault>
     })
 }
 
-#[tactic(auto, unfolding(crate::specs::Fields::rd_at))]
+#[tactic(auto, unfolding(crate::specs::Addresses::rd_at))]
 fn rd(hold: u16, body: &[u8]) -> Result<HelloRef<'_>, EsisFault>
-    ensures { Gives seen result (with_options (rd_at hold body.now)) }
+    ensures { Gives esis_of result (with_options (rd_at hold body.now)) }
 {
     let Some((address, rest)) = address_at(body) else {
         return Err(EsisFault::Address);
@@ -186,7 +170,7 @@ fn rd(hold: u16, body: &[u8]) -> Result<HelloRef<'_>, EsisFault>
     let Some((title, options)) = title_at(rest) else {
         return Err(EsisFault::Address);
     };
-    if !are_options(options) {
+    if !are_parameters(options) {
         return Err(EsisFault::Option);
     }
     Ok(HelloRef::Rd {
@@ -199,7 +183,7 @@ fn rd(hold: u16, body: &[u8]) -> Result<HelloRef<'_>, EsisFault>
 }
 
 /// A count, as many addresses, and the octets after them.
-#[tactic(auto, unfolding(crate::specs::Fields::counted_at))]
+#[tactic(auto, unfolding(crate::specs::Addresses::counted_at))]
 fn addresses_at(octets: &[u8]) -> Option<(AddressesRef<'_>, &[u8])>
     ensures { option_map (λ x. (listed x.0, x.1.now)) result ≡ counted_at octets.now }
 {
@@ -225,20 +209,8 @@ fn after_addresses(count: u8, octets: &[u8]) -> Option<&[u8]>
     Some(rest)
 }
 
-/// An address behind its length, and the octets after it.
-#[tactic(auto, unfolding(crate::specs::Fields::address_at))]
-pub(crate) fn address_at(octets: &[u8]) -> Option<(Nsap, &[u8])>
-    ensures { option_map (λ x. (x.0, x.1.now)) result ≡ address_at octets.now }
-{
-    let (field, rest) = field_at(octets)?;
-    match Nsap::of(field) {
-        Some(address) => Some((address, rest)),
-        None => None,
-    }
-}
-
 /// An SNPA behind its length, and the octets after it.
-#[tactic(auto, unfolding(crate::specs::Fields::snpa_at))]
+#[tactic(auto, unfolding(crate::specs::Addresses::snpa_at))]
 fn snpa_at(octets: &[u8]) -> Option<(Snpa, &[u8])>
     ensures { option_map (λ x. (x.0, x.1.now)) result ≡ snpa_at octets.now }
 {
@@ -250,7 +222,7 @@ fn snpa_at(octets: &[u8]) -> Option<(Snpa, &[u8])>
 }
 
 /// A title behind its length, which is 0 where there is none, and the octets after it.
-#[tactic(auto, unfolding(crate::specs::Fields::title_at))]
+#[tactic(auto, unfolding(crate::specs::Addresses::title_at))]
 fn title_at(octets: &[u8]) -> Option<(Option<Nsap>, &[u8])>
     ensures { option_map (λ x. (x.0, x.1.now)) result ≡ title_at octets.now }
 {
@@ -264,42 +236,4 @@ fn title_at(octets: &[u8]) -> Option<(Option<Nsap>, &[u8])>
         return None;
     };
     Some((Some(title), rest))
-}
-
-/// A length, that many octets, and the octets after them.
-fn field_at(octets: &[u8]) -> Option<(&[u8], &[u8])>
-    ensures { option_map (λ x. (x.0.now, x.1.now)) result ≡ field_at octets.now }
-{
-    match octets {
-        [length, rest @ ..] if usize::from(*length) <= rest.len() => {
-            Some(rest.split_at(usize::from(*length)))
-        }
-        _ => None,
-    }
-}
-
-/// Whether the octets are options one after another.
-fn are_options(octets: &[u8]) -> bool
-    ensures { result ≡ options_after 0 octets.now }
-{
-    let mut rest = octets;
-    while !rest.is_empty() {
-        match after_option(rest) {
-            Some(after) => rest = after,
-            None => return false,
-        }
-    }
-    true
-}
-
-/// The octets after the option at the front.
-fn after_option(octets: &[u8]) -> Option<&[u8]>
-    ensures { option_map (λ after. after.now) result ≡ after_option octets.now }
-{
-    match octets {
-        [_, length, rest @ ..] if usize::from(*length) <= rest.len() => {
-            Some(&rest[usize::from(*length)..])
-        }
-        _ => None,
-    }
 }

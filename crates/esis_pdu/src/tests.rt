@@ -1,7 +1,6 @@
 //! PDUs counted by hand, with checksums from outside.
-use crate::EsisFault::{
-    self, Address, Checksum, Kind, Length, Option as OptionFault, Short, Version,
-};
+mod faults;
+
 use crate::{AddressesRef, Hello, HelloRef, read_esis, write_esis};
 use nsap::{Nsap, Snpa};
 use osi_base::{HeaderRefusal, Items};
@@ -33,182 +32,45 @@ const LONG: &[u8] =
 const OTHER_LONG: &[u8] =
     b"\x15\x16\x17\x18\x19\x1a\x1b\x1c\x1d\x1e\x1f\x20\x21\x22\x23\x24\x25\x26\x27\x28";
 
-/// The octets, and their first fault.
-const FAULTS: [(&[u8], EsisFault); 47] = [
-    // fewer than 10 octets, of each kind
-    (b"", Short),
-    (b"\x82\x0a\x01\x00\x02\x00\x00\x00\x00", Short),
-    (b"\x82\x0b\x01\x00\x04\x00\x00\x00\x00", Short),
-    (b"\x82\x13\x01\x00\x06\x00\x00\x00\x00", Short),
-    // a length indicator of 9, of 255, and above what is given
-    (b"\x82\x09\x01\x00\x02\x00\x00\x00\x00\x00", Length),
-    (b"\x82\xff\x01\x00\x02\x00\x00\x00\x00\x00", Length),
-    (b"\x82\x0b\x01\x00\x02\x00\x00\x00\x00\x00", Length),
-    (b"\x82\x0c\x01\x00\x04\x00\x00\x00\x00\x01\x49", Length),
-    (b"\x82\x0c\x01\x00\x06\x00\x00\x00\x00\x01\x49", Length),
-    // CLNP, the inactive subset, version 2
-    (b"\x81\x0a\x01\x00\x02\x00\x00\x00\x00\x00", Version),
-    (b"\x00\x0b\x01\x00\x04\x00\x00\x00\x00\x01\x49", Version),
-    (b"\x82\x0a\x02\x00\x06\x00\x00\x00\x00\x00", Version),
-    // one octet of the checksum 0, and a checksum that does not hold
-    (b"\x82\x0a\x01\x00\x02\x00\x00\x00\xd8\x00", Checksum),
-    (b"\x82\x0a\x01\x00\x02\x00\x00\x97\x00\x00", Checksum),
-    (b"\x82\x0a\x01\x00\x02\x00\x01\x97\xd8\x00", Checksum),
-    (b"\x82\x0b\x01\x00\x04\x00\x01\x1a\x09\x01\x49", Checksum),
-    (
-        b"\x82\x13\x01\x00\x06\x01\x00\x56\xad\x01\x49\x06\x02\x00\x00\x00\x00\x0b\x00",
-        Checksum,
-    ),
-    // types that there are not
-    (b"\x82\x0a\x01\x00\x00\x00\x00\x00\x00\x00", Kind),
-    (b"\x82\x0a\x01\x00\x03\x00\x00\x00\x00\x00", Kind),
-    (b"\x82\x0b\x01\x00\x05\x00\x00\x00\x00\x01\x49", Kind),
-    (b"\x82\x0b\x01\x00\xff\x00\x00\x00\x00\x01\x49", Kind),
-    // ESH: one address too few, a length of 0, one past the length indicator
-    (b"\x82\x0a\x01\x00\x02\x00\x00\x00\x00\x01", Address),
-    (b"\x82\x0c\x01\x00\x02\x00\x00\x00\x00\x02\x01\x49", Address),
-    (b"\x82\x0b\x01\x00\x02\x00\x00\x00\x00\x01\x00", Address),
-    (b"\x82\x0b\x01\x00\x02\x00\x00\x00\x00\x01\x01\x49", Address),
-    // ISH: a length of 0, of 21, one past the length indicator
-    (b"\x82\x0a\x01\x00\x04\x00\x00\x00\x00\x00", Address),
-    (
-        b"\x82\x1f\x01\x00\x04\x00\x00\x00\x00\x15\x01\x02\x03\x04\x05\x06\x07\x08\x09\x0a\x0b\x0c\x0d\x0e\x0f\x10\x11\x12\x13\x14\x15",
-        Address,
-    ),
-    (b"\x82\x0b\x01\x00\x04\x00\x00\x00\x00\x02\x49", Address),
-    // RD: an address of no octets, an SNPA of 5 and of 7, no SNPA, no title length, a title of 21, one past
-    (
-        b"\x82\x12\x01\x00\x06\x00\x00\x00\x00\x00\x06\x02\x00\x00\x00\x00\x0b\x00",
-        Address,
-    ),
-    (
-        b"\x82\x12\x01\x00\x06\x00\x00\x00\x00\x01\x49\x05\x02\x00\x00\x00\x0b\x00",
-        Address,
-    ),
-    (
-        b"\x82\x14\x01\x00\x06\x00\x00\x00\x00\x01\x49\x07\x02\x00\x00\x00\x00\x00\x0b\x00",
-        Address,
-    ),
-    (b"\x82\x0b\x01\x00\x06\x00\x00\x00\x00\x01\x49", Address),
-    (
-        b"\x82\x12\x01\x00\x06\x00\x00\x00\x00\x01\x49\x06\x02\x00\x00\x00\x00\x0b",
-        Address,
-    ),
-    (
-        b"\x82\x28\x01\x00\x06\x00\x00\x00\x00\x01\x49\x06\x02\x00\x00\x00\x00\x0b\x15\x01\x02\x03\x04\x05\x06\x07\x08\x09\x0a\x0b\x0c\x0d\x0e\x0f\x10\x11\x12\x13\x14\x15",
-        Address,
-    ),
-    (
-        b"\x82\x14\x01\x00\x06\x00\x00\x00\x00\x01\x49\x06\x02\x00\x00\x00\x00\x0b\x02\x49",
-        Address,
-    ),
-    // an option without a length, and one past the length indicator
-    (b"\x82\x0b\x01\x00\x02\x00\x00\x00\x00\x00\xc6", OptionFault),
-    (
-        b"\x82\x0c\x01\x00\x02\x00\x00\x00\x00\x00\xc6\x01\x00",
-        OptionFault,
-    ),
-    (
-        b"\x82\x0c\x01\x00\x04\x00\x00\x00\x00\x01\x49\xc6",
-        OptionFault,
-    ),
-    (
-        b"\x82\x0f\x01\x00\x04\x00\x00\x00\x00\x01\x49\xc6\x00\xc3\x01",
-        OptionFault,
-    ),
-    (
-        b"\x82\x14\x01\x00\x06\x00\x00\x00\x00\x01\x49\x06\x02\x00\x00\x00\x00\x0b\x00\xc6",
-        OptionFault,
-    ),
-    (
-        b"\x82\x16\x01\x00\x06\x00\x00\x00\x00\x01\x49\x06\x02\x00\x00\x00\x00\x0b\x00\xe1\x02\x00",
-        OptionFault,
-    ),
-    // neighbours in the order: the earlier one is told
-    (b"\x82\xff\x01\x00\x02\x00\x00\x00\x00", Short),
-    (b"\x81\x09\x01\x00\x02\x00\x00\x00\x00\x00", Length),
-    (b"\x82\x0a\x02\x00\x02\x00\x00\x00\x01\x00", Version),
-    (b"\x82\x0a\x01\x00\x03\x00\x00\x00\x01\x00", Checksum),
-    (b"\x82\x0b\x01\x00\x03\x00\x00\x00\x00\x01\x02", Kind),
-    (
-        b"\x82\x0d\x01\x00\x04\x00\x00\x00\x00\x00\xc6\x01\xc3",
-        Address,
-    ),
-];
-
 #[test]
-fn each_first_fault_is_told(rt: HostRuntime) {
-    for (octets, fault) in FAULTS {
-        assert!(rt;
-            matches!(read_esis(octets), Err(found) if found == fault),
-            "{octets:?}"
-        );
-    }
-}
-
-#[test]
-fn a_fault_prints_as_its_word(rt: HostRuntime) -> Result<(), Fail> {
-    assert_eq!(rt; Length.to_string(rt.alloc())?.as_str(), "length");
-    assert_eq!(rt; OptionFault.to_string(rt.alloc())?.as_str(), "option");
-    Ok(())
-}
-
-#[test]
-fn each_form_is_read_and_written(rt: HostRuntime) -> Result<(), Fail> {
+fn an_esh_is_read_and_written(rt: HostRuntime) -> Result<(), Fail> {
     let alloc = rt.alloc();
-    both(
-        &rt,
-        alloc,
-        TWO_ADDRESSES,
-        &esh(
-            20,
-            vec![in alloc; address(b"\x49\x0a\x01")?, address(b"\x49\x0a\x02")?]?,
-        ),
-    )?;
-    both(&rt, alloc, NO_ADDRESS, &esh(0, Vec::new(alloc)))?;
-    both(
-        &rt,
-        alloc,
-        LEAST_ISH,
-        &Hello::Ish {
-            hold: 1,
-            title: address(b"\x49")?,
-        },
-    )?;
-    both(
-        &rt,
-        alloc,
-        FULL_ISH,
-        &Hello::Ish {
-            hold: 65_535,
-            title: address(LONG)?,
-        },
-    )?;
-    let snpa = Snpa::of([2, 0, 0, 0, 0, 11]);
-    both(
-        &rt,
-        alloc,
-        LEAST_RD,
-        &Hello::Rd {
-            hold: 256,
-            address: address(b"\x49")?,
-            snpa,
-            title: None,
-        },
-    )?;
-    let snpa = Snpa::of([9, 0, 43, 0, 0, 5]);
+    let two = vec![in alloc; address(b"\x49\x0a\x01")?, address(b"\x49\x0a\x02")?]?;
+    both(&rt, alloc, TWO_ADDRESSES, &esh(20, two))?;
+    both(&rt, alloc, NO_ADDRESS, &esh(0, Vec::new(alloc)))
+}
+
+#[test]
+fn an_ish_is_read_and_written(rt: HostRuntime) -> Result<(), Fail> {
+    let least = Hello::Ish {
+        hold: 1,
+        title: address(b"\x49")?,
+    };
+    both(&rt, rt.alloc(), LEAST_ISH, &least)?;
+    let full = Hello::Ish {
+        hold: 65_535,
+        title: address(LONG)?,
+    };
+    both(&rt, rt.alloc(), FULL_ISH, &full)
+}
+
+#[test]
+fn an_rd_is_read_and_written(rt: HostRuntime) -> Result<(), Fail> {
+    let least = Hello::Rd {
+        hold: 256,
+        address: address(b"\x49")?,
+        snpa: Snpa::of([2, 0, 0, 0, 0, 11]),
+        title: None,
+    };
+    both(&rt, rt.alloc(), LEAST_RD, &least)?;
     let title = Some(address(OTHER_LONG)?);
-    both(
-        &rt,
-        alloc,
-        FULL_RD,
-        &Hello::Rd {
-            hold: 4660,
-            address: address(LONG)?,
-            snpa,
-            title,
-        },
-    )
+    let full = Hello::Rd {
+        hold: 4660,
+        address: address(LONG)?,
+        snpa: Snpa::of([9, 0, 43, 0, 0, 5]),
+        title,
+    };
+    both(&rt, rt.alloc(), FULL_RD, &full)
 }
 
 #[test]
@@ -299,41 +161,52 @@ fn both(rt: &impl Abort, alloc: Global, octets: &[u8], hello: &Hello) -> Result<
 }
 
 fn is_same(read: &HelloRef<'_>, hello: &Hello) -> bool {
-    match (read, hello) {
-        (
-            HelloRef::Esh {
-                hold,
-                addresses,
-                ..
-            },
-            Hello::Esh {
-                hold: other,
-                addresses: list,
-            },
-        ) => { hold == other && are_same(addresses, list.as_slice()) }
-        (
-            HelloRef::Ish { hold, title, .. },
-            Hello::Ish {
-                hold: other,
-                title: name,
-            },
-        ) => { hold == other && title == name }
-        (
-            HelloRef::Rd {
-                hold,
-                address,
-                snpa,
-                title,
-                ..
-            },
-            Hello::Rd {
-                hold: other,
-                address: subject,
-                snpa: place,
-                title: name,
-            },
-        ) => hold == other && address == subject && snpa == place && title == name,
-        _ => false,
+    match read {
+        HelloRef::Esh {
+            hold,
+            addresses,
+            ..
+        } => is_esh(hello, *hold, addresses),
+        HelloRef::Ish { hold, title, .. } => is_ish(hello, *hold, title),
+        HelloRef::Rd {
+            hold,
+            address,
+            snpa,
+            title,
+            ..
+        } => is_rd(hello, *hold, address, snpa, title),
+    }
+}
+
+fn is_esh(hello: &Hello, hold: u16, addresses: &AddressesRef<'_>) -> bool {
+    match hello {
+        Hello::Esh {
+            hold: other,
+            addresses: list,
+        } => hold == *other && are_same(addresses, list.as_slice()),
+        Hello::Ish { .. } | Hello::Rd { .. } => false,
+    }
+}
+
+fn is_ish(hello: &Hello, hold: u16, title: &Nsap) -> bool {
+    match hello {
+        Hello::Ish {
+            hold: other,
+            title: name,
+        } => hold == *other && title == name,
+        Hello::Esh { .. } | Hello::Rd { .. } => false,
+    }
+}
+
+fn is_rd(hello: &Hello, hold: u16, address: &Nsap, snpa: &Snpa, title: &Option<Nsap>) -> bool {
+    match hello {
+        Hello::Rd {
+            hold: other,
+            address: subject,
+            snpa: place,
+            title: name,
+        } => hold == *other && address == subject && snpa == place && title == name,
+        Hello::Esh { .. } | Hello::Ish { .. } => false,
     }
 }
 

@@ -2,7 +2,7 @@
 use Rattle.std.proofs.Common.{◌≡◌, ℕ, ◌≤◌, List, length, drop, sym, ◌∙◌, ap, subst}
 use Rattle.lan_frame.specs.Frame.{whole_frame}
 use Rattle.lan_frame.proofs.Header.{header_long, header_dropped}
-use Rattle.lan_bag.specs.Frames.{IsWhole}
+use Rattle.lan_bag.specs.steps.Store.{IsWhole}
 
 pub is_whole : (to from pdu whole : List ℕ) → whole ≡ whole_frame to from pdu → length to ≡ 6 → length from ≡ 6 → IsWhole to from whole
 is_whole to from pdu whole e h k =

@@ -9,10 +9,18 @@ use Rattle.nsap.specs.declared.port.Port.{Port}
 use Rattle.lan_bag.specs.declared.setup.Lan.{Lan}
 use Rattle.lan_bag.specs.declared.setup.PortRow.{PortRow}
 use Rattle.lan_bag.specs.Rows.{is_one_of, goes_to}
-use Rattle.lan_bag.specs.Frames.{Frame, kept, has_taken, is_live, is_taken, picked_of, is_open_to, is_open_at, is_open, kept_at, marked, marked_at, marked_frame, IsClosedTo, IsFirstOpen, IsLeastOpen, IsLeastAmong, lesser_of}
-use Rattle.lan_bag.specs.Places.{set_same, set_other, kept_places, marked_by, takes_in, takes_at}
+use Rattle.lan_bag.specs.Frames.{Frame, kept, has_taken, is_live, is_taken, picked_of, kept_at, marked, marked_at, marked_frame}
+use Rattle.lan_bag.specs.steps.Openings.{is_open_to, is_open_at, is_open, IsClosedTo, IsFirstOpen, IsLeastOpen, lesser_of}
+use Rattle.lan_bag.specs.steps.Places.{set_same, set_other, kept_places, marked_by, takes_in, takes_at}
 use Rattle.lan_bag.specs.Bag.{Bag, link_of, took_by}
 use Rattle.osi_base.specs.Link.{is_fresh, IsUpTo, IsLeastFresh}
+
+-- the least of the systems that can take a frame, and have not, at the ports of the first rows
+abbrev pub IsLeastAmong : ℕ → List Lan → List PortRow → Frame → List PortRow → Option ℕ → Type 0
+IsLeastAmong clock lans rows frame some_rows None = All (λ row. is_open_at clock lans rows frame row ≡ false) some_rows
+IsLeastAmong clock lans rows frame some_rows (Some least) =
+    (is_open_to clock lans rows frame least ≡ true)
+    × All (λ row. is_open_at clock lans rows frame row ≡ true → least ≤ row.system) some_rows
 
 -- the systems of a destination are those of its ports
 on_port : (P : ℕ → Type 0) (rows : List PortRow) (to : Port) (system : ℕ) → goes_to rows to system ≡ true → All (λ (row : PortRow). is_one_of to row ≡ true → P row.system) rows → P system

@@ -8,8 +8,9 @@ use Rattle.std.proofs.lemmas.Option.{slice_get-get_or}
 use Rattle.osi_base.specs.declared.unit.Unit.{Unit as CarriedUnit}
 use Rattle.nsap.specs.declared.port.Port.{Port}
 use Rattle.lan_bag.specs.declared.setup.Lan.{Lan}
-use Rattle.lan_bag.specs.Frames.{Frame, kept, kept_at, live_count, marked, marked_in, marked_frame, marked_slot, marked_at, carries_live, IsStored}
-use Rattle.lan_bag.specs.Wheel.{given_up_at}
+use Rattle.lan_bag.specs.Frames.{Frame, kept, kept_at, live_count, marked, marked_frame, marked_slot, marked_at, carries_live}
+use Rattle.lan_bag.specs.steps.Store.{marked_in, IsStored}
+use Rattle.lan_bag.specs.steps.Wheel.{given_up_at}
 
 pub any_behind : (clock : ℕ) (lans : List Lan) (unit : CarriedUnit Port) (gone : ℕ) (slots : List (Option Frame)) → list_any (carries_live clock lans unit) slots ≡ list_any (carries_live clock lans unit) (replicate gone None ++ slots)
 any_behind clock lans unit zero slots = refl

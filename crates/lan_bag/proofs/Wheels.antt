@@ -10,8 +10,8 @@ use Rattle.nsap.specs.declared.port.Port.{Port}
 use Rattle.lan_bag.specs.declared.setup.Lan.{Lan}
 use Rattle.lan_bag.specs.Rows.{bound_on}
 use Rattle.lan_bag.specs.Frames.{Frame, kept, kept_at, is_live, marked, marked_frame, marked_at}
-use Rattle.lan_bag.specs.Places.{push_cases, set_same, set_other, kept_places, kept_was, live_kept}
-use Rattle.lan_bag.specs.Wheel.{list_at, listed, turned, IsDue, AreDue, AreLateAmong, given_up_at}
+use Rattle.lan_bag.specs.steps.Places.{push_cases, set_same, set_other, kept_places, kept_was, live_kept}
+use Rattle.lan_bag.specs.steps.Wheel.{list_at, listed, turned, IsDue, AreDue, AreLateAmong, given_up_at}
 
 pub on_err : {T E P : Type 0} (r : Result T E) → P → OnErr r P
 on_err (Ok x) p = tt

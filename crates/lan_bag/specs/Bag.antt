@@ -1,6 +1,6 @@
--- What the LANs are, and what each call does to them.
+-- What the LANs are, and what each call does to them (IEEE 802.3; X.233, underlying subnetworks).
 use Rattle.std.specs.Prelude.{◌≡◌, ℕ, ◌+◌, min, Bool, true, false, if◌then◌else◌, List, [], ◌∷◌, ◌++◌, length, map, Option, Some, None}
-use Rattle.std.specs.List.{flat_map, All}
+use Rattle.std.specs.List.{flat_map}
 use Rattle.osi_base.specs.declared.unit.Unit.{Unit as CarriedUnit}
 use Rattle.osi_base.specs.declared.unit.Up.{Up}
 use Rattle.osi_base.specs.declared.unit.Up.TheVariants.{Unit as Came, Note as Noted}
@@ -16,10 +16,9 @@ use Rattle.osi_base.specs.Calls.{Call, Offer, Choose, Inject, NextUp, Tick, afte
 use Rattle.nsap.specs.declared.port.Port.{Port}
 use Rattle.lan_bag.specs.declared.setup.Lan.{Lan}
 use Rattle.lan_bag.specs.declared.setup.PortRow.{PortRow}
-use Rattle.lan_bag.specs.Rows.{bound_on, room_on, is_on, sender_of, goes_to, IsLan}
-use Rattle.lan_bag.specs.Frames.{Frame, frame_of, has_taken, marked_at, is_taken, picked, offered, kept_at, strays_of, IsFirstOpen}
+use Rattle.lan_bag.specs.Rows.{bound_on, room_on, is_on, sender_of, goes_to}
+use Rattle.lan_bag.specs.Frames.{Frame, frame_of, has_taken, marked_at, is_taken, picked, offered, kept_at, strays_of}
 use Rattle.lan_bag.specs.Reading.{ups_of}
-use Rattle.lan_bag.specs.Wheel.{AreDue}
 
 -- the LANs: the frame of number n stands at place n - 1, and nothing once it is late
 pub record Bag : Type 0 where
@@ -109,11 +108,3 @@ BagStep old (NextUp answer) new =
     (old.waiting ≡ after_first answer new.waiting) × (answer ≡ None → old.waiting ≡ []) × (new ≡ record old { waiting = new.waiting })
 BagStep old Tick new =
     new ≡ record old { clock = old.clock + 1; frames = map (kept_at (old.clock + 1) old.lans) old.frames }
-
--- what the LANs keep true: there is no stray before an injection, the first open frame is at that place, and each frame is
--- listed for the ticks that are left to it
-pub record IsStanding (bag : Bag) (open_at : ℕ) (wheel : List (List ℕ)) : Type 0 where
-  pub lans_fit : All IsLan bag.lans
-  pub strays : bag.honest ≡ true → bag.strays ≡ 0
-  pub first : IsFirstOpen bag.clock bag.lans bag.rows bag.frames open_at
-  pub due : AreDue bag.clock bag.lans bag.frames wheel

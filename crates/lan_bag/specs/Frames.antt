@@ -1,7 +1,7 @@
 -- Frames, and which answer an offer and a choice get (IEEE 802.3, MAC frame structure).
-use Rattle.std.specs.Prelude.{◌≡◌, ℕ, zero, suc, ◌<◌, ◌≤◌, ◌+◌, Bool, true, false, not, ◌&&◌, ◌||◌, ◌==◌, nat_lt, nat_le, nat_eq, is_some, if◌then◌else◌, List, [], ◌∷◌, ◌++◌, length, drop, count_by, Option, Some, None, slice_get, slice_set}
+use Rattle.std.specs.Prelude.{ℕ, zero, suc, ◌+◌, Bool, true, false, not, ◌&&◌, ◌||◌, ◌==◌, nat_lt, nat_le, nat_eq, is_some, if◌then◌else◌, List, [], ◌∷◌, ◌++◌, length, count_by, Option, Some, None, slice_get, slice_set}
 use Rattle.std.specs.Cmp.Lexicographic.{pointwise}
-use Rattle.std.specs.List.{list_any, All}
+use Rattle.std.specs.List.{list_any}
 use Rattle.osi_base.specs.declared.unit.Unit.{Unit as CarriedUnit}
 use Rattle.osi_base.specs.declared.unit.Up.{Up}
 use Rattle.osi_base.specs.declared.unit.Up.TheVariants.{Unit as Came, Note as Noted}
@@ -14,12 +14,7 @@ use Rattle.nsap.specs.declared.port.Port.{Port}
 use Rattle.lan_frame.specs.Frame.{whole_frame}
 use Rattle.lan_bag.specs.declared.setup.Lan.{Lan}
 use Rattle.lan_bag.specs.declared.setup.PortRow.{PortRow}
-use Rattle.lan_bag.specs.Rows.{bound_on, room_on, same_port, is_on, has_sent, sender_of, is_one_of, goes_to}
-
--- the octets are those of the whole frame of what follows its header
-pub record IsWhole (to from whole : List ℕ) : Type 0 where
-  pub long : 17 ≤ length whole
-  pub framed : whole ≡ whole_frame to from (drop 17 whole)
+use Rattle.lan_bag.specs.Rows.{bound_on, room_on, same_port, is_on, has_sent, sender_of, goes_to}
 
 -- a frame: when it was sent, what it carries, and the systems that took it
 pub record Frame : Type 0 where
@@ -51,10 +46,6 @@ kept (Some frame) = frame
 abbrev pub frame_of : List (Option Frame) → ℕ → Option Frame
 frame_of frames zero = None
 frame_of frames (suc place) = kept (slice_get frames place)
-
-abbrev pub marked_in : Option Frame → ℕ → Option Frame
-marked_in None system = None
-marked_in (Some frame) system = Some (marked frame system)
 
 abbrev pub marked_frame : List (Option Frame) → ℕ → ℕ → Option Frame → List (Option Frame)
 marked_frame frames place system None = frames
@@ -131,53 +122,3 @@ carries_live clock lans unit (Some frame) = is_live clock lans frame && is_of un
 abbrev pub strays_of : ℕ → List Lan → List (Option Frame) → Up Port → ℕ
 strays_of clock lans frames (Noted note) = 0
 strays_of clock lans frames (Came arrival) = if list_any (carries_live clock lans arrival.unit) frames then 0 else 1
-
--- the store: the late frames before the slots, the frames in them, and how many of those are live
-pub record IsStored (gone : ℕ) (slots : List (Option Frame)) (live : ℕ) : Type 0 where
-  pub counted : live ≡ live_count slots
-  pub most : live ≤ 16384
-  pub numbers : gone + length slots ≤ 4294967295
-
--- the lesser of two systems, where there are two
-abbrev pub lesser_of : Option ℕ → ℕ → ℕ
-lesser_of None system = system
-lesser_of (Some found) system = if nat_lt found system then found else system
-
--- the system may take the frame, and has not
-abbrev pub is_open_to : ℕ → List Lan → List PortRow → Frame → ℕ → Bool
-is_open_to clock lans rows frame system =
-    is_live clock lans frame && is_taken (picked_of rows system frame) && not (has_taken frame system)
-
--- the frame goes to the port of the row, and its system may take it, and has not
-abbrev pub is_open_at : ℕ → List Lan → List PortRow → Frame → PortRow → Bool
-is_open_at clock lans rows frame row = is_one_of frame.unit.to row && is_open_to clock lans rows frame row.system
-
--- some system may take the frame, and has not
-abbrev pub is_open : ℕ → List Lan → List PortRow → Option Frame → Bool
-is_open clock lans rows None = false
-is_open clock lans rows (Some frame) = list_any (λ row. is_open_to clock lans rows frame row.system) rows
-
--- no frame before that place can be taken by a system that has not taken it
-abbrev pub IsClosedTo : ℕ → List Lan → List PortRow → List (Option Frame) → ℕ → Type 0
-IsClosedTo clock lans rows frames place =
-    (k : ℕ) → k < place → is_open clock lans rows (kept (slice_get frames k)) ≡ false
-
--- the first frame that a system can take and has not taken is at that place, or there is none
-pub record IsFirstOpen (clock : ℕ) (lans : List Lan) (rows : List PortRow) (frames : List (Option Frame)) (place : ℕ) : Type 0 where
-  pub within : place ≤ length frames
-  pub before : IsClosedTo clock lans rows frames place
-  pub here : place < length frames → is_open clock lans rows (kept (slice_get frames place)) ≡ true
-
--- the least of the systems that can take a frame and have not, and none exactly where there is none
-abbrev pub IsLeastOpen : ℕ → List Lan → List PortRow → Frame → Option ℕ → Type 0
-IsLeastOpen clock lans rows frame None = (system : ℕ) → is_open_to clock lans rows frame system ≡ false
-IsLeastOpen clock lans rows frame (Some least) =
-    (is_open_to clock lans rows frame least ≡ true)
-    × ((system : ℕ) → is_open_to clock lans rows frame system ≡ true → least ≤ system)
-
--- the least of the systems that can take a frame, and have not, at the ports of the first rows
-abbrev pub IsLeastAmong : ℕ → List Lan → List PortRow → Frame → List PortRow → Option ℕ → Type 0
-IsLeastAmong clock lans rows frame some_rows None = All (λ row. is_open_at clock lans rows frame row ≡ false) some_rows
-IsLeastAmong clock lans rows frame some_rows (Some least) =
-    (is_open_to clock lans rows frame least ≡ true)
-    × All (λ row. is_open_at clock lans rows frame row ≡ true → least ≤ row.system) some_rows

@@ -6,11 +6,6 @@ use Rattle.nsap.specs.declared.port.Port.{Port}
 use Rattle.lan_bag.specs.declared.setup.Lan.{Lan}
 use Rattle.lan_bag.specs.declared.setup.PortRow.{PortRow}
 
--- the LANs and the ports
-pub record Setting : Type 0 where
-  pub lans : List Lan
-  pub rows : List PortRow
-
 -- the bound and the room of a LAN, also where it is not listed
 abbrev pub bound_in : Option Lan → ℕ
 bound_in None = 1

@@ -1,7 +1,6 @@
 //! The LANs with their frames (IEEE 802.3; X.233, underlying subnetworks).
 
 ghost use Rattle.std.specs.Prelude.{◌≡◌, ◌<◌, ◌≤◌, ◌+◌, ◌++◌, IfOk, OnOk, length, option_copied, if◌then◌else◌};
-ghost use Rattle.osi_base.specs.declared.note.Note.TheVariants.{Frame as FrameSent};
 ghost use Rattle.osi_base.specs.declared.unit.Offered.TheVariants.{Taken as WasTaken};
 ghost use Rattle.lan_bag.specs.Rows.{IsSetUp, sender_of};
 ghost use Rattle.lan_bag.specs.Bag.{frame_note};
@@ -38,17 +37,26 @@ pub struct LanBag {
 
 // The first frame that a system may take and has not taken is at `fresh_at`, and the place of each frame is in the wheel.
 impl Model for LanBag {
-    ghost use Rattle.lan_bag.specs.Bag.{Bag, IsStanding};
+    ghost use Rattle.lan_bag.specs.Bag.{Bag};
+    ghost use Rattle.lan_bag.specs.steps.Standing.{IsStanding};
 
     ghost Value = { Bag };
 
-    ghost view = { λ a. record { clock = a.clock; lans = a.setup.lans; rows = a.setup.rows; frames = a.frames; waiting = a.waiting.items; honest = a.honest; strays = a.strays } };
+    ghost view = { λ a. record {
+      clock = a.clock;
+      lans = a.setup.lans;
+      rows = a.setup.rows;
+      frames = a.frames;
+      waiting = a.waiting.items;
+      honest = a.honest;
+      strays = a.strays;
+    } };
 
-    ghost invariant = { λ a. IsStanding (record { clock = a.clock; lans = a.setup.lans; rows = a.setup.rows; frames = a.frames; waiting = a.waiting.items; honest = a.honest; strays = a.strays }) a.fresh_at a.wheel };
+    ghost invariant = { λ a. IsStanding a.clock a.setup a.frames a.fresh_at a.wheel a.honest a.strays };
 }
 
 impl LanBag {
-    ghost use Rattle.osi_base.specs.Calls.{Offer, Choose, Inject, NextUp, Tick as OneTick};
+    ghost use Rattle.osi_base.specs.Calls.{Offer, Choose, Inject, Tick as OneTick};
     ghost use Rattle.osi_base.specs.Link.{IsLeastFresh};
     ghost use Rattle.lan_bag.specs.Bag.{new_bag, BagStep, after_offer, after_pick, link_of};
 
@@ -258,7 +266,7 @@ impl Carrier for LanBag {
         self.strays
     }
 
-    ghost use Rattle.lan_bag.specs.Laws.{bag_given, bag_keeps};
+    ghost use Rattle.lan_bag.specs.steps.Keeping.{bag_given, bag_keeps};
 
     ghost given = { bag_given };
 

@@ -2,7 +2,8 @@
 
 ghost use Rattle.std.specs.Prelude.{◌≡◌, ◌≤◌, length, Some, option_copied};
 ghost use Rattle.std.specs.List.{list_any};
-ghost use Rattle.lan_bag.specs.Frames.{offered, picked, picked_of, is_open_at, is_open, IsClosedTo, IsFirstOpen, IsLeastOpen, lesser_of};
+ghost use Rattle.lan_bag.specs.Frames.{offered, picked, picked_of};
+ghost use Rattle.lan_bag.specs.steps.Openings.{is_open_at, is_open, IsClosedTo, IsFirstOpen, IsLeastOpen, lesser_of};
 
 use crate::frame::Sent;
 use crate::setup::{PortRow, Setup};

@@ -1,6 +1,6 @@
 //! A frame on a LAN (IEEE 802.3, MAC frame structure; ISO/IEC 8802-2, LLC PDU).
 
-ghost use Rattle.std.specs.Prelude.{◌≡◌, ◌≤◌, ◌+◌, [], nat_le, length, IfOk, OnErr, OnOk};
+ghost use Rattle.std.specs.Prelude.{◌≡◌, ◌≤◌, ◌+◌, [], length, IfOk, OnErr, OnOk};
 ghost use Rattle.lan_frame.specs.Frame.{whole_frame};
 ghost use Rattle.lan_bag.specs.Frames.{is_live, has_taken, marked, is_of};
 ghost use Rattle.lan_bag.specs.Reading.{ups_of};
@@ -25,7 +25,8 @@ pub struct Sent {
 // The octets are those of the whole frame.
 impl Model for Sent {
     ghost use Rattle.std.specs.Prelude.{drop};
-    ghost use Rattle.lan_bag.specs.Frames.{Frame, IsWhole};
+    ghost use Rattle.lan_bag.specs.Frames.{Frame};
+    ghost use Rattle.lan_bag.specs.steps.Store.{IsWhole};
 
     ghost Value = { Frame };
 

@@ -48,7 +48,7 @@ pub struct Setup {
 }
 
 impl Model for Setup {
-    ghost use Rattle.lan_bag.specs.Rows.{Setting};
+    ghost use Rattle.lan_bag.specs.steps.Setting.{Setting};
 
     ghost Value = { Setting };
 

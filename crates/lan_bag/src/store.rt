@@ -2,8 +2,9 @@
 
 ghost use Rattle.std.specs.Prelude.{◌≡◌, ◌<◌, ◌≤◌, ◌+◌, ◌++◌, ◌∷◌, [], Some, None, if◌then◌else◌, not, ◌&&◌, ◌||◌, nat_le, length, map, is_some, option_copied, replicate, slice_get, OnOk, OnErr};
 ghost use Rattle.std.specs.List.{list_any};
-ghost use Rattle.lan_bag.specs.Frames.{kept, frame_of, kept_at, live_count, marked_at, marked_in, marked_slot, carries_live};
-ghost use Rattle.lan_bag.specs.Wheel.{AreLateAmong, given_up_at};
+ghost use Rattle.lan_bag.specs.Frames.{kept, frame_of, kept_at, live_count, marked_at, marked_slot, carries_live};
+ghost use Rattle.lan_bag.specs.steps.Store.{marked_in};
+ghost use Rattle.lan_bag.specs.steps.Wheel.{AreLateAmong, given_up_at};
 
 use crate::frame::Sent;
 use crate::setup::Setup;
@@ -27,7 +28,8 @@ pub struct Store {
 // The late frames at the front are gone; the live ones are counted, and the numbers fit.
 impl Model for Store {
     ghost use Rattle.std.specs.Prelude.{◌++◌, List, Option, None, replicate};
-    ghost use Rattle.lan_bag.specs.Frames.{Frame, IsStored};
+    ghost use Rattle.lan_bag.specs.Frames.{Frame};
+    ghost use Rattle.lan_bag.specs.steps.Store.{IsStored};
 
     ghost Value = { List (Option Frame) };
 

@@ -1,7 +1,7 @@
 //! A timing wheel: the places of the frames by the tick at which they are late.
 
 ghost use Rattle.std.specs.Prelude.{◌≡◌, ◌<◌, [], length, replicate, IfOk, OnOk, OnErr};
-ghost use Rattle.lan_bag.specs.Wheel.{list_at, listed, turned};
+ghost use Rattle.lan_bag.specs.steps.Wheel.{list_at, listed, turned};
 
 use circular_buffer::HeapCircularBuffer;
 use osi_base::NoMemory;

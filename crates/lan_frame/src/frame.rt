@@ -16,8 +16,5 @@ pub struct FrameRef<'a> {
 /// The octets of a frame before its network PDU.
 pub const HEADER: usize = 17;
 
-/// The octets of a frame before what its length field counts.
-pub const MAC_HEADER: usize = 14;
-
 /// DSAP, SSAP and control of the network layer's LLC PDU.
 pub const LLC: [u8; 3] = [0xfe, 0xfe, 0x03];

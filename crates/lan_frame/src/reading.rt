@@ -1,10 +1,11 @@
 //! Reading a frame (IEEE 802.3, MAC frame structure; ISO/IEC 8802-2, LLC PDU).
 
-ghost use Rattle.std.specs.Prelude.{◌≡◌, ◌≤◌, ◌+◌, length, take, drop, option_map};
-ghost use Rattle.lan_frame.specs.Frame.{frame_in, framed, is_alien, length_field};
+ghost use Rattle.std.specs.Prelude.{◌≡◌, ◌<◌, ◌↔◌, length, take, drop, option_map, IsNone, IfSome};
+ghost use Rattle.lan_frame.specs.Frame.{frame_in, framed};
 
-use crate::frame::{FrameRef, HEADER, LLC, MAC_HEADER};
+use crate::frame::{FrameRef, LLC};
 use nsap::Snpa;
+use osi_base::Octets;
 
 /// How many octets an SNPA has.
 const SNPA_OCTETS: usize = 6;
@@ -22,47 +23,26 @@ const MOST_LENGTH: usize = 1500;
 pub fn read_frame(octets: &[u8]) -> Option<FrameRef<'_>>
     ensures { option_map framed result ≡ frame_in octets.now }
 {
-    if is_foreign(octets) {
+    let mut cursor = Octets::new(octets);
+    let to = read_snpa(&mut cursor)?;
+    let from = read_snpa(&mut cursor)?;
+    let length = cursor.number(2)? as usize;
+    let llc = cursor.take(LLC.len())?;
+    if llc != LLC.as_slice() || length < LEAST_LENGTH || length > MOST_LENGTH {
         return None;
     }
-    let end = MAC_HEADER + length_of(octets);
-    Some(FrameRef {
-        to: snpa_at(octets, 0),
-        from: snpa_at(octets, SNPA_OCTETS),
-        pdu: &octets[HEADER..end],
-    })
+    let pdu = cursor.take(length - LLC.len())?;
+    Some(FrameRef { to, from, pdu })
 }
 
-/// Whether the octets are no frame with a network PDU.
-fn is_foreign(octets: &[u8]) -> bool
-    ensures { result ≡ is_alien octets.now }
+/// The SNPA that comes next. None exactly where fewer than 6 octets are left.
+fn read_snpa(cursor: &mut Octets<'_>) -> Option<Snpa>
+    ensures none { IsNone result ↔ (length cursor.old < 6) }
+    ensures ok { IfSome result (λ snpa. snpa ≡ take 6 cursor.old) }
+    ensures rest { IfSome result (λ snpa. cursor.new ≡ drop 6 cursor.old) }
 {
-    if octets.len() < HEADER {
-        return true;
-    }
-    let length = length_of(octets);
-    length < LEAST_LENGTH
-        || length > MOST_LENGTH
-        || octets.len() < MAC_HEADER + length
-        || octets[14] != LLC[0]
-        || octets[15] != LLC[1]
-        || octets[16] != LLC[2]
-}
-
-/// The length field.
-fn length_of(octets: &[u8]) -> usize
-    requires { 14 ≤ length octets.now }
-    ensures { result ≡ length_field octets.now }
-{
-    usize::from(u16::from_be_bytes([octets[12], octets[13]]))
-}
-
-/// The SNPA at the position.
-fn snpa_at(octets: &[u8], at: usize) -> Snpa
-    requires { at + 6 ≤ length octets.now }
-    ensures { result ≡ take 6 (drop at octets.now) }
-{
+    let octets = cursor.take(SNPA_OCTETS)?;
     let mut snpa = [0; SNPA_OCTETS];
-    snpa.copy_from_slice(&octets[at..at + SNPA_OCTETS]);
-    Snpa::of(snpa)
+    snpa.copy_from_slice(octets);
+    Some(Snpa::of(snpa))
 }

@@ -13,7 +13,8 @@ use Rattle.std.specs.Cmp.Lexicographic.{unequal}
 use Rattle.std.proofs.lemmas.Bool.{and_parts, cases_lt, eqb-true}
 use Rattle.std.proofs.lemmas.Fmt.{hex_byte}
 use Rattle.std.proofs.lemmas.List.{take_more}
-use Rattle.nsap.specs.Text.{IsDigits, address_of_text, prefix_of_text, snpa_of_text, count_fault, digit_fault, first_bad, hex_octets, octet_of, text_fault}
+use Rattle.nsap.specs.Text.{address_of_text, prefix_of_text, snpa_of_text, count_fault, digit_fault, first_bad, hex_octets, octet_of, text_fault}
+use Rattle.nsap.specs.steps.Digits.{IsDigits}
 use Rattle.nsap.specs.declared.text.NsapFault.{NsapFault}
 use Rattle.nsap.specs.declared.text.NsapFault.TheVariants.{Empty}
 

@@ -1,3 +1,3 @@
 pub mod Address
-pub mod Padded
 pub mod Text
+pub mod steps

@@ -1,6 +1,5 @@
--- Addresses as text: two hexadecimal digits for each octet, in either case.
-use Rattle.std.specs.Prelude.{◌≡◌, ◌==◌, ◌<◌, ◌≤◌, ℕ, ◌+◌, ◌*◌, ◌%◌, not, nat_lt, if◌then◌else◌, List, [], ◌∷◌, length, Option, Some, None, unwrap_or, position, Result, Ok, Err, codes, nat_eq}
-use Rattle.std.specs.List.{AllPass}
+-- Addresses as text: two hexadecimal digits for each octet, in either case (ISO/IEC 8348, network layer addressing).
+use Rattle.std.specs.Prelude.{◌==◌, ℕ, ◌+◌, ◌*◌, ◌%◌, not, nat_lt, if◌then◌else◌, List, [], ◌∷◌, length, Option, Some, None, unwrap_or, position, Result, Ok, Err, codes, nat_eq}
 use Rattle.hex.specs.Hex.{hex_digit_value, is_hex_digit}
 use Rattle.std.specs.Cmp.Lexicographic.{pointwise}
 use Rattle.nsap.specs.declared.text.NsapFault.{NsapFault}
@@ -38,14 +37,6 @@ abbrev pub text_fault : ℕ → ℕ → List ℕ → Option NsapFault
 text_fault least most text =
     if length text == 0 then Some Empty
     else digit_fault least most text (first_bad text)
-
--- a text of digits alone, two for each octet, at least and at most so many
-pub record IsDigits (least most : ℕ) (text : List ℕ) : Type 0 where
-  pub digits : AllPass is_hex_digit text
-  pub even : length text % 2 ≡ 0
-  pub some : 0 < length text
-  pub enough : least ≤ length text
-  pub fits : length text ≤ most
 
 -- the octets, unless there is a fault
 abbrev pub octets_or_fault : List ℕ → Option NsapFault → Result (List ℕ) NsapFault

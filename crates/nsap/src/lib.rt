@@ -1,6 +1,7 @@
 //! Network addresses of end and intermediate systems (ISO/IEC 8348, network layer addressing).
 #![tactic(auto)]
 
+mod laws;
 mod nsap;
 mod octets;
 mod port;
@@ -10,8 +11,9 @@ mod snpa;
 mod tests;
 mod text;
 
+pub use laws::{is_prefix, text_round_trip};
 pub use nsap::Nsap;
 pub use port::{Hop, Port};
-pub use prefix::{Prefix, is_prefix};
+pub use prefix::Prefix;
 pub use snpa::Snpa;
-pub use text::{NsapFault, text_round_trip};
+pub use text::NsapFault;

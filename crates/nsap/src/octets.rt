@@ -1,6 +1,7 @@
 //! Up to twenty octets, kept in place.
 ghost use Rattle.std.specs.Prelude.{◌≡◌, ◌-◌, ◌<◌, ◌≤◌, [], ◌∷◌, ◌++◌, length, take, Some, None, nat_le, if◌then◌else◌};
-ghost use Rattle.nsap.specs.Text.{IsDigits, hex_octets};
+ghost use Rattle.nsap.specs.Text.{hex_octets};
+ghost use Rattle.nsap.specs.steps.Digits.{IsDigits};
 
 use crate::text;
 use std::marker::Model;
@@ -19,7 +20,7 @@ pub struct Octets {
 impl Model for Octets {
     ghost use Rattle.std.specs.Prelude.{List, ℕ, length, take};
     ghost use Rattle.std.proofs.Common.{arith, length-take-le, sym};
-    ghost use Rattle.nsap.specs.Padded.{IsPadded, padded};
+    ghost use Rattle.nsap.specs.steps.Padded.{IsPadded, padded};
 
     ghost Value = { List ℕ };
 

@@ -1,5 +1,5 @@
 //! The beginning that addresses share (X.233, route PDU function).
-ghost use Rattle.std.specs.Prelude.{◌≡◌, ◌↔◌, ◌++◌, ℕ, List, true, ◌≤◌, length, Some};
+ghost use Rattle.std.specs.Prelude.{◌≡◌, ◌≤◌, length, Some};
 ghost use Rattle.hex.specs.Hex.{encode_lower};
 ghost use Rattle.nsap.specs.Address.{covers};
 ghost use Rattle.nsap.specs.Text.{prefix_of_text};
@@ -61,11 +61,6 @@ impl Prefix {
         address.octets().starts_with(self.octets())
     }
 }
-
-/// A prefix covers exactly the addresses that begin with its octets.
-pub fn is_prefix()
-    ensures { (prefix address : List ℕ) → (covers prefix address ≡ true) ↔ ((rest : List ℕ) × (address ≡ prefix ++ rest)) }
-{}
 
 impl fmt::Display for Prefix {
     ghost output = { λ a. Some (encode_lower a) };

@@ -1,9 +1,10 @@
 //! Addresses as text: two hexadecimal digits for each octet, in either case.
-ghost use Rattle.std.specs.Prelude.{◌≡◌, ℕ, List, Ok, ◌*◌, ◌<◌, ◌≤◌, length, Some, None, IfSome, IfOk, IfErr};
+ghost use Rattle.std.specs.Prelude.{◌≡◌, ◌*◌, ◌<◌, length, Some, None, IfSome, IfOk, IfErr};
 ghost use Rattle.std.specs.List.{AllPass};
 ghost use Rattle.std.specs.Fmt.{WritesOnOk};
-ghost use Rattle.hex.specs.Hex.{IsBytes, encode_lower, is_hex_digit};
-ghost use Rattle.nsap.specs.Text.{IsDigits, address_of_text, count_fault, first_bad, hex_octets, prefix_of_text, snpa_of_text, text_fault};
+ghost use Rattle.hex.specs.Hex.{encode_lower, is_hex_digit};
+ghost use Rattle.nsap.specs.Text.{count_fault, first_bad, hex_octets, text_fault};
+ghost use Rattle.nsap.specs.steps.Digits.{IsDigits};
 
 use std::fmt;
 use thiserror::Error;
@@ -27,16 +28,6 @@ pub enum NsapFault {
     #[error("too many digits")]
     TooLong,
 }
-
-/// What an address, an SNPA or a prefix that is not empty prints is read as the same octets.
-pub fn text_round_trip()
-    ensures address { (octets : List ℕ) → IsBytes octets → 0 < length octets → length octets ≤ 20
-        → address_of_text (encode_lower octets) ≡ Ok octets }
-    ensures snpa { (octets : List ℕ) → IsBytes octets → length octets ≡ 6
-        → snpa_of_text (encode_lower octets) ≡ Ok octets }
-    ensures prefix { (octets : List ℕ) → IsBytes octets → 0 < length octets → length octets ≤ 20
-        → prefix_of_text (encode_lower octets) ≡ Ok octets }
-{}
 
 /// That the text is one of at least and at most so many digits, two for each octet, or its first fault.
 pub fn check(text: &str, least: usize, most: usize) -> Result<(), NsapFault>

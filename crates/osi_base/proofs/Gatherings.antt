@@ -1,11 +1,18 @@
 -- Taking up what waits, one by one.
-use Rattle.std.proofs.Common.{List, [], ◌∷◌, ◌++◌, refl, sym, ◌∙◌, ap, subst, append_assoc, Some, None}
+use Rattle.std.proofs.Common.{◌≡◌, List, [], ◌∷◌, ◌++◌, refl, sym, ◌∙◌, ap, subst, append_assoc, Some, None}
 use Rattle.std.proofs.lemmas.List.{append-nil}
 use Rattle.osi_base.specs.declared.unit.Up.{Up}
 use Rattle.osi_base.specs.Link.{Link}
-use Rattle.osi_base.specs.Calls.{Call, NextUp, Chain, TakesUp}
-use Rattle.osi_base.specs.Gathering.{takings, Gathers, Gathering}
+use Rattle.osi_base.specs.Calls.{Call, NextUp, Chain, NothingNew, TakesUp}
+use Rattle.osi_base.specs.Gathering.{takings, Gathers, Stands}
 use Rattle.osi_base.proofs.Standings.{stands_on, stands_next}
+
+-- so far these were taken up, in order
+pub record Gathering {C A : Type 0} (link : C → Link A) (steps : C → Call A → C → Type 0) (old : C) (ups : List (Up A)) (new : C) : Type 0 where
+  pub waited : (link old).waiting ≡ ups ++ (link new).waiting
+  pub stands : Stands (link old) (link new)
+  pub grows : NothingNew (link old) (link new)
+  pub chain : Chain steps old (takings ups) new
 
 chain_last : {C A : Type 0} (steps : C → Call A → C → Type 0) (old : C) (ups : List (Up A)) (mid new : C) (up : Up A) → Chain steps old (takings ups) mid → steps mid (NextUp (Some up)) new → Chain steps old (takings (ups ++ up ∷ [])) new
 chain_last {C} steps old [] mid new up h s = (new, subst (λ (c : C). steps c (NextUp (Some up)) new) h s, refl)

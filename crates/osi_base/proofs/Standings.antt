@@ -14,23 +14,17 @@ use Rattle.osi_base.specs.Calls.{StillTakes, TookAlso, no_pair, pair_of, Offers,
 use Rattle.osi_base.specs.Gathering.{Stands}
 use Rattle.osi_base.proofs.Chains.{same_on, picks_on}
 
+or_false : (tb tc x : Bool) → tc ≡ (true && tb || false) → tb ≡ x → tc ≡ x
+or_false true tc x e f = e ∙ f
+or_false false tc x e f = e ∙ f
+
 took_on : (a ta b tb c tc this : Bool)
     → (IsTrue a → IsTrue b) → (IsTrue this → IsTrue b)
     → (IsTrue b → tb ≡ (a && ta || this)) → (IsTrue c → tc ≡ (b && tb || false)) → IsTrue c → tc ≡ (a && ta || this)
 took_on a ta true tb c tc this h t k l is =
     let e = l is in let f = k refl in or_false tb tc (a && ta || this) e f
-  where
-    or_false : (tb tc x : Bool) → tc ≡ (true && tb || false) → tb ≡ x → tc ≡ x
-    or_false true tc x e f = e ∙ f
-    or_false false tc x e f = e ∙ f
-took_on true ta false tb c tc this h t k l is = absurd (no (h refl))
-  where
-    no : IsTrue false → ⊥
-    no e = cc
-took_on false ta false tb c tc true h t k l is = absurd (no (t refl))
-  where
-    no : IsTrue false → ⊥
-    no e = cc
+took_on true ta false tb c tc this h t k l is = let e = h refl in cc
+took_on false ta false tb c tc true h t k l is = let e = t refl in cc
 took_on false ta false tb c tc false h t k l is = l is
 
 -- what was taken first counts where no pair was taken since
@@ -42,7 +36,7 @@ took_after old mid new this h t k l pick system is =
 pub takes_on : {A : Type 0} (old mid new : Link A) → StillTakes old mid → StillTakes mid new → StillTakes old new
 takes_on old mid new h k pick system is = k pick system (h pick system is)
 
-took_same : (a ta : Bool) → IsTrue a → ta ≡ (a && ta || false)
+pub took_same : (a ta : Bool) → IsTrue a → ta ≡ (a && ta || false)
 took_same true true h = refl
 took_same true false h = refl
 took_same false ta h = cc
@@ -66,10 +60,6 @@ tick_took old mid new w t k pick system is =
     by_mid (old.takes pick system) (old.took pick system) (mid.takes pick system) (mid.took pick system) (new.took pick system) refl refl
     (t.took pick system) (k.took pick system is)
   where
-    or_false : (tb tc x : Bool) → tc ≡ (true && tb || false) → tb ≡ x → tc ≡ x
-    or_false true tc x e f = e ∙ f
-    or_false false tc x e f = e ∙ f
-
     gone : mid.takes pick system ≡ false → old.takes pick system ≡ false
     gone f = elim (k.picks.again pick system is) [
       | inl before ↦ cc

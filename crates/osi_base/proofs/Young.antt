@@ -1,11 +1,14 @@
 -- Old units go from the front of a list that is in the order of its ticks: where the first is young, all are.
-use Rattle.std.proofs.Common.{◌≡◌, ℕ, ◌+◌, ◌<◌, ◌≤◌, List, [], ◌∷◌, ◌++◌, refl, ◌∙◌, ap, subst, arith, get_or}
-use Rattle.std.specs.Prelude.{nat_le, filter, Bool, true, false, cond}
+-- So the store keeps its order and its bound, with one more unit and with fewer.
+use Rattle.std.proofs.Common.{◌≡◌, ℕ, ◌+◌, ◌<◌, ◌≤◌, List, [], ◌∷◌, ◌++◌, length, refl, ◌∙◌, ap, subst, arith, get_or}
+use Rattle.std.specs.Prelude.{nat_le, filter, Bool, true, false, not, cond}
 use Rattle.std.specs.List.{All, AllByRecursion}
 use Rattle.std.proofs.lemmas.Bool.Decides.{nat_tests}
+use Rattle.std.proofs.lemmas.List.{length-append}
 use Rattle.std.proofs.lemmas.List.Elements.{All-head, All-tail}
+use Rattle.std.proofs.lemmas.List.Filters.{length-filter_both}
 use Rattle.osi_base.specs.declared.unit.Unit.{Unit as CarriedUnit}
-use Rattle.osi_base.specs.Floated.{is_young, IsOrdered}
+use Rattle.osi_base.specs.Floated.{is_young, IsFloated, IsOrdered}
 
 young : (x y : ℕ) → x ≤ y → nat_le x y ≡ true
 young x y h = grind (arith, nat_tests)
@@ -34,14 +37,30 @@ pub young_front : {A : Type 0} (now age : ℕ) (entries : List (ℕ × CarriedUn
 young_front now age [] front is h k = refl
 young_front {A} now age (e ∷ entries) front is h k = first_young now age e entries (subst (λ (x : ℕ × CarriedUnit A). now ≤ x.0 + age) is h) k
 
-all_last : {A : Type 0} (first : ℕ) (entries : List (ℕ × CarriedUnit A)) (last : ℕ × CarriedUnit A) → AllByRecursion (λ later. first ≤ later.0) entries → first ≤ last.0 → AllByRecursion (λ later. first ≤ later.0) (entries ++ last ∷ [])
-all_last first [] last h k = (k, tt)
-all_last first (e ∷ entries) last h k = (h.0, all_last first entries last h.1 k)
+-- one more element of which it holds
+pub all_last : {A : Type 0} (P : A → Type 0) (xs : List A) (last : A) → AllByRecursion P xs → P last → AllByRecursion P (xs ++ last ∷ [])
+all_last P [] last h k = (k, tt)
+all_last P (x ∷ xs) last h k = (h.0, all_last P xs last h.1 k)
 
--- one more that is not older than the others keeps the order
-pub ordered_last : {A : Type 0} (entries : List (ℕ × CarriedUnit A)) (last : ℕ × CarriedUnit A) → IsOrdered entries → All (λ (entry : ℕ × CarriedUnit A). entry.0 ≤ last.0) entries → IsOrdered (entries ++ last ∷ [])
+ordered_last : {A : Type 0} (entries : List (ℕ × CarriedUnit A)) (last : ℕ × CarriedUnit A) → IsOrdered entries → All (λ (entry : ℕ × CarriedUnit A). entry.0 ≤ last.0) entries → IsOrdered (entries ++ last ∷ [])
 ordered_last [] last h k = (tt, tt)
 ordered_last {A} (e ∷ entries) last h k = (
-  all_last e.0 entries last h.0 (All-head (λ (entry : ℕ × CarriedUnit A). entry.0 ≤ last.0) e entries k),
+  all_last (λ (later : ℕ × CarriedUnit A). e.0 ≤ later.0) entries last h.0 (All-head (λ (entry : ℕ × CarriedUnit A). entry.0 ≤ last.0) e entries k),
   ordered_last entries last h.1 (All-tail (λ (entry : ℕ × CarriedUnit A). entry.0 ≤ last.0) e entries k),
 )
+
+-- one more that is not older than the others, where there is room
+pub floated_last : {A : Type 0} (limit : ℕ) (entries : List (ℕ × CarriedUnit A)) (last : ℕ × CarriedUnit A) → IsFloated (record { limit = limit; entries = entries }) → length entries < limit → All (λ (entry : ℕ × CarriedUnit A). entry.0 ≤ last.0) entries
+    → IsFloated (record { limit = limit; entries = entries ++ last ∷ [] })
+floated_last limit entries last h room k = record {
+  within = omega (arith, length-append entries (last ∷ []));
+  ordered = ordered_last entries last h.ordered k;
+}
+
+-- the young alone
+pub floated_young : {A : Type 0} (limit now age : ℕ) (entries rest : List (ℕ × CarriedUnit A)) → IsFloated (record { limit = limit; entries = entries }) → rest ≡ filter (is_young now age) entries → IsOrdered rest
+    → IsFloated (record { limit = limit; entries = rest })
+floated_young limit now age entries rest h is k = record {
+  within = omega (arith, ap length is, length-filter_both (is_young now age) (λ entry. not (is_young now age entry)) (λ entry. refl) entries, h.within);
+  ordered = k;
+}

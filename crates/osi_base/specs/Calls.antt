@@ -1,4 +1,4 @@
--- What each call of a carrier does, to what those above see of it.
+-- What each call of a carrier does, to what those above see of it (X.233, connectionless-mode network service).
 use Rattle.std.specs.Prelude.{◌≡◌, ◌≢◌, ◌⊎◌, ◌↔◌, ℕ, ◌+◌, ◌<◌, ◌≤◌, ◌==◌, min, Bool, true, false, ◌&&◌, ◌||◌, List, [], ◌∷◌, ◌++◌, Option, Some, None, IsTrue}
 use Rattle.std.specs.List.{Contains, All}
 use Rattle.osi_base.specs.declared.unit.Unit.{Unit as CarriedUnit}
@@ -162,3 +162,7 @@ Keeps old Tick new = Ticks old new
 abbrev pub Chain : {S A : Type 0} → (S → Call A → S → Type 0) → S → List (Call A) → S → Type 0
 Chain steps old [] new = new ≡ old
 Chain {S} steps old (call ∷ calls) new = (mid : S) × steps old call mid × Chain steps mid calls new
+
+-- it holds from the first state of every chain of calls to its last
+abbrev pub OnChains : {S A : Type 0} → (S → Call A → S → Type 0) → (S → S → Type 0) → Type 0
+OnChains {S} {A} steps Holds = (old new : S) (calls : List (Call A)) → Chain steps old calls new → Holds old new

@@ -1,5 +1,5 @@
--- What floats, as data.
-use Rattle.std.specs.Prelude.{ℕ, ◌+◌, ◌≤◌, Bool, ◌&&◌, nat_le, nat_eq, List, [], ◌∷◌}
+-- The units that a carrier took and may still let arrive (X.233, PDU lifetime control).
+use Rattle.std.specs.Prelude.{ℕ, ◌+◌, ◌≤◌, Bool, ◌&&◌, nat_le, nat_eq, List, [], ◌∷◌, length}
 use Rattle.std.specs.Cmp.Lexicographic.{pointwise}
 use Rattle.std.specs.List.{AllByRecursion}
 use Rattle.osi_base.specs.declared.unit.Unit.{Unit as CarriedUnit}
@@ -21,3 +21,8 @@ is_unit_of eq unit entry = eq entry.1.from unit.from && eq entry.1.to unit.to &&
 abbrev pub IsOrdered : {A : Type 0} → List (ℕ × CarriedUnit A) → Type 0
 IsOrdered [] = Unit {0}
 IsOrdered (entry ∷ entries) = AllByRecursion (λ later. entry.0 ≤ later.0) entries × IsOrdered entries
+
+-- at most `limit` units, oldest first
+pub record IsFloated {A : Type 0} (floated : Floated A) : Type 0 where
+  pub within : length floated.entries ≤ floated.limit
+  pub ordered : IsOrdered floated.entries

@@ -1,4 +1,4 @@
--- All that waits in a carrier is taken up.
+-- All that waits in a carrier is taken up (X.233, connectionless-mode network service).
 use Rattle.std.specs.Prelude.{◌≡◌, List, [], ◌∷◌, ◌++◌, Some, None}
 use Rattle.osi_base.specs.declared.unit.Up.{Up}
 use Rattle.osi_base.specs.Link.{Link}
@@ -17,13 +17,6 @@ pub record Stands {A : Type 0} (old new : Link A) : Type 0 where
 abbrev pub takings : {A : Type 0} → List (Up A) → List (Call A)
 takings [] = []
 takings (up ∷ ups) = NextUp (Some up) ∷ takings ups
-
--- so far these were taken up, in order
-pub record Gathering {C A : Type 0} (link : C → Link A) (steps : C → Call A → C → Type 0) (old : C) (ups : List (Up A)) (new : C) : Type 0 where
-  pub waited : (link old).waiting ≡ ups ++ (link new).waiting
-  pub stands : Stands (link old) (link new)
-  pub grows : NothingNew (link old) (link new)
-  pub chain : Chain steps old (takings ups) new
 
 -- these waited, and nothing waits now
 pub record Gathers {C A : Type 0} (link : C → Link A) (steps : C → Call A → C → Type 0) (old : C) (ups : List (Up A)) (new : C) : Type 0 where

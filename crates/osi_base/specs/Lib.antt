@@ -5,5 +5,6 @@ pub mod Floated
 pub mod Gathering
 pub mod Link
 pub mod Memory
+pub mod Numbers
 pub mod Rounds
 pub mod Status

@@ -6,13 +6,19 @@ use Rattle.osi_base.specs.declared.refusal.WriteRefusal.{WriteRefusal}
 use Rattle.osi_base.specs.declared.refusal.WriteRefusal.TheVariants.{Failed as WriteFailed, NoMemory as WriteNoMemory}
 
 -- a source: what is left, the most that each call gives, the numbers of the calls that fail, the calls
--- and the faults so far
+-- and the faults so far, and the most octets that a call has asked for
 pub record Input : Type 0 where
   pub left : List ℕ
   pub cuts : List ℕ
   pub fails : List ℕ
   pub calls : ℕ
   pub faults : ℕ
+  pub asked : ℕ
+
+-- a source that never fails: what is left, and the most octets that a call has asked for
+pub record Unread : Type 0 where
+  pub left : List ℕ
+  pub asked : ℕ
 
 -- a sink: what was written, the numbers of the calls that fail, the calls and the faults so far
 pub record Output : Type 0 where
@@ -41,8 +47,8 @@ read_count input room = min (share room (slice_get input.cuts input.calls)) (len
 pub record Reads (old : Input) (room : ℕ) (result : Result ℕ Failed) (new : Input) : Type 0 where
   pub answer : result ≡ (if is_failing old.fails (next_count old.calls) then Err (record {}) else Ok (read_count old room))
   pub after : new ≡ (if is_failing old.fails (next_count old.calls)
-      then record old { calls = next_count old.calls; faults = next_count old.faults }
-      else record old { calls = next_count old.calls; left = drop (read_count old room) old.left })
+      then record old { calls = next_count old.calls; faults = next_count old.faults; asked = max old.asked room }
+      else record old { calls = next_count old.calls; left = drop (read_count old room) old.left; asked = max old.asked room })
 
 -- what a call of `write` does: it fails by its number, or takes the piece whole, or memory ran out
 abbrev pub Writes : Output → List ℕ → Result ℕ WriteRefusal → Output → Type 0

@@ -1,4 +1,4 @@
--- One round of calls over any carrier.
+-- One round of calls over any carrier (X.233, connectionless-mode network service).
 use Rattle.std.specs.Prelude.{◌≡◌, ℕ, ◌+◌, true, [], ◌∷◌, Option, Some, None}
 use Rattle.osi_base.specs.declared.unit.Unit.{Unit as CarriedUnit}
 use Rattle.osi_base.specs.declared.unit.Up.{Up}

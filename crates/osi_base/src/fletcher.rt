@@ -3,7 +3,7 @@
 //! The first sum is that of the octets, the second that of each octet times its place from 1.
 //! The checksum holds where both are 0 modulo 255. Its two octets are never 0 where it is used.
 
-ghost use Rattle.osi_base.specs.Fletcher.{OneSeal, Seals, is_sealed, place_sum};
+ghost use Rattle.osi_base.specs.Fletcher.{Seals, is_sealed, place_sum};
 ghost use Rattle.std.specs.Prelude.{length, reverse, sum, take, drop, ◌%◌, ◌*◌, ◌+◌, ◌++◌, ◌∷◌, ◌<◌, ◌≡◌, ◌≤◌};
 
 /// The modulus of both sums.
@@ -64,11 +64,6 @@ pub fn fletcher_seal(octets: &mut [u8], at: usize)
     let second = used_octet((behind + 1) * (MODULUS - sums.first) + sums.second);
     write_pair(octets, at, first, second);
 }
-
-/// Two used checksums over the same other octets are the same.
-pub fn one_seal()
-    ensures { OneSeal }
-{}
 
 /// The sums over all octets, in one pass.
 fn sums_of(octets: &[u8]) -> Sums

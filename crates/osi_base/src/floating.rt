@@ -2,7 +2,7 @@
 
 ghost use Rattle.std.specs.Prelude.{◌≡◌, ◌<◌, ◌≤◌, ◌+◌, ◌↔◌, ◌++◌, ◌∷◌, [], filter, length, nat_le, IsTrue, OnOk, OnErr};
 ghost use Rattle.std.specs.List.{All, list_any};
-ghost use Rattle.osi_base.specs.Floated.{is_unit_of, is_young, IsOrdered};
+ghost use Rattle.osi_base.specs.Floated.{is_unit_of, is_young, IsFloated, IsOrdered};
 
 use crate::{NoMemory, Tick, Unit};
 use std::alloc::Global;
@@ -16,15 +16,15 @@ pub struct Floating<A> {
     entries: VecDeque<(u32, Unit<A>)>,
 }
 
-// The ticks do not fall.
+// There are at most `limit` units, and their ticks do not fall.
 impl<A> Model for Floating<A> {
-    ghost use Rattle.osi_base.specs.Floated.{Floated, IsOrdered};
+    ghost use Rattle.osi_base.specs.Floated.{Floated, IsFloated};
 
     ghost Value = { Floated A };
 
     ghost view = { λ f. record { limit = f.limit; entries = f.entries.items } };
 
-    ghost invariant = { λ f. IsOrdered f.entries.items };
+    ghost invariant = { λ f. IsFloated (record { limit = f.limit; entries = f.entries.items }) };
 }
 
 impl<A> Floating<A> {
@@ -41,7 +41,8 @@ impl<A> Floating<A> {
 
     /// Whether there is no room for another unit.
     pub fn is_full(&self) -> bool
-        ensures { IsTrue result ↔ (self.now.limit ≤ length self.now.entries) }
+        ensures full { IsTrue result ↔ (self.now.limit ≤ length self.now.entries) }
+        ensures stands { IsFloated self.now }
     {
         self.entries.len() as u64 >= u64::from(self.limit)
     }
@@ -66,6 +67,7 @@ impl<A> Floating<A> {
         ensures limit { self.new.limit ≡ self.old.limit }
         ensures ok { OnOk result (self.new.entries ≡ self.old.entries ++ (now, unit) ∷ []) }
         ensures err { OnErr result (self.new.entries ≡ self.old.entries) }
+        ensures stands { IsFloated self.new }
     {
         self.entries.push_back((now, unit))?;
         Ok(())
@@ -77,6 +79,7 @@ impl<A> Floating<A> {
         A: Drop,
         ensures limit { self.new.limit ≡ self.old.limit }
         ensures entries { self.new.entries ≡ filter (is_young now age) self.old.entries }
+        ensures stands { IsFloated self.new }
     {
         drop_front(&mut self.entries, now, age);
     }

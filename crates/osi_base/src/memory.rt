@@ -1,7 +1,7 @@
 //! Sources and sinks in memory. `MemSource` and `MemSink` can be told to fail; `PlainSource` and
 //! `PlainSink` never do.
 
-ghost use Rattle.std.specs.Prelude.{◌≡◌, ◌<◌, ◌≤◌, ℕ, List, [], length, take, min, slice_get, IfOk, OnErr, IsErrOf};
+ghost use Rattle.std.specs.Prelude.{◌≡◌, ◌+◌, ◌<◌, ◌≤◌, ℕ, List, [], length, take, min, max, slice_get, IfOk, OnOk, OnErr, IsErrOf};
 ghost use Rattle.osi_base.specs.Ends.{HasRisen, Took, Put, IsAtEnd};
 ghost use Rattle.osi_base.specs.Memory.{share, is_failing};
 
@@ -18,6 +18,7 @@ pub struct MemSource {
     fails: Vec<u32>,
     calls: u64,
     faults: u64,
+    asked: usize,
 }
 
 impl Model for MemSource {
@@ -26,7 +27,14 @@ impl Model for MemSource {
 
     ghost Value = { Input };
 
-    ghost view = { λ s. record { left = drop s.at s.octets.items; cuts = s.cuts.items; fails = s.fails.items; calls = s.calls; faults = s.faults } };
+    ghost view = { λ s. record {
+      left = drop s.at s.octets.items;
+      cuts = s.cuts.items;
+      fails = s.fails.items;
+      calls = s.calls;
+      faults = s.faults;
+      asked = s.asked;
+    } };
 
     ghost invariant = { λ s. s.at ≤ length s.octets.items };
 }
@@ -43,7 +51,7 @@ impl MemSource {
         cuts: &[usize],
         fails: &[u32],
     ) -> Result<MemSource, NoMemory>
-        ensures { IfOk result (λ source. source ≡ record { left = octets.now; cuts = cuts.now; fails = fails.now; calls = 0; faults = 0 }) }
+        ensures { IfOk result (λ source. source ≡ record { left = octets.now; cuts = cuts.now; fails = fails.now; calls = 0; faults = 0; asked = 0 }) }
     {
         Ok(MemSource {
             octets: octets.to_vec(alloc)?,
@@ -52,6 +60,7 @@ impl MemSource {
             fails: fails.to_vec(alloc)?,
             calls: 0,
             faults: 0,
+            asked: 0,
         })
     }
 }
@@ -64,15 +73,21 @@ impl Source for MemSource {
 
     ghost faults = { λ s. s.faults };
 
+    ghost asked = { λ s. s.asked };
+
     fn read(&mut self, into: &mut [u8]) -> Result<usize, Failed>
         ensures count { IfOk result (λ n. n ≤ length into.old) }
         ensures moved { IfOk result (λ n. Took (Some self.old.left) (take n into.new) (Some self.new.left)) }
         ensures end { IfOk result (λ n. n ≡ 0 → 0 < length into.old → IsAtEnd (Some self.new.left)) }
         ensures failed { OnErr result (HasRisen self.old.faults self.new.faults) }
         ensures kept { OnErr result (Some self.new.left ≡ Some self.old.left) }
+        ensures faultless { OnOk result (self.new.faults ≡ self.old.faults) }
+        ensures one_fault { self.new.faults ≤ self.old.faults + 1 }
         ensures faults_stay { self.old.faults ≤ self.new.faults }
+        ensures asked { self.new.asked ≡ max self.old.asked (length into.old) }
         ensures exact { Reads self.old (length into.old) result self.new }
     {
+        self.asked = self.asked.max(into.len());
         let call = self.calls.saturating_add(1);
         let most = share(&self.cuts, self.calls, into.len());
         self.calls = call;
@@ -116,19 +131,21 @@ fn is_failing(fails: &[u32], call: u64) -> bool
     fails.iter().any(|number| u64::from(*number) == call)
 }
 
-/// A source over octets in memory that never fails. Contracts see it as the octets that are left.
+/// A source over octets in memory that never fails.
 #[derive(Drop)]
 pub struct PlainSource {
     octets: Vec<u8>,
     at: usize,
+    asked: usize,
 }
 
 impl Model for PlainSource {
-    ghost use Rattle.std.specs.Prelude.{List, ℕ, drop, length, ◌≤◌};
+    ghost use Rattle.std.specs.Prelude.{drop, length, ◌≤◌};
+    ghost use Rattle.osi_base.specs.Memory.{Unread};
 
-    ghost Value = { List ℕ };
+    ghost Value = { Unread };
 
-    ghost view = { λ s. drop s.at s.octets.items };
+    ghost view = { λ s. record { left = drop s.at s.octets.items; asked = s.asked } };
 
     ghost invariant = { λ s. s.at ≤ length s.octets.items };
 }
@@ -136,11 +153,12 @@ impl Model for PlainSource {
 impl PlainSource {
     /// These octets, in pieces as large as fit.
     pub fn new(alloc: Global, octets: &[u8]) -> Result<PlainSource, NoMemory>
-        ensures { IfOk result (λ source. source ≡ octets.now) }
+        ensures { IfOk result (λ source. source ≡ record { left = octets.now; asked = 0 }) }
     {
         Ok(PlainSource {
             octets: octets.to_vec(alloc)?,
             at: 0,
+            asked: 0,
         })
     }
 }
@@ -148,19 +166,25 @@ impl PlainSource {
 impl Source for PlainSource {
     ghost use Rattle.std.specs.Prelude.{Some, Ok};
 
-    ghost left = { λ s. Some s };
+    ghost left = { λ s. Some s.left };
 
     ghost faults = { λ _. 0 };
 
+    ghost asked = { λ s. s.asked };
+
     fn read(&mut self, into: &mut [u8]) -> Result<usize, Failed>
         ensures count { IfOk result (λ n. n ≤ length into.old) }
-        ensures moved { IfOk result (λ n. Took (Some self.old) (take n into.new) (Some self.new)) }
-        ensures end { IfOk result (λ n. n ≡ 0 → 0 < length into.old → IsAtEnd (Some self.new)) }
+        ensures moved { IfOk result (λ n. Took (Some self.old.left) (take n into.new) (Some self.new.left)) }
+        ensures end { IfOk result (λ n. n ≡ 0 → 0 < length into.old → IsAtEnd (Some self.new.left)) }
         ensures failed { OnErr result (HasRisen 0 0) }
-        ensures kept { OnErr result (Some self.new ≡ Some self.old) }
+        ensures kept { OnErr result (Some self.new.left ≡ Some self.old.left) }
+        ensures faultless { OnOk result (◌≡◌ {A = ℕ} 0 0) }
+        ensures one_fault { 0 ≤ 0 + 1 }
         ensures faults_stay { 0 ≤ 0 }
-        ensures exact { result ≡ Ok (min (length into.old) (length self.old)) }
+        ensures asked { self.new.asked ≡ max self.old.asked (length into.old) }
+        ensures exact { result ≡ Ok (min (length into.old) (length self.old.left)) }
     {
+        self.asked = self.asked.max(into.len());
         let room = into.len();
         let count = move_front(&self.octets[self.at..], into, room);
         self.at += count;

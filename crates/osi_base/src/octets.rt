@@ -1,7 +1,7 @@
-//! A cursor over octets, from the front.
+//! A cursor over octets, from the front, for what is read field by field.
 
 ghost use Rattle.std.specs.Prelude.{◌≡◌, ◌<◌, ◌≤◌, ◌↔◌, length, take, drop, IsNone, IfNone, IfSome};
-ghost use Rattle.byteorder.specs.Endian.{big_number};
+ghost use Rattle.osi_base.specs.Numbers.{big_number};
 
 use byteorder::{BigEndian, ByteOrder};
 use std::marker::Model;
@@ -28,17 +28,10 @@ impl<'a> Octets<'a> {
         Octets { left: octets }
     }
 
-    /// The octets that were not taken yet.
-    pub fn left(&self) -> &'a [u8]
-        ensures { result.now ≡ self.now }
-    {
-        self.left
-    }
-
     /// The next octets, `count` of them. None exactly where fewer are left, and then the cursor stays.
     pub fn take(&mut self, count: usize) -> Option<&'a [u8]>
         ensures none { IsNone result ↔ (length self.old < count) }
-        ensures taken { IfSome result (λ octets. octets.now ≡ take count self.old) }
+        ensures ok { IfSome result (λ octets. octets.now ≡ take count self.old) }
         ensures rest { IfSome result (λ octets. self.new ≡ drop count self.old) }
         ensures stays { IfNone result (self.new ≡ self.old) }
     {
@@ -56,7 +49,7 @@ impl<'a> Octets<'a> {
         requires least { 1 ≤ width }
         requires most { width ≤ 4 }
         ensures none { IsNone result ↔ (length self.old < width) }
-        ensures number { IfSome result (λ number. number ≡ big_number width self.old) }
+        ensures ok { IfSome result (λ number. number ≡ big_number width self.old) }
         ensures rest { IfSome result (λ number. self.new ≡ drop width self.old) }
         ensures stays { IfNone result (self.new ≡ self.old) }
     {

@@ -1,6 +1,6 @@
 //! Where a program's octets come from.
 
-ghost use Rattle.std.specs.Prelude.{◌≡◌, ◌<◌, ◌≤◌, List, ℕ, Option, length, take, IfOk, OnErr};
+ghost use Rattle.std.specs.Prelude.{◌≡◌, ◌+◌, ◌<◌, ◌≤◌, List, ℕ, Option, length, take, max, IfOk, OnOk, OnErr};
 ghost use Rattle.osi_base.specs.Ends.{HasRisen, Took, IsAtEnd};
 
 use crate::Failed;
@@ -13,6 +13,9 @@ pub trait Source {
     /// How often a call has failed. A count that has reached its last value stays there.
     ghost faults: { Self → ℕ };
 
+    /// The most octets that one call has asked for.
+    ghost asked: { Self → ℕ };
+
     /// Moves the next octets to the front of `into`, and answers how many.
     ///
     /// 0 for an `into` that is not empty is the end of the octets. Failed: nothing was taken, and a
@@ -23,5 +26,8 @@ pub trait Source {
         ensures end { IfOk result (λ n. n ≡ 0 → 0 < length into.old → IsAtEnd (left self.new)) }
         ensures failed { OnErr result (HasRisen (faults self.old) (faults self.new)) }
         ensures kept { OnErr result (left self.new ≡ left self.old) }
-        ensures faults_stay { faults self.old ≤ faults self.new };
+        ensures faultless { OnOk result (faults self.new ≡ faults self.old) }
+        ensures one_fault { faults self.new ≤ faults self.old + 1 }
+        ensures faults_stay { faults self.old ≤ faults self.new }
+        ensures asked { asked self.new ≡ max (asked self.old) (length into.old) };
 }

@@ -1,24 +1,32 @@
-//! The edge over the system's own streams. Nothing is claimed of what they give or take.
+//! The edge over the system's own streams. What they give and take is known only where they tell it.
 
-ghost use Rattle.std.specs.Prelude.{◌≡◌};
+ghost use Rattle.std.specs.Prelude.{◌≡◌, ◌+◌, ◌<◌, ◌≤◌, ℕ, List, Option, length, take, max, IfOk, OnOk, OnErr, IsErrOf};
+ghost use Rattle.std.specs.Io.KnownBytes.{ReadConsumes, WriteAppends};
+ghost use Rattle.osi_base.specs.Ends.{HasRisen, Took, Put, IsAtEnd};
 
 use crate::{Failed, Sink, Source, WriteRefusal};
 use std::io::{Read, Write};
 
-/// A source over a reader, such as standard input. It tells nothing of its octets.
+/// A source over a reader, such as standard input. It tells nothing of its octets where the reader does not.
 /// Each error of the reader counts as a fault.
 #[derive(Drop)]
 pub struct StdSource<R: Read + Drop> {
     reader: R,
     faults: u64,
+    asked: usize,
 }
 
 impl<R: Read + Drop> StdSource<R> {
     /// Reads from `reader`, with no fault so far.
     pub fn new(reader: R) -> StdSource<R>
-        ensures { ⟦<StdSource<R> as Source>⟧.faults result ≡ 0 }
+        ensures faults { ⟦<StdSource<R> as Source>⟧.faults result ≡ 0 }
+        ensures asked { ⟦<StdSource<R> as Source>⟧.asked result ≡ 0 }
     {
-        StdSource { reader, faults: 0 }
+        StdSource {
+            reader,
+            faults: 0,
+            asked: 0,
+        }
     }
 }
 
@@ -29,7 +37,22 @@ impl<R: Read + Drop> Source for StdSource<R> {
 
     ghost faults = { λ s. s.faults };
 
-    fn read(&mut self, into: &mut [u8]) -> Result<usize, Failed> {
+    ghost asked = { λ s. s.asked };
+
+    fn read(&mut self, into: &mut [u8]) -> Result<usize, Failed>
+        ensures count { IfOk result (λ n. n ≤ length into.old) }
+        ensures moved { IfOk result (λ n. Took None (take n into.new) None) }
+        ensures end { IfOk result (λ n. n ≡ 0 → 0 < length into.old → IsAtEnd None) }
+        ensures failed { OnErr result (HasRisen self.old.faults self.new.faults) }
+        ensures kept { OnErr result (◌≡◌ {A = Option (List ℕ)} None None) }
+        ensures faultless { OnOk result (self.new.faults ≡ self.old.faults) }
+        ensures one_fault { self.new.faults ≤ self.old.faults + 1 }
+        ensures faults_stay { self.old.faults ≤ self.new.faults }
+        ensures asked { self.new.asked ≡ max self.old.asked (length into.old) }
+        // What the reader gives is given, and it has ended where 0 says so; Failed took nothing.
+        ensures given { ReadConsumes (R.remaining self.old.reader) (R.remaining self.new.reader) result into.new }
+    {
+        self.asked = self.asked.max(into.len());
         match self.reader.read(into) {
             Ok(count) => Ok(count),
             Err(_) => {

@@ -9,21 +9,22 @@ use Rattle.std.proofs.lemmas.List.{append-nil}
 use Rattle.nsap.specs.Address.{selector_of, system_part, is_same_system}
 use Rattle.nsap.specs.declared.port.Port.{Port}
 use Rattle.nsap.proofs.AddressLemmas.{system_part-append, is_same_system-Decides}
-use Rattle.clnp_options.specs.declared.fault.PduKind.{PduKind}
-use Rattle.clnp_options.specs.declared.fault.PduKind.TheVariants.{Dt, Er}
+use Rattle.clnp_options.specs.declared.reason.PduKind.{PduKind}
+use Rattle.clnp_options.specs.declared.reason.PduKind.TheVariants.{Dt, Er}
 use Rattle.clnp_header.specs.declared.pdu.Pdu.{Pdu}
 use Rattle.clnp_header.specs.declared.pdu.SegmentPart.{SegmentPart}
-use Rattle.clnp_header.specs.Grammar.{BeginsWith}
+use Rattle.clnp_header.specs.Grammar.{IsPdu}
+use Rattle.pdu_parts.specs.Front.{BeginsWith}
 use Rattle.osi_bench.specs.declared.event.Event.{Event}
 use Rattle.osi_bench.specs.declared.event.Event.TheVariants as events
 use Rattle.osi_bench.specs.declared.lan.Lan.{Lan}
 use Rattle.osi_bench.specs.declared.lan.Frame.{Frame}
 use Rattle.osi_bench.specs.declared.lan.Picked.{Picked}
 use Rattle.osi_bench.specs.declared.lan.Picked.TheVariants.{Taken, NoSuch, Late, NotThere, NotOurs}
-use Rattle.osi_bench.specs.World.{Station, Network, initial_lifetime, raw_address, unit_pdu, frame_of, bound_of, delivery}
-use Rattle.osi_bench.specs.Steps.{shown, handed_up, Receives, Takes, Delivers}
+use Rattle.osi_bench.specs.World.{System, World, initial_lifetime, raw_address, unit_pdu, frame_of, bound_of, delivery}
+use Rattle.osi_bench.specs.LineSteps.{shown, handed_up, Receives, Takes, Delivers}
 use Rattle.osi_bench.specs.Lawful.{clock_from, tick_after, titles_of, WasSent}
-use Rattle.osi_bench.specs.OneRun.{HeaderLaws}
+use Rattle.osi_bench.specs.steps.OneRun.{HeaderLaws}
 use Rattle.osi_bench.proofs.Journals.{clock_from-append, IsOther, no_unit}
 use Rattle.osi_bench.proofs.Standing.{FrameSent, Standing, NewSent, none_new, goes_on, along, stays, quiet, title_stands}
 
@@ -55,13 +56,13 @@ abbrev selected : ℕ → List ℕ → List ℕ → Option SegmentPart → Bool 
 selected system source body segment raw transport =
     if raw then shown system source body segment
     else if transport then []
-    else events.Discard system 129 0 ∷ []
+    else events.Discard system 0x81 0 ∷ []
 
 selected_units : (system : ℕ) (source body : List ℕ) (segment : Option SegmentPart) (raw transport : Bool) (before after : List Event) (at : ℕ) (from octets : List ℕ)
     → selected system source body segment raw transport ≡ before ++ events.Unit at from octets ∷ after → IsShown system source body before at from octets
 selected_units system source body segment true transport before after at from octets is = shown_units system source body segment before after at from octets is
 selected_units system source body segment false true before after at from octets is = absurd (no_unit [] before after at from octets tt is)
-selected_units system source body segment false false before after at from octets is = absurd (no_unit (events.Discard system 129 0 ∷ []) before after at from octets (tt, tt) is)
+selected_units system source body segment false false before after at from octets is = absurd (no_unit (events.Discard system 0x81 0 ∷ []) before after at from octets (tt, tt) is)
 
 handed_units : (system : ℕ) (source body : List ℕ) (segment : Option SegmentPart) (selector : ℕ) (kind : PduKind) (before after : List Event) (at : ℕ) (from octets : List ℕ)
     → handed_up system source body segment selector kind ≡ before ++ events.Unit at from octets ∷ after → IsShown system source body before at from octets
@@ -72,16 +73,16 @@ handed_units system source body segment selector Dt before after at from octets 
 -- what a system does, by the tests of the destination and of the lifetime
 abbrev chosen : ℕ → Bool → Bool → List Event → List Event
 chosen system same late handed =
-    if not same then events.Discard system 128 0 ∷ []
-    else if late then events.Discard system 160 4 ∷ []
+    if not same then events.Discard system 0x80 0 ∷ []
+    else if late then events.Discard system 0xa0 4 ∷ []
     else handed
 
 -- a unit is shown only by a system of its destination, within its lifetime
 chosen_units : (system : ℕ) (same late : Bool) (handed before after : List Event) (at : ℕ) (from octets : List ℕ)
     → chosen system same late handed ≡ before ++ events.Unit at from octets ∷ after
     → (same ≡ true) × (late ≡ false) × (handed ≡ before ++ events.Unit at from octets ∷ after)
-chosen_units system false late handed before after at from octets is = absurd (no_unit (events.Discard system 128 0 ∷ []) before after at from octets (tt, tt) is)
-chosen_units system true true handed before after at from octets is = absurd (no_unit (events.Discard system 160 4 ∷ []) before after at from octets (tt, tt) is)
+chosen_units system false late handed before after at from octets is = absurd (no_unit (events.Discard system 0x80 0 ∷ []) before after at from octets (tt, tt) is)
+chosen_units system true true handed before after at from octets is = absurd (no_unit (events.Discard system 0xa0 4 ∷ []) before after at from octets (tt, tt) is)
 chosen_units system true false handed before after at from octets is = (refl, refl, is)
 
 -- the clock does not move
@@ -107,34 +108,34 @@ chosen_clock now system true false handed stays = stays
 abbrev handed_of : ℕ → Pdu → List Event
 handed_of system pdu = handed_up system pdu.source pdu.body pdu.segment (selector_of pdu.destination) pdu.kind
 
-received_clock : (now : ℕ) (station : Station) (system bound : ℕ) (octets : List ℕ) (made : List Event) → Receives station system bound octets made → clock_from now made ≡ now
-received_clock now station system bound octets made (inl a) =
+received_clock : (now : ℕ) (end : System) (system bound : ℕ) (octets : List ℕ) (made : List Event) → Receives end system bound octets made → clock_from now made ≡ now
+received_clock now end system bound octets made (inl a) =
     ap (λ (all : List Event). clock_from now all) a.3
-    ∙ chosen_clock now system (is_same_system a.1.destination station.title) (nat_lt a.1.lifetime bound) (handed_of system a.1)
-    (handed_clock now system a.1.source a.1.body a.1.segment (selector_of a.1.destination) a.1.kind)
-received_clock now station system bound octets made (inr a) = ap (λ (all : List Event). clock_from now all) a.2
+    ∙ chosen_clock now system (is_same_system a.0.destination end.title) (nat_lt a.0.lifetime bound) (handed_of system a.0)
+    (handed_clock now system a.0.source a.0.body a.0.segment (selector_of a.0.destination) a.0.kind)
+received_clock now end system bound octets made (inr a) = ap (λ (all : List Event). clock_from now all) a.2
 
 -- a frame is delivered to a system within the bound of its LAN
-record HasFrame (net : Network) (journal : List Event) (system bound : ℕ) (station : Station) (frame : Frame) : Type 0 where
-  stands : Standing net journal
-  at : slice_get net.systems system ≡ Some station
-  sent : FrameSent (titles_of net) journal frame
-  in_time : net.clock ≤ frame.tick + bound
+record HasFrame (world : World) (journal : List Event) (system bound : ℕ) (end : System) (frame : Frame) : Type 0 where
+  stands : Standing world journal
+  at : slice_get world.systems system ≡ Some end
+  sent : FrameSent (titles_of world) journal frame
+  in_time : world.clock ≤ frame.tick + bound
 
 -- a unit of that frame was sent: its lifetime is at least the bound
-delivered : (laws : HeaderLaws) (net : Network) (journal : List Event) (number system bound : ℕ) (station : Station) (frame : Frame) (header : List ℕ) (pdu : Pdu)
-    → HasFrame net journal system bound station frame → BeginsWith frame.octets header pdu → is_same_system pdu.destination station.title ≡ true → nat_lt pdu.lifetime bound ≡ false
-    → WasSent (titles_of net) (journal ++ events.Deliver number system ∷ []) system pdu.source pdu.body
-delivered laws net journal number system bound station frame header pdu has begins ours lives =
+delivered : (laws : HeaderLaws) (world : World) (journal : List Event) (number system bound : ℕ) (end : System) (frame : Frame) (pdu : Pdu) (rest : List ℕ)
+    → HasFrame world journal system bound end frame → BeginsWith IsPdu frame.octets pdu rest → is_same_system pdu.destination end.title ≡ true → nat_lt pdu.lifetime bound ≡ false
+    → WasSent (titles_of world) (journal ++ events.Deliver number system ∷ []) system pdu.source pdu.body
+delivered laws world journal number system bound end frame pdu rest has begins ours lives =
     let sent = has.sent in
     let written : Pdu = unit_pdu (raw_address sent.sender_title) (raw_address sent.own_title) sent.octets in
     let same : pdu ≡ written =
-    (laws.one_front begins.front begins.rest frame.octets [] pdu written (sym begins.whole ∙ sym (append-nil frame.octets)) begins.is_pdu sent.spelled).2 in
-    let here : is_same_system (raw_address sent.own_title) station.title ≡ true = subst (λ (p : Pdu). is_same_system p.destination station.title ≡ true) same ours in
-    let to : raw_address sent.own_title ≡ raw_address station.title = one_raw sent.own_title station.title here in
+    (laws.one_front frame.octets pdu written rest [] begins (record { front = frame.octets; whole = sym (append-nil frame.octets); stands = sent.spelled })).0 in
+    let here : is_same_system (raw_address sent.own_title) end.title ≡ true = subst (λ (p : Pdu). is_same_system p.destination end.title ≡ true) same ours in
+    let to : raw_address sent.own_title ≡ raw_address end.title = one_raw sent.own_title end.title here in
     let body : sent.octets ≡ pdu.body = ap (λ (p : Pdu). p.body) (sym same) in
-    let event : events.Sent sent.sender (raw_address sent.own_title) sent.octets ≡ events.Sent sent.sender (raw_address station.title) pdu.body =
-    ap (λ (address : List ℕ). events.Sent sent.sender address sent.octets) to ∙ ap (λ (octets : List ℕ). events.Sent sent.sender (raw_address station.title) octets) body in
+    let event : events.Sent sent.sender (raw_address sent.own_title) sent.octets ≡ events.Sent sent.sender (raw_address end.title) pdu.body =
+    ap (λ (address : List ℕ). events.Sent sent.sender address sent.octets) to ∙ ap (λ (octets : List ℕ). events.Sent sent.sender (raw_address end.title) octets) body in
     let now : tick_after (journal ++ events.Deliver number system ∷ []) ≡ tick_after journal = clock_from-append 0 journal (events.Deliver number system ∷ []) in
     let clock = has.stands.clock_is in
     let tick = sent.tick_is in
@@ -144,34 +145,34 @@ delivered laws net journal number system bound station frame header pdu has begi
     record {
       sender = sent.sender;
       sender_title = sent.sender_title;
-      own_title = station.title;
+      own_title = end.title;
       earlier = sent.earlier;
       later = sent.later ++ events.Deliver number system ∷ [];
       sender_is = sent.sender_is;
       from_is = ap (λ (p : Pdu). p.source) same;
-      own_is = title_stands net system station has.at;
+      own_is = title_stands world system end has.at;
       sent = goes_on journal (events.Deliver number system ∷ []) sent.earlier sent.later (events.Sent sent.sender (raw_address sent.own_title) sent.octets) sent.sent
           ∙ ap {B = List Event} (λ (e : Event). sent.earlier ++ e ∷ (sent.later ++ events.Deliver number system ∷ [])) event;
       recent = omega arith;
     }
 
 -- the units that a system shows of a frame were sent
-received_units : (laws : HeaderLaws) (net : Network) (journal : List Event) (number system bound : ℕ) (station : Station) (frame : Frame) (made : List Event)
-    → HasFrame net journal system bound station frame → Receives station system bound frame.octets made → NewSent (titles_of net) (journal ++ events.Deliver number system ∷ []) made
-received_units laws net journal number system bound station frame made has (inl a) = record {
+received_units : (laws : HeaderLaws) (world : World) (journal : List Event) (number system bound : ℕ) (end : System) (frame : Frame) (made : List Event)
+    → HasFrame world journal system bound end frame → Receives end system bound frame.octets made → NewSent (titles_of world) (journal ++ events.Deliver number system ∷ []) made
+received_units laws world journal number system bound end frame made has (inl a) = record {
   each = λ before after at from octets is.
       let told : List Event = journal ++ events.Deliver number system ∷ [] in
-      let own = chosen_units system (is_same_system a.1.destination station.title) (nat_lt a.1.lifetime bound) (handed_of system a.1) before after at from octets (sym a.3 ∙ is) in
-      let h = handed_units system a.1.source a.1.body a.1.segment (selector_of a.1.destination) a.1.kind before after at from octets own.2 in
-      let base : WasSent (titles_of net) told system a.1.source a.1.body = delivered laws net journal number system bound station frame a.0 a.1 has a.2 own.0 own.1 in
+      let own = chosen_units system (is_same_system a.0.destination end.title) (nat_lt a.0.lifetime bound) (handed_of system a.0) before after at from octets (sym a.3 ∙ is) in
+      let h = handed_units system a.0.source a.0.body a.0.segment (selector_of a.0.destination) a.0.kind before after at from octets own.2 in
+      let base : WasSent (titles_of world) told system a.0.source a.0.body = delivered laws world journal number system bound end frame a.0 a.1 has a.2 own.0 own.1 in
       let none : told ≡ told ++ before = sym (append-nil told) ∙ ap (λ (xs : List Event). told ++ xs) (sym h.0) in
-      subst (λ (o : List ℕ). WasSent (titles_of net) (told ++ before) at from o) (sym h.3)
-      (subst (λ (f : List ℕ). WasSent (titles_of net) (told ++ before) at f a.1.body) (sym h.2)
-      (subst (λ (n : ℕ). WasSent (titles_of net) (told ++ before) n a.1.source a.1.body) (sym h.1)
-      (subst (λ (all : List Event). WasSent (titles_of net) all system a.1.source a.1.body) none base)));
+      subst (λ (o : List ℕ). WasSent (titles_of world) (told ++ before) at from o) (sym h.3)
+      (subst (λ (f : List ℕ). WasSent (titles_of world) (told ++ before) at f a.0.body) (sym h.2)
+      (subst (λ (n : ℕ). WasSent (titles_of world) (told ++ before) n a.0.source a.0.body) (sym h.1)
+      (subst (λ (all : List Event). WasSent (titles_of world) all system a.0.source a.0.body) none base)));
 }
-received_units laws net journal number system bound station frame made has (inr a) =
-    none_new (titles_of net) (journal ++ events.Deliver number system ∷ []) made (subst (λ (all : List Event). AllByRecursion IsOther all) (sym a.2) (tt, tt))
+received_units laws world journal number system bound end frame made has (inr a) =
+    none_new (titles_of world) (journal ++ events.Deliver number system ∷ []) made (subst (λ (all : List Event). AllByRecursion IsOther all) (sym a.2) (tt, tt))
 
 -- a unit behind an event that shows none
 behind : (first : Event) (made before after : List Event) (at : ℕ) (from octets : List ℕ) → IsOther first → first ∷ made ≡ before ++ events.Unit at from octets ∷ after
@@ -207,30 +208,30 @@ numbered true found frame is = absurd cc
 numbered false found frame is = is
 
 -- the system takes a frame
-takes_stands : (laws : HeaderLaws) (net : Network) (journal made : List Event) (number system : ℕ) (station : Station) (found : Option Frame)
-    → Standing net journal → slice_get net.systems system ≡ Some station → frame_of net.frames number ≡ found → delivery net.clock net.lans station.port system found ≡ Taken
-    → Takes net.lans number system station found made → Standing net (journal ++ made)
-takes_stands laws net journal made number system station None stands at is answer takes = absurd takes
-takes_stands laws net journal made number system station (Some frame) stands at is answer takes =
-    let sent : FrameSent (titles_of net) journal frame = stands.frames_sent (number - 1) frame (numbered (number == 0) (slice_get net.frames (number - 1)) frame is) in
-    let time : net.clock ≤ frame.tick + bound_of net.lans frame.lan = taken_in_time net.clock net.lans station.port system frame answer in
-    let has : HasFrame net journal system (bound_of net.lans frame.lan) station frame = record { stands = stands; at = at; sent = sent; in_time = time } in
-    let new = received_units laws net journal number system (bound_of net.lans frame.lan) station frame takes.0 has takes.1 in
-    along net net journal made (events.Deliver number system ∷ takes.0) takes.2 refl
-    (stays net journal (events.Deliver number system ∷ takes.0) stands (received_clock net.clock station system (bound_of net.lans frame.lan) frame.octets takes.0 takes.1)
-    (new_behind (titles_of net) journal takes.0 (events.Deliver number system) tt new))
+takes_stands : (laws : HeaderLaws) (world : World) (journal made : List Event) (number system : ℕ) (end : System) (found : Option Frame)
+    → Standing world journal → slice_get world.systems system ≡ Some end → frame_of world.frames number ≡ found → delivery world.clock world.lans end.port system found ≡ Taken
+    → Takes world.lans number system end found made → Standing world (journal ++ made)
+takes_stands laws world journal made number system end None stands at is answer takes = absurd takes
+takes_stands laws world journal made number system end (Some frame) stands at is answer takes =
+    let sent : FrameSent (titles_of world) journal frame = stands.frames_sent (number - 1) frame (numbered (number == 0) (slice_get world.frames (number - 1)) frame is) in
+    let time : world.clock ≤ frame.tick + bound_of world.lans frame.lan = taken_in_time world.clock world.lans end.port system frame answer in
+    let has : HasFrame world journal system (bound_of world.lans frame.lan) end frame = record { stands = stands; at = at; sent = sent; in_time = time } in
+    let new = received_units laws world journal number system (bound_of world.lans frame.lan) end frame takes.0 has takes.1 in
+    along world world journal made (events.Deliver number system ∷ takes.0) takes.2 refl
+    (stays world journal (events.Deliver number system ∷ takes.0) stands (received_clock world.clock end system (bound_of world.lans frame.lan) frame.octets takes.0 takes.1)
+    (new_behind (titles_of world) journal takes.0 (events.Deliver number system) tt new))
 
 -- a delivery
-pub delivers_stands : (laws : HeaderLaws) (net : Network) (journal made : List Event) (number system : ℕ) (station : Station) (answer : Picked)
-    → Standing net journal → slice_get net.systems system ≡ Some station → delivery net.clock net.lans station.port system (frame_of net.frames number) ≡ answer
-    → Delivers net.lans number system station (frame_of net.frames number) answer made → Standing net (journal ++ made)
-delivers_stands laws net journal made number system station Taken stands at is done =
-    takes_stands laws net journal made number system station (frame_of net.frames number) stands at refl is done
-delivers_stands laws net journal made number system station NoSuch stands at is done =
-    along net net journal made _ done refl (quiet net journal (events.NoSuch number system) stands tt refl)
-delivers_stands laws net journal made number system station Late stands at is done =
-    along net net journal made _ done refl (quiet net journal (events.Late number system) stands tt refl)
-delivers_stands laws net journal made number system station NotThere stands at is done =
-    along net net journal made _ done refl (quiet net journal (events.NotThere number system) stands tt refl)
-delivers_stands laws net journal made number system station NotOurs stands at is done =
-    along net net journal made _ done refl (quiet net journal (events.NotOurs number system) stands tt refl)
+pub delivers_stands : (laws : HeaderLaws) (world : World) (journal made : List Event) (number system : ℕ) (end : System) (answer : Picked)
+    → Standing world journal → slice_get world.systems system ≡ Some end → delivery world.clock world.lans end.port system (frame_of world.frames number) ≡ answer
+    → Delivers world.lans number system end (frame_of world.frames number) answer made → Standing world (journal ++ made)
+delivers_stands laws world journal made number system end Taken stands at is done =
+    takes_stands laws world journal made number system end (frame_of world.frames number) stands at refl is done
+delivers_stands laws world journal made number system end NoSuch stands at is done =
+    along world world journal made _ done refl (quiet world journal (events.NoSuch number system) stands tt refl)
+delivers_stands laws world journal made number system end Late stands at is done =
+    along world world journal made _ done refl (quiet world journal (events.Late number system) stands tt refl)
+delivers_stands laws world journal made number system end NotThere stands at is done =
+    along world world journal made _ done refl (quiet world journal (events.NotThere number system) stands tt refl)
+delivers_stands laws world journal made number system end NotOurs stands at is done =
+    along world world journal made _ done refl (quiet world journal (events.NotOurs number system) stands tt refl)

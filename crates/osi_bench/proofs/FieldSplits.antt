@@ -8,7 +8,7 @@ use Rattle.std.proofs.lemmas.List.Splits.{slice_split_first, slice_split_none, l
 use Rattle.std.proofs.lemmas.List.Sums.{fails_before_first}
 use Rattle.std.proofs.lemmas.List.Elements.{All-from_get_or}
 use Rattle.osi_bench.specs.Field.{fields_of}
-use Rattle.osi_bench.specs.Split.{fields_left}
+use Rattle.osi_bench.specs.steps.Split.{fields_left}
 
 -- the parts, by whether there is a blank
 pub record HasBlank (line field rest : List ℕ) : Type 0 where

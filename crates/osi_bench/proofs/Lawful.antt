@@ -10,11 +10,11 @@ use Rattle.osi_bench.specs.declared.event.Refused.{Refused}
 use Rattle.osi_bench.specs.declared.line.Line.{Line}
 use Rattle.osi_bench.specs.declared.line.Line.TheVariants as lines
 use Rattle.osi_bench.specs.declared.lan.Frame.{Frame}
-use Rattle.osi_bench.specs.World.{Station, Network, raw_address, sending, frame_of, delivery}
-use Rattle.osi_bench.specs.Known.{no_network}
-use Rattle.osi_bench.specs.Steps.{Sends, with_route, WorldStep, WorldRuns}
+use Rattle.osi_bench.specs.World.{System, World, raw_address, sending, frame_of, delivery}
+use Rattle.osi_bench.specs.World.{empty_world}
+use Rattle.osi_bench.specs.LineSteps.{Sends, with_route, WorldStep, WorldRuns}
 use Rattle.osi_bench.specs.Lawful.{titles_of, RawLawful}
-use Rattle.osi_bench.specs.OneRun.{HeaderLaws}
+use Rattle.osi_bench.specs.steps.OneRun.{HeaderLaws}
 use Rattle.osi_bench.proofs.Journals.{get_push, no_unit}
 use Rattle.osi_bench.proofs.Standing.{FrameSent, Standing, none_new, frame_later, moved, same_titles, along, quiet, title_stands, set_up, system_stands, routed_title, clock_stands, joined}
 use Rattle.osi_bench.proofs.Deliveries.{delivers_stands}
@@ -25,17 +25,17 @@ abbrev told : ℕ → List ℕ → List ℕ → ℕ → Port → ℕ → List Ev
 told system destination octets number hop size = events.Sent system destination octets ∷ events.Frame number hop.lan system hop.snpa size ∷ []
 
 -- a network with one more frame
-abbrev with_frame : Network → ℕ → Port → List ℕ → Network
+abbrev with_frame : World → ℕ → Port → List ℕ → World
 with_frame old system hop octets = record old { frames = old.frames ++ record { tick = old.clock; lan = hop.lan; system = system; to = hop.snpa; octets = octets } ∷ [] }
 
 -- a unit that is sent, or refused
-sends_stands : (old new : Network) (journal made : List Event) (system to : ℕ) (sender receiver : Station) (octets : List ℕ) (answer : Result Port Refused)
+sends_stands : (old new : World) (journal made : List Event) (system to : ℕ) (sender receiver : System) (octets : List ℕ) (answer : Result Port Refused)
     → Standing old journal → slice_get old.systems system ≡ Some sender → slice_get old.systems to ≡ Some receiver
     → Sends old system sender (raw_address receiver.title) octets answer made new → Standing new (journal ++ made)
 sends_stands old new journal made system to sender receiver octets (Err cause) stands at there done =
     along old new journal made _ done.0 done.1 (quiet old journal (events.No cause) stands tt refl)
 sends_stands old new journal made system to sender receiver octets (Ok hop) stands at there done =
-    let next : Network = with_frame old system hop done.0 in
+    let next : World = with_frame old system hop done.0 in
     let shown : List Event = told system (raw_address receiver.title) octets (length old.frames + 1) hop (length done.0 + 17) in
     let keeps : Keeps (titles_of old) (titles_of old) = same_titles _ _ refl in
     let fresh : Frame = record { tick = old.clock; lan = hop.lan; system = system; to = hop.snpa; octets = done.0 } in
@@ -61,7 +61,7 @@ sends_stands old new journal made system to sender receiver octets (Ok hop) stan
     (record { keeps = keeps; clock = refl; frames = frames; units = none_new (titles_of old) journal shown (tt, (tt, tt)) }))
 
 -- what holds so far holds after a line
-pub step_stands : (laws : HeaderLaws) (line : Line) (old new : Network) (journal made : List Event) → Standing old journal → WorldStep old line made new → Standing new (journal ++ made)
+pub step_stands : (laws : HeaderLaws) (line : Line) (old new : World) (journal made : List Event) → Standing old journal → WorldStep old line made new → Standing new (journal ++ made)
 step_stands laws lines.Nothing old new journal made stands step =
     along old new journal made [] step.0 step.1 (set_up old old journal stands (same_titles _ _ refl) refl refl)
 step_stands laws (lines.Lan name bound room) old new journal made stands step =
@@ -85,7 +85,7 @@ step_stands laws (lines.Deliver number system) old new journal made stands step 
     (delivers_stands laws old journal made number system step.0 (delivery old.clock old.lans step.0.port system (frame_of old.frames number)) stands step.1 refl step.3)
 
 -- what holds so far holds after the lines
-pub run_stands : (laws : HeaderLaws) (script : List Line) (first last : Network) (journal rest : List Event) → Standing first journal
+pub run_stands : (laws : HeaderLaws) (script : List Line) (first last : World) (journal rest : List Event) → Standing first journal
     → WorldRuns first script rest last → Standing last (journal ++ rest)
 run_stands laws [] first last journal rest stands run = along first last journal rest [] run.0 run.1 (subst (λ (all : List Event). Standing first all) (sym (append-nil journal)) stands)
 run_stands laws (line ∷ script) first last journal rest stands run =
@@ -94,7 +94,7 @@ run_stands laws (line ∷ script) first last journal rest stands run =
     subst (λ (all : List Event). Standing last all) (append_assoc journal run.1 run.2 ∙ ap (λ (xs : List Event). journal ++ xs) (sym run.4)) after
 
 -- and it holds at the start
-nothing_stands : Standing no_network []
+nothing_stands : Standing empty_world []
 nothing_stands = record {
   clock_is = refl;
   frames_sent = λ i frame is. absurd (cc);
@@ -102,5 +102,5 @@ nothing_stands = record {
 }
 
 -- a unit's lifetime alone sees to it that a unit is shown in time, whatever the bounds of the LANs
-pub raw_lawful : (laws : HeaderLaws) (script : List Line) (journal : List Event) (last : Network) → WorldRuns no_network script journal last → RawLawful (titles_of last) journal
-raw_lawful laws script journal last run = (run_stands laws script no_network last [] journal nothing_stands run).lawful
+pub raw_lawful : (laws : HeaderLaws) (script : List Line) (journal : List Event) (last : World) → WorldRuns empty_world script journal last → RawLawful (titles_of last) journal
+raw_lawful laws script journal last run = (run_stands laws script empty_world last [] journal nothing_stands run).lawful

@@ -12,8 +12,8 @@ use Rattle.clnp_header.specs.Grammar.{IsPdu}
 use Rattle.osi_bench.specs.declared.event.Event.{Event}
 use Rattle.osi_bench.specs.declared.event.Event.TheVariants as events
 use Rattle.osi_bench.specs.declared.lan.Frame.{Frame}
-use Rattle.osi_bench.specs.World.{Station, Network, raw_address, unit_pdu}
-use Rattle.osi_bench.specs.Steps.{with_route, with_system}
+use Rattle.osi_bench.specs.World.{System, World, raw_address, unit_pdu}
+use Rattle.osi_bench.specs.LineSteps.{with_route, with_system}
 use Rattle.osi_bench.specs.Lawful.{clock_after, clock_from, tick_after, titles_of, WasSent, RawLawful}
 use Rattle.osi_bench.proofs.Journals.{get_append, split_at, clock_from-append, IsOther, no_unit}
 
@@ -35,10 +35,10 @@ pub record FrameSent (titles : List (List ℕ)) (journal : List Event) (frame : 
   pub tick_is : frame.tick ≡ tick_after earlier
 
 -- what holds of a network and of the journal that led to it
-pub record Standing (net : Network) (journal : List Event) : Type 0 where
-  pub clock_is : net.clock ≡ tick_after journal
-  pub frames_sent : (i : ℕ) (frame : Frame) → slice_get net.frames i ≡ Some frame → FrameSent (titles_of net) journal frame
-  pub lawful : RawLawful (titles_of net) journal
+pub record Standing (world : World) (journal : List Event) : Type 0 where
+  pub clock_is : world.clock ≡ tick_after journal
+  pub frames_sent : (i : ℕ) (frame : Frame) → slice_get world.frames i ≡ Some frame → FrameSent (titles_of world) journal frame
+  pub lawful : RawLawful (titles_of world) journal
 
 -- what follows a list that stands before an event
 pub goes_on : (journal made earlier later : List Event) (event : Event) → journal ≡ earlier ++ event ∷ later → journal ++ made ≡ earlier ++ event ∷ (later ++ made)
@@ -93,14 +93,14 @@ pub none_new : (titles : List (List ℕ)) (journal made : List Event) → AllByR
 none_new titles journal made others = record { each = λ before after system from octets is. absurd (no_unit made before after system from octets others is) }
 
 -- what a step has to do
-pub record Moves (old new : Network) (journal made : List Event) : Type 0 where
+pub record Moves (old new : World) (journal made : List Event) : Type 0 where
   pub keeps : Keeps (titles_of old) (titles_of new)
   pub clock : new.clock ≡ clock_from old.clock made
   pub frames : (i : ℕ) (frame : Frame) → slice_get new.frames i ≡ Some frame → FrameSent (titles_of new) (journal ++ made) frame
   pub units : NewSent (titles_of new) journal made
 
 -- what holds goes on to hold
-pub moved : (old new : Network) (journal made : List Event) → Standing old journal → Moves old new journal made → Standing new (journal ++ made)
+pub moved : (old new : World) (journal made : List Event) → Standing old journal → Moves old new journal made → Standing new (journal ++ made)
 moved old new journal made stands moves = record {
   clock_is = moves.clock ∙ ap (λ (n : ℕ). clock_from n made) stands.clock_is ∙ sym (clock_from-append 0 journal made);
   frames_sent = moves.frames;
@@ -111,58 +111,58 @@ pub same_titles : (titles others : List (List ℕ)) → titles ≡ others → Ke
 same_titles titles others is = record { title_at = λ system title h. subst (λ (all : List (List ℕ)). slice_get all system ≡ Some title) is h }
 
 -- the frames are those of before
-frames_stay : (old new : Network) (journal made : List Event) → Standing old journal → Keeps (titles_of old) (titles_of new) → new.frames ≡ old.frames
+frames_stay : (old new : World) (journal made : List Event) → Standing old journal → Keeps (titles_of old) (titles_of new) → new.frames ≡ old.frames
     → (i : ℕ) (frame : Frame) → slice_get new.frames i ≡ Some frame → FrameSent (titles_of new) (journal ++ made) frame
 frames_stay old new journal made stands keeps is i frame at =
     frame_later (titles_of old) (titles_of new) journal made frame keeps (stands.frames_sent i frame (sym (ap (λ (frames : List Frame). slice_get frames i) is) ∙ at))
 
 -- a step with these events to this network
-pub along : (old last : Network) (journal made done : List Event) → made ≡ done → last ≡ old → Standing old (journal ++ done) → Standing last (journal ++ made)
+pub along : (old last : World) (journal made done : List Event) → made ≡ done → last ≡ old → Standing old (journal ++ done) → Standing last (journal ++ made)
 along old last journal made done made-is last-is stands =
-    subst (λ (net : Network). Standing net (journal ++ made)) (sym last-is) (subst (λ (all : List Event). Standing old (journal ++ all)) (sym made-is) stands)
+    subst (λ (world : World). Standing world (journal ++ made)) (sym last-is) (subst (λ (all : List Event). Standing old (journal ++ all)) (sym made-is) stands)
 
 -- the network is as before, but for events that do not move the clock
-pub stays : (net : Network) (journal made : List Event) → Standing net journal → clock_from net.clock made ≡ net.clock → NewSent (titles_of net) journal made → Standing net (journal ++ made)
-stays net journal made stands clock new =
-    let keeps : Keeps (titles_of net) (titles_of net) = same_titles _ _ refl in
-    moved net net journal made stands
-    (record { keeps = keeps; clock = sym clock; frames = frames_stay net net journal made stands keeps refl; units = new })
+pub stays : (world : World) (journal made : List Event) → Standing world journal → clock_from world.clock made ≡ world.clock → NewSent (titles_of world) journal made → Standing world (journal ++ made)
+stays world journal made stands clock new =
+    let keeps : Keeps (titles_of world) (titles_of world) = same_titles _ _ refl in
+    moved world world journal made stands
+    (record { keeps = keeps; clock = sym clock; frames = frames_stay world world journal made stands keeps refl; units = new })
 
 -- one event that shows no unit
-pub quiet : (net : Network) (journal : List Event) (event : Event) → Standing net journal → IsOther event → clock_after net.clock event ≡ net.clock → Standing net (journal ++ event ∷ [])
-quiet net journal event stands other clock = stays net journal (event ∷ []) stands clock (none_new (titles_of net) journal (event ∷ []) (other, tt))
+pub quiet : (world : World) (journal : List Event) (event : Event) → Standing world journal → IsOther event → clock_after world.clock event ≡ world.clock → Standing world (journal ++ event ∷ [])
+quiet world journal event stands other clock = stays world journal (event ∷ []) stands clock (none_new (titles_of world) journal (event ∷ []) (other, tt))
 
 -- a system's title stands at its number
-pub title_stands : (net : Network) (system : ℕ) (station : Station) → slice_get net.systems system ≡ Some station → slice_get (titles_of net) system ≡ Some station.title
-title_stands net system station at =
-    slice_get-map (λ (found : Station). found.title) net.systems system ∙ ap (λ (found : Option Station). option_map (λ (each : Station). each.title) found) at
+pub title_stands : (world : World) (system : ℕ) (end : System) → slice_get world.systems system ≡ Some end → slice_get (titles_of world) system ≡ Some end.title
+title_stands world system end at =
+    slice_get-map (λ (found : System). found.title) world.systems system ∙ ap (λ (found : Option System). option_map (λ (each : System). each.title) found) at
 
 -- a step of the set-up: no events, and the frames and the clock of before
-pub set_up : (old new : Network) (journal : List Event) → Standing old journal → Keeps (titles_of old) (titles_of new) → new.clock ≡ old.clock → new.frames ≡ old.frames
+pub set_up : (old new : World) (journal : List Event) → Standing old journal → Keeps (titles_of old) (titles_of new) → new.clock ≡ old.clock → new.frames ≡ old.frames
     → Standing new (journal ++ [])
 set_up old new journal stands keeps clock frames =
     moved old new journal [] stands
     (record { keeps = keeps; clock = clock; frames = frames_stay old new journal [] stands keeps frames; units = none_new (titles_of new) journal [] tt })
 
 -- a system that changes, but for its title
-pub system_stands : (old : Network) (journal : List Event) (system : ℕ) (station other : Station) → Standing old journal → slice_get old.systems system ≡ Some station
-    → other.title ≡ station.title → Standing (with_system old system other) (journal ++ [])
-system_stands old journal system station other stands at same =
-    let found : station ≡ get_or old.systems system station = sym (get_or_from_slice_get old.systems system station station at) in
-    let title : other.title ≡ (get_or old.systems system station).title = same ∙ ap (λ (each : Station). each.title) found in
+pub system_stands : (old : World) (journal : List Event) (system : ℕ) (end other : System) → Standing old journal → slice_get old.systems system ≡ Some end
+    → other.title ≡ end.title → Standing (with_system old system other) (journal ++ [])
+system_stands old journal system end other stands at same =
+    let found : end ≡ get_or old.systems system end = sym (get_or_from_slice_get old.systems system end end at) in
+    let title : other.title ≡ (get_or old.systems system end).title = same ∙ ap (λ (each : System). each.title) found in
     set_up old (with_system old system other) journal stands
-    (same_titles _ _ (sym (map-set_same (λ (each : Station). each.title) old.systems system other station title))) refl refl
+    (same_titles _ _ (sym (map-set_same (λ (each : System). each.title) old.systems system other end title))) refl refl
 
 -- a route changes no title
-pub routed_title : (station : Station) (prefix : List ℕ) (hop : Option Port) → (with_route station prefix hop).title ≡ station.title
-routed_title station prefix None = refl
-routed_title station prefix (Some hop) = refl
+pub routed_title : (end : System) (prefix : List ℕ) (hop : Option Port) → (with_route end prefix hop).title ≡ end.title
+routed_title end prefix None = refl
+routed_title end prefix (Some hop) = refl
 
 -- the clock is set
-pub clock_stands : (old : Network) (journal : List Event) (now : ℕ) → Standing old journal → Standing (record old { clock = now }) (journal ++ events.Tick now ∷ [])
+pub clock_stands : (old : World) (journal : List Event) (now : ℕ) → Standing old journal → Standing (record old { clock = now }) (journal ++ events.Tick now ∷ [])
 clock_stands old journal now stands =
     let keeps : Keeps (titles_of old) (titles_of old) = same_titles _ _ refl in
-    let next : Network = record old { clock = now } in
+    let next : World = record old { clock = now } in
     moved old next journal (events.Tick now ∷ []) stands
     (record {
       keeps = keeps;
@@ -172,9 +172,9 @@ clock_stands old journal now stands =
     })
 
 -- the systems of before keep their titles where one is added
-pub joined : (systems : List Station) (station : Station) → Keeps (map (λ each. each.title) systems) (map (λ each. each.title) (systems ++ station ∷ []))
-joined systems station = record {
+pub joined : (systems : List System) (end : System) → Keeps (map (λ each. each.title) systems) (map (λ each. each.title) (systems ++ end ∷ []))
+joined systems end = record {
   title_at = λ i title is.
-      subst (λ (titles : List (List ℕ)). slice_get titles i ≡ Some title) (sym (map-append (λ (each : Station). each.title) systems (station ∷ [])))
-      (get_append (map (λ (each : Station). each.title) systems) (station.title ∷ []) i title is);
+      subst (λ (titles : List (List ℕ)). slice_get titles i ≡ Some title) (sym (map-append (λ (each : System). each.title) systems (end ∷ [])))
+      (get_append (map (λ (each : System). each.title) systems) (end.title ∷ []) i title is);
 }

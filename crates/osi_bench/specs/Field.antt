@@ -54,13 +54,13 @@ as_title (Err fault) = None
 unfoldable pub title_of : List ℕ → Option (List ℕ)
 title_of text = as_title (address_of_text text)
 
-abbrev pub as_station : Result (List ℕ) NsapFault → Option (List ℕ)
-as_station (Ok octets) = if slice_index octets 0 % 2 == 1 then None else Some octets
-as_station (Err fault) = None
+abbrev pub as_snpa : Result (List ℕ) NsapFault → Option (List ℕ)
+as_snpa (Ok octets) = if slice_index octets 0 % 2 == 1 then None else Some octets
+as_snpa (Err fault) = None
 
 -- the SNPA of one system, not of a group
-unfoldable pub station_of : List ℕ → Option (List ℕ)
-station_of text = as_station (snpa_of_text text)
+unfoldable pub snpa_of : List ℕ → Option (List ℕ)
+snpa_of text = as_snpa (snpa_of_text text)
 
 abbrev pub as_octets : {E : Type 0} → Result (List ℕ) E → Option (List ℕ)
 as_octets (Ok octets) = Some octets

@@ -2,7 +2,7 @@
 use Rattle.std.specs.Prelude.{◌≡◌, ℕ, ◌+◌, ◌≤◌, List, [], ◌∷◌, ◌++◌, map, slice_get, Some}
 use Rattle.osi_bench.specs.declared.event.Event.{Event}
 use Rattle.osi_bench.specs.declared.event.Event.TheVariants as events
-use Rattle.osi_bench.specs.World.{Network, raw_address, initial_lifetime}
+use Rattle.osi_bench.specs.World.{World, raw_address, initial_lifetime}
 
 -- the clock after an event
 abbrev pub clock_after : ℕ → Event → ℕ
@@ -27,8 +27,8 @@ abbrev pub tick_after : List Event → ℕ
 tick_after journal = clock_from 0 journal
 
 -- the titles of the systems, by number
-abbrev pub titles_of : Network → List (List ℕ)
-titles_of net = map (λ station. station.title) net.systems
+abbrev pub titles_of : World → List (List ℕ)
+titles_of world = map (λ end. end.title) world.systems
 
 -- among the events there is one by which the system of the address `from` sent these octets to the raw address of the
 -- system, at most the initial lifetime ago

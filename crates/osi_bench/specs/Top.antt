@@ -1,17 +1,23 @@
--- The words of the program, and what the lines that it ran come to.
-use Rattle.std.specs.Prelude.{◌≡◌, ◌⊎◌, ℕ, Bool, false, List, [], ◌∷◌, Some, codes}
+-- The words of the program, and what it writes for a script: the transcript of the run of the network.
+use Rattle.std.specs.Prelude.{◌≡◌, ◌⊎◌, ℕ, ◌+◌, ◌≤◌, Bool, false, List, [], ◌∷◌, ◌++◌, length, map, Some, codes}
+use Rattle.std.proofs.Common.{inl, inr}
 use Rattle.std.specs.Str.{bytes_eq}
+use Rattle.osi_base.specs.declared.status.Status.{Status}
+use Rattle.osi_base.specs.declared.status.Status.TheVariants.{Done, RefusedLine, RefusedWords, ReadFault, WriteFault, NoMemory, RefusedCapture, TooMuch}
 use Rattle.osi_bench.specs.declared.event.Event.{Event}
 use Rattle.osi_bench.specs.declared.line.Line.{Line}
 use Rattle.osi_bench.specs.declared.lan.Frame.{Frame}
 use Rattle.osi_bench.specs.Bench.{Bench, first_bench, bench_meaning}
-use Rattle.osi_bench.specs.Course.{Runs, IsRead, IsWhole}
-use Rattle.osi_bench.specs.Grammar.{Declared, nothing_declared, line_of, declared_by}
-use Rattle.osi_bench.specs.Known.{no_network}
+use Rattle.line_loop.specs.Course.{Runs, IsRead, IsWhole, IsTooMuch, IsTooMuchAtEnd, IsRefusedAt, IsRefusedAtEnd}
+use Rattle.line_loop.specs.Limits.{most_octets, most_read}
+use Rattle.line_loop.specs.Lines.{whole_lines, open_line, without_return, last_line}
+use Rattle.line_loop.specs.Outcome.{Asks, Outcome}
+use Rattle.osi_bench.specs.Grammar.{Names, no_names, line_of, declared_by}
+use Rattle.osi_bench.specs.World.{empty_world}
 use Rattle.osi_bench.specs.Lawful.{RawLawful, titles_of}
-use Rattle.osi_bench.specs.Steps.{WorldRuns}
-use Rattle.osi_bench.specs.World.{Network}
-use Rattle.osi_bench.specs.Writing.{IsPrefix}
+use Rattle.osi_bench.specs.LineSteps.{WorldRuns}
+use Rattle.osi_bench.specs.World.{World}
+use Rattle.line_loop.specs.Writing.{IsPrefix}
 
 -- the words are the one word `run`
 abbrev pub is_run : List (List ℕ) → Bool
@@ -20,22 +26,22 @@ is_run (word ∷ []) = bytes_eq word (codes "run")
 is_run (word ∷ other ∷ words) = false
 
 -- the texts are the lines of a script, each read with the names that those before it declared
-abbrev pub Script : Declared → List (List ℕ) → List Line → Declared → Type 0
+abbrev pub Script : Names → List (List ℕ) → List Line → Names → Type 0
 Script names [] script last = (script ≡ []) × (last ≡ names)
 Script names (text ∷ texts) script last =
     (line : Line) × (rest : List Line) × (line_of names text ≡ Some line) × (script ≡ line ∷ rest) × Script (declared_by names text line) texts rest last
 
 -- from a network with no LAN, system or frame, its clock 0, the lines have this journal, and leave a network with these frames
 pub record WorldRun (script : List Line) (journal : List Event) (frames : List Frame) : Type 0 where
-  pub last : Network
-  pub runs : WorldRuns no_network script journal last
+  pub last : World
+  pub runs : WorldRuns empty_world script journal last
   pub frames_are : frames ≡ last.frames
 
 -- the texts are the lines of a script, and they have this journal by the run of the network
 pub record IsScriptRun (texts : List (List ℕ)) (journal : List Event) (last : Bench) : Type 0 where
   pub script : List Line
-  pub lines : Script nothing_declared texts script last.names
-  pub run : WorldRun script journal last.net.frames
+  pub lines : Script no_names texts script last.names
+  pub run : WorldRun script journal last.world.frames
 
 -- what runs on the bench is a script, line by line, and the run of the network for its lines
 abbrev pub RunsScripts : Type 0
@@ -49,4 +55,50 @@ pub record IsJournal (octets : List ℕ) (journal : List Event) (last : Bench) :
 
 -- whatever part of the octets was run, each raw unit that is shown was sent
 abbrev pub ShowsSent : List ℕ → Type 0
-ShowsSent octets = (journal : List Event) (last : Bench) → IsJournal octets journal last → RawLawful (titles_of last.net) journal
+ShowsSent octets = (journal : List Event) (last : Bench) → IsJournal octets journal last → RawLawful (titles_of last.world) journal
+
+-- the lines that have their line feed, without their ends
+abbrev pub texts_in : List ℕ → List (List ℕ)
+texts_in octets = map without_return (whole_lines octets)
+
+-- the lines before one that is refused, or before a limit, and their journal are a run of a script
+abbrev pub RefusedRun : {end : Type 0} (read : List ℕ) (line : ℕ) (journal : List Event) (last : Bench)
+    → IsRefusedAt bench_meaning first_bench read line tt journal last ⊎ (end × IsRefusedAtEnd bench_meaning first_bench read line tt journal last) → Type 0
+RefusedRun read line journal last (inl here) = IsScriptRun (texts_in here.front) journal last
+RefusedRun read line journal last (inr at_end) = IsScriptRun (texts_in read) journal last
+
+abbrev pub TooMuchRun : {end : Type 0} (read : List ℕ) (journal : List Event) (last : Bench)
+    → IsTooMuch bench_meaning first_bench read journal last ⊎ (end × IsTooMuchAtEnd bench_meaning first_bench read journal last) → Type 0
+TooMuchRun read journal last (inl here) = IsScriptRun (texts_in here.front) journal last
+TooMuchRun read journal last (inr at_end) = ⊥
+
+-- where octets ask for a transcript: the lines whose journal it tells are a script, and it is that of the run of the network
+abbrev pub AskedRun : (end : Type 0) (read text : List ℕ) (status : Status) → Asks bench_meaning end first_bench read text status → Type 0
+AskedRun end read text Done asked = IsScriptRun (texts_in read ++ last_line (open_line read)) asked.0 asked.1
+AskedRun end read text RefusedLine asked = RefusedRun read asked.0 asked.2 asked.3 asked.4
+AskedRun end read text TooMuch asked = TooMuchRun read asked.0 asked.1 asked.2
+AskedRun end read text ReadFault asked = IsScriptRun (texts_in read) asked.0 asked.1
+AskedRun end read text WriteFault asked = ⊥
+AskedRun end read text NoMemory asked = ⊥
+AskedRun end read text RefusedWords asked = ⊥
+AskedRun end read text RefusedCapture asked = ⊥
+
+-- the same of what was written, which is that transcript or a front of it
+abbrev pub OutcomeRun : (end : Type 0) (read written : List ℕ) (status : Status) → Outcome bench_meaning end first_bench read written status → Type 0
+OutcomeRun end read written Done told = AskedRun end read written Done told
+OutcomeRun end read written RefusedLine told = AskedRun end read written RefusedLine told
+OutcomeRun end read written TooMuch told = AskedRun end read written TooMuch told
+OutcomeRun end read written ReadFault told = AskedRun end read written ReadFault told
+OutcomeRun end read written WriteFault told = AskedRun ((told.front ≡ read) × end) told.front told.text told.status told.asked
+OutcomeRun end read written NoMemory told = AskedRun ((told.front ≡ read) × end) told.front told.text told.status told.asked
+OutcomeRun end read written RefusedWords told = ⊥
+OutcomeRun end read written RefusedCapture told = ⊥
+
+-- of the octets read, what was written is told as the status says, and tells the run of the network for the lines of the
+-- script; whatever part of the octets was run, each raw unit that is shown was sent; and no more was read than an input may
+-- have, and one read more
+pub record IsTranscript (end : Type 0) (read written : List ℕ) (status : Status) : Type 0 where
+  pub outcome : Outcome bench_meaning end first_bench read written status
+  pub run : OutcomeRun end read written status outcome
+  pub sent : ShowsSent read
+  pub within : length read ≤ most_octets + most_read

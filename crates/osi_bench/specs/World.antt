@@ -4,7 +4,7 @@ use Rattle.std.specs.Cmp.Lexicographic.{pointwise}
 use Rattle.nsap.specs.Address.{system_part, is_same_system, covers}
 use Rattle.nsap.specs.declared.port.Port.{Port}
 use Rattle.clnp_header.specs.declared.pdu.Pdu.{Pdu}
-use Rattle.clnp_options.specs.declared.fault.PduKind.TheVariants.{Dt}
+use Rattle.clnp_options.specs.declared.reason.PduKind.TheVariants.{Dt}
 use Rattle.osi_bench.specs.declared.event.Refused.{Refused}
 use Rattle.osi_bench.specs.declared.event.Refused.TheVariants.{EmptyUnit, TooLong, NoRoute}
 use Rattle.osi_bench.specs.declared.lan.Lan.{Lan}
@@ -14,16 +14,20 @@ use Rattle.osi_bench.specs.declared.lan.Picked.TheVariants.{Taken, NoSuch, Late,
 use Rattle.osi_bench.specs.declared.system.Row.{Row}
 
 -- an end system: its title, its port, and its routes
-pub record Station : Type 0 where
+pub record System : Type 0 where
   pub title : List ℕ
   pub port : Option Port
   pub rows : List Row
 
-pub record Network : Type 0 where
+pub record World : Type 0 where
   pub clock : ℕ
   pub lans : List Lan
-  pub systems : List Station
+  pub systems : List System
   pub frames : List Frame
+
+-- no LAN, system or frame, and the clock at 0
+abbrev pub empty_world : World
+empty_world = record { clock = 0; lans = []; systems = []; frames = [] }
 
 -- the initial lifetime of a unit, in ticks
 abbrev pub initial_lifetime : ℕ
@@ -48,7 +52,17 @@ next_row rows address = fold (better_row address) None rows
 -- the DT PDU of a raw unit
 abbrev pub unit_pdu : List ℕ → List ℕ → List ℕ → Pdu
 unit_pdu source destination octets =
-    record { kind = Dt; destination = destination; source = source; lifetime = initial_lifetime; checksum_used = true; report = false; segment = None; options = []; body = octets }
+    record {
+      kind = Dt;
+      destination = destination;
+      source = source;
+      lifetime = initial_lifetime;
+      checksum_used = true;
+      report = false;
+      segment = None;
+      options = [];
+      body = octets;
+    }
 
 -- how many octets its header has: the fixed part and the two addresses, each behind its length
 abbrev pub header_octets : List ℕ → List ℕ → ℕ
@@ -63,7 +77,7 @@ by_row lans size None = Err NoRoute
 by_row lans size (Some row) = if nat_lt (room_of lans row.hop.lan) size then Err TooLong else Ok row.hop
 
 -- where a system sends a raw unit, or the first refusal that applies
-unfoldable pub sending : List Lan → Station → List ℕ → List ℕ → Result Port Refused
+unfoldable pub sending : List Lan → System → List ℕ → List ℕ → Result Port Refused
 sending lans sender destination octets =
     if length octets == 0 then Err EmptyUnit
     else if nat_lt 16384 (length octets) then Err TooLong

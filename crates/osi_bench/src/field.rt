@@ -2,13 +2,13 @@
 
 ghost use Rattle.std.specs.Prelude.{◌≡◌, ◌<◌, ◌≤◌, ◌^◌, ◌↔◌, ◌∷◌, List, [], length, IsTrue, MatchOption, IfOk, IsErrOf};
 ghost use Rattle.std.specs.Option.{option_copied};
-ghost use Rattle.osi_bench.specs.Split.{fields_left};
-ghost use Rattle.osi_bench.specs.Field.{fields_of, is_word, is_printable, is_name, number_of, number_within, title_of, station_of, prefix_of, octets_of, is_digit, is_letter_or_digit, is_number};
+ghost use Rattle.osi_bench.specs.steps.Split.{fields_left};
+ghost use Rattle.osi_bench.specs.Field.{fields_of, is_word, is_printable, is_name, number_of, number_within, title_of, snpa_of, prefix_of, octets_of, is_digit, is_letter_or_digit, is_number};
 ghost use Rattle.std.specs.List.{list_all};
 ghost use Rattle.std.specs.Str.Parse.{digits_value};
-ghost use Rattle.osi_bench.specs.declared.machine.LineRefusal.TheVariants.{Refused as LineRefused};
+ghost use Rattle.osi_bench.specs.declared.line.LineRefusal.TheVariants.{Refused as LineRefused};
 
-use crate::machine::LineRefusal;
+use crate::line::LineRefusal;
 use nsap::{Nsap, Prefix, Snpa};
 use osi_base::Bytes;
 use std::alloc::Global;
@@ -25,7 +25,7 @@ pub struct Fields<'a> {
 
 impl<'a> Model for Fields<'a> {
     ghost use Rattle.std.specs.Prelude.{List, ℕ};
-    ghost use Rattle.osi_bench.specs.Split.{fields_left};
+    ghost use Rattle.osi_bench.specs.steps.Split.{fields_left};
     ghost use Rattle.std.specs.Option.{option_copied};
 
     ghost Value = { List (List ℕ) };
@@ -34,6 +34,8 @@ impl<'a> Model for Fields<'a> {
 }
 
 impl<'a> Fields<'a> {
+    ghost use Rattle.osi_bench.specs.Grammar.{first_field};
+
     /// All fields of a line, parted by one blank each.
     pub fn of(line: &'a str) -> Fields<'a>
         ensures { result ≡ fields_of line.now }
@@ -51,6 +53,16 @@ impl<'a> Fields<'a> {
         let (field, rest) = split_field(rest);
         self.rest = rest;
         Some(field)
+    }
+
+    /// The next field, which stays. Nothing where no field is left.
+    pub fn first(&self) -> &'a str
+        ensures { result.now ≡ first_field self.now }
+    {
+        match self.rest {
+            Some(rest) => split_field(rest).0,
+            None => "",
+        }
     }
 
     /// Whether no field is left.
@@ -160,9 +172,9 @@ pub fn title(field: &str) -> Option<Nsap>
 }
 
 /// The SNPA of one system that the field stands for.
-#[tactic(auto, unfolding(crate::specs::Field::station_of))]
-pub fn station(field: &str) -> Option<Snpa>
-    ensures { result ≡ station_of field.now }
+#[tactic(auto, unfolding(crate::specs::Field::snpa_of))]
+pub fn snpa(field: &str) -> Option<Snpa>
+    ensures { result ≡ snpa_of field.now }
 {
     match Snpa::read(field) {
         Ok(snpa) if !snpa.is_group() => Some(snpa),

@@ -3,6 +3,15 @@
 use nsap::{Nsap, Prefix, Snpa};
 use osi_base::Bytes;
 
+/// Why a line is not read.
+#[derive(Clone, Copy, Debug, PartialEq, Eq)]
+pub enum LineRefusal {
+    /// The line has no meaning after the lines before it.
+    Refused,
+    /// Memory ran out.
+    NoMemory,
+}
+
 /// One line of the script. Systems and LANs go by their numbers, from 0 in the order of declaration.
 #[derive(Drop, Debug)]
 pub enum Line {

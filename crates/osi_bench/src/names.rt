@@ -3,14 +3,13 @@
 ghost use Rattle.std.specs.Prelude.{◌≡◌, ◌<◌, ◌∷◌, [], length, true, false, IsTrue, MatchOption, IfOk, IfSome, IsSomeAnd, OnOk, OnErr, IsErrOf};
 ghost use Rattle.std.specs.List.{list_all};
 ghost use Rattle.osi_bench.specs.Field.{is_printable, fields_of};
-ghost use Rattle.osi_bench.specs.Grammar.{second_field, bare_line, is_idle};
-ghost use Rattle.osi_bench.specs.declared.machine.LineRefusal.TheVariants.{Refused as LineRefused};
+ghost use Rattle.osi_bench.specs.Grammar.{bare_line, is_idle};
+ghost use Rattle.osi_bench.specs.declared.line.LineRefusal.TheVariants.{Refused as LineRefused};
 
 use crate::field::{self, Fields};
-use crate::line::Line;
-use crate::machine::LineRefusal;
+use crate::line::{Line, LineRefusal};
 use crate::tables::{
-    PortRow, RouteRow, has_any_port, has_port, has_route, has_station, is_among, routes_count,
+    PortRow, RouteRow, has_any_port, has_port, has_route, has_snpa, is_among, routes_count,
 };
 use crate::tags::Tags;
 use nsap::{Nsap, Port, Prefix, Snpa};
@@ -37,9 +36,9 @@ pub struct Names {
 // There are at most sixteen systems and one LAN.
 impl Model for Names {
     ghost use Rattle.std.specs.Prelude.{◌≤◌, length};
-    ghost use Rattle.osi_bench.specs.Grammar.{Declared};
+    ghost use Rattle.osi_bench.specs.Grammar.{Names as NamesState};
 
-    ghost Value = { Declared };
+    ghost Value = { NamesState };
 
     ghost view = { λ n. record { tags = n.tags; titles = n.titles.items; ports = n.ports.items; routes = n.routes.items; started = n.started } };
 
@@ -47,12 +46,13 @@ impl Model for Names {
 }
 
 impl Names {
-    ghost use Rattle.osi_bench.specs.Grammar.{nothing_declared, text_line, worded_line, lan_line, es_line, port_line, route_line, unit_line, deliver_line, bare_line, before_start, after_start, declared_by, system_of, lan_of, may_join, may_attach, may_route, may_reach, HasRoom};
-    ghost use Rattle.osi_bench.specs.Known.{NamesSystems};
+    ghost use Rattle.osi_bench.specs.Grammar.{no_names, text_line, worded_line, lan_line, es_line, port_line, route_line, unit_line, deliver_line, bare_line, before_start, after_start, declared_by, declared_with, system_of, lan_of, may_join, may_attach, may_route, may_reach};
+    ghost use Rattle.osi_bench.specs.steps.Known.{HasRoom};
+    ghost use Rattle.osi_bench.specs.steps.Known.{NamesSystems, StandsAfter};
 
     /// Nothing is declared yet.
     pub fn new(alloc: Global) -> Names
-        ensures { result ≡ nothing_declared }
+        ensures { result ≡ no_names }
     {
         Names {
             tags: Tags::new(alloc),
@@ -70,22 +70,31 @@ impl Names {
         &self.tags
     }
 
-    /// What a line of printable characters says. Refused exactly where it is none of the lines of a
-    /// script.
+    /// What a line of printable characters says, and takes up what it declares. Refused exactly where it is none of
+    /// the lines of a script, and then nothing is declared.
     #[tactic(auto, unfolding(crate::specs::Grammar::text_line))]
-    pub fn read(&self, alloc: Global, text: &str) -> Result<Line, LineRefusal>
-        ensures ok { IfOk result (λ read. text_line self.now text.now ≡ Some read) }
-        ensures refused { IsErrOf result LineRefused → text_line self.now text.now ≡ None }
-        ensures room { IfOk result (HasRoom self.now) }
-        ensures known { IfOk result (NamesSystems (length self.now.tags.systems)) }
+    pub fn read_line(&mut self, alloc: Global, text: &str) -> Result<Line, LineRefusal>
+        ensures ok { IfOk result (λ read. text_line self.old text.now ≡ Some read) }
+        ensures declared { IfOk result (λ read. self.new ≡ declared_by self.old text.now read) }
+        ensures known { IfOk result (NamesSystems (length self.old.tags.systems)) }
+        ensures refused { IsErrOf result LineRefused → text_line self.old text.now ≡ None }
+        ensures kept { IsErrOf result LineRefused → self.new ≡ self.old }
     {
         if is_idle(text.as_bytes()) {
             return Ok(Line::Nothing);
         }
         let mut fields = Fields::of(text);
-        match fields.next() {
-            Some(word) => self.read_worded(alloc, word, fields),
-            None => Err(LineRefusal::Refused),
+        let Some(word) = fields.next() else {
+            return Err(LineRefusal::Refused);
+        };
+        let name = fields.first();
+        let line = match self.read_worded(alloc, word, fields) {
+            Ok(line) => line,
+            Err(refusal) => return Err(refusal),
+        };
+        match self.declare(alloc, &line, name) {
+            Ok(()) => Ok(line),
+            Err(NoMemory) => Err(LineRefusal::NoMemory),
         }
     }
 
@@ -99,8 +108,7 @@ impl Names {
     ) -> Result<Line, LineRefusal>
         ensures ok { IfOk result (λ read. worded_line self.now word.now fields.entry ≡ Some read) }
         ensures refused { IsErrOf result LineRefused → worded_line self.now word.now fields.entry ≡ None }
-        ensures room { IfOk result (HasRoom self.now) }
-        ensures known { IfOk result (NamesSystems (length self.now.tags.systems)) }
+        ensures stands { IfOk result (StandsAfter self.now) }
     {
         if word == "lan" {
             self.set_up(self.lan_line(fields))
@@ -125,12 +133,10 @@ impl Names {
 
     /// A line of the set-up, which stands before `start`.
     fn set_up(&self, line: Option<Line>) -> Result<Line, LineRefusal>
-        requires room { IfSome line (HasRoom self.now) }
-        requires known { IfSome line (NamesSystems (length self.now.tags.systems)) }
+        requires stands { IfSome line (StandsAfter self.now) }
         ensures ok { IfOk result (λ read. before_start self.now line ≡ Some read) }
         ensures refused { IsErrOf result LineRefused → before_start self.now line ≡ None }
-        ensures room { IfOk result (HasRoom self.now) }
-        ensures known { IfOk result (NamesSystems (length self.now.tags.systems)) }
+        ensures stands { IfOk result (StandsAfter self.now) }
     {
         if self.started {
             return Err(LineRefusal::Refused);
@@ -140,12 +146,10 @@ impl Names {
 
     /// An event line, which stands after `start`.
     fn event(&self, line: Option<Line>) -> Result<Line, LineRefusal>
-        requires room { IfSome line (HasRoom self.now) }
-        requires known { IfSome line (NamesSystems (length self.now.tags.systems)) }
+        requires stands { IfSome line (StandsAfter self.now) }
         ensures ok { IfOk result (λ read. after_start self.now line ≡ Some read) }
         ensures refused { IsErrOf result LineRefused → after_start self.now line ≡ None }
-        ensures room { IfOk result (HasRoom self.now) }
-        ensures known { IfOk result (NamesSystems (length self.now.tags.systems)) }
+        ensures stands { IfOk result (StandsAfter self.now) }
     {
         if !self.started {
             return Err(LineRefusal::Refused);
@@ -156,8 +160,7 @@ impl Names {
     #[tactic(auto, unfolding(crate::specs::Grammar::lan_line))]
     fn lan_line(&self, mut fields: Fields<'_>) -> Option<Line>
         ensures line { result ≡ lan_line self.now fields.entry }
-        ensures room { IfSome result (HasRoom self.now) }
-        ensures known { IfSome result (NamesSystems (length self.now.tags.systems)) }
+        ensures stands { IfSome result (StandsAfter self.now) }
     {
         let name = fields.next()?;
         let bound = fields.next()?;
@@ -180,8 +183,7 @@ impl Names {
     #[tactic(auto, unfolding(crate::specs::Grammar::es_line))]
     fn es_line(&self, mut fields: Fields<'_>) -> Option<Line>
         ensures line { result ≡ es_line self.now fields.entry }
-        ensures room { IfSome result (HasRoom self.now) }
-        ensures known { IfSome result (NamesSystems (length self.now.tags.systems)) }
+        ensures stands { IfSome result (StandsAfter self.now) }
     {
         let name = fields.next()?;
         let title = fields.next()?;
@@ -201,8 +203,7 @@ impl Names {
     #[tactic(auto, unfolding(crate::specs::Grammar::port_line))]
     fn port_line(&self, mut fields: Fields<'_>) -> Option<Line>
         ensures line { result ≡ port_line self.now fields.entry }
-        ensures room { IfSome result (HasRoom self.now) }
-        ensures known { IfSome result (NamesSystems (length self.now.tags.systems)) }
+        ensures stands { IfSome result (StandsAfter self.now) }
     {
         let system = fields.next()?;
         let lan = fields.next()?;
@@ -212,7 +213,7 @@ impl Names {
         }
         let system = self.system(system)?;
         let lan = self.lan(lan)?;
-        let snpa = field::station(snpa)?;
+        let snpa = field::snpa(snpa)?;
         if !self.may_attach(system, &snpa) {
             return None;
         }
@@ -222,8 +223,7 @@ impl Names {
     #[tactic(auto, unfolding(crate::specs::Grammar::route_line))]
     fn route_line(&self, mut fields: Fields<'_>) -> Option<Line>
         ensures line { result ≡ route_line self.now fields.entry }
-        ensures room { IfSome result (HasRoom self.now) }
-        ensures known { IfSome result (NamesSystems (length self.now.tags.systems)) }
+        ensures stands { IfSome result (StandsAfter self.now) }
     {
         let system = fields.next()?;
         let prefix = fields.next()?;
@@ -261,7 +261,7 @@ impl Names {
     fn may_attach(&self, system: u8, snpa: &Snpa) -> bool
         ensures { result ≡ may_attach self.now system snpa.now }
     {
-        !has_any_port(&self.ports, system) && !has_station(&self.ports, snpa)
+        !has_any_port(&self.ports, system) && !has_snpa(&self.ports, snpa)
     }
 
     /// Whether the system may be given this route: both systems have a port on the LAN.
@@ -283,8 +283,7 @@ impl Names {
     fn unit_event(&self, alloc: Global, fields: Fields<'_>) -> Result<Line, LineRefusal>
         ensures ok { IfOk result (λ read. after_start self.now (unit_line self.now fields.entry) ≡ Some read) }
         ensures refused { IsErrOf result LineRefused → after_start self.now (unit_line self.now fields.entry) ≡ None }
-        ensures room { IfOk result (HasRoom self.now) }
-        ensures known { IfOk result (NamesSystems (length self.now.tags.systems)) }
+        ensures stands { IfOk result (StandsAfter self.now) }
     {
         if !self.started {
             return Err(LineRefusal::Refused);
@@ -296,8 +295,7 @@ impl Names {
     fn unit_line(&self, alloc: Global, mut fields: Fields<'_>) -> Result<Line, LineRefusal>
         ensures ok { IfOk result (λ read. unit_line self.now fields.entry ≡ Some read) }
         ensures refused { IsErrOf result LineRefused → unit_line self.now fields.entry ≡ None }
-        ensures room { IfOk result (HasRoom self.now) }
-        ensures known { IfOk result (NamesSystems (length self.now.tags.systems)) }
+        ensures stands { IfOk result (StandsAfter self.now) }
     {
         let (Some(system), Some(to)) = (fields.next(), fields.next()) else {
             return Err(LineRefusal::Refused);
@@ -323,8 +321,7 @@ impl Names {
     #[tactic(auto, unfolding(crate::specs::Grammar::deliver_line))]
     fn deliver_line(&self, mut fields: Fields<'_>) -> Option<Line>
         ensures line { result ≡ deliver_line self.now fields.entry }
-        ensures room { IfSome result (HasRoom self.now) }
-        ensures known { IfSome result (NamesSystems (length self.now.tags.systems)) }
+        ensures stands { IfSome result (StandsAfter self.now) }
     {
         let frame = fields.next()?;
         let system = fields.next()?;
@@ -336,16 +333,16 @@ impl Names {
         Some(Line::Deliver { frame, system })
     }
 
-    /// Takes up what a line declares. The text of the line has the name.
-    pub fn declare(&mut self, alloc: Global, line: &Line, text: &str) -> Result<(), NoMemory>
+    /// Takes up what a line declares under this name.
+    fn declare(&mut self, alloc: Global, line: &Line, name: &str) -> Result<(), NoMemory>
         requires { HasRoom self.old line.now }
-        ensures { OnOk result (self.new ≡ declared_by self.old text.now line.now) }
+        ensures { OnOk result (self.new ≡ declared_with self.old name.now line.now) }
     {
         match line {
-            Line::Lan { .. } => self.tags.add_lan(second_field(alloc, text)?)?,
+            Line::Lan { .. } => self.tags.add_lan(owned(alloc, name)?)?,
             Line::Es { title, .. } => {
                 self.titles.push(*title)?;
-                self.tags.add_system(second_field(alloc, text)?)?;
+                self.tags.add_system(owned(alloc, name)?)?;
             }
             Line::Port { system, lan, snpa } => {
                 let port = Port {
@@ -430,12 +427,8 @@ fn text_of(line: &[u8]) -> Option<&str>
     }
 }
 
-/// The second field of a line, owned.
-fn second_field(alloc: Global, text: &str) -> Result<Bytes, NoMemory>
-    ensures { IfOk result (λ field. field ≡ second_field (fields_of text.now)) }
+fn owned(alloc: Global, name: &str) -> Result<Bytes, NoMemory>
+    ensures { IfOk result (λ owned. owned ≡ name.now) }
 {
-    let mut fields = Fields::of(text);
-    let _ = fields.next();
-    let name = fields.next().unwrap_or("");
     Ok(Bytes::of(name.as_bytes().to_vec(alloc)?))
 }

@@ -37,15 +37,15 @@ pub struct System {
 }
 
 impl Model for System {
-    ghost use Rattle.osi_bench.specs.World.{Station};
+    ghost use Rattle.osi_bench.specs.World.{System as SystemState};
 
-    ghost Value = { Station };
+    ghost Value = { SystemState };
 
     ghost view = { λ s. record { title = s.title; port = s.port; rows = s.rows.items } };
 }
 
 impl System {
-    ghost use Rattle.osi_bench.specs.Steps.{with_route};
+    ghost use Rattle.osi_bench.specs.LineSteps.{with_route};
 
     /// A system with no port and no routes.
     pub fn new(alloc: Global, title: Nsap) -> System

@@ -35,7 +35,7 @@ pub fn has_any_port(ports: &[PortRow], system: u8) -> bool
 }
 
 /// Whether a port has the SNPA.
-pub fn has_station(ports: &[PortRow], snpa: &Snpa) -> bool
+pub fn has_snpa(ports: &[PortRow], snpa: &Snpa) -> bool
     ensures { result ≡ list_any (λ row. pointwise nat_eq row.port.snpa snpa.now) ports.now }
 {
     ports.iter().any(|row| row.port.snpa == *snpa)

@@ -226,8 +226,7 @@ const LIMITS: [(usize, usize, &str, &str); 8] = [
 fn expect_end(
     rt: &impl Abort,
     alloc: Global,
-    size: usize,
-    count: usize,
+    (size, count): (usize, usize),
     rest: &str,
     transcript: &str,
 ) -> Result<(), Fail> {
@@ -241,7 +240,7 @@ fn expect_end(
 #[test]
 fn an_input_has_limits(rt: HostRuntime) -> Result<(), Fail> {
     for (size, count, rest, transcript) in LIMITS {
-        expect_end(&rt, rt.alloc(), size, count, rest, transcript)?;
+        expect_end(&rt, rt.alloc(), (size, count), rest, transcript)?;
     }
     Ok(())
 }

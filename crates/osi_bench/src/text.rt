@@ -16,89 +16,91 @@ mod tests;
 const MOST_DIGITS: usize = 10;
 
 /// Appends the lines of events, one after another. After `NoMemory`, `out` ends in a part of them.
-pub fn write_events(events: &[Event], tags: &Tags, out: &mut Vec<u8>) -> Result<(), NoMemory>
+pub fn push_events(events: &[Event], tags: &Tags, out: &mut Vec<u8>) -> Result<(), NoMemory>
     ensures { OnOk result (out.new.items ≡ out.old.items ++ text tags.now events.now) }
 {
     for event in events {
-        write_event(event, tags, out)?;
+        push_event(event, tags, out)?;
     }
     Ok(())
 }
 
 /// Appends the line of an event, with systems and LANs by their names. After `NoMemory`, `out` ends
 /// in a part of it.
-pub fn write_event(event: &Event, tags: &Tags, out: &mut Vec<u8>) -> Result<(), NoMemory>
+pub fn push_event(event: &Event, tags: &Tags, out: &mut Vec<u8>) -> Result<(), NoMemory>
     ensures { OnOk result (out.new.items ≡ out.old.items ++ text_of tags.now event.now) }
 {
     match event {
-        Event::Tick { now } => write_tick(*now, out),
+        Event::Tick { now } => push_tick(*now, out),
         Event::Sent { system, to, octets } => {
-            write_unit(b"sent ", tags.system(*system), to, octets.as_slice(), out)
+            push_unit(b"sent ", tags.system(*system), to, octets.as_slice(), out)
         }
         Event::Unit {
             system,
             from,
             octets,
-        } => write_unit(b"unit ", tags.system(*system), from, octets.as_slice(), out),
-        Event::No { cause } => write_no(*cause, out),
+        } => push_unit(b"unit ", tags.system(*system), from, octets.as_slice(), out),
+        Event::No { cause } => push_no(*cause, out),
         Event::Frame {
             number,
             lan,
             system,
             snpa,
             length,
-        } => write_frame(
-            *number,
-            tags.lan(*lan),
-            tags.system(*system),
-            snpa,
-            *length,
-            out,
-        ),
+        } => {
+            let sent = SentFrame {
+                number: *number,
+                lan: tags.lan(*lan),
+                system: tags.system(*system),
+                snpa,
+                length: *length,
+            };
+            push_frame(&sent, out)
+        }
         Event::Deliver { number, system } => {
-            write_answer(b"deliver ", *number, tags.system(*system), out)
+            push_answer(b"deliver ", *number, tags.system(*system), out)
         }
         Event::NoSuch { number, system } => {
-            write_answer(b"nosuch ", *number, tags.system(*system), out)
+            push_answer(b"nosuch ", *number, tags.system(*system), out)
         }
         Event::Late { number, system } => {
-            write_answer(b"late ", *number, tags.system(*system), out)
+            push_answer(b"late ", *number, tags.system(*system), out)
         }
         Event::NotThere { number, system } => {
-            write_answer(b"notthere ", *number, tags.system(*system), out)
+            push_answer(b"notthere ", *number, tags.system(*system), out)
         }
         Event::NotOurs { number, system } => {
-            write_answer(b"notours ", *number, tags.system(*system), out)
+            push_answer(b"notours ", *number, tags.system(*system), out)
         }
         Event::Discard {
             system,
             reason,
             place,
-        } => write_discard(tags.system(*system), *reason, *place, out),
+        } => push_discard(tags.system(*system), *reason, *place, out),
     }
 }
 
 /// Appends the closing line where the script's line of this number was refused. After `NoMemory`,
 /// `out` ends in a part of it.
-pub fn write_refusal(line: u32, out: &mut Vec<u8>) -> Result<(), NoMemory>
+pub fn push_refusal(line: u32, out: &mut Vec<u8>) -> Result<(), NoMemory>
     ensures { OnOk result (out.new.items ≡ out.old.items ++ refused_line line) }
 {
     push_numbered(b"refused ", line, out)?;
     push_word(b"1 word\n", out)
 }
 
-/// The closing line where the input was handled to its end.
-pub fn done() -> &'static [u8]
-    ensures { result.now ≡ done_line }
+/// Appends the closing line where the input was handled to its end. After `NoMemory`, `out` ends in a part of it.
+pub fn push_done(out: &mut Vec<u8>) -> Result<(), NoMemory>
+    ensures { OnOk result (out.new.items ≡ out.old.items ++ done_line) }
 {
-    b"done\n"
+    push_word(b"done\n", out)
 }
 
-/// The closing line where a limit was passed.
-pub fn toomuch() -> &'static [u8]
-    ensures { result.now ≡ toomuch_line }
+/// Appends the closing line where a limit was passed. After `NoMemory`, `out` ends in a part of it.
+pub fn push_too_much(out: &mut Vec<u8>) -> Result<(), NoMemory>
+    ensures { OnOk result (out.new.items ≡ out.old.items ++ toomuch_line) }
 {
-    b"toomuch\n"
+    push_word(b"toomuch\n", out)
 }
 
 /// The line for wrong words.
@@ -108,7 +110,7 @@ pub fn usage() -> &'static [u8]
     b"usage: osi run | frames | decode | storm SEED COUNT\n"
 }
 
-fn write_tick(now: Tick, out: &mut Vec<u8>) -> Result<(), NoMemory>
+fn push_tick(now: Tick, out: &mut Vec<u8>) -> Result<(), NoMemory>
     ensures { OnOk result (out.new.items ≡ out.old.items ++ line (codes "tick" ∷ decimal now ∷ [])) }
 {
     push_word(b"tick ", out)?;
@@ -117,7 +119,7 @@ fn write_tick(now: Tick, out: &mut Vec<u8>) -> Result<(), NoMemory>
 }
 
 /// The line of a raw unit. `word` has a blank at its end.
-fn write_unit(
+fn push_unit(
     word: &[u8],
     system: &[u8],
     address: &Address,
@@ -135,7 +137,7 @@ fn write_unit(
     push_word(b"\n", out)
 }
 
-fn write_no(cause: Refused, out: &mut Vec<u8>) -> Result<(), NoMemory>
+fn push_no(cause: Refused, out: &mut Vec<u8>) -> Result<(), NoMemory>
     ensures { OnOk result (out.new.items ≡ out.old.items ++ line (codes "no" ∷ cause_text cause ∷ [])) }
 {
     match cause {
@@ -145,28 +147,32 @@ fn write_no(cause: Refused, out: &mut Vec<u8>) -> Result<(), NoMemory>
     }
 }
 
-fn write_frame(
+/// A frame as it is told, with the names of its LAN and its system.
+#[derive(Clone, Copy)]
+struct SentFrame<'a> {
     number: u32,
-    lan: &[u8],
-    system: &[u8],
-    snpa: &[u8],
+    lan: &'a [u8],
+    system: &'a [u8],
+    snpa: &'a [u8],
     length: u32,
-    out: &mut Vec<u8>,
-) -> Result<(), NoMemory>
+}
+
+fn push_frame(frame: &SentFrame<'_>, out: &mut Vec<u8>) -> Result<(), NoMemory>
     ensures { OnOk result (out.new.items ≡ out.old.items
-        ++ line (codes "frame" ∷ decimal number ∷ lan.now ∷ system.now ∷ encode_lower snpa.now ∷ decimal length ∷ [])) }
+        ++ line (codes "frame" ∷ decimal frame.now.number ∷ frame.now.lan.now ∷ frame.now.system.now
+        ∷ encode_lower frame.now.snpa.now ∷ decimal frame.now.length ∷ [])) }
 {
-    push_numbered(b"frame ", number, out)?;
-    push_name(lan, out)?;
-    push_name(system, out)?;
-    push_hex(snpa, out)?;
+    push_numbered(b"frame ", frame.number, out)?;
+    push_name(frame.lan, out)?;
+    push_name(frame.system, out)?;
+    push_hex(frame.snpa, out)?;
     push_word(b" ", out)?;
-    push_number(length, out)?;
+    push_number(frame.length, out)?;
     push_word(b"\n", out)
 }
 
 /// The line of an answer to a delivery. `word` has a blank at its end.
-fn write_answer(word: &[u8], number: u32, system: &[u8], out: &mut Vec<u8>) -> Result<(), NoMemory>
+fn push_answer(word: &[u8], number: u32, system: &[u8], out: &mut Vec<u8>) -> Result<(), NoMemory>
     ensures { OnOk result (out.new.items ≡ out.old.items ++ word.now ++ line (decimal number ∷ system.now ∷ [])) }
 {
     push_numbered(word, number, out)?;
@@ -174,7 +180,7 @@ fn write_answer(word: &[u8], number: u32, system: &[u8], out: &mut Vec<u8>) -> R
     push_word(b"\n", out)
 }
 
-fn write_discard(system: &[u8], reason: u8, place: u8, out: &mut Vec<u8>) -> Result<(), NoMemory>
+fn push_discard(system: &[u8], reason: u8, place: u8, out: &mut Vec<u8>) -> Result<(), NoMemory>
     ensures { OnOk result (out.new.items ≡ out.old.items
         ++ line (codes "discard" ∷ system.now ∷ encode_lower (reason ∷ []) ∷ decimal place ∷ [])) }
 {

@@ -1,18 +1,18 @@
 //! The call of the program.
 
-ghost use Rattle.std.specs.Prelude.{◌≡◌, ◌≢◌, ◌⊎◌, ◌≤◌, ◌++◌, true, false, List, ℕ, [], Some, map, string_bytes, IfOk};
+ghost use Rattle.std.specs.Prelude.{◌≡◌, ◌≢◌, ◌⊎◌, ◌+◌, ◌≤◌, ◌++◌, true, false, List, ℕ, [], Some, map, max, string_bytes, IfOk};
 ghost use Rattle.osi_base.specs.Ends.{HasRisen, Took, Put, IsAtEnd};
 ghost use Rattle.osi_bench.specs.Bench.{first_bench, bench_meaning};
-ghost use Rattle.osi_bench.specs.Exact.{IsAccepted, IsFailure};
-ghost use Rattle.osi_bench.specs.Outcome.{Asks, Outcome};
+ghost use Rattle.line_loop.specs.Exact.{IsAccepted, IsFailure};
+ghost use Rattle.line_loop.specs.Limits.{most_read};
+ghost use Rattle.line_loop.specs.Outcome.{AsksFor};
 ghost use Rattle.osi_bench.specs.Text.{usage_line};
-ghost use Rattle.osi_bench.specs.Top.{is_run, RunsScripts, ShowsSent};
-ghost use Rattle.osi_bench.specs.Writing.{IsPrefix, IsWritten};
+ghost use Rattle.osi_bench.specs.Top.{is_run, IsTranscript};
+ghost use Rattle.line_loop.specs.Writing.{IsPrefix, IsWritten};
 
 use crate::bench::Bench;
-use crate::drive::drive;
 use crate::text::usage;
-use crate::writing::{write_all, write_closed};
+use line_loop::{drive, write_last};
 use osi_base::{Bytes, NoMemory, PlainSink, PlainSource, Sink, Source, Status};
 use std::alloc::Global;
 
@@ -26,36 +26,37 @@ pub fn osi<S: Source, K: Sink>(
     source: &mut S,
     sink: &mut K,
 ) -> Status
-    // `run`: of the octets read, what was written is told as the status says; what ran is the run of the
-    // network; and whatever part of the octets was run, each raw unit that is shown was sent.
     ensures run { is_run (map string_bytes words.now) ≡ true
         → (read : List ℕ) × (written : List ℕ)
         × Took (S.left source.old) read (S.left source.new)
         × Put (K.held sink.old) written (K.held sink.new)
-        × Outcome bench_meaning (IsAtEnd (S.left source.new)) first_bench read written result
-        × RunsScripts
-        × ShowsSent read }
+        × IsTranscript (IsAtEnd (S.left source.new)) read written result }
     // What all octets of the source ask for comes, or a failure in its place.
     ensures exact { is_run (map string_bytes words.now) ≡ true
-        → (all text : List ℕ) (asked : Status) → S.left source.old ≡ Some all → asked ≢ Status.ReadFault → Asks bench_meaning (Unit {0}) first_bench all text asked
+        → (all text : List ℕ) (asked : Status) → S.left source.old ≡ Some all → AsksFor bench_meaning first_bench all text asked
         → ((result ≡ asked) × Put (K.held sink.old) text (K.held sink.new)) ⊎ IsFailure result }
     // A script with no refused line and no limit passed is Done, unless memory runs out, where neither
     // count of faults rises or stands at its last value.
     ensures complete { is_run (map string_bytes words.now) ≡ true
         → (all : List ℕ) → S.left source.old ≡ Some all → IsAccepted bench_meaning first_bench all
         → ¬ HasRisen (S.faults source.old) (S.faults source.new) → ¬ HasRisen (K.faults sink.old) (K.faults sink.new)
-        → ((result ≡ Status.Done) × (text : List ℕ) × Asks bench_meaning (Unit {0}) first_bench all text Status.Done × Put (K.held sink.old) text (K.held sink.new))
+        → ((result ≡ Status.Done) × (text : List ℕ) × AsksFor bench_meaning first_bench all text Status.Done × Put (K.held sink.old) text (K.held sink.new))
         ⊎ (result ≡ Status.NoMemory) }
     // Other words: the usage line was written, or a front of it, and nothing was read.
     ensures words { is_run (map string_bytes words.now) ≡ false
         → (S.left source.new ≡ S.left source.old) × IsWritten K.held sink.old usage_line Status.RefusedWords sink.new result }
+    // One read asks for no more than 4,096 octets.
+    ensures asked { S.asked source.new ≤ max (S.asked source.old) most_read }
+    // A failed read ends the run: no status but ReadFault or NoMemory comes after it, and no further read.
+    ensures no_read_fault { result ≢ Status.ReadFault → result ≢ Status.NoMemory → S.faults source.new ≡ S.faults source.old }
+    ensures one_read_fault { S.faults source.new ≤ S.faults source.old + 1 }
     // A fault comes only where its count rose in this call, or stands at its last value.
     ensures read_fault { result ≡ Status.ReadFault → HasRisen (S.faults source.old) (S.faults source.new) }
     ensures write_fault { result ≡ Status.WriteFault → HasRisen (K.faults sink.old) (K.faults sink.new) }
 {
     clnp_header::one_front();
     clnp_header::one_spelling();
-    clnp_header::no_fault();
+    clnp_header::front_or_fault();
     if is_run(words) {
         drive(alloc, Bench::new(alloc), source, sink)
     } else {
@@ -79,10 +80,7 @@ fn refuse_words<K: Sink>(sink: &mut K) -> Status
     ensures faults_stay { K.faults sink.old ≤ K.faults sink.new }
     ensures write_fault { result ≡ Status.WriteFault → HasRisen (K.faults sink.old) (K.faults sink.new) }
 {
-    match write_all(sink, usage()) {
-        Status::Done => Status::RefusedWords,
-        status => status,
-    }
+    write_last(sink, usage(), Status::RefusedWords)
 }
 
 /// What a run in memory wrote, and how it ended.
@@ -98,11 +96,11 @@ pub fn run_in_memory(alloc: Global, words: &[String], script: &[u8]) -> Result<T
     ensures no_write_fault { IfOk result (λ made. made.status ≢ Status.WriteFault) }
     // What the script asks for comes, unless memory runs out.
     ensures exact { is_run (map string_bytes words.now) ≡ true
-        → (text : List ℕ) (asked : Status) → asked ≢ Status.ReadFault → Asks bench_meaning (Unit {0}) first_bench script.now text asked
+        → (text : List ℕ) (asked : Status) → AsksFor bench_meaning first_bench script.now text asked
         → IfOk result (λ made. ((made.status ≡ asked) × (made.octets ≡ text)) ⊎ (made.status ≡ Status.NoMemory)) }
     // Of a front of the script, what was written is told as the status says.
     ensures run { is_run (map string_bytes words.now) ≡ true
-        → IfOk result (λ made. (read rest : List ℕ) × (script.now ≡ read ++ rest) × Outcome bench_meaning (rest ≡ []) first_bench read made.octets made.status) }
+        → IfOk result (λ made. (read rest : List ℕ) × (script.now ≡ read ++ rest) × IsTranscript (rest ≡ []) read made.octets made.status) }
     // Other words: the usage line, or a front of it where memory runs out.
     ensures words { is_run (map string_bytes words.now) ≡ false
         → IfOk result (λ made. ((made.status ≡ Status.RefusedWords) × (made.octets ≡ usage_line))

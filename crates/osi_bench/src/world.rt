@@ -2,17 +2,20 @@
 
 ghost use Rattle.std.specs.Prelude.{◌≡◌, ◌<◌, ◌≤◌, ◌+◌, ◌++◌, ◌∷◌, List, ℕ, [], None, Some, length, slice_get, OnOk, IfOk, MatchOption};
 ghost use Rattle.std.specs.Option.{option_copied};
-ghost use Rattle.clnp_header.specs.Grammar.{IsPdu, value_of};
+ghost use Rattle.clnp_header.specs.Grammar.{IsPdu};
+ghost use Rattle.clnp_header.specs.Values.{value_of};
+ghost use Rattle.clnp_options.specs.Reasons.{code_of};
 ghost use Rattle.osi_bench.specs.declared.event.Event.{Event};
 ghost use Rattle.osi_bench.specs.World.{frame_of, bound_of, unit_pdu};
-ghost use Rattle.osi_bench.specs.Steps.{handed_up, reaction, shown, Receives};
+ghost use Rattle.osi_bench.specs.steps.Known.{IsPlainUnit};
+ghost use Rattle.osi_bench.specs.LineSteps.{handed_up, reaction, shown, Receives};
 ghost use Rattle.nsap.specs.Address.{selector_of};
 
 use crate::event::{Event, Refused};
 use crate::lan::{FRAME_HEADER, Frame, Lan, Picked, bound_of, delivery, frame_of};
 use crate::line::Line;
 use crate::system::{RAW, System, header_octets};
-use clnp_header::{Pdu, PduKind, PduRef, read_pdu, write_pdu};
+use clnp_header::{Pdu, PduKind, PduRef, Reason, read_pdu, write_pdu};
 use nsap::{Nsap, Port, Prefix, Snpa};
 use osi_base::{Address, Bytes, HeaderRefusal, Items, NoMemory, Tick};
 use std::alloc::Global;
@@ -24,17 +27,8 @@ const TRANSPORT: u8 = 1;
 /// The initial lifetime of a unit, in ticks.
 const LIFETIME: u8 = 32;
 
-/// The lifetime has passed.
-const LIFETIME_EXPIRED: u8 = 0xa0;
-
 /// The octet of the header with the lifetime.
 const LIFETIME_PLACE: u8 = 4;
-
-/// A destination that cannot be reached from here.
-const UNREACHABLE: u8 = 0x80;
-
-/// A destination with no such user.
-const UNKNOWN: u8 = 0x81;
 
 /// The clock, the LANs, the systems and all frames that were sent.
 #[derive(Drop)]
@@ -47,21 +41,22 @@ pub struct World {
 }
 
 impl Model for World {
-    ghost use Rattle.osi_bench.specs.World.{Network};
+    ghost use Rattle.osi_bench.specs.World.{World as WorldState};
 
-    ghost Value = { Network };
+    ghost Value = { WorldState };
 
     ghost view = { λ w. record { clock = w.clock; lans = w.lans.items; systems = w.systems.items; frames = w.frames.items } };
 }
 
 impl World {
-    ghost use Rattle.osi_bench.specs.World.{Network, Station, sending, raw_address, unit_pdu, delivery};
-    ghost use Rattle.osi_bench.specs.Steps.{WorldStep, Sends, Delivers, with_system, with_route};
-    ghost use Rattle.osi_bench.specs.Known.{NamesSystems, no_network};
+    ghost use Rattle.osi_bench.specs.World.{System as SystemState, sending, raw_address, unit_pdu, delivery};
+    ghost use Rattle.osi_bench.specs.LineSteps.{WorldStep, Sends, Delivers, with_system, with_route};
+    ghost use Rattle.osi_bench.specs.steps.Known.{NamesSystems, most_counted};
+    ghost use Rattle.osi_bench.specs.World.{empty_world};
 
     /// Nothing was declared, and nothing was sent.
     pub fn new(alloc: Global) -> World
-        ensures { result ≡ no_network }
+        ensures { result ≡ empty_world }
     {
         World {
             alloc,
@@ -76,8 +71,8 @@ impl World {
     pub fn step(&mut self, line: Line, events: &mut Vec<Event>) -> Result<(), NoMemory>
         requires none { events.old.items ≡ [] }
         requires known { NamesSystems (length self.old.systems) line }
-        requires clock { self.old.clock < 4000000000 }
-        requires frames { length self.old.frames < 4000000000 }
+        requires clock { self.old.clock < most_counted }
+        requires frames { length self.old.frames < most_counted }
         ensures { OnOk result (WorldStep self.old line events.new.items self.new) }
     {
         match line {
@@ -120,23 +115,23 @@ impl World {
 
     fn attach(&mut self, system: u8, port: Port) -> Result<(), NoMemory>
         requires { system < length self.old.systems }
-        ensures { (station : Station) × (slice_get self.old.systems system ≡ Some station)
-            × (self.new ≡ with_system self.old system (record station { port = Some port })) }
+        ensures { (end : SystemState) × (slice_get self.old.systems system ≡ Some end)
+            × (self.new ≡ with_system self.old system (record end { port = Some port })) }
     {
-        let station = &mut self.systems[usize::from(system)];
-        station.attach(port);
+        let end = &mut self.systems[usize::from(system)];
+        end.attach(port);
         Ok(())
     }
 
     fn add_route(&mut self, system: u8, prefix: Prefix, next: u8) -> Result<(), NoMemory>
         requires system { system < length self.old.systems }
         requires next { next < length self.old.systems }
-        ensures { OnOk result ((station other : Station) × (slice_get self.old.systems system ≡ Some station) × (slice_get self.old.systems next ≡ Some other)
-            × (self.new ≡ with_system self.old system (with_route station prefix other.port))) }
+        ensures { OnOk result ((end other : SystemState) × (slice_get self.old.systems system ≡ Some end) × (slice_get self.old.systems next ≡ Some other)
+            × (self.new ≡ with_system self.old system (with_route end prefix other.port))) }
     {
         let hop = self.systems[usize::from(next)].port();
-        let station = &mut self.systems[usize::from(system)];
-        station.add_route(prefix, hop)
+        let end = &mut self.systems[usize::from(system)];
+        end.add_route(prefix, hop)
     }
 
     fn tell_clock(&self, events: &mut Vec<Event>) -> Result<(), NoMemory>
@@ -157,9 +152,11 @@ impl World {
         requires none { events.old.items ≡ [] }
         requires system { system < length self.old.systems }
         requires to { to < length self.old.systems }
-        requires frames { length self.old.frames < 4000000000 }
-        ensures { OnOk result ((sender receiver : Station) × (slice_get self.old.systems system ≡ Some sender) × (slice_get self.old.systems to ≡ Some receiver)
-            × Sends self.old system sender (raw_address receiver.title) octets (sending self.old.lans sender (raw_address receiver.title) octets) events.new.items self.new) }
+        requires frames { length self.old.frames < most_counted }
+        ensures { OnOk result ((sender receiver : SystemState) × (slice_get self.old.systems system ≡ Some sender)
+            × (slice_get self.old.systems to ≡ Some receiver)
+            × Sends self.old system sender (raw_address receiver.title) octets
+            (sending self.old.lans sender (raw_address receiver.title) octets) events.new.items self.new) }
     {
         let destination = self.systems[usize::from(to)].raw_address();
         let sender = &self.systems[usize::from(system)];
@@ -182,7 +179,6 @@ impl World {
     }
 
     /// Sends a PDU in a frame to the hop.
-    #[tactic(auto, using(clnp_header::proofs::Written::plain_is_writable))]
     fn send(
         &mut self,
         system: u8,
@@ -191,46 +187,28 @@ impl World {
         events: &mut Vec<Event>,
     ) -> Result<(), NoMemory>
         requires none { events.old.items ≡ [] }
-        requires kind { pdu.kind ≡ PduKind.Dt }
-        requires whole { pdu.segment ≡ None }
-        requires plain { pdu.options ≡ [] }
-        requires short { length pdu.body ≤ 16384 }
-        requires frames { length self.old.frames < 4000000000 }
+        requires plain { IsPlainUnit pdu }
+        requires frames { length self.old.frames < most_counted }
         ensures { OnOk result ((frame : List ℕ) × IsPdu frame pdu
-            × (events.new.items ≡ Event.Sent system pdu.destination pdu.body ∷ Event.Frame (length self.old.frames + 1) hop.lan system hop.snpa (length frame + 17) ∷ [])
-            × (self.new ≡ record self.old { frames = self.old.frames ++ record { tick = self.old.clock; lan = hop.lan; system = system; to = hop.snpa; octets = frame } ∷ [] })) }
+            × (events.new.items ≡ Event.Sent system pdu.destination pdu.body
+            ∷ Event.Frame (length self.old.frames + 1) hop.lan system hop.snpa (length frame + 17) ∷ [])
+            × (self.new ≡ record self.old {
+              frames = self.old.frames
+                  ++ record { tick = self.old.clock; lan = hop.lan; system = system; to = hop.snpa; octets = frame } ∷ [];
+            })) }
     {
-        let size = header_octets(&pdu.source, &pdu.destination) + pdu.body.as_slice().len();
-        let octets = match write_pdu(self.alloc, &pdu) {
-            Ok(octets) => octets,
-            Err(HeaderRefusal::TooLong) => unreachable!(),
-            Err(HeaderRefusal::NoMemory) => return Err(NoMemory),
-        };
-        let length = size as u32 + FRAME_HEADER;
-        let Pdu {
-            destination,
-            body,
-            ..
-        } = pdu;
-        let to = address(&destination);
+        let (octets, length) = written(self.alloc, &pdu)?;
+        let number = self.frames.len() as u32 + 1;
+        let to = address(&pdu.destination);
+        let octets_of_unit = pdu.body;
         events.push(Event::Sent {
             system,
             to,
-            octets: body,
+            octets: octets_of_unit,
         })?;
-        let number = self.frames.len() as u32 + 1;
-        let snpa = snpa_octets(&hop.snpa);
-        events.push(Event::Frame {
-            number,
-            lan: hop.lan,
-            system,
-            snpa,
-            length,
-        })?;
-        let octets = Bytes::of(octets);
-        let tick = self.clock;
+        events.push(frame_event(number, system, &hop, length))?;
         self.frames.push(Frame {
-            tick,
+            tick: self.clock,
             lan: hop.lan,
             system,
             to: hop.snpa,
@@ -243,12 +221,13 @@ impl World {
     fn deliver(&self, number: u32, system: u8, events: &mut Vec<Event>) -> Result<(), NoMemory>
         requires none { events.old.items ≡ [] }
         requires system { system < length self.now.systems }
-        ensures { OnOk result ((station : Station) × (slice_get self.now.systems system ≡ Some station)
-            × Delivers self.now.lans number system station (frame_of self.now.frames number) (delivery self.now.clock self.now.lans station.port system (frame_of self.now.frames number)) events.new.items) }
+        ensures { OnOk result ((end : SystemState) × (slice_get self.now.systems system ≡ Some end)
+            × Delivers self.now.lans number system end (frame_of self.now.frames number)
+            (delivery self.now.clock self.now.lans end.port system (frame_of self.now.frames number)) events.new.items) }
     {
-        let station = &self.systems[usize::from(system)];
+        let end = &self.systems[usize::from(system)];
         let frame = frame_of(&self.frames, number);
-        let answer = delivery(self.clock, &self.lans, station.port(), system, frame);
+        let answer = delivery(self.clock, &self.lans, end.port(), system, frame);
         let Some(frame) = frame else {
             events.push(Event::NoSuch { number, system })?;
             return Ok(());
@@ -256,15 +235,13 @@ impl World {
         match answer {
             Picked::Taken => {
                 let bound = bound_of(&self.lans, frame.lan);
-                take(
-                    self.alloc,
-                    station,
-                    number,
+                let receiver = Receiver {
+                    alloc: self.alloc,
+                    end,
                     system,
                     bound,
-                    frame.octets.as_slice(),
-                    events,
-                )?;
+                };
+                receiver.take(number, frame.octets.as_slice(), events)?;
             }
             Picked::NoSuch => events.push(Event::NoSuch { number, system })?,
             Picked::Late => events.push(Event::Late { number, system })?,
@@ -292,6 +269,33 @@ fn unit_pdu(alloc: Global, source: Nsap, destination: Nsap, octets: Bytes) -> Pd
     }
 }
 
+/// The octets of a PDU, and how many its whole frame has.
+#[tactic(auto, using(clnp_header::proofs::Written::plain_is_writable))]
+fn written(alloc: Global, pdu: &Pdu) -> Result<(Bytes, u32), NoMemory>
+    requires { IsPlainUnit pdu.now }
+    ensures pdu { IfOk result (λ made. IsPdu made.0 pdu.now) }
+    ensures length { IfOk result (λ made. made.1 ≡ length made.0 + 17) }
+{
+    let size = header_octets(&pdu.source, &pdu.destination) + pdu.body.as_slice().len();
+    match write_pdu(alloc, pdu) {
+        Ok(octets) => Ok((Bytes::of(octets), size as u32 + FRAME_HEADER)),
+        Err(HeaderRefusal::TooLong) => unreachable!(),
+        Err(HeaderRefusal::NoMemory) => Err(NoMemory),
+    }
+}
+
+fn frame_event(number: u32, system: u8, hop: &Port, length: u32) -> Event
+    ensures { result ≡ Event.Frame number hop.now.lan system hop.now.snpa length }
+{
+    Event::Frame {
+        number,
+        lan: hop.lan,
+        system,
+        snpa: snpa_octets(&hop.snpa),
+        length,
+    }
+}
+
 fn address(nsap: &Nsap) -> Address
     ensures { result ≡ nsap.now }
 {
@@ -306,59 +310,58 @@ fn snpa_octets(snpa: &Snpa) -> [u8; 6]
     octets
 }
 
-/// A system takes the octets of a frame.
-fn take(
+/// A system that takes a frame, with its number, and the bound of the frame's LAN.
+#[derive(Clone, Copy)]
+struct Receiver<'a> {
     alloc: Global,
-    station: &System,
-    number: u32,
+    end: &'a System,
     system: u8,
     bound: u32,
-    octets: &[u8],
-    events: &mut Vec<Event>,
-) -> Result<(), NoMemory>
-    requires { events.old.items ≡ [] }
-    ensures { OnOk result ((made : List Event) × Receives station.now system bound octets.now made × (events.new.items ≡ Event.Deliver number system ∷ made)) }
-{
-    events.push(Event::Deliver { number, system })?;
-    receive(alloc, station, system, bound, octets, events)?;
-    Ok(())
 }
 
-/// What a system does with the octets of a frame: their PDU, or the fault by which it is discarded.
-fn receive(
-    alloc: Global,
-    station: &System,
-    system: u8,
-    bound: u32,
-    octets: &[u8],
-    events: &mut Vec<Event>,
-) -> Result<(), NoMemory>
-    ensures { OnOk result ((made : List Event) × Receives station.now system bound octets.now made × (events.new.items ≡ events.old.items ++ made)) }
-{
-    match read_pdu(octets) {
-        Ok(pdu) => react(alloc, station, system, bound, &pdu, events),
-        Err(fault) => discard(system, fault.reason, fault.place, events),
+impl<'a> Receiver<'a> {
+    /// Takes the octets of a frame.
+    fn take(&self, number: u32, octets: &[u8], events: &mut Vec<Event>) -> Result<(), NoMemory>
+        requires { events.old.items ≡ [] }
+        ensures { OnOk result ((made : List Event) × Receives self.now.end.now self.now.system self.now.bound octets.now made
+            × (events.new.items ≡ Event.Deliver number self.now.system ∷ made)) }
+    {
+        events.push(Event::Deliver {
+            number,
+            system: self.system,
+        })?;
+        self.receive(octets, events)?;
+        Ok(())
     }
-}
 
-/// What a system does with a PDU (X.233, header format analysis).
-fn react(
-    alloc: Global,
-    station: &System,
-    system: u8,
-    bound: u32,
-    pdu: &PduRef<'_>,
-    events: &mut Vec<Event>,
-) -> Result<(), NoMemory>
-    ensures { OnOk result (events.new.items ≡ events.old.items ++ reaction station.now system bound (value_of pdu.now)) }
-{
-    if !pdu.destination.same_system(&station.title()) {
-        return discard(system, UNREACHABLE, 0, events);
+    /// What the system does with the octets of a frame: their PDU, or the fault by which it is discarded.
+    fn receive(&self, octets: &[u8], events: &mut Vec<Event>) -> Result<(), NoMemory>
+        ensures { OnOk result ((made : List Event) × Receives self.now.end.now self.now.system self.now.bound octets.now made
+            × (events.new.items ≡ events.old.items ++ made)) }
+    {
+        match read_pdu(octets) {
+            Ok(pdu) => self.react(&pdu, events),
+            Err(fault) => discard(self.system, fault.reason, fault.place, events),
+        }
     }
-    if u32::from(pdu.lifetime) < bound {
-        return discard(system, LIFETIME_EXPIRED, LIFETIME_PLACE, events);
+
+    /// What the system does with a PDU (X.233, header format analysis).
+    fn react(&self, pdu: &PduRef<'_>, events: &mut Vec<Event>) -> Result<(), NoMemory>
+        ensures { OnOk result (events.new.items ≡ events.old.items ++ reaction self.now.end.now self.now.system self.now.bound (value_of pdu.now)) }
+    {
+        if !pdu.destination.same_system(&self.end.title()) {
+            return discard(self.system, Reason::DestinationUnreachable, 0, events);
+        }
+        if u32::from(pdu.lifetime) < self.bound {
+            return discard(
+                self.system,
+                Reason::LifetimeExpiredInTransit,
+                LIFETIME_PLACE,
+                events,
+            );
+        }
+        hand_up(self.alloc, self.system, pdu, events)
     }
-    hand_up(alloc, system, pdu, events)
 }
 
 /// What a system does with a PDU for itself: an error report shows nothing, and a DT goes by its selector.
@@ -368,14 +371,15 @@ fn hand_up(
     pdu: &PduRef<'_>,
     events: &mut Vec<Event>,
 ) -> Result<(), NoMemory>
-    ensures { OnOk result (events.new.items ≡ events.old.items ++ handed_up system pdu.now.source pdu.now.body.now pdu.now.segment (selector_of pdu.now.destination) pdu.now.kind) }
+    ensures { OnOk result (events.new.items ≡ events.old.items
+        ++ handed_up system pdu.now.source pdu.now.body.now pdu.now.segment (selector_of pdu.now.destination) pdu.now.kind) }
 {
     match pdu.kind {
         PduKind::Er => Ok(()),
         PduKind::Dt => match pdu.destination.selector() {
             RAW => show(alloc, system, pdu, events),
             TRANSPORT => Ok(()),
-            _ => discard(system, UNKNOWN, 0, events),
+            _ => discard(system, Reason::DestinationUnknown, 0, events),
         },
     }
 }
@@ -402,12 +406,12 @@ fn show(
     Ok(())
 }
 
-fn discard(system: u8, reason: u8, place: u8, events: &mut Vec<Event>) -> Result<(), NoMemory>
-    ensures { OnOk result (events.new.items ≡ events.old.items ++ Event.Discard system reason place ∷ []) }
+fn discard(system: u8, reason: Reason, place: u8, events: &mut Vec<Event>) -> Result<(), NoMemory>
+    ensures { OnOk result (events.new.items ≡ events.old.items ++ Event.Discard system (code_of reason) place ∷ []) }
 {
     events.push(Event::Discard {
         system,
-        reason,
+        reason: reason.code(),
         place,
     })?;
     Ok(())

@@ -9,8 +9,9 @@ use Rattle.tpdu.specs.declared.fault.TpduFault.{TpduFault}
 use Rattle.tpdu.specs.declared.kind.Kind.{Kind}
 use Rattle.tpdu.specs.declared.tpdu.Format.{Format}
 use Rattle.tpdu.specs.Kinds.{kind_of, fixed_count, is_request, is_connect, takes_rest, data_suits}
-use Rattle.tpdu.specs.Faults.{indicator, header, behind, whole, body_of, format_at}
-use Rattle.tpdu.specs.Reading.{◌>>=◌, Head, head_by, head_at, Sections, sections_by, sections_at, close_at, unless}
+use Rattle.tpdu.specs.Faults.{indicator, header, behind, format_at}
+use Rattle.pdu_parts.specs.steps.Reading.{◌>>=◌, unless}
+use Rattle.tpdu.specs.steps.Reading.{Head, head_for, head_by, head_at, Sections, sections_by, sections_at, close_at}
 
 -- ---- steps that passed
 
@@ -75,16 +76,15 @@ pub record HeadIs (octets : List ℕ) (head : Head) : Type 0 where
   pub most : indicator octets < length octets
   pub used : indicator octets ≤ 254
   pub kind : kind_of (slice_index octets 1) ≡ Some head.kind
-  pub is : head ≡ record { kind = head.kind; code = slice_index octets 1; fields = drop 2 (header octets); all = whole head.kind octets; body = body_of head.kind octets; rest = cond (takes_rest head.kind) [] (behind octets) }
+  pub is : head ≡ head_for head.kind octets
 
 head_by-ok : (octets : List ℕ) (o : Option Kind) (head : Head) → head_by octets o ≡ Ok head
-    → (o ≡ Some head.kind) × (head ≡ record { kind = head.kind; code = slice_index octets 1; fields = drop 2 (header octets); all = whole head.kind octets; body = body_of head.kind octets; rest = cond (takes_rest head.kind) [] (behind octets) })
+    → (o ≡ Some head.kind) × (head ≡ head_for head.kind octets)
 head_by-ok octets None head e = absurd cc
 head_by-ok octets (Some kind) head e =
-    let made : Head = record { kind = kind; code = slice_index octets 1; fields = drop 2 (header octets); all = whole kind octets; body = body_of kind octets; rest = cond (takes_rest kind) [] (behind octets) } in
-    let is = ok_is made head e in
+    let is = ok_is (head_for kind octets) head e in
     let k : kind ≡ head.kind = ap (λ (h : Head). h.kind) is in
-    (ap Some k, sym is ∙ ap (λ (x : Kind). let h : Head = record { kind = x; code = slice_index octets 1; fields = drop 2 (header octets); all = whole x octets; body = body_of x octets; rest = cond (takes_rest x) [] (behind octets) } in h) k)
+    (ap Some k, sym is ∙ ap (λ (x : Kind). head_for x octets) k)
 
 pub head_ok : (octets : List ℕ) (head : Head) → head_at octets ≡ Ok head → HeadIs octets head
 unfolding head_at
@@ -133,8 +133,7 @@ pub refront : (octets : List ℕ) (code : ℕ) (inside after : List ℕ) → Fro
 refront octets code inside after f = subst (λ (o : List ℕ). Refront o code inside after) (sym f.all) (refront_at code inside after)
 
 head_by-again : (octets : List ℕ) (o : Option Kind) (kind : Kind) (made : Head) → o ≡ Some kind
-    → (let h : Head = record { kind = kind; code = slice_index octets 1; fields = drop 2 (header octets); all = whole kind octets; body = body_of kind octets; rest = cond (takes_rest kind) [] (behind octets) } in h) ≡ made
-    → head_by octets o ≡ Ok made
+    → head_for kind octets ≡ made → head_by octets o ≡ Ok made
 head_by-again octets o kind made e is = rw e (ap done is)
 
 pub head_again : (octets : List ℕ) (code : ℕ) (inside after : List ℕ) (kind : Kind) → Fronted octets code inside after → kind_of code ≡ Some kind
@@ -147,8 +146,7 @@ head_again octets code inside after kind f k =
     let used : ltb 254 (indicator octets) ≡ false = le-ltb _ _ (omega (arith, r.indicator_is, f.short)) in
     let within : leb (length octets) (indicator octets) ≡ false = lt-leb _ _ (omega (arith, r.indicator_is, r.count_is)) in
     let known : kind_of (slice_index octets 1) ≡ Some kind = ap kind_of r.code_is ∙ k in
-    let is : (let h : Head = record { kind = kind; code = slice_index octets 1; fields = drop 2 (header octets); all = whole kind octets; body = body_of kind octets; rest = cond (takes_rest kind) [] (behind octets) } in h)
-    ≡ record { kind = kind; code = code; fields = inside; all = cond (takes_rest kind) octets (suc (length inside) ∷ code ∷ inside); body = cond (takes_rest kind) after []; rest = cond (takes_rest kind) [] after }
+    let is : head_for kind octets ≡ record { kind = kind; code = code; fields = inside; all = cond (takes_rest kind) octets (suc (length inside) ∷ code ∷ inside); body = cond (takes_rest kind) after []; rest = cond (takes_rest kind) [] after }
     = λ i. record {
       kind = kind;
       code = r.code_is i;

@@ -1,6 +1,7 @@
 pub mod Answer
 pub mod Checks
 pub mod FaultOrder
+pub mod Formats
 pub mod Fronts
 pub mod Heads
 pub mod Parts
@@ -8,5 +9,6 @@ pub mod ReadLaws
 pub mod Spellings
 pub mod Splits
 pub mod SumLemmas
+pub mod Targets
 pub mod WriteLaws
 pub mod Written

@@ -1,15 +1,18 @@
 -- The parameters that pass are those that suit the table, and a checksum is found where one is.
-use Rattle.std.proofs.Common.{◌≡◌, ℕ, ◌+◌, Bool, true, false, cond, not, ◌&&◌, ◌||◌, leb, nat_eq, List, [], ◌∷◌, length, Option, Some, None, refl}
-use Rattle.std.specs.Prelude.{is_some}
+use Rattle.std.proofs.Common.{◌≡◌, ℕ, ◌+◌, Bool, true, false, cond, not, ◌&&◌, ◌||◌, leb, nat_eq, List, [], ◌∷◌, length, Option, Some, None, refl, arith}
+use Rattle.std.specs.Prelude.{is_some, option_map}
 use Rattle.std.specs.Option.{option_or}
 use Rattle.std.specs.List.{AllByRecursion}
-use Rattle.std.proofs.lemmas.Bool.{eqb-true, le-leb, leb-true, eq-eqb}
+use Rattle.std.proofs.lemmas.Bool.{eqb-true, ne_eqb, le-leb, leb-true, eq-eqb}
 use Rattle.tpdu.specs.declared.fault.TpduCause.{TpduCause}
 use Rattle.tpdu.specs.declared.fault.TpduFault.{TpduFault}
 use Rattle.tpdu.specs.declared.kind.Kind.{Kind}
 use Rattle.tpdu.specs.declared.parameter.Lengths.{Lengths}
 use Rattle.tpdu.specs.Kinds.{is_connect}
-use Rattle.tpdu.specs.Parameters.{Parameter, lengths_of, size_of, has_size, trouble_by, trouble, found_or, fault_in, sum_place, last_value}
+use Rattle.pdu_parts.specs.FirstFault.{or_else, first_failing}
+use Rattle.pdu_parts.specs.Parameter.{Parameter}
+use Rattle.tpdu.specs.Parameters.{lengths_of, size_of, has_size, trouble_by, trouble, sum_place, last_value}
+use Rattle.tpdu.specs.Faults.{fault_at, parameter_steps}
 use Rattle.tpdu.specs.Grammar.{SuitsBy, Suits, has_sum}
 
 has_size-is : (b s : Bool) → (not b || s) ≡ true → b ≡ true → s ≡ true
@@ -53,22 +56,25 @@ trouble_by-none (Some lengths) kind p h =
 pub trouble-none : (kind : Kind) (p : Parameter) → Suits kind p → trouble kind p ≡ None
 trouble-none kind p h = trouble_by-none (lengths_of kind p.code) kind p h
 
-found_or-none : (o : Option TpduCause) (place : ℕ) (later : Option TpduFault) → found_or o place later ≡ None → (o ≡ None) × (later ≡ None)
-found_or-none None place later e = (refl, e)
-found_or-none (Some cause) place later e = absurd cc
+passes : (o : Option TpduCause) (place : ℕ) (later : Option TpduFault) → or_else (option_map (λ cause. fault_at cause place) o) later ≡ None → (o ≡ None) × (later ≡ None)
+passes None place later e = (refl, e)
+passes (Some cause) place later e = absurd cc
+
+pub some_left : (octet : ℕ) (left : List ℕ) → nat_eq (length (octet ∷ left)) 0 ≡ false
+some_left octet left = ne_eqb _ _ (λ e. omega arith)
 
 -- no fault: nothing is left, and each parameter suits
-pub fault_in-none : (kind : Kind) (place : ℕ) (ps : List Parameter) (torn : List ℕ) → fault_in kind place ps torn ≡ None → (torn ≡ []) × AllByRecursion (Suits kind) ps
-fault_in-none kind place [] [] e = (refl, tt)
-fault_in-none kind place [] (octet ∷ torn) e = absurd cc
-fault_in-none kind place (p ∷ ps) torn e =
-    let f = found_or-none (trouble kind p) place (fault_in kind (place + (2 + length p.value)) ps torn) e in
-    let later = fault_in-none kind (place + (2 + length p.value)) ps torn f.1 in
+pub steps-none : (kind : Kind) (place : ℕ) (ps : List Parameter) (left : List ℕ) → first_failing (parameter_steps kind place ps left) ≡ None → (left ≡ []) × AllByRecursion (Suits kind) ps
+steps-none kind place [] [] e = (refl, tt)
+steps-none kind place [] (octet ∷ left) e = absurd (let h = rw (some_left octet left) at e in cc)
+steps-none kind place (p ∷ ps) left e =
+    let f = passes (trouble kind p) place (first_failing (parameter_steps kind (place + (2 + length p.value)) ps left)) e in
+    let later = steps-none kind (place + (2 + length p.value)) ps left f.1 in
     (later.0, (suits kind p f.0, later.1))
 
-pub none-fault_in : (kind : Kind) (place : ℕ) (ps : List Parameter) → AllByRecursion (Suits kind) ps → fault_in kind place ps [] ≡ None
-none-fault_in kind place [] h = refl
-none-fault_in kind place (p ∷ ps) h = rw (trouble-none kind p h.0) (none-fault_in kind (place + (2 + length p.value)) ps h.1)
+pub none-steps : (kind : Kind) (place : ℕ) (ps : List Parameter) → AllByRecursion (Suits kind) ps → first_failing (parameter_steps kind place ps []) ≡ None
+none-steps kind place [] h = refl
+none-steps kind place (p ∷ ps) h = rw (trouble-none kind p h.0) (none-steps kind (place + (2 + length p.value)) ps h.1)
 
 is_some-or : {X Y : Type 0} (a b : Option X) (u v : Option Y) → is_some a ≡ is_some u → is_some b ≡ is_some v → is_some (option_or a b) ≡ is_some (option_or u v)
 is_some-or None b None v e h = h

@@ -5,18 +5,20 @@ use Rattle.std.specs.List.{AllByRecursion}
 use Rattle.std.proofs.lemmas.Bool.{eqb-true}
 use Rattle.std.proofs.lemmas.List.{append-nil, take-append-drop, length-take, get_or_append_left, nil_from_length}
 use Rattle.tpdu.specs.declared.kind.Kind.{Kind}
-use Rattle.tpdu.specs.declared.kind.Kind.TheVariants.{Cr, Cc, Dr, Dc, Dt, Ed, Ak, Ea, Er}
+use Rattle.tpdu.specs.declared.kind.Kind.TheVariants.{Cr, Cc, Dc, Dt, Ed, Ak, Ea, Er}
 use Rattle.tpdu.specs.declared.tpdu.Format.{Format}
-use Rattle.tpdu.specs.declared.tpdu.Format.TheVariants.{Normal, Extended}
-use Rattle.tpdu.specs.declared.tpdu.Tpdu.{Tpdu}
+use Rattle.tpdu.specs.declared.tpdu.Format.TheVariants.{Normal}
 use Rattle.tpdu.specs.Kinds.{kind_of, fixed_count, is_request, is_connect, takes_rest, data_suits}
-use Rattle.tpdu.specs.Parameters.{Parameter, spelled, split, fault_in, sum_place}
-use Rattle.tpdu.specs.Values.{Parts, value_of, fields, pair_at, destination_of, reaches_end, format_for}
-use Rattle.tpdu.specs.Grammar.{Suits, has_sum, Spells, IsFirst}
-use Rattle.tpdu.specs.Faults.{indicator, header, behind, whole, body_of, reference, format_at}
-use Rattle.tpdu.specs.Reading.{Head, head_at, Sections, sections_at, close_at, checked, Found, parts_of, read_at}
-use Rattle.tpdu.proofs.Splits.{spelled-split, split-spelled}
-use Rattle.tpdu.proofs.Parts.{fault_in-none, none-fault_in, is_some-sum_place}
+use Rattle.pdu_parts.specs.FirstFault.{first_failing}
+use Rattle.pdu_parts.specs.Number.{number_at}
+use Rattle.pdu_parts.specs.Parameter.{Parameter, spelled, parameters_in, left_in}
+use Rattle.tpdu.specs.Parameters.{sum_place}
+use Rattle.tpdu.specs.Values.{TpduAndSum, Parts, value_of, fields, destination_of, reaches_end, format_for}
+use Rattle.tpdu.specs.Grammar.{Suits, has_sum, Spells, BeginsWithTpdu}
+use Rattle.tpdu.specs.Faults.{indicator, header, behind, whole, body_of, reference, format_at, parameter_steps}
+use Rattle.tpdu.specs.steps.Reading.{Head, head_at, Sections, sections_at, close_at, checked, Found, parts_of, read_at}
+use Rattle.tpdu.proofs.Splits.{spelled-parameters, parameters-spelled}
+use Rattle.tpdu.proofs.Parts.{steps-none, none-steps, is_some-sum_place}
 use Rattle.tpdu.proofs.Heads.{bind_ok, ok_is, unless_ok, cut, HeadIs, head_ok, Fronted, head_again, SectionsAre, sections_ok, sections_again, Closes, close_ok, close_again}
 
 -- ---- what a value shows of its kind
@@ -24,18 +26,11 @@ use Rattle.tpdu.proofs.Heads.{bind_ok, ok_is, unless_ok, cut, HeadIs, head_ok, F
 -- the destination reference of the fixed part; a CR has none
 abbrev pub shown : Kind → List ℕ → Option ℕ
 shown Cr fixed = None
-shown _ fixed = Some (pair_at fixed 0)
+shown _ fixed = Some (number_at 0 fixed)
 
 destination-fields : (kind : Kind) (format : Format) (code : ℕ) (fixed : List ℕ) (ps : List Parameter) (body : List ℕ) → destination_of (fields kind format code fixed ps body) ≡ shown kind fixed
 destination-fields Cr width code fixed ps body = refl
-destination-fields Cc width code fixed ps body = refl
-destination-fields Dr width code fixed ps body = refl
-destination-fields Dc width code fixed ps body = refl
-destination-fields Dt width code fixed ps body = refl
-destination-fields Ed width code fixed ps body = refl
-destination-fields Ak width code fixed ps body = refl
-destination-fields Ea width code fixed ps body = refl
-destination-fields Er width code fixed ps body = refl
+destination-fields _ width code fixed ps body = refl
 
 pub destination-value : (parts : Parts) → destination_of (value_of parts) ≡ shown parts.kind parts.fixed
 unfolding value_of
@@ -43,110 +38,72 @@ destination-value parts = destination-fields parts.kind parts.format parts.code 
 
 reaches_end-fields : (kind : Kind) (format : Format) (code : ℕ) (fixed : List ℕ) (ps : List Parameter) (body : List ℕ) → reaches_end (fields kind format code fixed ps body) ≡ takes_rest kind
 reaches_end-fields Cr width code fixed ps body = refl
-reaches_end-fields Cc width code fixed ps body = refl
-reaches_end-fields Dr width code fixed ps body = refl
-reaches_end-fields Dc width code fixed ps body = refl
-reaches_end-fields Dt width code fixed ps body = refl
-reaches_end-fields Ed width code fixed ps body = refl
-reaches_end-fields Ak width code fixed ps body = refl
-reaches_end-fields Ea width code fixed ps body = refl
-reaches_end-fields Er width code fixed ps body = refl
+reaches_end-fields _ width code fixed ps body = refl
 
 pub reaches_end-value : (parts : Parts) → reaches_end (value_of parts) ≡ takes_rest parts.kind
 unfolding value_of
 reaches_end-value parts = reaches_end-fields parts.kind parts.format parts.code parts.fixed parts.parameters parts.body
 
-fixed_count-least : (kind : Kind) (format : Format) → 3 ≤ fixed_count kind format
-fixed_count-least Cr width = omega arith
-fixed_count-least Cc width = omega arith
-fixed_count-least Dr width = omega arith
-fixed_count-least Dc width = omega arith
-fixed_count-least Dt Normal = omega arith
-fixed_count-least Dt Extended = omega arith
-fixed_count-least Ed Normal = omega arith
-fixed_count-least Ed Extended = omega arith
-fixed_count-least Ak Normal = omega arith
-fixed_count-least Ak Extended = omega arith
-fixed_count-least Ea Normal = omega arith
-fixed_count-least Ea Extended = omega arith
-fixed_count-least Er width = omega arith
+-- the fixed part has 3 to 8 octets
+pub fixed_count-bounds : (kind : Kind) (format : Format) → (3 ≤ fixed_count kind format) × (fixed_count kind format ≤ 8)
+fixed_count-bounds Dt Normal = (omega arith, omega arith)
+fixed_count-bounds Ed Normal = (omega arith, omega arith)
+fixed_count-bounds Ak Normal = (omega arith, omega arith)
+fixed_count-bounds Ea Normal = (omega arith, omega arith)
+fixed_count-bounds _ _ = (omega arith, omega arith)
 
 fixed_count-connect : (kind : Kind) (format : Format) → is_connect kind ≡ true → fixed_count kind format ≡ 5
 fixed_count-connect Cr width h = refl
 fixed_count-connect Cc width h = refl
-fixed_count-connect Dr width h = absurd cc
-fixed_count-connect Dc width h = absurd cc
-fixed_count-connect Dt width h = absurd cc
-fixed_count-connect Ed width h = absurd cc
-fixed_count-connect Ak width h = absurd cc
-fixed_count-connect Ea width h = absurd cc
-fixed_count-connect Er width h = absurd cc
+fixed_count-connect _ width h = absurd cc
 
 -- a kind that ends with its header has no data
 no_body : (kind : Kind) (n : ℕ) → takes_rest kind ≡ false → data_suits kind n ≡ true → n ≡ 0
-no_body Cr n t h = absurd cc
-no_body Cc n t h = absurd cc
-no_body Dr n t h = absurd cc
 no_body Dc n t h = eqb-true _ _ h
-no_body Dt n t h = absurd cc
-no_body Ed n t h = absurd cc
 no_body Ak n t h = eqb-true _ _ h
 no_body Ea n t h = eqb-true _ _ h
 no_body Er n t h = eqb-true _ _ h
+no_body _ n t h = absurd cc
 
 -- the reference at the front of the fields is that of the fixed part
-reference-front : (fixed after : List ℕ) → 2 ≤ length fixed → reference (fixed ++ after) ≡ Some (pair_at fixed 0)
+reference-front : (fixed after : List ℕ) → 2 ≤ length fixed → reference (fixed ++ after) ≡ Some (number_at 0 fixed)
 reference-front [] after h = absurd (omega arith)
 reference-front (high ∷ []) after h = absurd (omega arith)
 reference-front (high ∷ low ∷ more) after h = refl
 
 pub format_at-shown : (extended : List ℕ) (kind : Kind) (fixed after : List ℕ) → 2 ≤ length fixed → format_at extended kind (fixed ++ after) ≡ format_for extended (shown kind fixed)
 format_at-shown extended Cr fixed after h = refl
-format_at-shown extended Cc fixed after h = ap (format_for extended) (reference-front fixed after h)
-format_at-shown extended Dr fixed after h = ap (format_for extended) (reference-front fixed after h)
-format_at-shown extended Dc fixed after h = ap (format_for extended) (reference-front fixed after h)
-format_at-shown extended Dt fixed after h = ap (format_for extended) (reference-front fixed after h)
-format_at-shown extended Ed fixed after h = ap (format_for extended) (reference-front fixed after h)
-format_at-shown extended Ak fixed after h = ap (format_for extended) (reference-front fixed after h)
-format_at-shown extended Ea fixed after h = ap (format_for extended) (reference-front fixed after h)
-format_at-shown extended Er fixed after h = ap (format_for extended) (reference-front fixed after h)
+format_at-shown extended _ fixed after h = ap (format_for extended) (reference-front fixed after h)
 
 is_request-is : (kind : Kind) → kind ≡ Cr → is_request kind ≡ true
 is_request-is kind e = ap is_request e
 
 request-is : (kind : Kind) → is_request kind ≡ true → kind ≡ Cr
 request-is Cr e = refl
-request-is Cc e = absurd cc
-request-is Dr e = absurd cc
-request-is Dc e = absurd cc
-request-is Dt e = absurd cc
-request-is Ed e = absurd cc
-request-is Ak e = absurd cc
-request-is Ea e = absurd cc
-request-is Er e = absurd cc
+request-is _ e = absurd cc
 
 -- ---- the parameters
 
 pub record Checked (kind : Kind) (place : ℕ) (octets : List ℕ) (sum : Option ℕ) : Type 0 where
-  pub all : octets ≡ spelled (split octets).0
-  pub suit : AllByRecursion (Suits kind) (split octets).0
-  pub sum_is : is_some sum ≡ has_sum (split octets).0
+  pub all : octets ≡ spelled (parameters_in octets)
+  pub suit : AllByRecursion (Suits kind) (parameters_in octets)
+  pub sum_is : is_some sum ≡ has_sum (parameters_in octets)
 
 pub checked_ok : (kind : Kind) (place : ℕ) (octets : List ℕ) (sum : Option ℕ) → checked kind place octets ≡ Ok sum → Checked kind place octets sum
 unfolding checked
 checked_ok kind place octets sum e =
-    let s = split octets in
-    let u = unless_ok (fault_in kind place s.0 s.1) (sum_place place s.0) sum e in
-    let f = fault_in-none kind place s.0 s.1 u.0 in
+    let ps = parameters_in octets in
+    let u = unless_ok (first_failing (parameter_steps kind place ps (left_in octets))) (sum_place place ps) sum e in
+    let f = steps-none kind place ps (left_in octets) u.0 in
     record {
-      all = sym (spelled-split octets) ∙ ap (λ (t : List ℕ). spelled s.0 ++ t) f.0 ∙ append-nil (spelled s.0);
+      all = sym (spelled-parameters octets) ∙ ap (λ (t : List ℕ). spelled ps ++ t) f.0 ∙ append-nil (spelled ps);
       suit = f.1;
-      sum_is = ap is_some (sym u.1) ∙ is_some-sum_place place s.0;
+      sum_is = ap is_some (sym u.1) ∙ is_some-sum_place place ps;
     }
 
 pub checked_again : (kind : Kind) (place : ℕ) (ps : List Parameter) → AllByRecursion (Suits kind) ps → checked kind place (spelled ps) ≡ Ok (sum_place place ps)
 unfolding checked
-checked_again kind place ps suit = rw (split-spelled ps, none-fault_in kind place ps suit) refl
+checked_again kind place ps suit = let again = parameters-spelled ps in rw (again.0, again.1, none-steps kind place ps suit) refl
 
 -- ---- what is read is spelled so
 
@@ -172,7 +129,7 @@ pub record Steps (extended octets : List ℕ) (head : Head) (sections : Sections
   pub closes : Closes head.kind sum head.all head.body
 
 pub steps_of_read : (extended octets : List ℕ) (x : Found) → read_at extended octets ≡ Ok x
-    → (head : Head) × (sections : Sections) × (sum : Option ℕ) × Steps extended octets head sections sum × (x ≡ (value_of (parts_of head sections), is_some sum, head.rest))
+    → (head : Head) × (sections : Sections) × (sum : Option ℕ) × Steps extended octets head sections sum × (x ≡ ((value_of (parts_of head sections), is_some sum), head.rest))
 unfolding read_at
 steps_of_read extended octets x e =
     let h = bind_ok (head_at octets) _ x e in
@@ -192,7 +149,7 @@ steps_of_read extended octets x e =
     )
 
 -- the header behind the code is the fixed part and the parameters
-pub inside_is : (extended octets : List ℕ) (head : Head) (sections : Sections) (sum : Option ℕ) → Steps extended octets head sections sum → head.fields ≡ sections.fixed ++ spelled (split sections.parameters).0
+pub inside_is : (extended octets : List ℕ) (head : Head) (sections : Sections) (sum : Option ℕ) → Steps extended octets head sections sum → head.fields ≡ sections.fixed ++ spelled (parameters_in sections.parameters)
 inside_is extended octets head sections sum s =
     let n = fixed_count head.kind sections.format in
     let a = s.sections_are in
@@ -208,7 +165,7 @@ class_is : (extended octets : List ℕ) (head : Head) (sections : Sections) (sum
 class_is extended octets head sections sum s h =
     let count = fixed_length extended octets head sections sum s in
     let five = fixed_count-connect head.kind sections.format h in
-    let same : get_or (sections.fixed ++ spelled (split sections.parameters).0) 4 0 ≡ get_or sections.fixed 4 0 = get_or_append_left sections.fixed (spelled (split sections.parameters).0) 0 4 (omega arith) in
+    let same : get_or (sections.fixed ++ spelled (parameters_in sections.parameters)) 4 0 ≡ get_or sections.fixed 4 0 = get_or_append_left sections.fixed (spelled (parameters_in sections.parameters)) 0 4 (omega arith) in
     let there : get_or head.fields 4 0 ≡ get_or sections.fixed 4 0 = ap (λ (t : List ℕ). get_or t 4 0) (inside_is extended octets head sections sum s) ∙ same in
     ap (λ (n : ℕ). n / 16) (sym there) ∙ s.sections_are.class h
 
@@ -223,9 +180,9 @@ spells_of extended octets head sections sum s =
     let body_is : head.body ≡ body_of head.kind octets = ap (λ (h : Head). h.body) s.head_is.is in
     let front : whole head.kind octets ≡ cond b octets (indicator octets ∷ slice_index octets 1 ∷ drop 2 (header octets)) = ap (λ (t : List ℕ). cond b octets t) c.front in
     let base = spells_all b octets (indicator octets) (slice_index octets 1) (drop 2 (header octets)) (behind octets) c.parts in
-    let count : length head.fields ≡ length (sections.fixed ++ spelled (split sections.parameters).0) = ap length inside in
+    let count : length head.fields ≡ length (sections.fixed ++ spelled (parameters_in sections.parameters)) = ap length inside in
     let count2 : length head.fields ≡ length (drop 2 (header octets)) = ap length fields_is in
-    let n_is : indicator octets ≡ suc (length (sections.fixed ++ spelled (split sections.parameters).0)) = omega (arith, c.count) in
+    let n_is : indicator octets ≡ suc (length (sections.fixed ++ spelled (parameters_in sections.parameters))) = omega (arith, c.count) in
     let kind_is : kind_of head.code ≡ Some head.kind = ap kind_of code_is ∙ s.head_is.kind in
     record {
       all = all_is ∙ front ∙ base ∙ λ j. n_is j ∷ ((sym code_is j ∷ (sym fields_is ∙ inside) j) ++ sym body_is j);
@@ -239,35 +196,37 @@ spells_of extended octets head sections sum s =
       body = s.closes.suits;
     }
 
-pub read_sound : (extended octets : List ℕ) (tpdu : Tpdu) (sum : Bool) (rest : List ℕ) → read_at extended octets ≡ Ok (tpdu, sum, rest) → IsFirst extended octets tpdu sum rest
-read_sound extended octets tpdu sum rest e =
-    let r = steps_of_read extended octets (tpdu, sum, rest) e in
+pub read_sound : (extended octets : List ℕ) (tpdu : TpduAndSum) (rest : List ℕ) → read_at extended octets ≡ Ok (tpdu, rest) → BeginsWithTpdu extended octets tpdu rest
+read_sound extended octets tpdu rest e =
+    let r = steps_of_read extended octets (tpdu, rest) e in
     let head = r.0 in
     let sections = r.1 in
     let s = r.3 in
     let parts = parts_of head sections in
-    let value : value_of parts ≡ tpdu = ap (λ (x : Found). x.0) (sym r.4) in
-    let sum_is : is_some r.2 ≡ sum = ap (λ (x : Found). x.1) (sym r.4) in
-    let rest_is : head.rest ≡ rest = ap (λ (x : Found). x.2) (sym r.4) in
+    let value : value_of parts ≡ tpdu.0 = ap (λ (x : Found). x.0.0) (sym r.4) in
+    let sum_is : is_some r.2 ≡ tpdu.1 = ap (λ (x : Found). x.0.1) (sym r.4) in
+    let rest_is : head.rest ≡ rest = ap (λ (x : Found). x.1) (sym r.4) in
     let head_rest : head.rest ≡ cond (takes_rest head.kind) [] (behind octets) = ap (λ (h : Head). h.rest) s.head_is.is in
     let all_is : head.all ≡ whole head.kind octets = ap (λ (h : Head). h.all) s.head_is.is in
     let halves : octets ≡ header octets ++ behind octets = sym (take-append-drop (indicator octets + 1) octets) in
     let count = fixed_length extended octets head sections r.2 s in
-    let least = fixed_count-least head.kind sections.format in
-    let format : sections.format ≡ format_for extended (destination_of tpdu)
+    let least = (fixed_count-bounds head.kind sections.format).0 in
+    let format : sections.format ≡ format_for extended (destination_of tpdu.0)
     = s.sections_are.format ∙ ap (format_at extended head.kind) (inside_is extended octets head sections r.2 s)
-    ∙ format_at-shown extended head.kind sections.fixed (spelled (split sections.parameters).0) (omega arith)
+    ∙ format_at-shown extended head.kind sections.fixed (spelled (parameters_in sections.parameters)) (omega arith)
     ∙ ap (format_for extended) (sym (destination-value parts) ∙ ap destination_of value)
     in
     record {
-      front = head.all;
-      all = fronts (takes_rest head.kind) octets (header octets) (behind octets) halves ∙ λ j. sym all_is j ++ (sym head_rest ∙ rest_is) j;
-      spelling = record {
-        parts = parts;
-        spells = spells_of extended octets head sections r.2 s;
-        format_is = format;
-        value_is = value;
-        sum_is = sym s.checks.sum_is ∙ sum_is;
+      begins = record {
+        front = head.all;
+        whole = fronts (takes_rest head.kind) octets (header octets) (behind octets) halves ∙ λ j. sym all_is j ++ (sym head_rest ∙ rest_is) j;
+        stands = record {
+          parts = parts;
+          spells = spells_of extended octets head sections r.2 s;
+          format_is = format;
+          value_is = value;
+          sum_is = sym s.checks.sum_is ∙ sum_is;
+        };
       };
       end = λ h. sym rest_is ∙ head_rest ∙ rest_end (takes_rest head.kind) (behind octets) (sym (reaches_end-value parts) ∙ ap reaches_end value ∙ h);
     }
@@ -296,30 +255,31 @@ closing false octets front inside body rest n code e f end none =
       rest_is = ap (λ (t : List ℕ). t ++ rest) nil;
     }
 
-pub read_complete : (extended octets : List ℕ) (tpdu : Tpdu) (sum : Bool) (rest : List ℕ) → IsFirst extended octets tpdu sum rest → read_at extended octets ≡ Ok (tpdu, sum, rest)
+pub read_complete : (extended octets : List ℕ) (tpdu : TpduAndSum) (rest : List ℕ) → BeginsWithTpdu extended octets tpdu rest → read_at extended octets ≡ Ok (tpdu, rest)
 unfolding read_at
-read_complete extended octets tpdu sum rest f =
-    let parts = f.spelling.parts in
-    let sp = f.spelling.spells in
+read_complete extended octets tpdu rest f =
+    let spelling = f.begins.stands in
+    let parts = spelling.parts in
+    let sp = spelling.spells in
     let ps = parts.parameters in
     let kind = parts.kind in
     let inside = parts.fixed ++ spelled ps in
     let after = parts.body ++ rest in
     let n = suc (length inside) in
     let whole_is : octets ≡ n ∷ parts.code ∷ (inside ++ after)
-    = f.all ∙ ap (λ (t : List ℕ). t ++ rest) sp.all ∙ ap (λ (t : List ℕ). n ∷ parts.code ∷ t) (append_assoc inside parts.body rest) in
+    = f.begins.whole ∙ ap (λ (t : List ℕ). t ++ rest) sp.all ∙ ap (λ (t : List ℕ). n ∷ parts.code ∷ t) (append_assoc inside parts.body rest) in
     let fronted : Fronted octets parts.code inside after = record { all = whole_is; short = omega (arith, sp.header) } in
     let again = head_again octets parts.code inside after kind fronted sp.code in
-    let end : takes_rest kind ≡ true → rest ≡ [] = λ h. f.end (sym (ap reaches_end f.spelling.value_is) ∙ reaches_end-value parts ∙ h) in
+    let end : takes_rest kind ≡ true → rest ≡ [] = λ h. f.end (sym (ap reaches_end spelling.value_is) ∙ reaches_end-value parts ∙ h) in
     let none : takes_rest kind ≡ false → parts.body ≡ [] = λ h. nil_from_length parts.body (no_body kind (length parts.body) h sp.body) in
-    let c = closing (takes_rest kind) octets f.front inside parts.body rest n parts.code f.all sp.all end none in
-    let head : Head = record { kind = kind; code = parts.code; fields = inside; all = f.front; body = parts.body; rest = rest } in
+    let c = closing (takes_rest kind) octets f.begins.front inside parts.body rest n parts.code f.begins.whole sp.all end none in
+    let head : Head = record { kind = kind; code = parts.code; fields = inside; all = f.begins.front; body = parts.body; rest = rest } in
     let head_eq : head_at octets ≡ Ok head
     = again ∙ λ j. Ok (record { kind = kind; code = parts.code; fields = inside; all = c.all j; body = c.data_is j; rest = c.rest_is j }) in
-    let least = fixed_count-least kind parts.format in
+    let least = (fixed_count-bounds kind parts.format).0 in
     let format : format_at extended kind inside ≡ parts.format
     = format_at-shown extended kind parts.fixed (spelled ps) (omega (arith, sp.fixed))
-    ∙ ap (format_for extended) (sym (destination-value parts) ∙ ap destination_of f.spelling.value_is) ∙ sym f.spelling.format_is in
+    ∙ ap (format_for extended) (sym (destination-value parts) ∙ ap destination_of spelling.value_is) ∙ sym spelling.format_is in
     let class : is_connect kind ≡ true → slice_index inside 4 / 16 ≡ 4
     = λ h. let five = fixed_count-connect kind parts.format h in
     ap (λ (m : ℕ). m / 16) (get_or_append_left parts.fixed (spelled ps) 0 4 (omega (arith, sp.fixed))) ∙ sp.class h in
@@ -327,13 +287,13 @@ read_complete extended octets tpdu sum rest f =
     let place = 3 + length parts.fixed in
     let checked_eq = checked_again kind place ps sp.parameters in
     let some = is_some-sum_place place ps in
-    let closes : Closes kind (sum_place place ps) f.front parts.body = record {
+    let closes : Closes kind (sum_place place ps) f.begins.front parts.body = record {
       sealed = λ h. sp.sealed (sym some ∙ h);
       summed = λ h. some ∙ sp.summed (request-is kind h);
       suits = sp.body;
     } in
-    let close_eq = close_again kind (sum_place place ps) f.front (indicator octets + 2) parts.body closes in
-    let value : value_of (record { kind = kind; format = parts.format; code = parts.code; fixed = parts.fixed; parameters = (split (spelled ps)).0; body = parts.body }) ≡ tpdu
-    = ap (λ (t : List Parameter). let p : Parts = record { kind = kind; format = parts.format; code = parts.code; fixed = parts.fixed; parameters = t; body = parts.body } in value_of p) (ap (λ (x : List Parameter × List ℕ). x.0) (split-spelled ps))
-    ∙ f.spelling.value_is in
-    rw (head_eq, sections_eq, checked_eq, close_eq) (λ j. Ok (value j, (some ∙ f.spelling.sum_is) j, rest))
+    let close_eq = close_again kind (sum_place place ps) f.begins.front (indicator octets + 2) parts.body closes in
+    let value : value_of (record { kind = kind; format = parts.format; code = parts.code; fixed = parts.fixed; parameters = parameters_in (spelled ps); body = parts.body }) ≡ tpdu.0
+    = ap (λ (t : List Parameter). let p : Parts = record { kind = kind; format = parts.format; code = parts.code; fixed = parts.fixed; parameters = t; body = parts.body } in value_of p) (parameters-spelled ps).0
+    ∙ spelling.value_is in
+    rw (head_eq, sections_eq, checked_eq, close_eq) (λ j. Ok ((value j, (some ∙ spelling.sum_is) j), rest))

@@ -4,7 +4,7 @@ use Rattle.std.proofs.lemmas.List.{length-take, take-take, get_or-take, drop_mor
 use Rattle.osi_base.specs.Fletcher.{place_sum, Sealed, Seals}
 use Rattle.osi_base.proofs.FletcherSums.{sum-cons, sum-append, place_sum-shift, place_sum-append}
 use Rattle.osi_base.proofs.FletcherSealed.{sealed_by, sum_of_sealed, place_sum_of_sealed}
-use Rattle.tpdu.specs.Sums.{IsDigest, Sums}
+use Rattle.tpdu.specs.steps.Sums.{IsDigest, Sums}
 
 -- the octets that are left are the first, and the sums are those of the others
 pub record Summed (xs left : List ℕ) (first second : ℕ) : Type 0 where
@@ -81,6 +81,8 @@ sums_by old body digest sealed new at at_is is s e =
     record {
       high = s.first;
       low = s.second;
+      high_used = s.first_used;
+      low_used = s.second_used;
       appended = new_is ∙ append_assoc old (0xC3 ∷ 2 ∷ []) (s.first ∷ s.second ∷ []);
       sealed = subst (λ (t : List ℕ). Sealed (t ++ body)) (sym new_is) (sealed-digest header digest body is (subst Sealed written s.sealed));
     }

@@ -1,5 +1,5 @@
 -- A value that is plain and allowed is what the octets that are written for it stand for, kind by kind.
-use Rattle.std.proofs.Common.{◌≡◌, ℕ, ◌+◌, ◌*◌, ◌/◌, ◌%◌, ◌<◌, ◌≤◌, Bool, true, false, cond, leb, nat_eq, List, [], ◌∷◌, ◌++◌, length, Option, Some, None, refl, sym, ap, ◌∙◌, arith}
+use Rattle.std.proofs.Common.{◌≡◌, ℕ, ◌+◌, ◌/◌, ◌%◌, ◌<◌, ◌≤◌, Bool, true, false, cond, leb, nat_eq, List, [], ◌∷◌, ◌++◌, length, Option, Some, None, refl, sym, ap, ◌∙◌, arith}
 use Rattle.std.specs.Prelude.{IsTrue, IsSome, is_some, slice_index, unwrap_or}
 use Rattle.std.specs.List.{AllByRecursion}
 use Rattle.std.specs.Int.{w32, to_be_bytes}
@@ -12,21 +12,18 @@ use Rattle.tpdu.specs.declared.tpdu.Tpdu.{Tpdu}
 use Rattle.tpdu.specs.declared.tpdu.Tpdu.TheVariants as tpdus
 use Rattle.tpdu.specs.Kinds.{kind_of, is_connect, data_suits}
 use Rattle.tpdu.specs.Parameters.{sizes, size_in, last_value}
+use Rattle.pdu_parts.specs.Number.{two_octets, number_at}
 use Rattle.tpdu.specs.Values.{value_of, quad_at, number_of, is_last, class_format, text, octet_under, pair_under, size}
 use Rattle.tpdu.specs.Grammar.{Suits, has_sum}
-use Rattle.tpdu.specs.Writing.{kind_for, code_for, fixed_for, number_for, class_for, pair, size_code, code_in, parameter, parameters_for, connect_parameters, body_for, sums_for, parts_for, IsPlain, IsNumber, IsConnect, IsAllowed, FixedFits, ParametersFit}
+use Rattle.tpdu.specs.Writing.{kind_for, code_for, fixed_for, number_for, class_for, size_code, code_in, parameter, parameters_for, connect_parameters, body_for, sums_for, parts_for, IsPlain, IsNumber, IsConnect, IsAllowed}
 
 -- ---- numbers
 
-pub pair_again : (n : ℕ) → n < 65536 → 256 * slice_index (pair n) 0 + slice_index (pair n) 1 ≡ n
-pair_again n lt = omega arith
+pub number_back : (n : ℕ) → number_at 0 (two_octets n) ≡ n
+number_back n = omega arith
 
-quad_again : (n : ℕ) → n < 4294967296 → quad_at (to_be_bytes w32 n) 0 ≡ n
+quad_again : (n : ℕ) → n < 4294967296 → quad_at 0 (to_be_bytes w32 n) ≡ n
 quad_again n lt = omega arith
-
-top : Bool → ℕ → ℕ
-top true n = n
-top false n = 0
 
 number_again : (width : Format) (last : Bool) (n high low : ℕ) → IsNumber width n → (number_of width (high ∷ low ∷ number_for width last n) ≡ n) × (is_last width (high ∷ low ∷ number_for width last n) ≡ last)
 number_again Normal true n high low lt = (omega arith, le-leb _ _ (omega arith))
@@ -172,21 +169,21 @@ ack_suits_by true summed value first second two = sums_suit Ak summed first seco
 ack_suits_by false summed value first second two =
     ((omega arith, omega arith, λ e. absurd (omega arith)), sums_suit Ak summed first second (omega arith, omega arith, λ e. absurd (omega arith)))
 
-ack_value_by : (b summed : Bool) (n first second : ℕ) → nat_eq n 0 ≡ b → n < 65536
-    → let ps = cond b [] (parameter 0x8A (pair n) ∷ []) ++ sums_for summed first second in (unwrap_or (pair_under 0x8A ps) 0 ≡ n) × (last_value 0x8C ps ≡ None)
-ack_value_by true true n first second e lt = (sym (eqb-true _ _ e), refl)
-ack_value_by true false n first second e lt = (sym (eqb-true _ _ e), refl)
-ack_value_by false true n first second e lt = (pair_again n lt, refl)
-ack_value_by false false n first second e lt = (pair_again n lt, refl)
+ack_value_by : (b summed : Bool) (n first second : ℕ) → nat_eq n 0 ≡ b
+    → let ps = cond b [] (parameter 0x8A (two_octets n) ∷ []) ++ sums_for summed first second in (unwrap_or (pair_under 0x8A ps) 0 ≡ n) × (last_value 0x8C ps ≡ None)
+ack_value_by true true n first second e = (sym (eqb-true _ _ e), refl)
+ack_value_by true false n first second e = (sym (eqb-true _ _ e), refl)
+ack_value_by false true n first second e = (number_back n, refl)
+ack_value_by false false n first second e = (number_back n, refl)
 
 -- a DR, DC, DT, ED, EA and ER have no parameter but the checksum
 bare_value : (code : ℕ) (summed : Bool) (first second : ℕ) → nat_eq 0xC3 code ≡ false → last_value code (sums_for summed first second) ≡ None
 bare_value code true first second e = rw e refl
 bare_value code false first second e = refl
 
-pub fine : (width : Format) (summed : Bool) (tpdu : Tpdu) (first second : ℕ) → IsPlain tpdu → IsAllowed width tpdu → FixedFits tpdu → ParametersFit tpdu → Fine width summed tpdu first second
+pub fine : (width : Format) (summed : Bool) (tpdu : Tpdu) (first second : ℕ) → IsPlain tpdu → IsAllowed width tpdu → Fine width summed tpdu first second
 unfolding value_of
-fine width summed (tpdus.Cr credit source format calling called octets extra version classes ack_time body) first second plain allowed fits more =
+fine width summed (tpdus.Cr credit source format calling called octets extra version classes ack_time body) first second plain allowed =
     let c = connects credit calling called octets extra body summed first second allowed in
     let v = connect_value calling called octets extra summed first second allowed.size_known in
     let few = allowed.few_credits in
@@ -197,9 +194,9 @@ fine width summed (tpdus.Cr credit source format calling called octets extra ver
       parameters = c.request;
       has = c.has;
       body = le-leb _ _ allowed.octets_fit;
-      value = λ i. tpdus.Cr (credit_is i) (pair_again source fits i) (class_again format i) (v.0 i) (v.1 i) (v.2 i) (v.3 i) ((v.4 ∙ sym plain.0) i) ((v.5 ∙ sym plain.1) i) ((v.6 ∙ sym plain.2) i) body;
+      value = λ i. tpdus.Cr (credit_is i) (number_back source i) (class_again format i) (v.0 i) (v.1 i) (v.2 i) (v.3 i) ((v.4 ∙ sym plain.0) i) ((v.5 ∙ sym plain.1) i) ((v.6 ∙ sym plain.2) i) body;
     }
-fine width summed (tpdus.Cc credit destination source format calling called octets extra version classes ack_time body) first second plain allowed fits more =
+fine width summed (tpdus.Cc credit destination source format calling called octets extra version classes ack_time body) first second plain allowed =
     let c = connects credit calling called octets extra body summed first second allowed in
     let v = connect_value calling called octets extra summed first second allowed.size_known in
     let few = allowed.few_credits in
@@ -210,83 +207,83 @@ fine width summed (tpdus.Cc credit destination source format calling called octe
       parameters = c.confirm;
       has = c.has;
       body = le-leb _ _ allowed.octets_fit;
-      value = λ i. tpdus.Cc (credit_is i) (pair_again destination fits.0 i) (pair_again source fits.1 i) (class_again format i) (v.0 i) (v.1 i) (v.2 i) (v.3 i) ((v.4 ∙ sym plain.0) i) ((v.5 ∙ sym plain.1) i) ((v.6 ∙ sym plain.2) i) body;
+      value = λ i. tpdus.Cc (credit_is i) (number_back destination i) (number_back source i) (class_again format i) (v.0 i) (v.1 i) (v.2 i) (v.3 i) ((v.4 ∙ sym plain.0) i) ((v.5 ∙ sym plain.1) i) ((v.6 ∙ sym plain.2) i) body;
     }
-fine width summed (tpdus.Dr destination source reason info body) first second plain allowed fits more = record {
+fine width summed (tpdus.Dr destination source reason info body) first second plain allowed = record {
   code = refl;
   class = λ h. absurd cc;
   parameters = sums_suit Dr summed first second (omega arith, omega arith, λ e. absurd (omega arith));
   has = sums_has summed first second;
   body = le-leb _ _ allowed;
-  value = λ i. tpdus.Dr (pair_again destination fits.0 i) (pair_again source fits.1 i) reason ((bare_value 0xE0 summed first second refl ∙ sym plain) i) body;
+  value = λ i. tpdus.Dr (number_back destination i) (number_back source i) reason ((bare_value 0xE0 summed first second refl ∙ sym plain) i) body;
 }
-fine width summed (tpdus.Dc destination source) first second plain allowed fits more = record {
+fine width summed (tpdus.Dc destination source) first second plain allowed = record {
   code = refl;
   class = λ h. absurd cc;
   parameters = sums_suit Dc summed first second (omega arith, omega arith, λ e. absurd (omega arith));
   has = sums_has summed first second;
   body = refl;
-  value = λ i. tpdus.Dc (pair_again destination fits.0 i) (pair_again source fits.1 i);
+  value = λ i. tpdus.Dc (number_back destination i) (number_back source i);
 }
-fine width summed (tpdus.Dt destination last number body) first second plain allowed fits more =
-    let n = number_again width last number (slice_index (pair destination) 0) (slice_index (pair destination) 1) allowed in
+fine width summed (tpdus.Dt destination last number body) first second plain allowed =
+    let n = number_again width last number (destination / 256) (destination % 256) allowed in
     record {
       code = refl;
       class = λ h. absurd cc;
       parameters = sums_suit Dt summed first second (omega arith, omega arith, λ e. absurd (omega arith));
       has = sums_has summed first second;
       body = refl;
-      value = λ i. tpdus.Dt (pair_again destination fits i) (n.1 i) (n.0 i) body;
+      value = λ i. tpdus.Dt (number_back destination i) (n.1 i) (n.0 i) body;
     }
-fine width summed (tpdus.Ed destination last number body) first second plain allowed fits more =
-    let n = number_again width last number (slice_index (pair destination) 0) (slice_index (pair destination) 1) allowed.0 in
+fine width summed (tpdus.Ed destination last number body) first second plain allowed =
+    let n = number_again width last number (destination / 256) (destination % 256) allowed.0 in
     record {
       code = refl;
       class = λ h. absurd cc;
       parameters = sums_suit Ed summed first second (omega arith, omega arith, λ e. absurd (omega arith));
       has = sums_has summed first second;
       body = rw (le-leb 1 (length body) allowed.1, le-leb (length body) 16 allowed.2) refl;
-      value = λ i. tpdus.Ed (pair_again destination fits i) (n.1 i) (n.0 i) body;
+      value = λ i. tpdus.Ed (number_back destination i) (n.1 i) (n.0 i) body;
     }
-fine Normal summed (tpdus.Ak destination number credit subsequence confirmation) first second plain allowed fits more =
-    let n = number_again Normal false number (slice_index (pair destination) 0) (slice_index (pair destination) 1) allowed.0 in
-    let v = ack_value_by (nat_eq subsequence 0) summed subsequence first second refl more in
+fine Normal summed (tpdus.Ak destination number credit subsequence confirmation) first second plain allowed =
+    let n = number_again Normal false number (destination / 256) (destination % 256) allowed.0 in
+    let v = ack_value_by (nat_eq subsequence 0) summed subsequence first second refl in
     let few : credit < 16 = allowed.1 in
     let credit_is : (0x60 + credit % 16) % 16 ≡ credit = omega arith in
     record {
       code = ack_kind (credit % 16) (omega arith);
       class = λ h. absurd cc;
-      parameters = ack_suits_by (nat_eq subsequence 0) summed (pair subsequence) first second refl;
-      has = ack_has_by (nat_eq subsequence 0) summed (pair subsequence) first second;
+      parameters = ack_suits_by (nat_eq subsequence 0) summed (two_octets subsequence) first second refl;
+      has = ack_has_by (nat_eq subsequence 0) summed (two_octets subsequence) first second;
       body = refl;
-      value = λ i. tpdus.Ak (pair_again destination fits.0 i) (n.0 i) (credit_is i) (v.0 i) ((v.1 ∙ sym plain) i);
+      value = λ i. tpdus.Ak (number_back destination i) (n.0 i) (credit_is i) (v.0 i) ((v.1 ∙ sym plain) i);
     }
-fine Extended summed (tpdus.Ak destination number credit subsequence confirmation) first second plain allowed fits more =
-    let n = number_again Extended false number (slice_index (pair destination) 0) (slice_index (pair destination) 1) allowed.0 in
-    let v = ack_value_by (nat_eq subsequence 0) summed subsequence first second refl more in
+fine Extended summed (tpdus.Ak destination number credit subsequence confirmation) first second plain allowed =
+    let n = number_again Extended false number (destination / 256) (destination % 256) allowed.0 in
+    let v = ack_value_by (nat_eq subsequence 0) summed subsequence first second refl in
     record {
       code = refl;
       class = λ h. absurd cc;
-      parameters = ack_suits_by (nat_eq subsequence 0) summed (pair subsequence) first second refl;
-      has = ack_has_by (nat_eq subsequence 0) summed (pair subsequence) first second;
+      parameters = ack_suits_by (nat_eq subsequence 0) summed (two_octets subsequence) first second refl;
+      has = ack_has_by (nat_eq subsequence 0) summed (two_octets subsequence) first second;
       body = refl;
-      value = λ i. tpdus.Ak (pair_again destination fits.0 i) (n.0 i) (pair_again credit fits.1 i) (v.0 i) ((v.1 ∙ sym plain) i);
+      value = λ i. tpdus.Ak (number_back destination i) (n.0 i) (number_back credit i) (v.0 i) ((v.1 ∙ sym plain) i);
     }
-fine width summed (tpdus.Ea destination number) first second plain allowed fits more =
-    let n = number_again width false number (slice_index (pair destination) 0) (slice_index (pair destination) 1) allowed in
+fine width summed (tpdus.Ea destination number) first second plain allowed =
+    let n = number_again width false number (destination / 256) (destination % 256) allowed in
     record {
       code = refl;
       class = λ h. absurd cc;
       parameters = sums_suit Ea summed first second (omega arith, omega arith, λ e. absurd (omega arith));
       has = sums_has summed first second;
       body = refl;
-      value = λ i. tpdus.Ea (pair_again destination fits i) (n.0 i);
+      value = λ i. tpdus.Ea (number_back destination i) (n.0 i);
     }
-fine width summed (tpdus.Er destination cause rejected) first second plain allowed fits more = record {
+fine width summed (tpdus.Er destination cause rejected) first second plain allowed = record {
   code = refl;
   class = λ h. absurd cc;
   parameters = sums_suit Er summed first second (omega arith, omega arith, λ e. absurd (omega arith));
   has = sums_has summed first second;
   body = refl;
-  value = λ i. tpdus.Er (pair_again destination fits i) cause ((bare_value 0xC1 summed first second refl ∙ sym plain) i);
+  value = λ i. tpdus.Er (number_back destination i) cause ((bare_value 0xC1 summed first second refl ∙ sym plain) i);
 }

@@ -1,16 +1,17 @@
 -- The grammar of TPDUs (X.224, structure and encoding of TPDUs; concatenation and separation).
-use Rattle.std.specs.Prelude.{◌≡◌, ◌≤◌, ℕ, ◌/◌, Bool, IsTrue, List, [], ◌∷◌, ◌++◌, length, slice_index, Some, None, is_some, IsSome}
+use Rattle.std.specs.Prelude.{◌≡◌, ◌≤◌, ℕ, ◌/◌, Bool, IsTrue, List, [], ◌∷◌, ◌++◌, length, slice_index, Option, Some, None, is_some, IsSome}
 use Rattle.std.specs.List.{AllByRecursion}
 use Rattle.osi_base.specs.Fletcher.{Sealed}
+use Rattle.pdu_parts.specs.Front.{BeginsWith}
+use Rattle.pdu_parts.specs.Parameter.{Parameter, spelled}
 use Rattle.tpdu.specs.declared.kind.Kind.{Kind}
 use Rattle.tpdu.specs.declared.kind.Kind.TheVariants.{Cr}
 use Rattle.tpdu.specs.declared.parameter.Lengths.{Lengths}
 use Rattle.tpdu.specs.declared.tpdu.Format.{Format}
 use Rattle.tpdu.specs.declared.tpdu.Tpdu.{Tpdu}
-use Rattle.std.specs.Prelude.{Option}
 use Rattle.tpdu.specs.Kinds.{kind_of, fixed_count, is_connect, data_suits}
-use Rattle.tpdu.specs.Parameters.{Parameter, spelled, lengths_of, size_of, last_value}
-use Rattle.tpdu.specs.Values.{Parts, value_of, destination_of, reaches_end, format_for}
+use Rattle.tpdu.specs.Parameters.{lengths_of, size_of, last_value}
+use Rattle.tpdu.specs.Values.{TpduAndSum, Parts, value_of, destination_of, reaches_end, format_for}
 
 -- the header behind the length indicator: code, fixed part, parameters
 abbrev pub header_of : Parts → List ℕ
@@ -42,27 +43,25 @@ pub record Spells (parts : Parts) (octets : List ℕ) : Type 0 where
   pub summed : parts.kind ≡ Cr → IsTrue (has_sum parts.parameters)
   pub body : IsTrue (data_suits parts.kind (length parts.body))
 
--- the octets spell the TPDU in this format, with a checksum or without
-pub record IsTpduWith (sum : Bool) (format : Format) (octets : List ℕ) (tpdu : Tpdu) : Type 0 where
+-- the octets are the TPDU in this format, with a checksum or without
+pub record IsTpdu (format : Format) (octets : List ℕ) (tpdu : TpduAndSum) : Type 0 where
   pub parts : Parts
   pub spells : Spells parts octets
   pub format_is : parts.format ≡ format
-  pub value_is : value_of parts ≡ tpdu
-  pub sum_is : has_sum parts.parameters ≡ sum
+  pub value_is : value_of parts ≡ tpdu.0
+  pub sum_is : has_sum parts.parameters ≡ tpdu.1
 
-abbrev pub IsTpdu : Format → List ℕ → Tpdu → Type 0
-IsTpdu format octets tpdu = (sum : Bool) × IsTpduWith sum format octets tpdu
+-- in extended formats exactly where the destination reference is listed
+abbrev pub IsListedTpdu : List ℕ → List ℕ → TpduAndSum → Type 0
+IsListedTpdu extended octets tpdu = IsTpdu (format_for extended (destination_of tpdu.0)) octets tpdu
 
--- the octets begin with the TPDU, in extended formats exactly where its destination reference is listed,
--- and the rest follows. CR, CC, DR, DT and ED reach to the end
-pub record IsFirst (extended octets : List ℕ) (tpdu : Tpdu) (sum : Bool) (rest : List ℕ) : Type 0 where
-  pub front : List ℕ
-  pub all : octets ≡ front ++ rest
-  pub spelling : IsTpduWith sum (format_for extended (destination_of tpdu)) front tpdu
-  pub end : IsTrue (reaches_end tpdu) → rest ≡ []
+-- the TPDU stands at the front of the octets of a unit, and the rest behind it: nothing behind a CR, CC, DR, DT or ED
+pub record BeginsWithTpdu (extended octets : List ℕ) (tpdu : TpduAndSum) (rest : List ℕ) : Type 0 where
+  pub begins : BeginsWith (IsListedTpdu extended) octets tpdu rest
+  pub end : IsTrue (reaches_end tpdu.0) → rest ≡ []
 
--- the octets are the TPDUs, one after another. Only the last reaches to the end
+-- the octets of a unit are the TPDUs, one after another
 abbrev pub IsBundle : List ℕ → List ℕ → List Tpdu → Type 0
 IsBundle extended octets [] = octets ≡ []
 IsBundle extended octets (tpdu ∷ tpdus) =
-    (sum : Bool) × (rest : List ℕ) × IsFirst extended octets tpdu sum rest × IsBundle extended rest tpdus
+    (sum : Bool) × (rest : List ℕ) × BeginsWithTpdu extended octets (tpdu, sum) rest × IsBundle extended rest tpdus

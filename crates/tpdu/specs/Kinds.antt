@@ -93,3 +93,15 @@ data_suits Ed count = nat_le 1 count && nat_le count 16
 data_suits Ak count = count == 0
 data_suits Ea count = count == 0
 data_suits Er count = count == 0
+
+-- it has a number
+abbrev pub has_number : Kind → Bool
+has_number Cr = false
+has_number Cc = false
+has_number Dr = false
+has_number Dc = false
+has_number Dt = true
+has_number Ed = true
+has_number Ak = true
+has_number Ea = true
+has_number Er = false

@@ -1,27 +1,14 @@
--- Parameters: code, length, value (X.224, variable part), and the table of what each kind knows.
-use Rattle.std.specs.Prelude.{ℕ, zero, suc, ◌+◌, ◌*◌, Bool, ◌&&◌, ◌||◌, not, ◌==◌, nat_lt, nat_le, List, [], ◌∷◌, ◌++◌, length, take, drop, Option, Some, None, is_some, if◌then◌else◌}
+-- The parameters that each kind knows, and what their values are (X.224, variable part).
+use Rattle.std.specs.Prelude.{ℕ, ◌+◌, ◌*◌, Bool, ◌&&◌, ◌||◌, not, ◌==◌, nat_le, List, [], ◌∷◌, length, Option, Some, None, is_some, if◌then◌else◌}
 use Rattle.std.specs.Option.{option_or}
+use Rattle.pdu_parts.specs.FirstFault.{must}
+use Rattle.pdu_parts.specs.Parameter.{Parameter}
 use Rattle.tpdu.specs.declared.fault.TpduCause.{TpduCause}
 use Rattle.tpdu.specs.declared.fault.TpduCause.TheVariants.{Param, Unknown}
-use Rattle.tpdu.specs.declared.fault.TpduFault.{TpduFault}
 use Rattle.tpdu.specs.declared.kind.Kind.{Kind}
 use Rattle.tpdu.specs.declared.kind.Kind.TheVariants.{Cr, Cc, Dr, Dc, Dt, Ed, Ak, Ea, Er}
 use Rattle.tpdu.specs.declared.parameter.Lengths.{Lengths}
-use Rattle.tpdu.specs.declared.parameter.ParameterRef.{ParameterRef}
 use Rattle.tpdu.specs.Kinds.{is_connect}
-
--- a parameter, without where it lies in memory
-pub record Parameter : Type 0 where
-  pub code : ℕ
-  pub value : List ℕ
-
-abbrev pub parameter_of : ParameterRef → Parameter
-parameter_of p = record { code = p.code; value = p.value.now }
-
--- the parameters, one after another
-abbrev pub spelled : List Parameter → List ℕ
-spelled [] = []
-spelled (p ∷ ps) = p.code ∷ length p.value ∷ (p.value ++ spelled ps)
 
 -- a code that a kind knows, with the least and the most octets of its value
 pub record Row : Type 0 where
@@ -98,57 +85,15 @@ size_of octets = None
 abbrev pub has_size : Parameter → Bool
 has_size p = not (p.code == 0xC0) || is_some (size_of p.value)
 
--- what is wrong with a parameter that fits: a CR and a CC skip those that they do not know
+-- what is wrong with a parameter that stands whole: a CR and a CC skip those that they do not know
 abbrev pub trouble_by : Option Lengths → Kind → Parameter → Option TpduCause
-trouble_by None kind p = if is_connect kind then None else Some Unknown
-trouble_by (Some lengths) kind p =
-    if nat_le lengths.least (length p.value) && nat_le (length p.value) lengths.most && has_size p then None
-    else Some Param
+trouble_by None kind p = must (is_connect kind) Unknown
+trouble_by (Some lengths) kind p = must (nat_le lengths.least (length p.value) && nat_le (length p.value) lengths.most && has_size p) Param
 
 abbrev pub trouble : Kind → Parameter → Option TpduCause
 trouble kind p = trouble_by (lengths_of kind p.code) kind p
 
--- the parameter at the front, and what follows it; none where it does not fit
-abbrev pub front_of : List ℕ → Option (Parameter × List ℕ)
-front_of [] = None
-front_of (code ∷ []) = None
-front_of (code ∷ count ∷ rest) =
-    if nat_lt (length rest) count then None
-    else Some (record { code = code; value = take count rest }, drop count rest)
-
--- the parameters that fit, from left to right, and what is left
-abbrev pub Split : Type 0
-Split = List Parameter × List ℕ
-
-abbrev pub split_by : List ℕ → (List ℕ → Split) → Option (Parameter × List ℕ) → Split
-split_by octets again None = ([], octets)
-split_by octets again (Some found) = (found.0 ∷ (again found.1).0, (again found.1).1)
-
--- at most so many parameters
-unfoldable pub split_within : ℕ → List ℕ → Split
-split_within zero octets = ([], octets)
-split_within (suc n) octets = split_by octets (split_within n) (front_of octets)
-
-unfoldable pub split : List ℕ → Split
-split octets = split_within (length octets) octets
-
-abbrev pub parameters_in : List ℕ → List Parameter
-parameters_in octets = (split octets).0
-
--- the first fault of parameters that begin at the place, where these octets are left behind them
-abbrev pub fault_at : TpduCause → ℕ → TpduFault
-fault_at cause place = record { cause = cause; place = place }
-
-abbrev pub found_or : Option TpduCause → ℕ → Option TpduFault → Option TpduFault
-found_or None place later = later
-found_or (Some cause) place later = Some (fault_at cause place)
-
-abbrev pub fault_in : Kind → ℕ → List Parameter → List ℕ → Option TpduFault
-fault_in kind place [] [] = None
-fault_in kind place [] (octet ∷ torn) = Some (fault_at Param place)
-fault_in kind place (p ∷ ps) torn = found_or (trouble kind p) place (fault_in kind (place + (2 + length p.value)) ps torn)
-
--- the place of the value of the last checksum
+-- the place of the value of the last checksum, of parameters that begin at the place
 abbrev pub sum_place : ℕ → List Parameter → Option ℕ
 sum_place place [] = None
 sum_place place (p ∷ ps) = option_or (sum_place (place + (2 + length p.value)) ps) (if p.code == 0xC3 then Some (place + 2) else None)
@@ -163,5 +108,5 @@ octet_in (octet ∷ []) = octet
 octet_in octets = 0
 
 abbrev pub pair_in : List ℕ → ℕ
-pair_in (high ∷ low ∷ []) = 256 * high + low
+pair_in (high ∷ low ∷ []) = high * 256 + low
 pair_in octets = 0

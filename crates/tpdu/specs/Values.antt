@@ -1,6 +1,8 @@
 -- What the parts of a TPDU stand for (X.224, structure of TPDUs; encoding of numbers and credits).
 use Rattle.std.specs.Prelude.{ℕ, ◌+◌, ◌*◌, ◌/◌, ◌%◌, Bool, true, false, ◌==◌, nat_le, List, [], slice_index, Option, Some, None, option_map, option_and_then, unwrap_or, if◌then◌else◌}
 use Rattle.std.specs.List.{list_any}
+use Rattle.pdu_parts.specs.Number.{number_at}
+use Rattle.pdu_parts.specs.Parameter.{Parameter}
 use Rattle.tpdu.specs.declared.kind.Kind.{Kind}
 use Rattle.tpdu.specs.declared.kind.Kind.TheVariants.{Cr, Cc, Dr, Dc, Dt, Ed, Ak, Ea, Er}
 use Rattle.tpdu.specs.declared.tpdu.Format.{Format}
@@ -9,7 +11,7 @@ use Rattle.tpdu.specs.declared.tpdu.Tpdu.{Tpdu}
 use Rattle.tpdu.specs.declared.tpdu.Tpdu.TheVariants as tpdus
 use Rattle.tpdu.specs.declared.tpdu.TpduRef.{TpduRef}
 use Rattle.tpdu.specs.declared.tpdu.TpduRef.TheVariants as refs
-use Rattle.tpdu.specs.Parameters.{Parameter, size_of, last_value, octet_in, pair_in}
+use Rattle.tpdu.specs.Parameters.{size_of, last_value, octet_in, pair_in}
 
 -- the owned value, without `sum`
 abbrev pub tpdu_of : TpduRef → Tpdu
@@ -37,6 +39,13 @@ sum_of (refs.Ak _ _ _ _ _ sum) = sum
 sum_of (refs.Ea _ _ sum) = sum
 sum_of (refs.Er _ _ _ sum) = sum
 
+-- a TPDU, and whether it has a checksum
+abbrev pub TpduAndSum : Type 0
+TpduAndSum = Tpdu × Bool
+
+abbrev pub seen : TpduRef → TpduAndSum
+seen tpdu = (tpdu_of tpdu, sum_of tpdu)
+
 -- the parts of a TPDU, one after another behind its length indicator
 pub record Parts : Type 0 where
   pub kind : Kind
@@ -46,22 +55,19 @@ pub record Parts : Type 0 where
   pub parameters : List Parameter
   pub body : List ℕ
 
--- the number of two octets, and of four
-abbrev pub pair_at : List ℕ → ℕ → ℕ
-pair_at octets at = 256 * slice_index octets at + slice_index octets (at + 1)
-
-abbrev pub quad_at : List ℕ → ℕ → ℕ
-quad_at octets at = 65536 * pair_at octets at + pair_at octets (at + 2)
+-- the number of four octets
+abbrev pub quad_at : ℕ → List ℕ → ℕ
+quad_at at octets = 65536 * number_at at octets + number_at (at + 2) octets
 
 -- a number behind the destination reference: 7 bits in one octet, or 31 in four
 abbrev pub number_of : Format → List ℕ → ℕ
 number_of Normal fixed = slice_index fixed 2 % 128
-number_of Extended fixed = quad_at fixed 2 % 2147483648
+number_of Extended fixed = quad_at 2 fixed % 2147483648
 
 -- the top bit of such a number
 abbrev pub is_last : Format → List ℕ → Bool
 is_last Normal fixed = nat_le 128 (slice_index fixed 2)
-is_last Extended fixed = nat_le 2147483648 (quad_at fixed 2)
+is_last Extended fixed = nat_le 2147483648 (quad_at 2 fixed)
 
 -- bit 2 of the class octet
 abbrev pub class_format : ℕ → Format
@@ -70,7 +76,7 @@ class_format class = if class / 2 % 2 == 1 then Extended else Normal
 -- a credit of 4 bits in the code octet, or of 16 behind the number
 abbrev pub credit_of : Format → ℕ → List ℕ → ℕ
 credit_of Normal code fixed = code % 16
-credit_of Extended code fixed = pair_at fixed 6
+credit_of Extended code fixed = number_at 6 fixed
 
 -- parameters with their defaults: an empty selector, 128 octets, expedited data
 abbrev pub text : ℕ → List Parameter → List ℕ
@@ -88,19 +94,19 @@ size ps = unwrap_or (option_and_then size_of (last_value 0xC0 ps)) 128
 -- the fields of each kind
 abbrev pub fields : Kind → Format → ℕ → List ℕ → List Parameter → List ℕ → Tpdu
 fields Cr width code fixed ps body =
-    tpdus.Cr (code % 16) (pair_at fixed 2) (class_format (slice_index fixed 4)) (text 0xC1 ps) (text 0xC2 ps) (size ps)
+    tpdus.Cr (code % 16) (number_at 2 fixed) (class_format (slice_index fixed 4)) (text 0xC1 ps) (text 0xC2 ps) (size ps)
     (unwrap_or (octet_under 0xC6 ps) 1) (octet_under 0xC4 ps) (last_value 0xC7 ps) (pair_under 0x85 ps) body
 fields Cc width code fixed ps body =
-    tpdus.Cc (code % 16) (pair_at fixed 0) (pair_at fixed 2) (class_format (slice_index fixed 4)) (text 0xC1 ps) (text 0xC2 ps) (size ps)
+    tpdus.Cc (code % 16) (number_at 0 fixed) (number_at 2 fixed) (class_format (slice_index fixed 4)) (text 0xC1 ps) (text 0xC2 ps) (size ps)
     (unwrap_or (octet_under 0xC6 ps) 1) (octet_under 0xC4 ps) (last_value 0xC7 ps) (pair_under 0x85 ps) body
-fields Dr width code fixed ps body = tpdus.Dr (pair_at fixed 0) (pair_at fixed 2) (slice_index fixed 4) (last_value 0xE0 ps) body
-fields Dc width code fixed ps body = tpdus.Dc (pair_at fixed 0) (pair_at fixed 2)
-fields Dt width code fixed ps body = tpdus.Dt (pair_at fixed 0) (is_last width fixed) (number_of width fixed) body
-fields Ed width code fixed ps body = tpdus.Ed (pair_at fixed 0) (is_last width fixed) (number_of width fixed) body
+fields Dr width code fixed ps body = tpdus.Dr (number_at 0 fixed) (number_at 2 fixed) (slice_index fixed 4) (last_value 0xE0 ps) body
+fields Dc width code fixed ps body = tpdus.Dc (number_at 0 fixed) (number_at 2 fixed)
+fields Dt width code fixed ps body = tpdus.Dt (number_at 0 fixed) (is_last width fixed) (number_of width fixed) body
+fields Ed width code fixed ps body = tpdus.Ed (number_at 0 fixed) (is_last width fixed) (number_of width fixed) body
 fields Ak width code fixed ps body =
-    tpdus.Ak (pair_at fixed 0) (number_of width fixed) (credit_of width code fixed) (unwrap_or (pair_under 0x8A ps) 0) (last_value 0x8C ps)
-fields Ea width code fixed ps body = tpdus.Ea (pair_at fixed 0) (number_of width fixed)
-fields Er width code fixed ps body = tpdus.Er (pair_at fixed 0) (slice_index fixed 2) (last_value 0xC1 ps)
+    tpdus.Ak (number_at 0 fixed) (number_of width fixed) (credit_of width code fixed) (unwrap_or (pair_under 0x8A ps) 0) (last_value 0x8C ps)
+fields Ea width code fixed ps body = tpdus.Ea (number_at 0 fixed) (number_of width fixed)
+fields Er width code fixed ps body = tpdus.Er (number_at 0 fixed) (slice_index fixed 2) (last_value 0xC1 ps)
 
 unfoldable pub value_of : Parts → Tpdu
 value_of parts = fields parts.kind parts.format parts.code parts.fixed parts.parameters parts.body

@@ -1,7 +1,9 @@
 -- How a TPDU is written (X.224, structure and encoding of TPDUs): of the ways to spell a value, this one.
 use Rattle.std.specs.Prelude.{◌≡◌, ◌==◌, ◌≤◌, ◌<◌, ℕ, ◌+◌, ◌%◌, Bool, true, false, ◌||◌, IsTrue, List, [], ◌∷◌, ◌++◌, length, Option, Some, None, IsSome, unwrap_or, if◌then◌else◌}
-use Rattle.std.specs.Int.{w16, w32, to_be_bytes}
+use Rattle.std.specs.Int.{w32, to_be_bytes}
 use Rattle.osi_base.specs.Fletcher.{Sealed}
+use Rattle.pdu_parts.specs.Number.{two_octets}
+use Rattle.pdu_parts.specs.Parameter.{Parameter}
 use Rattle.tpdu.specs.declared.kind.Kind.{Kind}
 use Rattle.tpdu.specs.declared.kind.Kind.TheVariants.{Cr, Cc, Dr, Dc, Dt, Ed, Ak, Ea, Er}
 use Rattle.tpdu.specs.declared.tpdu.Format.{Format}
@@ -9,7 +11,7 @@ use Rattle.tpdu.specs.declared.tpdu.Format.TheVariants.{Normal, Extended}
 use Rattle.tpdu.specs.declared.tpdu.Tpdu.{Tpdu}
 use Rattle.tpdu.specs.declared.tpdu.Tpdu.TheVariants as tpdus
 use Rattle.tpdu.specs.Kinds.{is_request}
-use Rattle.tpdu.specs.Parameters.{Parameter, Size, sizes}
+use Rattle.tpdu.specs.Parameters.{Size, sizes}
 use Rattle.tpdu.specs.Values.{Parts}
 use Rattle.tpdu.specs.Grammar.{header_of}
 
@@ -40,9 +42,6 @@ code_for width (tpdus.Ak _ _ credit _ _) = ack_code width credit
 code_for width (tpdus.Ea _ _) = 0x20
 code_for width (tpdus.Er _ _ _) = 0x70
 
-abbrev pub pair : ℕ → List ℕ
-pair number = to_be_bytes w16 number
-
 -- class 4, and bit 2 for extended formats
 abbrev pub class_for : Format → ℕ
 class_for Normal = 0x40
@@ -56,19 +55,19 @@ number_for Extended last number = to_be_bytes w32 (number % 2147483648 + (if las
 -- the credit of an AK behind its number
 abbrev pub credit_for : Format → ℕ → List ℕ
 credit_for Normal credit = []
-credit_for Extended credit = pair credit
+credit_for Extended credit = two_octets credit
 
 -- the fixed part behind the code
 abbrev pub fixed_for : Format → Tpdu → List ℕ
-fixed_for width (tpdus.Cr _ source format _ _ _ _ _ _ _ _) = pair 0 ++ pair source ++ class_for format ∷ []
-fixed_for width (tpdus.Cc _ destination source format _ _ _ _ _ _ _ _) = pair destination ++ pair source ++ class_for format ∷ []
-fixed_for width (tpdus.Dr destination source reason _ _) = pair destination ++ pair source ++ reason ∷ []
-fixed_for width (tpdus.Dc destination source) = pair destination ++ pair source
-fixed_for width (tpdus.Dt destination last number _) = pair destination ++ number_for width last number
-fixed_for width (tpdus.Ed destination last number _) = pair destination ++ number_for width last number
-fixed_for width (tpdus.Ak destination number credit _ _) = pair destination ++ number_for width false number ++ credit_for width credit
-fixed_for width (tpdus.Ea destination number) = pair destination ++ number_for width false number
-fixed_for width (tpdus.Er destination cause _) = pair destination ++ cause ∷ []
+fixed_for width (tpdus.Cr _ source format _ _ _ _ _ _ _ _) = two_octets 0 ++ two_octets source ++ class_for format ∷ []
+fixed_for width (tpdus.Cc _ destination source format _ _ _ _ _ _ _ _) = two_octets destination ++ two_octets source ++ class_for format ∷ []
+fixed_for width (tpdus.Dr destination source reason _ _) = two_octets destination ++ two_octets source ++ reason ∷ []
+fixed_for width (tpdus.Dc destination source) = two_octets destination ++ two_octets source
+fixed_for width (tpdus.Dt destination last number _) = two_octets destination ++ number_for width last number
+fixed_for width (tpdus.Ed destination last number _) = two_octets destination ++ number_for width last number
+fixed_for width (tpdus.Ak destination number credit _ _) = two_octets destination ++ number_for width false number ++ credit_for width credit
+fixed_for width (tpdus.Ea destination number) = two_octets destination ++ number_for width false number
+fixed_for width (tpdus.Er destination cause _) = two_octets destination ++ cause ∷ []
 
 -- the code of a size; 0 for one that has none
 abbrev pub code_in : List Size → ℕ → Option ℕ
@@ -88,7 +87,7 @@ connect_parameters calling called size extra =
 
 -- the subsequence of an AK, where it is not 0
 abbrev pub ack_parameters : ℕ → List Parameter
-ack_parameters subsequence = if subsequence == 0 then [] else parameter 0x8A (pair subsequence) ∷ []
+ack_parameters subsequence = if subsequence == 0 then [] else parameter 0x8A (two_octets subsequence) ∷ []
 
 -- the parameters but for the checksum, in the order in which they are written
 abbrev pub parameters_for : Tpdu → List Parameter
@@ -139,12 +138,14 @@ count_for width summed tpdu = length (header_of (parts_for width tpdu (sums_for 
 abbrev pub header_count : Format → Bool → Tpdu → ℕ
 header_count width sum tpdu = count_for width (is_summed sum tpdu) tpdu
 
--- the octets are the header with its length indicator, and the data; the checksum holds
+-- the octets are the header with its length indicator, and the data; neither octet of the checksum is 0, and it holds
 pub record IsSpelled (width : Format) (summed : Bool) (tpdu : Tpdu) (octets : List ℕ) : Type 0 where
   pub short : count_for width summed tpdu ≤ 254
   pub first : ℕ
   pub second : ℕ
   pub all : let header = header_of (parts_for width tpdu (sums_for summed first second)) in octets ≡ length header ∷ (header ++ body_for tpdu)
+  pub first_used : IsTrue summed → (0 < first) × (first < 256)
+  pub second_used : IsTrue summed → (0 < second) × (second < 256)
   pub sealed : IsTrue summed → Sealed octets
 
 abbrev pub IsWritten : Format → Bool → Tpdu → List ℕ → Type 0
@@ -188,19 +189,3 @@ IsAllowed width (tpdus.Ed _ _ number octets) = IsNumber width number × (1 ≤ l
 IsAllowed width (tpdus.Ak _ number credit _ _) = IsNumber width number × IsCredit width credit
 IsAllowed width (tpdus.Ea _ number) = IsNumber width number
 IsAllowed width (tpdus.Er _ _ _) = Unit {0}
-
--- the fields of two octets that are written
-abbrev pub FixedFits : Tpdu → Type 0
-FixedFits (tpdus.Cr _ source _ _ _ _ _ _ _ _ _) = source < 65536
-FixedFits (tpdus.Cc _ destination source _ _ _ _ _ _ _ _ _) = (destination < 65536) × (source < 65536)
-FixedFits (tpdus.Dr destination source _ _ _) = (destination < 65536) × (source < 65536)
-FixedFits (tpdus.Dc destination source) = (destination < 65536) × (source < 65536)
-FixedFits (tpdus.Dt destination _ _ _) = destination < 65536
-FixedFits (tpdus.Ed destination _ _ _) = destination < 65536
-FixedFits (tpdus.Ak destination _ credit _ _) = (destination < 65536) × (credit < 65536)
-FixedFits (tpdus.Ea destination _) = destination < 65536
-FixedFits (tpdus.Er destination _ _) = destination < 65536
-
-abbrev pub ParametersFit : Tpdu → Type 0
-ParametersFit (tpdus.Ak _ _ _ subsequence _) = subsequence < 65536
-ParametersFit _ = Unit {0}

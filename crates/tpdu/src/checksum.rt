@@ -2,7 +2,7 @@
 
 ghost use Rattle.std.specs.Prelude.{◌≡◌, ◌+◌, ◌%◌, ◌<◌, ◌≤◌, ℕ, ◌∷◌, [], ◌++◌, length, sum, OnOk};
 ghost use Rattle.osi_base.specs.Fletcher.{place_sum};
-ghost use Rattle.tpdu.specs.Sums.{IsDigest, Sums};
+ghost use Rattle.tpdu.specs.steps.Sums.{IsDigest, Sums};
 
 use crate::parameter::CHECKSUM;
 use osi_base::fletcher_seal;
@@ -47,7 +47,7 @@ fn digest_of(octets: &[u8]) -> [u8; 2]
 }
 
 /// Appends a checksum that holds for the octets with the data behind them. Memory is its only error.
-pub fn put_sum(out: &mut Vec<u8>, body: &[u8]) -> Result<(), AllocError>
+pub fn push_sum(out: &mut Vec<u8>, body: &[u8]) -> Result<(), AllocError>
     requires { length out.old.items ≤ 1000 }
     ensures { OnOk result (Sums out.old.items body.now out.new.items) }
 {

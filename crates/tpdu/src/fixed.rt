@@ -1,14 +1,16 @@
 //! The fixed part of a header: references, numbers, credits and classes (X.224, encoding of TPDUs).
 
-ghost use Rattle.std.specs.Prelude.{◌≡◌, ◌==◌, ◌≤◌, ◌+◌, ◌/◌, ◌∷◌, ◌++◌, [], length, Some, OnOk};
+ghost use Rattle.std.specs.Prelude.{◌≡◌, ◌==◌, ◌≤◌, ◌+◌, ◌/◌, ◌∷◌, ◌++◌, [], length, Some, OnOk, unwrap_or};
 ghost use Rattle.std.specs.List.{list_any};
+ghost use Rattle.pdu_parts.specs.Number.{number_at, two_octets};
 ghost use Rattle.tpdu.specs.Faults.{format_at};
 ghost use Rattle.tpdu.specs.Kinds.{number_count};
-ghost use Rattle.tpdu.specs.Values.{pair_at, quad_at, number_of, is_last, class_format, format_for};
-ghost use Rattle.tpdu.specs.Writing.{class_for, credit_for, fixed_for, number_for, pair, FixedFits};
+ghost use Rattle.tpdu.specs.Values.{quad_at, number_of, is_last, class_format, destination_of, format_for};
+ghost use Rattle.tpdu.specs.Writing.{class_for, credit_for, fixed_for, number_for};
 
 use crate::kind::Kind;
 use crate::{Format, Tpdu};
+use pdu_parts::push_number;
 use std::alloc::AllocError;
 
 /// The top bit of a number of one octet: a transport unit ends here.
@@ -34,9 +36,9 @@ pub struct Numbered {
 }
 
 /// The number of two octets.
-pub fn pair_at(octets: &[u8], at: usize) -> u16
+pub fn number_at(octets: &[u8], at: usize) -> u16
     requires { at + 2 ≤ length octets.now }
-    ensures { result ≡ pair_at octets.now at }
+    ensures { result ≡ number_at at octets.now }
 {
     u16::from_be_bytes([octets[at], octets[at + 1]])
 }
@@ -44,13 +46,13 @@ pub fn pair_at(octets: &[u8], at: usize) -> u16
 /// The number of four octets.
 fn quad_at(octets: &[u8], at: usize) -> u32
     requires { at + 4 ≤ length octets.now }
-    ensures { result ≡ quad_at octets.now at }
+    ensures { result ≡ quad_at at octets.now }
 {
     u32::from_be_bytes([octets[at], octets[at + 1], octets[at + 2], octets[at + 3]])
 }
 
 /// The number behind the destination reference.
-pub fn number_at(format: Format, fixed: &[u8]) -> Numbered
+pub fn numbered_at(format: Format, fixed: &[u8]) -> Numbered
     requires { 2 + number_count format ≤ length fixed.now }
     ensures number { result.number ≡ number_of format fixed.now }
     ensures last { result.last ≡ is_last format fixed.now }
@@ -125,13 +127,13 @@ fn class_octet(format: Format) -> u8
     }
 }
 
-fn put_pair(out: &mut Vec<u8>, number: u16) -> Result<(), AllocError>
-    ensures { OnOk result (out.new.items ≡ out.old.items ++ pair number) }
-{
-    out.extend_from_slice(&number.to_be_bytes())
-}
-
-fn put_number(out: &mut Vec<u8>, format: Format, last: bool, number: u32) -> Result<(), AllocError>
+/// Appends a number of 7 bits in one octet, or of 31 in four, with its top bit.
+fn push_numbered(
+    out: &mut Vec<u8>,
+    format: Format,
+    last: bool,
+    number: u32,
+) -> Result<(), AllocError>
     ensures { OnOk result (out.new.items ≡ out.old.items ++ number_for format last number) }
 {
     match format {
@@ -147,105 +149,60 @@ fn put_number(out: &mut Vec<u8>, format: Format, last: bool, number: u32) -> Res
     Ok(())
 }
 
-/// The credit of an AK that does not stand in its code octet.
-fn put_credit(out: &mut Vec<u8>, format: Format, credit: u16) -> Result<(), AllocError>
+/// Appends the credit of an AK that does not stand in its code octet.
+fn push_credit(out: &mut Vec<u8>, format: Format, credit: u16) -> Result<(), AllocError>
     ensures { OnOk result (out.new.items ≡ out.old.items ++ credit_for format credit) }
 {
     match format {
         Format::Normal => Ok(()),
-        Format::Extended => put_pair(out, credit),
+        Format::Extended => push_number(out, credit),
     }
 }
 
-/// Appends the fixed part behind the code.
-pub fn put_fixed(out: &mut Vec<u8>, tpdu: &Tpdu, format: Format) -> Result<(), AllocError>
-    ensures appended { OnOk result (out.new.items ≡ out.old.items ++ fixed_for format tpdu.now) }
-    ensures fits { OnOk result (FixedFits tpdu.now) }
+/// Appends a source reference and an octet: a class, or a reason.
+fn push_source(out: &mut Vec<u8>, source: u16, octet: u8) -> Result<(), AllocError>
+    ensures { OnOk result (out.new.items ≡ out.old.items ++ (two_octets source ++ octet ∷ [])) }
 {
-    match tpdu {
-        Tpdu::Cr { source, format, .. } => put_connect(out, 0, *source, class_octet(*format)),
-        Tpdu::Cc {
-            destination,
-            source,
-            format,
-            ..
-        } => { put_connect(out, *destination, *source, class_octet(*format)) }
-        Tpdu::Dr {
-            destination,
-            source,
-            reason,
-            ..
-        } => put_connect(out, *destination, *source, *reason),
-        Tpdu::Dc {
-            destination,
-            source,
-        } => put_pairs(out, *destination, *source),
-        Tpdu::Dt {
-            destination,
-            last,
-            number,
-            ..
-        }
-        | Tpdu::Ed {
-            destination,
-            last,
-            number,
-            ..
-        } => { put_numbered(out, format, *destination, *last, *number) }
-        Tpdu::Ak {
-            destination,
-            number,
-            credit,
-            ..
-        } => {
-            put_numbered(out, format, *destination, false, *number)?;
-            put_credit(out, format, *credit)
-        }
-        Tpdu::Ea {
-            destination,
-            number,
-        } => put_numbered(out, format, *destination, false, *number),
-        Tpdu::Er {
-            destination,
-            cause,
-            ..
-        } => {
-            put_pair(out, *destination)?;
-            Ok(out.push(*cause)?)
-        }
-    }
-}
-
-/// Appends two references and an octet: a class, or a reason.
-fn put_connect(
-    out: &mut Vec<u8>,
-    destination: u16,
-    source: u16,
-    octet: u8,
-) -> Result<(), AllocError>
-    ensures { OnOk result (out.new.items ≡ out.old.items ++ (pair destination ++ pair source ++ octet ∷ [])) }
-{
-    put_pairs(out, destination, source)?;
+    push_number(out, source)?;
     Ok(out.push(octet)?)
 }
 
-fn put_pairs(out: &mut Vec<u8>, destination: u16, source: u16) -> Result<(), AllocError>
-    ensures { OnOk result (out.new.items ≡ out.old.items ++ (pair destination ++ pair source)) }
+/// Appends the fixed part behind the code.
+pub fn push_fixed(out: &mut Vec<u8>, tpdu: &Tpdu, format: Format) -> Result<(), AllocError>
+    ensures { OnOk result (out.new.items ≡ out.old.items ++ fixed_for format tpdu.now) }
 {
-    put_pair(out, destination)?;
-    put_pair(out, source)
+    push_number(out, destination_of(tpdu))?;
+    match tpdu {
+        Tpdu::Cr { source, format, .. } | Tpdu::Cc { source, format, .. } => {
+            push_source(out, *source, class_octet(*format))
+        }
+        Tpdu::Dr { source, reason, .. } => push_source(out, *source, *reason),
+        Tpdu::Dc { source, .. } => push_number(out, *source),
+        Tpdu::Dt { last, number, .. } | Tpdu::Ed { last, number, .. } => {
+            push_numbered(out, format, *last, *number)
+        }
+        Tpdu::Ak { number, credit, .. } => {
+            push_numbered(out, format, false, *number)?;
+            push_credit(out, format, *credit)
+        }
+        Tpdu::Ea { number, .. } => push_numbered(out, format, false, *number),
+        Tpdu::Er { cause, .. } => Ok(out.push(*cause)?),
+    }
 }
 
-/// Appends a destination reference and a number with its top bit.
-fn put_numbered(
-    out: &mut Vec<u8>,
-    format: Format,
-    destination: u16,
-    last: bool,
-    number: u32,
-) -> Result<(), AllocError>
-    ensures { OnOk result (out.new.items ≡ out.old.items ++ (pair destination ++ number_for format last number)) }
+/// The destination reference; 0 in a CR, which has none.
+fn destination_of(tpdu: &Tpdu) -> u16
+    ensures { result ≡ unwrap_or (destination_of tpdu.now) 0 }
 {
-    put_pair(out, destination)?;
-    put_number(out, format, last, number)
+    match tpdu {
+        Tpdu::Cr { .. } => 0,
+        Tpdu::Cc { destination, .. }
+        | Tpdu::Dr { destination, .. }
+        | Tpdu::Dc { destination, .. }
+        | Tpdu::Dt { destination, .. }
+        | Tpdu::Ed { destination, .. }
+        | Tpdu::Ak { destination, .. }
+        | Tpdu::Ea { destination, .. }
+        | Tpdu::Er { destination, .. } => *destination,
+    }
 }

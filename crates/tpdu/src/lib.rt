@@ -14,7 +14,10 @@ mod tpdu;
 mod writing;
 
 pub use fault::{TpduCause, TpduFault};
-pub use laws::{first_or_fault, one_bundle, one_first, spelling_is_first};
+pub use laws::{
+    allowed_fits, either_format, front_or_fault, one_bundle, one_front, one_value, one_writing,
+    same_target, spelling_is_first,
+};
 pub use reading::read_first;
 pub use tpdu::{Format, Tpdu, TpduRef};
 pub use writing::write_tpdu;

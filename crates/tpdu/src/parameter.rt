@@ -1,25 +1,17 @@
 //! Parameters of a header: code, length, value (X.224, variable part).
 
-ghost use Rattle.std.specs.Prelude.{◌≡◌, ◌==◌, ◌+◌, ◌<◌, ◌^◌, ◌≢◌, ◌∷◌, length, IfSome, IfOk, Some, None, if◌then◌else◌};
-ghost use Rattle.tpdu.specs.Parameters.{
-  parameter_of,
-  front_of,
-  lengths_in,
-  lengths_of,
-  sum_rows,
-  size_of,
-  trouble,
-  parameters_in,
-  last_value,
-  octet_in,
-  pair_in,
-};
-ghost use Rattle.tpdu.specs.Reading.{Gives, GivesSome, checked, parameter_at};
+ghost use Rattle.std.specs.Prelude.{◌≡◌, ◌==◌, ◌+◌, ◌<◌, ◌^◌, ◌≢◌, ◌∷◌, length, IfOk, Some, None, if◌then◌else◌};
+ghost use Rattle.pdu_parts.specs.Lent.{parameter_of};
+ghost use Rattle.pdu_parts.specs.Parameter.{parameters_in};
+ghost use Rattle.pdu_parts.specs.steps.Reading.{Gives, GivesSome};
+ghost use Rattle.tpdu.specs.Parameters.{lengths_in, lengths_of, sum_rows, size_of, trouble, last_value, octet_in, pair_in};
+ghost use Rattle.tpdu.specs.steps.Reading.{checked, parameter_at};
 ghost use Rattle.tpdu.specs.Values.{octet_under, pair_under, size, text};
 ghost use Rattle.tpdu.specs.declared.kind.Kind.TheVariants as kinds;
 
 use crate::fault::{TpduCause, TpduFault};
 use crate::kind::Kind;
+use pdu_parts::{ParameterRef, split_parameter};
 
 /// Calling transport selector; in an ER the header of the rejected TPDU.
 pub const CALLING: u8 = 0xc1;
@@ -56,34 +48,6 @@ pub const INFO: u8 = 0xe0;
 
 /// The size in octets where there is no size parameter.
 const DEFAULT_SIZE: u16 = 128;
-
-/// A parameter over the octets of its header.
-#[derive(Clone, Copy, Debug)]
-pub struct ParameterRef<'a> {
-    pub code: u8,
-    pub value: &'a [u8],
-}
-
-impl<'a> ParameterRef<'a> {
-    /// The value, where the parameter has this code.
-    fn value_under(self, code: u8) -> Option<&'a [u8]>
-        ensures { GivesSome (λ value. value.now) result (if self.entry.code == code then Some self.entry.value.now else None) }
-    {
-        (self.code == code).then_some(self.value)
-    }
-
-    /// The place of the value of a checksum that begins at the place.
-    fn sum_place(self, place: u32) -> Option<u32>
-        requires { place < 2 ^ 16 }
-        ensures { result ≡ (if self.entry.code == 195 then Some (place + 2) else None) }
-    {
-        if self.code == CHECKSUM {
-            Some(place + 2)
-        } else {
-            None
-        }
-    }
-}
 
 /// The least and the most octets of a value.
 #[derive(Clone, Copy, Debug, PartialEq, Eq)]
@@ -201,24 +165,8 @@ fn trouble(kind: Kind, parameter: &ParameterRef<'_>) -> Option<TpduCause>
     }
 }
 
-/// The parameter at the front, and the octets after it; None where it does not fit.
-fn first_parameter(octets: &[u8]) -> Option<(ParameterRef<'_>, &[u8])>
-    ensures front { GivesSome (λ x. (parameter_of x.0, x.1.now)) result (front_of octets.now) }
-    ensures count { IfSome result (λ x. length octets.now ≡ 2 + length x.0.value.now + length x.1.now) }
-{
-    let [code, count, rest @ ..] = octets else {
-        return None;
-    };
-    let count = usize::from(*count);
-    if rest.len() < count {
-        return None;
-    }
-    let (value, rest) = rest.split_at(count);
-    Some((ParameterRef { code: *code, value }, rest))
-}
-
 /// The parameter at the front, which begins at the place, and the octets after it.
-#[tactic(auto, unfolding(crate::specs::Reading::parameter_at))]
+#[tactic(auto, unfolding(crate::specs::steps::Reading::parameter_at))]
 fn parameter_at(
     kind: Kind,
     place: u32,
@@ -227,7 +175,7 @@ fn parameter_at(
     ensures gives { Gives (λ x. (parameter_of x.0, x.1.now)) result (parameter_at kind place octets.now) }
     ensures count { IfOk result (λ x. length octets.now ≡ 2 + length x.0.value.now + length x.1.now) }
 {
-    let Some((parameter, rest)) = first_parameter(octets) else {
+    let Some((parameter, rest)) = split_parameter(octets) else {
         return Err(TpduFault::at(TpduCause::Param, place));
     };
     match trouble(kind, &parameter) {
@@ -247,11 +195,23 @@ pub fn check_parameters(kind: Kind, first: u32, octets: &[u8]) -> Result<Option<
     let mut sum = None;
     while !left.is_empty() {
         let (parameter, rest) = parameter_at(kind, place, left)?;
-        sum = parameter.sum_place(place).or(sum);
+        sum = sum_place(&parameter, place).or(sum);
         place += 2 + parameter.value.len() as u32;
         left = rest;
     }
     Ok(sum)
+}
+
+/// The place of the value of a checksum that begins at the place.
+fn sum_place(parameter: &ParameterRef<'_>, place: u32) -> Option<u32>
+    requires { place < 2 ^ 16 }
+    ensures { result ≡ (if parameter.now.code == 195 then Some (place + 2) else None) }
+{
+    if parameter.code == CHECKSUM {
+        Some(place + 2)
+    } else {
+        None
+    }
 }
 
 /// The value of the last parameter with this code; None where there is none.
@@ -260,11 +220,18 @@ pub fn last_value(octets: &[u8], code: u8) -> Option<&[u8]>
 {
     let mut left = octets;
     let mut found = None;
-    while let Some((parameter, rest)) = first_parameter(left) {
-        found = parameter.value_under(code).or(found);
+    while let Some((parameter, rest)) = split_parameter(left) {
+        found = value_under(&parameter, code).or(found);
         left = rest;
     }
     found
+}
+
+/// The value of the parameter, where it has this code.
+fn value_under<'a>(parameter: &ParameterRef<'a>, code: u8) -> Option<&'a [u8]>
+    ensures { GivesSome (λ value. value.now) result (if parameter.now.code == code then Some parameter.now.value.now else None) }
+{
+    (parameter.code == code).then_some(parameter.value)
 }
 
 /// The last value with this code, empty where there is none.

@@ -1,12 +1,12 @@
 //! Reading TPDUs, several of which may follow one another in a unit (X.224, concatenation and separation).
 
-ghost use Rattle.std.specs.Prelude.{◌≡◌, ◌+◌, ◌≤◌, ℕ, Bool, List, [], length, take, drop, IfOk, IfErr, IsOkAnd, if◌then◌else◌};
-ghost use Rattle.tpdu.specs.Faults.{IsFault, IsFaultless};
-ghost use Rattle.tpdu.specs.Grammar.{IsFirst};
-ghost use Rattle.tpdu.specs.Kinds.{fixed_count, takes_rest};
-ghost use Rattle.tpdu.specs.Reading.{Gives, head_view, sections_view, head_at, sections_at, close_at, read_at};
-ghost use Rattle.tpdu.specs.Values.{tpdu_of, sum_of};
-ghost use Rattle.tpdu.specs.declared.tpdu.Tpdu.{Tpdu};
+ghost use Rattle.std.specs.Prelude.{◌≡◌, ◌+◌, ◌<◌, ◌≤◌, List, ℕ, length, slice_index, IfOk, IfErr, IsOkAnd};
+ghost use Rattle.pdu_parts.specs.steps.Reading.{Gives};
+ghost use Rattle.tpdu.specs.Faults.{IsTpduFault, indicator};
+ghost use Rattle.tpdu.specs.Grammar.{BeginsWithTpdu};
+ghost use Rattle.tpdu.specs.Kinds.{fixed_count};
+ghost use Rattle.tpdu.specs.Values.{TpduAndSum, seen};
+ghost use Rattle.tpdu.specs.steps.Reading.{head_view, head_for, sections_view, head_at, sections_at, close_at, read_at};
 
 use crate::TpduRef;
 use crate::fault::{TpduCause, TpduFault};
@@ -34,21 +34,21 @@ pub fn read_first<'a>(
     extended: &[u16],
 ) -> Result<(TpduRef<'a>, &'a [u8]), TpduFault>
     // What is read stands at the front.
-    ensures ok { IfOk result (λ found. IsFirst extended.now octets.now (tpdu_of found.0) (sum_of found.0) found.1.now) }
+    ensures ok { IfOk result (λ found. BeginsWithTpdu extended.now octets.now (seen found.0) found.1.now) }
     // What stands at the front is read.
-    ensures only { (tpdu : Tpdu) (sum : Bool) (rest : List ℕ) → IsFirst extended.now octets.now tpdu sum rest → IsOkAnd result (λ found. (tpdu_of found.0 ≡ tpdu) × (sum_of found.0 ≡ sum) × (found.1.now ≡ rest)) }
-    ensures fault { IfErr result (λ fault. IsFault extended.now octets.now fault) }
-    ensures no_fault { IfOk result (λ _. IsFaultless extended.now octets.now) }
+    ensures only { (tpdu : TpduAndSum) (rest : List ℕ) → BeginsWithTpdu extended.now octets.now tpdu rest
+        → IsOkAnd result (λ found. (seen found.0 ≡ tpdu) × (found.1.now ≡ rest)) }
+    ensures fault { IfErr result (IsTpduFault extended.now octets.now) }
 {
     read(octets, extended)
 }
 
-#[tactic(auto, unfolding(crate::specs::Reading::read_at, crate::specs::Values::value_of))]
+#[tactic(auto, unfolding(crate::specs::steps::Reading::read_at, crate::specs::Values::value_of))]
 fn read<'a>(octets: &'a [u8], extended: &[u16]) -> Result<(TpduRef<'a>, &'a [u8]), TpduFault>
-    ensures { Gives (λ x. (tpdu_of x.0, sum_of x.0, x.1.now)) result (read_at extended.now octets.now) }
+    ensures { Gives (λ x. (seen x.0, x.1.now)) result (read_at extended.now octets.now) }
 {
-    let head = head_of(octets)?;
-    let sections = sections_of(extended, head.kind, head.fields)?;
+    let head = head_at(octets)?;
+    let sections = sections_at(extended, head.kind, head.fields)?;
     let place = FIELDS_PLACE + sections.fixed.len() as u32;
     let sum = check_parameters(head.kind, place, sections.parameters)?;
     let body_place = u32::from(octets[0]) + 2;
@@ -57,8 +57,8 @@ fn read<'a>(octets: &'a [u8], extended: &[u16]) -> Result<(TpduRef<'a>, &'a [u8]
     Ok((tpdu, head.rest))
 }
 
-#[tactic(auto, unfolding(crate::specs::Reading::head_at))]
-fn head_of(octets: &[u8]) -> Result<HeadRef<'_>, TpduFault>
+#[tactic(auto, unfolding(crate::specs::steps::Reading::head_at))]
+fn head_at(octets: &[u8]) -> Result<HeadRef<'_>, TpduFault>
     ensures gives { Gives head_view result (head_at octets.now) }
     ensures some { IfOk result (λ head. 2 ≤ length octets.now) }
     ensures short { IfOk result (λ head. length head.fields.now ≤ 253) }
@@ -73,17 +73,17 @@ fn head_of(octets: &[u8]) -> Result<HeadRef<'_>, TpduFault>
     let Some(kind) = Kind::of(*code) else {
         return Err(TpduFault::at(TpduCause::Code, 2));
     };
-    Ok(head_by(kind, *code, octets, count + 1))
+    Ok(head_by(kind, octets))
 }
 
-/// The front of a TPDU whose header has `count` octets with its length indicator.
-fn head_by(kind: Kind, code: u8, octets: &[u8], count: usize) -> HeadRef<'_>
-    requires least { 2 ≤ count }
-    requires most { count ≤ length octets.now }
-    ensures { head_view result ≡ record { kind = kind; code = code; fields = drop 2 (take count octets.now); all = if takes_rest kind then octets.now else take count octets.now; body = if takes_rest kind then drop count octets.now else []; rest = if takes_rest kind then [] else drop count octets.now } }
+/// The front of a TPDU of this kind whose header stands whole.
+fn head_by(kind: Kind, octets: &[u8]) -> HeadRef<'_>
+    requires least { 1 ≤ indicator octets.now }
+    requires most { indicator octets.now < length octets.now }
+    ensures { head_view result ≡ head_for kind octets.now }
 {
-    let (header, behind) = octets.split_at(count);
-    let fields = &header[2..];
+    let (header, behind) = octets.split_at(usize::from(octets[0]) + 1);
+    let (code, fields) = (octets[1], &header[2..]);
     if kind.takes_rest() {
         HeadRef {
             kind,
@@ -105,8 +105,8 @@ fn head_by(kind: Kind, code: u8, octets: &[u8], count: usize) -> HeadRef<'_>
     }
 }
 
-#[tactic(auto, unfolding(crate::specs::Reading::sections_at))]
-fn sections_of<'a>(
+#[tactic(auto, unfolding(crate::specs::steps::Reading::sections_at))]
+fn sections_at<'a>(
     extended: &[u16],
     kind: Kind,
     fields: &'a [u8],
@@ -132,7 +132,7 @@ fn sections_of<'a>(
 }
 
 /// Whether the checksum, where there is one, holds, and the data has a length that the kind allows.
-#[tactic(auto, unfolding(crate::specs::Reading::close_at))]
+#[tactic(auto, unfolding(crate::specs::steps::Reading::close_at))]
 fn check_close(
     kind: Kind,
     sum: Option<u32>,

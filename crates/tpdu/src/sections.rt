@@ -2,11 +2,10 @@
 
 ghost use Rattle.std.specs.Prelude.{◌≡◌, ◌+◌, ◌≤◌, [], length};
 ghost use Rattle.tpdu.specs.Kinds.{fixed_count, number_count};
-ghost use Rattle.tpdu.specs.Parameters.{parameters_in};
-ghost use Rattle.tpdu.specs.Values.{fields, tpdu_of, sum_of};
+ghost use Rattle.tpdu.specs.steps.Reading.{IsOf};
 ghost use Rattle.tpdu.specs.declared.kind.Kind.TheVariants as kinds;
 
-use crate::fixed::{class_format, number_at, pair_at};
+use crate::fixed::{class_format, number_at, numbered_at};
 use crate::kind::Kind;
 use crate::parameter::{
     ACK_TIME, CALLED, CALLING, CLASSES, CONFIRMATION, EXTRA, INFO, SUBSEQUENCE, VERSION,
@@ -39,8 +38,7 @@ pub struct SectionsRef<'a> {
 /// The TPDU of a front and its sections.
 pub fn tpdu_at<'a>(head: &HeadRef<'a>, sections: &SectionsRef<'a>, sum: bool) -> TpduRef<'a>
     requires { length sections.now.fixed.now ≡ fixed_count head.now.kind sections.now.format }
-    ensures value { tpdu_of result ≡ fields head.now.kind sections.now.format head.now.code sections.now.fixed.now (parameters_in sections.now.parameters.now) head.now.body.now }
-    ensures sum { sum_of result ≡ sum }
+    ensures { IsOf head.now.kind head.now.code sections.now head.now.body.now sum result }
 {
     match head.kind {
         Kind::Cr => connect_request(head, sections, sum),
@@ -57,13 +55,12 @@ pub fn tpdu_at<'a>(head: &HeadRef<'a>, sections: &SectionsRef<'a>, sum: bool) ->
 
 fn connect_request<'a>(head: &HeadRef<'a>, sections: &SectionsRef<'a>, sum: bool) -> TpduRef<'a>
     requires { length sections.now.fixed.now ≡ 5 }
-    ensures value { tpdu_of result ≡ fields kinds.Cr sections.now.format head.now.code sections.now.fixed.now (parameters_in sections.now.parameters.now) head.now.body.now }
-    ensures sum { sum_of result ≡ sum }
+    ensures { IsOf kinds.Cr head.now.code sections.now head.now.body.now sum result }
 {
     let parameters = sections.parameters;
     TpduRef::Cr {
         credit: head.code % 16,
-        source: pair_at(sections.fixed, 2),
+        source: number_at(sections.fixed, 2),
         format: class_format(sections.fixed[4]),
         calling: text(parameters, CALLING),
         called: text(parameters, CALLED),
@@ -79,14 +76,13 @@ fn connect_request<'a>(head: &HeadRef<'a>, sections: &SectionsRef<'a>, sum: bool
 
 fn connect_confirm<'a>(head: &HeadRef<'a>, sections: &SectionsRef<'a>, sum: bool) -> TpduRef<'a>
     requires { length sections.now.fixed.now ≡ 5 }
-    ensures value { tpdu_of result ≡ fields kinds.Cc sections.now.format head.now.code sections.now.fixed.now (parameters_in sections.now.parameters.now) head.now.body.now }
-    ensures sum { sum_of result ≡ sum }
+    ensures { IsOf kinds.Cc head.now.code sections.now head.now.body.now sum result }
 {
     let parameters = sections.parameters;
     TpduRef::Cc {
         credit: head.code % 16,
-        destination: pair_at(sections.fixed, 0),
-        source: pair_at(sections.fixed, 2),
+        destination: number_at(sections.fixed, 0),
+        source: number_at(sections.fixed, 2),
         format: class_format(sections.fixed[4]),
         calling: text(parameters, CALLING),
         called: text(parameters, CALLED),
@@ -102,12 +98,11 @@ fn connect_confirm<'a>(head: &HeadRef<'a>, sections: &SectionsRef<'a>, sum: bool
 
 fn normal_data<'a>(head: &HeadRef<'a>, sections: &SectionsRef<'a>, sum: bool) -> TpduRef<'a>
     requires { 2 + number_count sections.now.format ≤ length sections.now.fixed.now }
-    ensures value { tpdu_of result ≡ fields kinds.Dt sections.now.format head.now.code sections.now.fixed.now (parameters_in sections.now.parameters.now) head.now.body.now }
-    ensures sum { sum_of result ≡ sum }
+    ensures { IsOf kinds.Dt head.now.code sections.now head.now.body.now sum result }
 {
-    let numbered = number_at(sections.format, sections.fixed);
+    let numbered = numbered_at(sections.format, sections.fixed);
     TpduRef::Dt {
-        destination: pair_at(sections.fixed, 0),
+        destination: number_at(sections.fixed, 0),
         last: numbered.last,
         number: numbered.number,
         sum,
@@ -117,12 +112,11 @@ fn normal_data<'a>(head: &HeadRef<'a>, sections: &SectionsRef<'a>, sum: bool) ->
 
 fn expedited_data<'a>(head: &HeadRef<'a>, sections: &SectionsRef<'a>, sum: bool) -> TpduRef<'a>
     requires { 2 + number_count sections.now.format ≤ length sections.now.fixed.now }
-    ensures value { tpdu_of result ≡ fields kinds.Ed sections.now.format head.now.code sections.now.fixed.now (parameters_in sections.now.parameters.now) head.now.body.now }
-    ensures sum { sum_of result ≡ sum }
+    ensures { IsOf kinds.Ed head.now.code sections.now head.now.body.now sum result }
 {
-    let numbered = number_at(sections.format, sections.fixed);
+    let numbered = numbered_at(sections.format, sections.fixed);
     TpduRef::Ed {
-        destination: pair_at(sections.fixed, 0),
+        destination: number_at(sections.fixed, 0),
         last: numbered.last,
         number: numbered.number,
         sum,
@@ -132,16 +126,15 @@ fn expedited_data<'a>(head: &HeadRef<'a>, sections: &SectionsRef<'a>, sum: bool)
 
 fn acknowledgement<'a>(head: &HeadRef<'a>, sections: &SectionsRef<'a>, sum: bool) -> TpduRef<'a>
     requires { length sections.now.fixed.now ≡ fixed_count kinds.Ak sections.now.format }
-    ensures value { tpdu_of result ≡ fields kinds.Ak sections.now.format head.now.code sections.now.fixed.now (parameters_in sections.now.parameters.now) head.now.body.now }
-    ensures sum { sum_of result ≡ sum }
+    ensures { IsOf kinds.Ak head.now.code sections.now head.now.body.now sum result }
 {
     let credit = match sections.format {
         Format::Normal => u16::from(head.code % 16),
-        Format::Extended => pair_at(sections.fixed, 6),
+        Format::Extended => number_at(sections.fixed, 6),
     };
     TpduRef::Ak {
-        destination: pair_at(sections.fixed, 0),
-        number: number_at(sections.format, sections.fixed).number,
+        destination: number_at(sections.fixed, 0),
+        number: numbered_at(sections.format, sections.fixed).number,
         credit,
         subsequence: pair_under(sections.parameters, SUBSEQUENCE).unwrap_or(0),
         confirmation: last_value(sections.parameters, CONFIRMATION),
@@ -151,12 +144,11 @@ fn acknowledgement<'a>(head: &HeadRef<'a>, sections: &SectionsRef<'a>, sum: bool
 
 fn disconnect_request<'a>(head: &HeadRef<'a>, sections: &SectionsRef<'a>, sum: bool) -> TpduRef<'a>
     requires { length sections.now.fixed.now ≡ 5 }
-    ensures value { tpdu_of result ≡ fields kinds.Dr sections.now.format head.now.code sections.now.fixed.now (parameters_in sections.now.parameters.now) head.now.body.now }
-    ensures sum { sum_of result ≡ sum }
+    ensures { IsOf kinds.Dr head.now.code sections.now head.now.body.now sum result }
 {
     TpduRef::Dr {
-        destination: pair_at(sections.fixed, 0),
-        source: pair_at(sections.fixed, 2),
+        destination: number_at(sections.fixed, 0),
+        source: number_at(sections.fixed, 2),
         reason: sections.fixed[4],
         info: last_value(sections.parameters, INFO),
         sum,
@@ -166,35 +158,32 @@ fn disconnect_request<'a>(head: &HeadRef<'a>, sections: &SectionsRef<'a>, sum: b
 
 fn disconnect_confirm<'a>(sections: &SectionsRef<'a>, sum: bool) -> TpduRef<'a>
     requires { length sections.now.fixed.now ≡ 4 }
-    ensures value { tpdu_of result ≡ fields kinds.Dc sections.now.format 0 sections.now.fixed.now (parameters_in sections.now.parameters.now) [] }
-    ensures sum { sum_of result ≡ sum }
+    ensures { IsOf kinds.Dc 0 sections.now [] sum result }
 {
     TpduRef::Dc {
-        destination: pair_at(sections.fixed, 0),
-        source: pair_at(sections.fixed, 2),
+        destination: number_at(sections.fixed, 0),
+        source: number_at(sections.fixed, 2),
         sum,
     }
 }
 
 fn expedited_acknowledgement<'a>(sections: &SectionsRef<'a>, sum: bool) -> TpduRef<'a>
     requires { 2 + number_count sections.now.format ≤ length sections.now.fixed.now }
-    ensures value { tpdu_of result ≡ fields kinds.Ea sections.now.format 0 sections.now.fixed.now (parameters_in sections.now.parameters.now) [] }
-    ensures sum { sum_of result ≡ sum }
+    ensures { IsOf kinds.Ea 0 sections.now [] sum result }
 {
     TpduRef::Ea {
-        destination: pair_at(sections.fixed, 0),
-        number: number_at(sections.format, sections.fixed).number,
+        destination: number_at(sections.fixed, 0),
+        number: numbered_at(sections.format, sections.fixed).number,
         sum,
     }
 }
 
 fn error<'a>(sections: &SectionsRef<'a>, sum: bool) -> TpduRef<'a>
     requires { length sections.now.fixed.now ≡ 3 }
-    ensures value { tpdu_of result ≡ fields kinds.Er sections.now.format 0 sections.now.fixed.now (parameters_in sections.now.parameters.now) [] }
-    ensures sum { sum_of result ≡ sum }
+    ensures { IsOf kinds.Er 0 sections.now [] sum result }
 {
     TpduRef::Er {
-        destination: pair_at(sections.fixed, 0),
+        destination: number_at(sections.fixed, 0),
         cause: sections.fixed[2],
         rejected: last_value(sections.parameters, CALLING),
         sum,

@@ -4,18 +4,13 @@
 //! where it is not 0, and a checksum stands last. No other parameter is written.
 
 ghost use Rattle.std.specs.Prelude.{◌≡◌, ◌+◌, ◌<◌, ◌≤◌, ◌^◌, ◌↔◌, [], ◌∷◌, ◌++◌, length, min, IfOk, OnOk, IsErrOf, IsTrue};
-ghost use Rattle.tpdu.specs.Grammar.{IsTpduWith};
-ghost use Rattle.tpdu.specs.Parameters.{spelled};
+ghost use Rattle.pdu_parts.specs.Parameter.{spelled};
+ghost use Rattle.tpdu.specs.Grammar.{IsTpdu};
 ghost use Rattle.tpdu.specs.Writing.{
   code_for,
   ack_code,
   fixed_for,
-  number_for,
-  credit_for,
-  class_for,
-  pair,
   size_code,
-  parameter,
   connect_parameters,
   ack_parameters,
   parameters_for,
@@ -26,20 +21,19 @@ ghost use Rattle.tpdu.specs.Writing.{
   count_for,
   IsSpelled,
   IsWritten,
-  FixedFits,
-  ParametersFit,
   IsPlain,
   IsAllowed,
 };
 ghost use Rattle.osi_base.specs.declared.refusal.HeaderRefusal.TheVariants.{TooLong};
-ghost use Rattle.tpdu.specs.Sums.{SumsIf};
+ghost use Rattle.tpdu.specs.steps.Sums.{SumsIf};
 
-use crate::checksum::put_sum;
-use crate::fixed::put_fixed;
+use crate::checksum::push_sum;
+use crate::fixed::push_fixed;
 use crate::kind::Kind;
 use crate::parameter::{CALLED, CALLING, EXTRA, SIZE, SUBSEQUENCE};
 use crate::{Format, Tpdu};
 use osi_base::HeaderRefusal;
+use pdu_parts::push_parameter;
 use std::alloc::{AllocError, Global};
 
 /// The most octets of a header without its length indicator.
@@ -59,13 +53,15 @@ const SUBSEQUENCE_COUNT: usize = 4;
 ///
 /// Fields that are not written are left out. TooLong exactly where the header with its length indicator
 /// has more than 255 octets.
+#[tactic(auto, using(crate::proofs::WriteLaws::write_ok))]
 pub fn write_tpdu(
     alloc: Global,
     tpdu: &Tpdu,
     format: Format,
     sum: bool,
 ) -> Result<Vec<u8>, HeaderRefusal>
-    ensures ok { IfOk result (λ octets. IsPlain tpdu.now → IsAllowed format tpdu.now → IsTpduWith (is_summed sum tpdu.now) format octets.items tpdu.now) }
+    ensures ok { IfOk result (λ octets. IsPlain tpdu.now → IsAllowed format tpdu.now
+        → IsTpdu format octets.items (tpdu.now, is_summed sum tpdu.now)) }
     // What is written, also for a value that the format has no octets for.
     ensures written { IfOk result (λ octets. IsWritten format sum tpdu.now octets.items) }
     ensures too_long { IsErrOf result TooLong ↔ (254 < header_count format sum tpdu.now) }
@@ -81,6 +77,7 @@ pub fn write_tpdu(
     }
 }
 
+#[tactic(auto, using(crate::proofs::Spellings::spelled_from))]
 fn spell(
     alloc: Global,
     tpdu: &Tpdu,
@@ -90,25 +87,23 @@ fn spell(
 ) -> Result<Vec<u8>, AllocError>
     requires count { count ≡ count_for format summed tpdu.now }
     requires short { count ≤ 254 }
-    ensures spelled { IfOk result (λ octets. IsSpelled format summed tpdu.now octets.items) }
-    ensures fixed_fits { OnOk result (FixedFits tpdu.now) }
-    ensures parameters_fit { OnOk result (ParametersFit tpdu.now) }
+    ensures { IfOk result (λ octets. IsSpelled format summed tpdu.now octets.items) }
 {
     let body = body_of(tpdu);
     let mut out = Vec::new(alloc);
     out.extend_from_slice(&[count as u8, code_of(tpdu, format)])?;
-    put_fixed(&mut out, tpdu, format)?;
-    put_parameters(&mut out, tpdu)?;
-    put_checksum(&mut out, body, summed)?;
+    push_fixed(&mut out, tpdu, format)?;
+    push_parameters(&mut out, tpdu)?;
+    push_checksum(&mut out, body, summed)?;
     out.extend_from_slice(body)?;
     Ok(out)
 }
 
-fn put_checksum(out: &mut Vec<u8>, body: &[u8], summed: bool) -> Result<(), AllocError>
+fn push_checksum(out: &mut Vec<u8>, body: &[u8], summed: bool) -> Result<(), AllocError>
     requires { length out.old.items ≤ 1000 }
     ensures { OnOk result (SumsIf summed out.old.items body.now out.new.items) }
 {
-    if summed { put_sum(out, body) } else { Ok(()) }
+    if summed { push_sum(out, body) } else { Ok(()) }
 }
 
 /// The octets of the header without its length indicator, or the greatest number.
@@ -134,13 +129,7 @@ fn parameters_count(tpdu: &Tpdu) -> usize
             calling,
             called,
             ..
-        } => {
-            let calling_count = calling.as_slice().len();
-            let called_count = called.as_slice().len();
-            calling_count
-                .saturating_add(called_count)
-                .saturating_add(CONNECT_COUNT)
-        }
+        } => connect_count(calling.as_slice(), called.as_slice()),
         Tpdu::Ak { subsequence, .. } => if *subsequence == 0 {
             0
         } else {
@@ -153,6 +142,16 @@ fn parameters_count(tpdu: &Tpdu) -> usize
         | Tpdu::Ea { .. }
         | Tpdu::Er { .. } => 0,
     }
+}
+
+/// The octets of the parameters of a CR or a CC, or the greatest number.
+fn connect_count(calling: &[u8], called: &[u8]) -> usize
+    ensures { result ≡ min (length calling.now + length called.now + 10) usize.MAX }
+{
+    calling
+        .len()
+        .saturating_add(called.len())
+        .saturating_add(CONNECT_COUNT)
 }
 
 /// Whether a checksum is written.
@@ -220,19 +219,10 @@ fn size_code(size: u16) -> u8
     }
 }
 
-fn put_parameter(out: &mut Vec<u8>, code: u8, value: &[u8]) -> Result<(), AllocError>
-    requires { length value.now < 256 }
-    ensures { OnOk result (out.new.items ≡ out.old.items ++ spelled (parameter code value.now ∷ [])) }
-{
-    out.extend_from_slice(&[code, value.len() as u8])?;
-    out.extend_from_slice(value)
-}
-
 /// Appends the parameters but for the checksum.
-fn put_parameters(out: &mut Vec<u8>, tpdu: &Tpdu) -> Result<(), AllocError>
+fn push_parameters(out: &mut Vec<u8>, tpdu: &Tpdu) -> Result<(), AllocError>
     requires { length (spelled (parameters_for tpdu.now)) < 256 }
-    ensures appended { OnOk result (out.new.items ≡ out.old.items ++ spelled (parameters_for tpdu.now)) }
-    ensures fits { OnOk result (ParametersFit tpdu.now) }
+    ensures { OnOk result (out.new.items ≡ out.old.items ++ spelled (parameters_for tpdu.now)) }
 {
     match tpdu {
         Tpdu::Cr {
@@ -248,13 +238,8 @@ fn put_parameters(out: &mut Vec<u8>, tpdu: &Tpdu) -> Result<(), AllocError>
             size,
             extra,
             ..
-        } => {
-            put_parameter(out, CALLING, calling.as_slice())?;
-            put_parameter(out, CALLED, called.as_slice())?;
-            put_parameter(out, SIZE, &[size_code(*size)])?;
-            put_parameter(out, EXTRA, &[*extra])
-        }
-        Tpdu::Ak { subsequence, .. } => put_subsequence(out, *subsequence),
+        } => push_connect(out, calling.as_slice(), called.as_slice(), *size, *extra),
+        Tpdu::Ak { subsequence, .. } => push_subsequence(out, *subsequence),
         Tpdu::Dr { .. }
         | Tpdu::Dc { .. }
         | Tpdu::Dt { .. }
@@ -264,13 +249,30 @@ fn put_parameters(out: &mut Vec<u8>, tpdu: &Tpdu) -> Result<(), AllocError>
     }
 }
 
-fn put_subsequence(out: &mut Vec<u8>, subsequence: u16) -> Result<(), AllocError>
+/// Appends the parameters of a CR or a CC.
+fn push_connect(
+    out: &mut Vec<u8>,
+    calling: &[u8],
+    called: &[u8],
+    size: u16,
+    extra: u8,
+) -> Result<(), AllocError>
+    requires { length (spelled (connect_parameters calling.now called.now size extra)) < 256 }
+    ensures { OnOk result (out.new.items ≡ out.old.items ++ spelled (connect_parameters calling.now called.now size extra)) }
+{
+    push_parameter(out, CALLING, calling)?;
+    push_parameter(out, CALLED, called)?;
+    push_parameter(out, SIZE, &[size_code(size)])?;
+    push_parameter(out, EXTRA, &[extra])
+}
+
+fn push_subsequence(out: &mut Vec<u8>, subsequence: u16) -> Result<(), AllocError>
     ensures { OnOk result (out.new.items ≡ out.old.items ++ spelled (ack_parameters subsequence)) }
 {
     if subsequence == 0 {
         return Ok(());
     }
-    put_parameter(out, SUBSEQUENCE, &subsequence.to_be_bytes())
+    push_parameter(out, SUBSEQUENCE, &subsequence.to_be_bytes())
 }
 
 fn body_of(tpdu: &Tpdu) -> &[u8]

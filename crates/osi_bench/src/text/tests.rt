@@ -21,7 +21,7 @@ fn expect_lines(rt: &impl Abort, alloc: Global, table: &[(Event, &str)]) -> Resu
     let tags = names(alloc)?;
     for (event, line) in table {
         let mut out = Vec::new(alloc);
-        write_event(event, &tags, &mut out)?;
+        push_event(event, &tags, &mut out)?;
         assert_eq!(rt; out.as_slice(), line.as_bytes());
     }
     Ok(())
@@ -201,19 +201,22 @@ fn lines_follow_what_stands(rt: HostRuntime) -> Result<(), Fail> {
         },
     ];
     let mut out = b"tick 0\n".to_vec(alloc)?;
-    write_events(&events, &tags, &mut out)?;
-    write_refusal(100_000, &mut out)?;
+    push_events(&events, &tags, &mut out)?;
+    push_refusal(100_000, &mut out)?;
     let text = "tick 0\ntick 1\ndeliver 1 b\nrefused 100000 1 word\n";
     assert_eq!(rt; out.as_slice(), text.as_bytes());
     Ok(())
 }
 
 #[test]
-fn closing_lines(rt: HostRuntime) {
-    assert_eq!(rt; done(), b"done\n".as_slice());
-    assert_eq!(rt; toomuch(), b"toomuch\n".as_slice());
+fn closing_lines(rt: HostRuntime) -> Result<(), Fail> {
+    let mut out = Vec::new(rt.alloc());
+    push_done(&mut out)?;
+    push_too_much(&mut out)?;
+    assert_eq!(rt; out.as_slice(), b"done\ntoomuch\n".as_slice());
     assert_eq!(rt;
         usage(),
         b"usage: osi run | frames | decode | storm SEED COUNT\n".as_slice()
     );
+    Ok(())
 }

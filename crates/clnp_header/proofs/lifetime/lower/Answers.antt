@@ -1,5 +1,5 @@
 use Rattle.std.proofs.Common.{◌==◌, not, ℕ, ◌++◌, get_or, take, drop, ap, subst}
-use Rattle.clnp_header.specs.Lifetime.{lower_fourth}
+use Rattle.clnp_header.specs.steps.Lowering.{lower_fourth}
 use Rattle.clnp_header.specs.Writing.{SealsIf}
 use Rattle.clnp_header.proofs.lifetime.lower.Goals as goal
 

@@ -1,6 +1,6 @@
 use Rattle.std.proofs.Common.{◌≡◌, ◌+◌, ◌≤◌, length, drop}
-use Rattle.clnp_options.specs.Options.{spelled}
-use Rattle.clnp_header.specs.Grammar.{parameters}
+use Rattle.pdu_parts.specs.Parameter.{spelled}
+use Rattle.clnp_header.specs.Values.{parameters}
 use Rattle.clnp_header.proofs.writing.length_with.Given as goal
 
 abbrev pub invariant-loop-option : goal.invariant-loop-option

@@ -1,21 +1,20 @@
-use Rattle.std.proofs.Common.{◌+◌, length, rules, arith}
+use Rattle.std.proofs.Common.{rules, arith}
 use Rattle.std.proofs.lemmas.Grind.{common_steps}
-use Rattle.clnp_header.proofs.Written.{is_written}
+use Rattle.clnp_header.proofs.Written.{is_pdu}
 use Rattle.clnp_header.proofs.writing.write_pdu.Goals as goal
+
+pub returns-clause-written : goal.returns-clause-written
+returns-clause-written c = record {
+  header = c.seal.new.header;
+  sealed = search rules;
+  whole = grind (arith, common_steps);
+}
 
 pub returns-clause-ok : goal.returns-clause-ok
 returns-clause-ok c =
-    let pdu = c.args.pdu.now in
-    let n = c.in-Some.header in
-    let m = n + length c.as_slice-body.result.now in
-    is_written pdu n m c.push_header.new.octets.items c.seal.new.header c.extend_from_slice.new.self.items (record {
-      plain_is = search rules;
-      sealed = search rules;
-      behind = grind (arith, common_steps);
-      header_is = c.in-Some.ensures.value.0;
-      whole_is = search rules;
-      header_fits = c.in-Some.ensures.value.1;
+    is_pdu c.args.pdu.now c.extend_from_slice.new.self.items (returns-clause-written c) (record {
+      header_fits = search rules;
       pdu_fits = search rules;
-      destination = c.header_length.ensures.destination;
-      source = c.header_length.ensures.source;
+      destination = c.in_ok-push_header.ensures.addresses.0;
+      source = c.in_ok-push_header.ensures.addresses.1;
     })

@@ -1,4 +1,4 @@
-use Rattle.clnp_options.specs.Listed.{parameter_of}
+use Rattle.pdu_parts.specs.Lent.{parameter_of}
 use Rattle.clnp_options.proofs.Walk.{get_found, get_missed, get_nowhere}
 use Rattle.clnp_options.proofs.option.get.Goals as goal
 

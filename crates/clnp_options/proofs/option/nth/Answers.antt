@@ -1,5 +1,5 @@
 use Rattle.std.proofs.Common.{◌-◌, ap, ◌∙◌, option_map}
-use Rattle.clnp_options.specs.Listed.{parameter_of}
+use Rattle.pdu_parts.specs.Lent.{parameter_of}
 use Rattle.clnp_options.proofs.Walk.{nth_next, nth_nowhere, nth_found}
 use Rattle.clnp_options.proofs.option.nth.Goals as goal
 

@@ -1,5 +1,5 @@
 use Rattle.std.proofs.Common.{◌∙◌}
-use Rattle.clnp_options.specs.Listed.{listed}
+use Rattle.clnp_options.specs.Options.{listed}
 use Rattle.clnp_options.proofs.Codes.{has_found}
 use Rattle.clnp_options.proofs.reading.is_among.Goals as goal
 

@@ -1,6 +1,6 @@
 -- What comes after those that are left comes after all.
 use Rattle.std.proofs.Common.{◌≡◌, ◌-◌}
-use Rattle.esis_pdu.specs.Fields.{after_addresses}
+use Rattle.esis_pdu.specs.steps.Reading.{after_addresses}
 use Rattle.esis_pdu.proofs.reading.after_addresses.Given as goal
 
 abbrev pub invariant-loop : goal.invariant-loop

@@ -1,7 +1,7 @@
 -- The addresses so far are too long, so all are.
 use Rattle.std.proofs.Common.{◌+◌, ◌<◌, length, take, get_or, arith}
 use Rattle.std.specs.List.{flat_map}
-use Rattle.esis_pdu.specs.Hellos.{field}
+use Rattle.pdu_parts.specs.Field.{field}
 use Rattle.esis_pdu.proofs.Lengths.{too_long}
 use Rattle.esis_pdu.proofs.writing.addresses_length.Goals as goal
 

@@ -1,7 +1,7 @@
 -- The length of the addresses so far, each of them allowed.
 use Rattle.std.proofs.Common.{◌≡◌, ◌≤◌, length, take}
 use Rattle.std.specs.List.{AllByRecursion, flat_map}
-use Rattle.esis_pdu.specs.Hellos.{IsAddress, field}
+use Rattle.pdu_parts.specs.Field.{IsAddress, field}
 use Rattle.esis_pdu.proofs.writing.addresses_length.Given as goal
 
 abbrev pub invariant-loop-address : goal.invariant-loop-address

@@ -1,5 +1,5 @@
 use Rattle.std.proofs.Common.{◌≤◌, ◌-◌, length}
-use Rattle.lan_bag.specs.Frames.{IsClosedTo}
+use Rattle.lan_bag.specs.steps.Openings.{IsClosedTo}
 use Rattle.lan_bag.proofs.delivery.first_open.Given as goal
 
 abbrev pub invariant-loop-place : goal.invariant-loop-place

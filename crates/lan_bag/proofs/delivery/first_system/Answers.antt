@@ -1,6 +1,6 @@
 use Rattle.std.proofs.Common.{List, Option, Some, ℕ, ap, sym, subst, ◌∙◌, ◌+◌, take, arith}
 use Rattle.lan_bag.specs.declared.setup.PortRow.{PortRow}
-use Rattle.lan_bag.specs.Frames.{IsLeastAmong}
+use Rattle.lan_bag.proofs.Openings.{IsLeastAmong}
 use Rattle.lan_bag.proofs.Openings.{among_more, among_same, least_open, take_rows}
 use Rattle.lan_bag.proofs.delivery.first_system.Goals as goal
 use Rattle.lan_bag.proofs.delivery.first_system.Goals.{then-is_free_at, else-is_free_at}

@@ -1,5 +1,5 @@
 use Rattle.std.proofs.Common.{take}
-use Rattle.lan_bag.specs.Frames.{IsLeastAmong}
+use Rattle.lan_bag.proofs.Openings.{IsLeastAmong}
 use Rattle.lan_bag.proofs.delivery.first_system.Given as goal
 
 abbrev pub invariant-loop-row : goal.invariant-loop-row

@@ -1,5 +1,5 @@
 use Rattle.std.proofs.Common.{◌∙◌, ap, sym, option_copied}
-use Rattle.lan_bag.specs.Frames.{is_open}
+use Rattle.lan_bag.specs.steps.Openings.{is_open}
 use Rattle.lan_bag.proofs.Openings.{any_open}
 use Rattle.lan_bag.proofs.delivery.is_free.Goals as goal
 

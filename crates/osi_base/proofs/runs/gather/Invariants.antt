@@ -1,5 +1,5 @@
 use Rattle.std.proofs.Common.{length}
-use Rattle.osi_base.specs.Gathering.{Gathering}
+use Rattle.osi_base.proofs.Gatherings.{Gathering}
 use Rattle.osi_base.proofs.runs.gather.Given as goal
 
 abbrev pub invariant-loop-up : goal.invariant-loop-up

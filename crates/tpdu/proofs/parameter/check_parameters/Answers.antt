@@ -1,6 +1,6 @@
 use Rattle.std.proofs.Common.{◌≡◌, ◌<◌, ◌∙◌, length, sym, arith, rules}
 use Rattle.std.proofs.lemmas.Result.{err_from_is_err_and}
-use Rattle.tpdu.specs.Parameters.{parameter_of}
+use Rattle.pdu_parts.specs.Lent.{parameter_of}
 use Rattle.tpdu.proofs.Checks.{goes_on-start, goes_on-front, goes_on-fault, goes_on-end}
 use Rattle.tpdu.proofs.parameter.check_parameters.Goals as goal
 

@@ -1,5 +1,5 @@
 use Rattle.std.proofs.Common.{◌≡◌, ◌≤◌, ◌+◌, length}
-use Rattle.tpdu.specs.Reading.{checked}
+use Rattle.tpdu.specs.steps.Reading.{checked}
 use Rattle.tpdu.proofs.Checks.{goes_on}
 use Rattle.tpdu.proofs.parameter.check_parameters.Given as goal
 

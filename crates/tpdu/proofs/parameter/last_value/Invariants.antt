@@ -1,6 +1,7 @@
 use Rattle.std.proofs.Common.{◌≡◌, length}
 use Rattle.std.specs.Prelude.{option_map}
-use Rattle.tpdu.specs.Parameters.{parameters_in, last_value}
+use Rattle.pdu_parts.specs.Parameter.{parameters_in}
+use Rattle.tpdu.specs.Parameters.{last_value}
 use Rattle.tpdu.proofs.Checks.{last_on}
 use Rattle.tpdu.proofs.parameter.last_value.Given as goal
 

@@ -1,6 +1,6 @@
 -- The address that is wanted is so much nearer to the front of those that are left.
 use Rattle.std.proofs.Common.{◌≡◌, ◌-◌, slice_get}
-use Rattle.esis_pdu.specs.Fields.{addresses_in}
+use Rattle.esis_pdu.specs.Addresses.{addresses_in}
 use Rattle.esis_pdu.proofs.hello.AddressesRef.nth.Given as goal
 
 abbrev pub invariant-loop : goal.invariant-loop

@@ -1,7 +1,8 @@
 use Rattle.std.proofs.Common.{◌≡◌, ℕ, ◌<◌, ◌++◌, ◌∷◌, [], List, Option, Some, sym, subst}
 use Rattle.osi_base.specs.declared.unit.Offered.TheVariants.{Taken as WasTaken}
-use Rattle.lan_bag.specs.Frames.{offered, Frame, IsFirstOpen}
-use Rattle.lan_bag.specs.Wheel.{listed}
+use Rattle.lan_bag.specs.Frames.{offered, Frame}
+use Rattle.lan_bag.specs.steps.Openings.{IsFirstOpen}
+use Rattle.lan_bag.specs.steps.Wheel.{listed}
 use Rattle.lan_bag.specs.Bag.{Bag}
 use Rattle.lan_bag.proofs.Offers.{taken_fits, bounds_fit}
 use Rattle.lan_bag.proofs.Openings.{closed_pushed, closed_same}

@@ -1,6 +1,6 @@
 use Rattle.std.proofs.Common.{◌+◌, ◌∙◌, ℕ, Option, None, Some, ap, sym, subst, option_copied, arith}
 use Rattle.osi_base.specs.Link.{IsLeastFresh}
-use Rattle.lan_bag.specs.Frames.{is_open}
+use Rattle.lan_bag.specs.steps.Openings.{is_open}
 use Rattle.lan_bag.specs.Bag.{Bag, link_of}
 use Rattle.lan_bag.proofs.Openings.{none_fresh, least_fresh, shut, stands_within}
 use Rattle.lan_bag.proofs.bag.LanBag.next_pair.Goals as goal

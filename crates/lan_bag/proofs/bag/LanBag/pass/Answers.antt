@@ -1,6 +1,6 @@
 use Rattle.std.proofs.Common.{◌+◌, ◌∙◌, map}
 use Rattle.lan_bag.specs.Frames.{kept_at}
-use Rattle.lan_bag.specs.Wheel.{list_at, turned}
+use Rattle.lan_bag.specs.steps.Wheel.{list_at, turned}
 use Rattle.lan_bag.proofs.Openings.{closed_ticked, closed_same}
 use Rattle.lan_bag.proofs.Wheels.{due_ticked, due_same, late_listed, late_same}
 use Rattle.lan_bag.proofs.bag.LanBag.pass.Goals as goal

@@ -1,6 +1,6 @@
 use Rattle.std.proofs.Common.{◌∙◌, ◌≤◌, length, sym, subst, arith, List, ℕ}
 use Rattle.std.proofs.Math.ListN.{drop_of_length-le}
-use Rattle.lan_bag.specs.Wheel.{AreLateAmong}
+use Rattle.lan_bag.specs.steps.Wheel.{AreLateAmong}
 use Rattle.lan_bag.proofs.Wheels.{one_given_up, none_late}
 use Rattle.lan_bag.proofs.store.Store.give_up.Goals as goal
 

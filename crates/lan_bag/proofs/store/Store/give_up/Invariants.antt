@@ -1,6 +1,6 @@
 use Rattle.std.proofs.Common.{◌≡◌, drop, map}
 use Rattle.lan_bag.specs.Frames.{kept_at}
-use Rattle.lan_bag.specs.Wheel.{AreLateAmong}
+use Rattle.lan_bag.specs.steps.Wheel.{AreLateAmong}
 use Rattle.lan_bag.proofs.store.Store.give_up.Given as goal
 
 abbrev pub invariant-loop-place : goal.invariant-loop-place

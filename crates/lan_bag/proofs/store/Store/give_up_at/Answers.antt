@@ -1,6 +1,6 @@
 use Rattle.std.proofs.Common.{◌∙◌, ◌++◌, ap, sym, arith, replicate, List, Option, None}
 use Rattle.lan_bag.specs.Frames.{Frame}
-use Rattle.lan_bag.specs.Wheel.{given_up_at}
+use Rattle.lan_bag.specs.steps.Wheel.{given_up_at}
 use Rattle.lan_bag.proofs.Stored.{place_given_up, gone_given_up}
 use Rattle.lan_bag.proofs.store.Store.give_up_at.Goals as goal
 

@@ -1,5 +1,6 @@
 use Rattle.std.proofs.Common.{◌<◌, ◌-◌, ◌∙◌, ◌++◌, ap, sym, subst, replicate, List, Option, None, arith}
-use Rattle.lan_bag.specs.Frames.{Frame, IsStored, marked_at}
+use Rattle.lan_bag.specs.Frames.{Frame, marked_at}
+use Rattle.lan_bag.specs.steps.Store.{IsStored}
 use Rattle.lan_bag.proofs.Stored.{slot_stored, number_marked}
 use Rattle.lan_bag.proofs.store.Store.mark.Goals as goal
 

@@ -1,5 +1,5 @@
 use Rattle.std.proofs.Common.{◌≡◌, ◌++◌, replicate, length, None}
-use Rattle.lan_bag.specs.Frames.{IsStored}
+use Rattle.lan_bag.specs.steps.Store.{IsStored}
 use Rattle.lan_bag.proofs.store.Store.trim.Given as goal
 
 abbrev pub invariant-loop-self : goal.invariant-loop-self

@@ -1,7 +1,7 @@
 use Rattle.std.proofs.Common.{◌∙◌, List, ℕ, map, ap, sym, arith}
 use Rattle.std.specs.Option.{option_copied_mut}
 use Rattle.lan_bag.specs.declared.wheel.Wheel.TheInside.{Inside}
-use Rattle.lan_bag.specs.Wheel.{listed}
+use Rattle.lan_bag.specs.steps.Wheel.{listed}
 use Rattle.lan_bag.proofs.Wheels.{on_err, stands, set_unchanged, set_listed}
 use Rattle.lan_bag.proofs.wheel.Wheel.list.Goals as goal
 use Rattle.lan_bag.proofs.wheel.Wheel.list.Goals.{in-Some+in_ok-push, in_default}

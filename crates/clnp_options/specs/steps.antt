@@ -1,0 +1,2 @@
+-- What only carries proofs: reading option by option.
+pub mod Walking

@@ -1,0 +1,9 @@
+-- A test fails, or what is read stands at the front.
+use Rattle.esis_pdu.proofs.Grammar.{apart, front_or_fault}
+use Rattle.esis_pdu.proofs.laws.front_or_fault.Goals as goal
+
+pub returns-clause-apart : goal.returns-clause-apart
+returns-clause-apart c = apart
+
+pub returns-clause-all : goal.returns-clause-all
+returns-clause-all c = front_or_fault

@@ -1,0 +1,11 @@
+pub mod Choosing
+pub mod Injecting
+pub mod Keeping
+pub mod Offering
+pub mod Openings
+pub mod Places
+pub mod Setting
+pub mod Standing
+pub mod Store
+pub mod Ticking
+pub mod Wheel

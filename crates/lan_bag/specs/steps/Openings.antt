@@ -1,0 +1,44 @@
+-- The frames that a system can take and has not: the first of them, and the least system that can take it.
+use Rattle.std.specs.Prelude.{◌≡◌, ℕ, ◌<◌, ◌≤◌, Bool, true, false, not, ◌&&◌, nat_lt, if◌then◌else◌, List, length, Option, Some, None, slice_get}
+use Rattle.std.specs.List.{list_any}
+use Rattle.lan_bag.specs.declared.setup.Lan.{Lan}
+use Rattle.lan_bag.specs.declared.setup.PortRow.{PortRow}
+use Rattle.lan_bag.specs.Rows.{is_one_of}
+use Rattle.lan_bag.specs.Frames.{Frame, has_taken, kept, is_live, picked_of, is_taken}
+
+-- the lesser of two systems, where there are two
+abbrev pub lesser_of : Option ℕ → ℕ → ℕ
+lesser_of None system = system
+lesser_of (Some found) system = if nat_lt found system then found else system
+
+-- the system may take the frame, and has not
+abbrev pub is_open_to : ℕ → List Lan → List PortRow → Frame → ℕ → Bool
+is_open_to clock lans rows frame system =
+    is_live clock lans frame && is_taken (picked_of rows system frame) && not (has_taken frame system)
+
+-- the frame goes to the port of the row, and its system may take it, and has not
+abbrev pub is_open_at : ℕ → List Lan → List PortRow → Frame → PortRow → Bool
+is_open_at clock lans rows frame row = is_one_of frame.unit.to row && is_open_to clock lans rows frame row.system
+
+-- some system may take the frame, and has not
+abbrev pub is_open : ℕ → List Lan → List PortRow → Option Frame → Bool
+is_open clock lans rows None = false
+is_open clock lans rows (Some frame) = list_any (λ row. is_open_to clock lans rows frame row.system) rows
+
+-- no frame before that place can be taken by a system that has not taken it
+abbrev pub IsClosedTo : ℕ → List Lan → List PortRow → List (Option Frame) → ℕ → Type 0
+IsClosedTo clock lans rows frames place =
+    (k : ℕ) → k < place → is_open clock lans rows (kept (slice_get frames k)) ≡ false
+
+-- the first frame that a system can take and has not taken is at that place, or there is none
+pub record IsFirstOpen (clock : ℕ) (lans : List Lan) (rows : List PortRow) (frames : List (Option Frame)) (place : ℕ) : Type 0 where
+  pub within : place ≤ length frames
+  pub before : IsClosedTo clock lans rows frames place
+  pub here : place < length frames → is_open clock lans rows (kept (slice_get frames place)) ≡ true
+
+-- the least of the systems that can take a frame and have not, and none exactly where there is none
+abbrev pub IsLeastOpen : ℕ → List Lan → List PortRow → Frame → Option ℕ → Type 0
+IsLeastOpen clock lans rows frame None = (system : ℕ) → is_open_to clock lans rows frame system ≡ false
+IsLeastOpen clock lans rows frame (Some least) =
+    (is_open_to clock lans rows frame least ≡ true)
+    × ((system : ℕ) → is_open_to clock lans rows frame system ≡ true → least ≤ system)

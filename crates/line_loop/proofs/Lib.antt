@@ -1,0 +1,10 @@
+pub mod Calls
+pub mod Driving
+pub mod Exclusion
+pub mod Feeding
+pub mod Lines
+pub mod ReadFronts
+pub mod Reading
+pub mod Returns
+pub mod Totality
+pub mod Written

@@ -1,0 +1,57 @@
+-- Octets come to one thing at most: they were read, or one line is refused, or a limit is passed. What all octets of a
+-- source ask for comes, or a failure in its place.
+use Rattle.std.specs.Prelude.{◌≡◌, ◌⊎◌, ℕ, List}
+use Rattle.osi_base.specs.declared.status.Status.{Status}
+use Rattle.osi_base.specs.declared.status.Status.TheVariants.{ReadFault, WriteFault, NoMemory}
+use Rattle.line_loop.specs.Meaning.{Meaning}
+use Rattle.line_loop.specs.Course.{IsRead, IsWhole, IsTooMuch, IsTooMuchAtEnd, IsRefusedAt, IsRefusedAtEnd}
+use Rattle.line_loop.specs.Outcome.{AsksFor}
+
+-- the meanings of octets exclude each other, and each has one journal and one state
+pub record OneCourse {M E R : Type 0} (meaning : Meaning M E R) : Type 0 where
+  pub read : (first : M) (octets : List ℕ) (journal other : List E) (last state : M)
+      → IsRead meaning first octets journal last → IsRead meaning first octets other state → (journal ≡ other) × (last ≡ state)
+  pub whole : (first : M) (octets : List ℕ) (journal other : List E) (last state : M)
+      → IsWhole meaning first octets journal last → IsWhole meaning first octets other state → (journal ≡ other) × (last ≡ state)
+  pub refused : (first : M) (octets : List ℕ) (line : ℕ) (said : R) (journal : List E) (last : M) (next : ℕ) (heard : R) (other : List E) (state : M)
+      → IsRefusedAt meaning first octets line said journal last → IsRefusedAt meaning first octets next heard other state
+      → (line ≡ next) × (said ≡ heard) × (journal ≡ other) × (last ≡ state)
+  pub refused_at_end : (first : M) (octets : List ℕ) (line : ℕ) (said : R) (journal : List E) (last : M) (next : ℕ) (heard : R) (other : List E) (state : M)
+      → IsRefusedAtEnd meaning first octets line said journal last → IsRefusedAtEnd meaning first octets next heard other state
+      → (line ≡ next) × (said ≡ heard) × (journal ≡ other) × (last ≡ state)
+  pub too_much : (first : M) (octets : List ℕ) (journal : List E) (last : M) (other : List E) (state : M)
+      → IsTooMuch meaning first octets journal last → IsTooMuch meaning first octets other state → (journal ≡ other) × (last ≡ state)
+  pub too_much_at_end : (first : M) (octets : List ℕ) (journal : List E) (last : M) (other : List E) (state : M)
+      → IsTooMuchAtEnd meaning first octets journal last → IsTooMuchAtEnd meaning first octets other state → (journal ≡ other) × (last ≡ state)
+  pub read_not_refused : (first : M) (octets : List ℕ) (journal : List E) (last : M) (line : ℕ) (said : R) (other : List E) (state : M)
+      → IsRead meaning first octets journal last → IsRefusedAt meaning first octets line said other state → ⊥
+  pub read_not_too_much : (first : M) (octets : List ℕ) (journal : List E) (last : M) (other : List E) (state : M)
+      → IsRead meaning first octets journal last → IsTooMuch meaning first octets other state → ⊥
+  pub refused_not_too_much : (first : M) (octets : List ℕ) (line : ℕ) (said : R) (journal : List E) (last : M) (other : List E) (state : M)
+      → IsRefusedAt meaning first octets line said journal last → IsTooMuch meaning first octets other state → ⊥
+  pub whole_not_refused : (first : M) (octets : List ℕ) (journal : List E) (last : M) (line : ℕ) (said : R) (other : List E) (state : M)
+      → IsWhole meaning first octets journal last → IsRefusedAt meaning first octets line said other state → ⊥
+  pub whole_not_refused_at_end : (first : M) (octets : List ℕ) (journal : List E) (last : M) (line : ℕ) (said : R) (other : List E) (state : M)
+      → IsWhole meaning first octets journal last → IsRefusedAtEnd meaning first octets line said other state → ⊥
+  pub whole_not_too_much : (first : M) (octets : List ℕ) (journal : List E) (last : M) (other : List E) (state : M)
+      → IsWhole meaning first octets journal last → IsTooMuch meaning first octets other state → ⊥
+  pub whole_not_too_much_at_end : (first : M) (octets : List ℕ) (journal : List E) (last : M) (other : List E) (state : M)
+      → IsWhole meaning first octets journal last → IsTooMuchAtEnd meaning first octets other state → ⊥
+  pub ends_not_both : (first : M) (octets : List ℕ) (line : ℕ) (said : R) (journal : List E) (last : M) (other : List E) (state : M)
+      → IsRefusedAtEnd meaning first octets line said journal last → IsTooMuchAtEnd meaning first octets other state → ⊥
+
+-- a read, a write or memory failed
+abbrev pub IsFailure : Status → Type 0
+IsFailure status = (status ≡ ReadFault) ⊎ (status ≡ WriteFault) ⊎ (status ≡ NoMemory)
+
+-- an input asks for at most one status and one transcript: Done, or the first refused line, or that a limit is passed
+abbrev pub AsksOne : {M E R : Type 0} → Meaning M E R → Type 0
+AsksOne {M} meaning = (first : M) (all text other : List ℕ) (status next : Status)
+    → AsksFor meaning first all text status → AsksFor meaning first all other next → (status ≡ next) × (text ≡ other)
+
+-- no line of an input is refused, and none of its octets passes a limit or ends a line that fills the journal
+pub record IsAccepted {M E R : Type 0} (meaning : Meaning M E R) (first : M) (all : List ℕ) : Type 0 where
+  pub read : (line : ℕ) (said : R) (journal : List E) (last : M) → IsRefusedAt meaning first all line said journal last → ⊥
+  pub ended : (line : ℕ) (said : R) (journal : List E) (last : M) → IsRefusedAtEnd meaning first all line said journal last → ⊥
+  pub within : (journal : List E) (last : M) → IsTooMuch meaning first all journal last → ⊥
+  pub within_at_end : (journal : List E) (last : M) → IsTooMuchAtEnd meaning first all journal last → ⊥

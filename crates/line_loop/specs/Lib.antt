@@ -1,0 +1,9 @@
+pub mod Course
+pub mod Exact
+pub mod Limits
+pub mod Lines
+pub mod Meaning
+pub mod Outcome
+pub mod Total
+pub mod Writing
+pub mod steps

@@ -1,5 +1,0 @@
-use Rattle.osi_base.proofs.FletcherPair.{one_pair}
-use Rattle.osi_base.proofs.fletcher.one_seal.Goals as goal
-
-pub returns : goal.returns
-returns c = one_pair

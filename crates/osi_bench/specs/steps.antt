@@ -1,0 +1,8 @@
+-- What only carries the proofs: what the code keeps from line to line, and the laws of the bench.
+pub mod Agreeing
+pub mod BenchLaws
+pub mod Known
+pub mod OneRun
+pub mod Readings
+pub mod Split
+pub mod TextLaws
