@@ -1,0 +1,6 @@
+use Rattle.esis_tables.specs.Rows.{is_row_known}
+use Rattle.esis_tables.proofs.Sweeping.{table_filter}
+use Rattle.esis_tables.proofs.known.Known.tick.Goals as goal
+
+pub invariant_of-self : goal.invariant_of-self
+invariant_of-self c = table_filter (is_row_known c.args.now) c.self.inside.rows.items c.sweep.new.rows.items c.sweep.ensures c.self.invariant

@@ -1,0 +1,3 @@
+-- What only carries a proof.
+pub mod Marks
+pub mod Least

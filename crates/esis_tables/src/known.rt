@@ -1,0 +1,247 @@
+//! Rows by address, as far as they are known (ISO 9542, configuration information).
+//!
+//! Profile: a table has at most 256 rows.
+
+ghost use Rattle.std.specs.Prelude.{◌≡◌, ◌<◌, ◌≤◌, ◌+◌, [], ◌∷◌, ◌++◌, ℕ, true, false, Err, OnOk, OnErr, IfOk, List, length, map, position, take, option_copied, nat_eq};
+ghost use Rattle.std.specs.List.{filter};
+ghost use Rattle.std.specs.Cmp.Lexicographic.{pointwise};
+ghost use Rattle.esis_tables.specs.declared.known.HearRefusal.TheVariants.{Full};
+ghost use Rattle.esis_tables.specs.Rows.{IsTable, count_with, find_row, has_row, heard_table, is_row_known, no_rows, router_in, row_at, rows_with, swept_table};
+ghost use Rattle.esis_tables.specs.steps.Marks.{AreMarks, AreUnmarked, IsPlace, IsRenewed, row_added, told_by};
+ghost use Rattle.esis_tables.specs.steps.Least.{IsLeastRouter, IsRouterHop, is_lesser};
+
+use crate::row::{Heard, Row};
+use nsap::{Hop, Nsap};
+use osi_base::{NoMemory, Tick};
+use std::alloc::Global;
+use std::marker::Model;
+
+/// The most rows of a table.
+const MOST_ROWS: usize = 256;
+
+/// Why a hello was not heard.
+#[derive(Clone, Copy, Debug, PartialEq, Eq)]
+pub enum HearRefusal {
+    /// The addresses that it names and that are not there would pass 256 rows.
+    Full,
+    /// Memory ran out.
+    NoMemory,
+}
+
+impl From<NoMemory> for HearRefusal {
+    ghost use Rattle.std.specs.Prelude.{◌≡◌};
+    ghost use Rattle.esis_tables.specs.declared.known.HearRefusal.TheVariants.{NoMemory as HearNoMemory};
+
+    ghost from_gives = { λ _ e. e ≡ HearNoMemory };
+
+    fn from(_: NoMemory) -> HearRefusal {
+        HearRefusal::NoMemory
+    }
+}
+
+/// The rows of a table, and the latest tick of a call that changed them.
+#[derive(Drop)]
+pub struct Known {
+    clock: Tick,
+    rows: Vec<Row>,
+}
+
+// An address has at most one row, and there are at most 256.
+impl Model for Known {
+    ghost use Rattle.esis_tables.specs.Rows.{Rows, IsTable};
+
+    ghost Value = { Rows };
+
+    ghost view = { λ a. record { clock = a.clock; rows = a.rows.items } };
+
+    ghost invariant = { λ a. IsTable a.rows.items };
+}
+
+impl Known {
+    /// No rows.
+    pub fn new(alloc: Global) -> Known
+        ensures { result ≡ no_rows }
+    {
+        Known {
+            clock: 0,
+            rows: Vec::new(alloc),
+        }
+    }
+
+    /// The hop to an address, where it has a row that is known.
+    pub fn find(&self, now: Tick, address: &Nsap) -> Option<Hop>
+        ensures { result ≡ find_row self.now.rows now address.now }
+    {
+        let row = self.row(address)?;
+        if row.is_known(now) {
+            Some(row.heard.hop)
+        } else {
+            None
+        }
+    }
+
+    /// The hop to the known intermediate system of least title.
+    pub fn router(&self, now: Tick) -> Option<Hop>
+        ensures least { IsRouterHop self.now.rows now result }
+        ensures value { result ≡ router_in self.now.rows now }
+    {
+        hop_to_router(&self.rows, now)
+    }
+
+    /// Hears a hello that names these addresses.
+    pub fn hear(&mut self, names: &[Nsap], heard: &Heard) -> Result<(), HearRefusal>
+        ensures ok { OnOk result (self.new ≡ heard_table self.old (told_by names.now heard.now)) }
+        ensures room { OnOk result (count_with self.old.rows (told_by names.now heard.now) ≤ 256) }
+        ensures full { result ≡ Err Full → 256 < count_with self.old.rows (told_by names.now heard.now) }
+        ensures unchanged { OnErr result (self.new ≡ self.old) }
+    {
+        let stood = self.rows.len();
+        let mut named = [false; MOST_ROWS];
+        if let Err(refusal) = mark(&mut self.rows, names, heard, &mut named) {
+            self.rows.truncate(stood);
+            return Err(refusal);
+        }
+        renew(&mut self.rows, heard, &named);
+        self.clock = heard.tick;
+        Ok(())
+    }
+
+    /// Takes away the rows that are no longer known.
+    pub fn tick(&mut self, now: Tick)
+        ensures { self.new ≡ swept_table self.old now }
+    {
+        sweep(&mut self.rows, now);
+        self.clock = now;
+    }
+
+    // The row of an address.
+    fn row(&self, address: &Nsap) -> Option<&Row>
+        ensures { option_copied result ≡ row_at self.now.rows address.now }
+    {
+        self.rows.iter().find(|row| row.address == *address)
+    }
+}
+
+// The place of the row of an address.
+fn place_in(rows: &[Row], address: &Nsap) -> Option<usize>
+    ensures { result ≡ position (λ row. pointwise nat_eq row.address address.now) rows.now }
+{
+    rows.iter().position(|row| row.address == *address)
+}
+
+// Puts a row behind the others.
+fn put(rows: &mut Vec<Row>, address: Nsap, heard: &Heard) -> Result<(), NoMemory>
+    ensures ok { OnOk result (rows.new.items ≡ rows.old.items ++ record { address = address; heard = heard.now } ∷ []) }
+    ensures unchanged { OnErr result (rows.new.items ≡ rows.old.items) }
+{
+    let title: Option<Nsap> = heard.hop.title;
+    let hop = Hop {
+        port: heard.hop.port,
+        title,
+    };
+    let heard = Heard { hop, ..*heard };
+    rows.push(Row { address, heard })?;
+    Ok(())
+}
+
+// The place of the row of an address, which is put behind the others where there is none.
+fn place_of(rows: &mut Vec<Row>, name: &Nsap, heard: &Heard) -> Result<usize, HearRefusal>
+    requires { IsTable rows.old.items }
+    ensures table { IsTable rows.new.items }
+    ensures ok { OnOk result (rows.new.items ≡ row_added rows.old.items name.now heard.now) }
+    ensures place { IfOk result (IsPlace rows.new.items name.now) }
+    ensures full { result ≡ Err Full → (256 ≤ length rows.old.items) × (has_row rows.old.items name.now ≡ false) }
+    ensures unchanged { OnErr result (rows.new.items ≡ rows.old.items) }
+{
+    if let Some(place) = place_in(rows, name) {
+        return Ok(place);
+    }
+    if rows.len() >= MOST_ROWS {
+        return Err(HearRefusal::Full);
+    }
+    put(rows, *name, heard)?;
+    Ok(rows.len() - 1)
+}
+
+// Puts a row for each name that has none, and marks the rows that are named.
+fn mark(
+    rows: &mut Vec<Row>,
+    names: &[Nsap],
+    heard: &Heard,
+    named: &mut [bool],
+) -> Result<(), HearRefusal>
+    requires table { IsTable rows.old.items }
+    requires none { AreUnmarked named.old }
+    ensures table { IsTable rows.new.items }
+    ensures ok { OnOk result (rows.new.items ≡ rows_with rows.old.items (told_by names.now heard.now)) }
+    ensures marks { OnOk result (AreMarks names.now rows.new.items named.new) }
+    ensures full { result ≡ Err Full → 256 < count_with rows.old.items (told_by names.now heard.now) }
+    ensures kept { take (length rows.old.items) rows.new.items ≡ rows.old.items }
+{
+    for name in names {
+        match place_of(rows, name, heard) {
+            Ok(place) => named[place] = true,
+            Err(refusal) => return Err(refusal),
+        }
+    }
+    Ok(())
+}
+
+// The rows that are marked hold what was heard.
+fn renew(rows: &mut Vec<Row>, heard: &Heard, named: &[bool])
+    requires { length rows.old.items ≤ length named.now }
+    ensures { IsRenewed heard.now named.now rows.old.items rows.new.items }
+{
+    for (place, row) in rows.iter_mut().enumerate() {
+        if named[place] {
+            row.heard = *heard;
+        }
+    }
+}
+
+// Only the rows that are known stay.
+fn sweep(rows: &mut Vec<Row>, now: Tick)
+    ensures { rows.new.items ≡ filter (is_row_known now) rows.old.items }
+{
+    let mut kept = 0;
+    for place in 0..rows.len() {
+        let row = rows[place];
+        if row.is_known(now) {
+            rows[kept] = row;
+            kept += 1;
+        }
+    }
+    rows.truncate(kept);
+}
+
+// The hop to the known intermediate system of least title.
+fn hop_to_router(rows: &[Row], now: Tick) -> Option<Hop>
+    ensures { IsRouterHop rows.now now result }
+{
+    let row = least_router(rows, now)?;
+    Some(row.heard.hop)
+}
+
+// The row of the known intermediate system of least title.
+fn least_router(rows: &[Row], now: Tick) -> Option<Row>
+    ensures { IsLeastRouter rows.now now result }
+{
+    let mut least = None;
+    for row in rows {
+        if is_lesser(row, &least, now) {
+            least = Some(*row);
+        }
+    }
+    least
+}
+
+// Whether the row is that of a known intermediate system, and its title comes before the least one so far.
+fn is_lesser(row: &Row, least: &Option<Row>, now: Tick) -> bool
+    ensures { result ≡ is_lesser row.now least.now now }
+{
+    let before = match least {
+        Some(least) => row.address.octets().cmp(least.address.octets()).is_lt(),
+        None => true,
+    };
+    before && row.is_router(now)
+}

@@ -1,0 +1,16 @@
+//! What a system knows of others by hellos: neighbours and redirects (ISO 9542, record configuration function, record redirect
+//! function, flush old configuration function, flush old redirect function).
+#![tactic(auto)]
+
+mod known;
+mod laws;
+mod neighbours;
+mod redirects;
+mod row;
+#[cfg(test)]
+mod tests;
+
+pub use known::HearRefusal;
+pub use laws::{empty_stands, named_have_rows, one_router};
+pub use neighbours::Neighbours;
+pub use redirects::Redirects;
