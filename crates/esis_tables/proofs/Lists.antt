@@ -1,8 +1,8 @@
 -- What a search in a list finds, by recursion over the list.
-use Rattle.std.proofs.Common.{◌≡◌, ℕ, suc, ◌+◌, ◌<◌, ◌≤◌, Bool, true, false, List, [], ◌∷◌, length, get_or, Some, None, refl, sym, ap, ◌∙◌, subst, arith, inl, inr}
+use Rattle.std.proofs.Common.{◌≡◌, ◌+◌, ◌≤◌, Bool, true, false, List, [], ◌∷◌, length, Some, None, refl, sym, ap, ◌∙◌, subst, arith, inl, inr}
 use Rattle.std.specs.Prelude.{◌||◌, ◌⊎◌, not, nat_lt, cond, find, map}
 use Rattle.std.specs.List.{All, Contains, list_any, position, position_or_len}
-use Rattle.std.proofs.lemmas.Bool.{or_parts, ltb-true, ltb-false}
+use Rattle.std.proofs.lemmas.Bool.{or_parts, ltb-false}
 use Rattle.std.proofs.lemmas.List.Elements.{All-nil, All-cons, Contains-append_left, Contains-append_right, Contains-append_cases, Contains-push, Contains-push_cases}
 
 module _ {X : Type 0} where
@@ -41,41 +41,21 @@ module _ {X : Type 0} where
   find_none p [] is = refl
   find_none p (x ∷ xs) is = none_by p x xs (p x) refl is (find_none p xs)
 
-  -- the first place that passes, or past the end none does
-  first_passes : (p : X → Bool) (xs : List X) (d : X) → position_or_len p xs < length xs → p (get_or xs (position_or_len p xs) d) ≡ true
-  first_passes p [] d within = absurd (omega arith)
-  first_passes p (x ∷ xs) d within = first_by (p x) refl within (first_passes p xs d)
-    where
-      first_more : (k : ℕ) → k < length xs → p (get_or xs k d) ≡ true → p (get_or (x ∷ xs) (1 + k) d) ≡ true
-      first_more k low h = let e : 1 + k ≡ suc k = omega arith in rw e h
-
-      first_by : (passes : Bool) → p x ≡ passes → cond (not passes) (1 + position_or_len p xs) 0 < length (x ∷ xs) → (position_or_len p xs < length xs → p (get_or xs (position_or_len p xs) d) ≡ true) → p (get_or (x ∷ xs) (cond (not passes) (1 + position_or_len p xs) 0) d) ≡ true
-      first_by true passes within rest = passes
-      first_by false passes within rest = first_more (position_or_len p xs) (omega arith) (rest (omega arith))
-
+  -- where the first place that passes is past the end, nothing passes
   past_none : (p : X → Bool) (xs : List X) → length xs ≤ position_or_len p xs → list_any p xs ≡ false
   past_none p [] past = refl
   past_none p (x ∷ xs) past = past_by (p x) refl past (past_none p xs)
     where
-      past_by : (passes : Bool) → p x ≡ passes → length (x ∷ xs) ≤ cond (not passes) (1 + position_or_len p xs) 0 → (length xs ≤ position_or_len p xs → list_any p xs ≡ false) → (p x || list_any p xs) ≡ false
+      past_by : (passes : Bool) → p x ≡ passes → length (x ∷ xs) ≤ cond (not passes) (1 + position_or_len p xs) 0
+          → (length xs ≤ position_or_len p xs → list_any p xs ≡ false) → (p x || list_any p xs) ≡ false
       past_by true passes past rest = absurd (omega arith)
       past_by false passes past rest = ap (λ (b : Bool). b || list_any p xs) passes ∙ rest (omega arith)
-
-  -- the place that is found
-  pub position_some : (p : X → Bool) (xs : List X) (place : ℕ) (d : X) → position p xs ≡ Some place → (place < length xs) × (p (get_or xs place d) ≡ true)
-  position_some p xs place d is = some_by (nat_lt (position_or_len p xs) (length xs)) refl is
-    where
-      some_by : (within : Bool) → nat_lt (position_or_len p xs) (length xs) ≡ within → cond within (Some (position_or_len p xs)) None ≡ Some place → (place < length xs) × (p (get_or xs place d) ≡ true)
-      some_by true within is =
-          let same : position_or_len p xs ≡ place = cc in
-          let low : position_or_len p xs < length xs = ltb-true (position_or_len p xs) (length xs) within in
-          (omega arith, subst (λ (k : ℕ). p (get_or xs k d) ≡ true) same (first_passes p xs d low))
-      some_by false within is = absurd cc
 
   pub position_none : (p : X → Bool) (xs : List X) → position p xs ≡ None → list_any p xs ≡ false
   position_none p xs is = none_at (nat_lt (position_or_len p xs) (length xs)) refl is
     where
-      none_at : (within : Bool) → nat_lt (position_or_len p xs) (length xs) ≡ within → cond within (Some (position_or_len p xs)) None ≡ None → list_any p xs ≡ false
+      none_at : (within : Bool) → nat_lt (position_or_len p xs) (length xs) ≡ within → cond within (Some (position_or_len p xs)) None ≡ None
+          → list_any p xs ≡ false
       none_at true within is = absurd cc
       none_at false within is = past_none p xs (ltb-false (position_or_len p xs) (length xs) within)
 

@@ -9,12 +9,13 @@ use Rattle.std.proofs.lemmas.List.{length-replicate, append-nil, map-append, len
 use Rattle.std.proofs.Math.Bool.{or-false}
 use Rattle.std.proofs.lemmas.Bool.{cases_eq, or_left, or_right}
 use Rattle.std.proofs.lemmas.List.Folds.{list_any-append}
+use Rattle.std.proofs.lemmas.List.Quantifiers.{position-Some}
 use Rattle.esis_tables.specs.declared.row.Heard.{Heard}
 use Rattle.esis_tables.specs.declared.row.Row.{Row}
 use Rattle.esis_tables.specs.Told.{Told, is_among}
 use Rattle.esis_tables.specs.Rows.{AreDistinct, IsTable, Rows, addresses, count_with, has_row, heard_of, heard_table, new_names, renewed, row_of, rows_with}
 use Rattle.esis_tables.specs.steps.Marks.{AreMarks, AreUnmarked, IsPlace, IsRenewed, renewed_if, row_added, told_by}
-use Rattle.esis_tables.proofs.Lists.{list_any-map, position_none, position_some}
+use Rattle.esis_tables.proofs.Lists.{list_any-map, position_none}
 use Rattle.esis_tables.proofs.Names.{among_at, distinct_push, new_names-append, new_names-push, one_place}
 
 abbrev Name : Type 0
@@ -31,9 +32,10 @@ pub no_place : (rows : List Row) (name : Name) → position (λ row. pointwise n
 no_place rows name is = has_row-rows rows name ∙ position_none (λ row. pointwise nat_eq row.address name) rows is
 
 -- the place that is found is that of the address
-pub some_place : (rows : List Row) (name : Name) (place : ℕ) (d : Row) → position (λ row. pointwise nat_eq row.address name) rows ≡ Some place → IsPlace rows name place
+pub some_place : (rows : List Row) (name : Name) (place : ℕ) (d : Row) → position (λ row. pointwise nat_eq row.address name) rows ≡ Some place
+    → IsPlace rows name place
 some_place rows name place d is =
-    let found : (place < length rows) × (pointwise nat_eq (get_or rows place d).address name ≡ true) = position_some (λ row. pointwise nat_eq row.address name) rows place d is in
+    let found = position-Some (λ row. pointwise nat_eq row.address name) rows place d is in
     record { within = found.0; is = get_or-map address_of rows place d [] found.0 ∙ same_text (get_or rows place d).address name (sym found.1) }
 
 long-addresses : (rows : List Row) → length (addresses rows) ≡ length rows
@@ -45,7 +47,8 @@ there_already rows name heard place h =
     let there : has_row rows name ≡ true = ap (is_among (addresses rows)) (sym h.is) ∙ among_at (addresses rows) place [] low in
     ap (λ (b : Bool). if b then rows else rows ++ record { address = name; heard = heard } ∷ []) (sym there)
 
-pub added : (rows new : List Row) (name : Name) (heard : Heard) → has_row rows name ≡ false → new ≡ rows ++ record { address = name; heard = heard } ∷ [] → new ≡ row_added rows name heard
+pub added : (rows new : List Row) (name : Name) (heard : Heard) → has_row rows name ≡ false → new ≡ rows ++ record { address = name; heard = heard } ∷ []
+    → new ≡ row_added rows name heard
 added rows new name heard fresh is = is ∙ ap (λ (b : Bool). if b then rows else rows ++ record { address = name; heard = heard } ∷ []) (sym fresh)
 
 addresses-push : (rows : List Row) (row : Row) → addresses (rows ++ row ∷ []) ≡ addresses rows ++ row.address ∷ []
@@ -64,7 +67,8 @@ last_place rows new row count is counted =
     subst (λ (k : ℕ). IsPlace new row.address k) last (record {
       within = omega arith;
       is = ap (λ (xs : List Row). get_or (addresses xs) (length rows) []) is ∙ ap (λ (xs : List Name). get_or xs (length rows) []) (addresses-push rows row)
-          ∙ ap (λ (n : ℕ). get_or (addresses rows ++ row.address ∷ []) n []) (sym (long-addresses rows)) ∙ get_or-append_seam (addresses rows) row.address [] [];
+          ∙ ap (λ (n : ℕ). get_or (addresses rows ++ row.address ∷ []) n []) (sym (long-addresses rows))
+          ∙ get_or-append_seam (addresses rows) row.address [] [];
     })
 
 addresses-rows : (told : Told) (names : List Name) → addresses (map (row_of told) names) ≡ names
@@ -116,7 +120,8 @@ module _ (old : List Row) (names : List Name) (heard : Heard) where
           ∙ ap (λ (xs : List Row). old ++ xs) (sym (map-append (row_of (told_by names heard)) (new_names (addresses old) names) (name ∷ [])))
 
   old_marks : (rows new : List Row) (name : Name) (named : List Bool) (place : ℕ) (there : Bool) → AreMarks names rows named
-      → new ≡ (if there then rows else rows ++ record { address = name; heard = heard } ∷ []) → place < length new → (get_or (addresses new) place [] ≡ name → ⊥)
+      → new ≡ (if there then rows else rows ++ record { address = name; heard = heard } ∷ []) → place < length new
+      → (get_or (addresses new) place [] ≡ name → ⊥)
       → get_or named place false ≡ is_among names (get_or (addresses new) place [])
   old_marks rows new name named place true marks is low other =
       let same : addresses new ≡ addresses rows = ap addresses is in
@@ -127,7 +132,8 @@ module _ (old : List Row) (names : List Name) (heard : Heard) where
       let long : length new ≡ length rows + 1 = ap length is ∙ length-append rows (row ∷ []) in
       let count : length (addresses rows) ≡ length rows = long-addresses rows in
       let last : get_or (addresses new) (length rows) [] ≡ name =
-      ap (λ (xs : List Name). get_or xs (length rows) []) split ∙ ap (λ (n : ℕ). get_or (addresses rows ++ name ∷ []) n []) (sym count) ∙ get_or-append_seam (addresses rows) name [] [] in
+      ap (λ (xs : List Name). get_or xs (length rows) []) split ∙ ap (λ (n : ℕ). get_or (addresses rows ++ name ∷ []) n []) (sym count)
+      ∙ get_or-append_seam (addresses rows) name [] [] in
       let apart : place ≢ length rows = λ at. other (ap (λ (n : ℕ). get_or (addresses new) n []) at ∙ last) in
       let within : place < length rows = omega arith in
       let inside : place < length (addresses rows) = omega arith in
@@ -143,7 +149,8 @@ module _ (old : List Row) (names : List Name) (heard : Heard) where
       address : Name
       address = get_or (addresses new) k []
 
-      both : is_among (names ++ name ∷ []) (get_or (addresses new) k []) ≡ (is_among names (get_or (addresses new) k []) || (pointwise nat_eq name (get_or (addresses new) k []) || false))
+      both : is_among (names ++ name ∷ []) (get_or (addresses new) k [])
+          ≡ (is_among names (get_or (addresses new) k []) || (pointwise nat_eq name (get_or (addresses new) k []) || false))
       both = list_any-append (λ x. pointwise nat_eq x (get_or (addresses new) k [])) names (name ∷ [])
 
       other : (k ≢ place) → get_or (addresses new) k [] ≡ name → ⊥
@@ -163,13 +170,17 @@ module _ (old : List Row) (names : List Name) (heard : Heard) where
           let here : get_or (addresses new) k [] ≡ name = ap (λ (n : ℕ). get_or (addresses new) n []) same ∙ at.is in
           let passes : pointwise nat_eq name (get_or (addresses new) k []) ≡ true = ap (pointwise nat_eq name) here ∙ nat_list_eq_equiv.refl name in
           ap (λ (n : ℕ). get_or (set named place true) n false) same ∙ get_or-set_same named place true false inside
-          ∙ sym (both ∙ or_right (is_among names (get_or (addresses new) k [])) (pointwise nat_eq name (get_or (addresses new) k []) || false) (or_left (pointwise nat_eq name (get_or (addresses new) k [])) false passes))
+          ∙ sym (both ∙ or_right (is_among names (get_or (addresses new) k [])) (pointwise nat_eq name (get_or (addresses new) k []) || false)
+          (or_left (pointwise nat_eq name (get_or (addresses new) k [])) false passes))
       by (inr apart) =
           get_or-set_other named place k true false apart ∙ old_marks rows new name named k there marks is low (other apart)
-          ∙ sym (both ∙ ap (λ (b : Bool). is_among names (get_or (addresses new) k []) || (b || false)) (unlike apart (pointwise nat_eq name (get_or (addresses new) k [])) refl) ∙ or-false (is_among names (get_or (addresses new) k [])))
+          ∙ sym (both ∙ ap (λ (b : Bool). is_among names (get_or (addresses new) k []) || (b || false))
+          (unlike apart (pointwise nat_eq name (get_or (addresses new) k [])) refl) ∙ or-false (is_among names (get_or (addresses new) k [])))
 
-pub marking_more : (old : List Row) (names : List Name) (heard : Heard) (rows new : List Row) (named : List Bool) (i place : ℕ) (name : Name) → i < length names → name ≡ get_or names i name
-    → IsMarking old (take i names) heard rows named → new ≡ row_added rows name heard → IsTable new → IsPlace new name place → IsMarking old (take (i + 1) names) heard new (set named place true)
+pub marking_more : (old : List Row) (names : List Name) (heard : Heard) (rows new : List Row) (named : List Bool) (i place : ℕ) (name : Name) → i < length names
+    → name ≡ get_or names i name
+    → IsMarking old (take i names) heard rows named → new ≡ row_added rows name heard → IsTable new → IsPlace new name place
+    → IsMarking old (take (i + 1) names) heard new (set named place true)
 marking_more old names heard rows new named i place name low is h added table at =
     let more : take i names ++ name ∷ [] ≡ take (i + 1) names = ap (λ (x : Name). take i names ++ x ∷ []) is ∙ sym (take_more names i name low) in
     subst (λ (xs : List Name). IsMarking old xs heard new (set named place true)) more (record {
@@ -180,7 +191,8 @@ marking_more old names heard rows new named i place name low is h added table at
     })
 
 -- a name that has no row where there are 256: the names would pass them
-pub marking_full : (old : List Row) (names : List Name) (heard : Heard) (rows : List Row) (named : List Bool) (i : ℕ) (name : Name) → i < length names → name ≡ get_or names i name
+pub marking_full : (old : List Row) (names : List Name) (heard : Heard) (rows : List Row) (named : List Bool) (i : ℕ) (name : Name) → i < length names
+    → name ≡ get_or names i name
     → IsMarking old (take i names) heard rows named → 256 ≤ length rows → has_row rows name ≡ false → 256 < count_with old (told_by names heard)
 marking_full old names heard rows named i name low is h full fresh =
     let there = addresses old in
@@ -189,31 +201,39 @@ marking_full old names heard rows named i name low is h full fresh =
     let parts : take i names ++ name ∷ drop (i + 1) names ≡ names = ap (λ (x : Name). take i names ++ x ∷ drop (i + 1) names) is ∙ parted names i name low in
     let split : new_names there names ≡ new_names there (take i names) ++ new_names (there ++ new_names there (take i names)) (name ∷ drop (i + 1) names) =
     ap (new_names there) (sym parts) ∙ new_names-append there (take i names) (name ∷ drop (i + 1) names) in
-    let counted : length (new_names there names) ≡ length (new_names there (take i names)) + length (new_names (there ++ new_names there (take i names)) (name ∷ drop (i + 1) names)) =
+    let counted : length (new_names there names) ≡ length (new_names there (take i names)) + length
+    (new_names (there ++ new_names there (take i names)) (name ∷ drop (i + 1) names)) =
     ap length split ∙ length-append (new_names there (take i names)) (new_names (there ++ new_names there (take i names)) (name ∷ drop (i + 1) names)) in
-    let some : 0 < length (new_names (there ++ new_names there (take i names)) (name ∷ drop (i + 1) names)) = some_new (there ++ new_names there (take i names)) name (drop (i + 1) names) (is_among (there ++ new_names there (take i names)) name) among in
+    let some : 0 < length (new_names (there ++ new_names there (take i names)) (name ∷ drop (i + 1) names)) =
+    some_new (there ++ new_names there (take i names)) name (drop (i + 1) names) (is_among (there ++ new_names there (take i names)) name) among in
     let long : length rows ≡ length old + length (new_names there (take i names)) = ap length h.rows_is ∙ long-with old (told_by (take i names) heard) in
     omega arith
   where
-    some_new : (there : List Name) (name : Name) (rest : List Name) (known : Bool) → known ≡ false → 0 < length (if known then new_names there rest else name ∷ new_names (there ++ name ∷ []) rest)
+    some_new : (there : List Name) (name : Name) (rest : List Name) (known : Bool) → known ≡ false
+        → 0 < length (if known then new_names there rest else name ∷ new_names (there ++ name ∷ []) rest)
     some_new there name rest true is = absurd cc
     some_new there name rest false is = omega arith
 
     parted : (xs : List Name) (i : ℕ) (d : Name) → i < length xs → take i xs ++ get_or xs i d ∷ drop (i + 1) xs ≡ xs
     parted xs i d low =
         let next : i + 1 ≡ suc i = omega arith in
-        ap (λ (n : ℕ). take i xs ++ get_or xs i d ∷ drop n xs) next ∙ ap (λ (ys : List Name). take i xs ++ ys) (sym (drop-cons xs i d low)) ∙ take-append-drop i xs
+        ap (λ (n : ℕ). take i xs ++ get_or xs i d ∷ drop n xs) next ∙ ap (λ (ys : List Name). take i xs ++ ys) (sym (drop-cons xs i d low))
+        ∙ take-append-drop i xs
 
-pub marking_kept : (old : List Row) (names : List Name) (heard : Heard) (rows : List Row) (named : List Bool) → IsMarking old names heard rows named → take (length old) rows ≡ old
-marking_kept old names heard rows named h = ap (take (length old)) h.rows_is ∙ take-append_seam old (map (row_of (told_by names heard)) (new_names (addresses old) names))
+pub marking_kept : (old : List Row) (names : List Name) (heard : Heard) (rows : List Row) (named : List Bool) → IsMarking old names heard rows named
+    → take (length old) rows ≡ old
+marking_kept old names heard rows named h = ap (take (length old)) h.rows_is
+    ∙ take-append_seam old (map (row_of (told_by names heard)) (new_names (addresses old) names))
 
 -- once all names were seen, the marked rows are those that the hello names
-pub renewed_all : (names : List Name) (heard : Heard) (named : List Bool) (rows new : List Row) → AreMarks names rows named → IsRenewed heard named rows new → new ≡ map (renewed (told_by names heard)) rows
+pub renewed_all : (names : List Name) (heard : Heard) (named : List Bool) (rows new : List Row) → AreMarks names rows named → IsRenewed heard named rows new
+    → new ≡ map (renewed (told_by names heard)) rows
 renewed_all names heard named rows new marks h =
     let told = told_by names heard in
     same_lists new (map (renewed told) rows) (h.long ∙ sym (length-map rows (renewed told))) (λ k d low.
     let within : k < length rows = omega (arith, h.long) in
-    let mark : get_or named k false ≡ is_among names (get_or rows k d).address = marks k within ∙ ap (is_among names) (get_or-map address_of rows k d [] within) in
+    let mark : get_or named k false ≡ is_among names (get_or rows k d).address = marks k within
+    ∙ ap (is_among names) (get_or-map address_of rows k d [] within) in
     h.rows k d within ∙ ap (λ (b : Bool). renewed_if b heard (get_or rows k d)) mark ∙ sym (get_or-map (renewed told) rows k d d within))
 
 address-renewed : (told : Told) (row : Row) (named : Bool) → address_of (if named then record row { heard = heard_of told } else row) ≡ row.address
@@ -237,12 +257,16 @@ pub record IsRenewing (heard : Heard) (named : List Bool) (old rows : List Row) 
   pub after : (k : ℕ) (other : Row) → place ≤ k → get_or rows k other ≡ get_or old k other
 
 -- the table once the marked rows hold what was heard
-pub table_heard : (old : Rows) (names : List Name) (heard : Heard) (named : List Bool) (rows new held : List Row) → held ≡ old.rows → IsTable rows → rows ≡ rows_with held (told_by names heard)
+pub table_heard : (old : Rows) (names : List Name) (heard : Heard) (named : List Bool) (rows new held : List Row) → held ≡ old.rows → IsTable rows
+    → rows ≡ rows_with held (told_by names heard)
     → AreMarks names rows named → IsRenewed heard named rows new → record { clock = heard.tick; rows = new } ≡ heard_table old (told_by names heard)
 table_heard old names heard named rows new held same table is marks h =
     let all : new ≡ map (renewed (told_by names heard)) (rows_with old.rows (told_by names heard)) =
-    renewed_all names heard named rows new marks h ∙ ap (map (renewed (told_by names heard))) (is ∙ ap (λ (xs : List Row). rows_with xs (told_by names heard)) same) in
+    renewed_all names heard named rows new marks h ∙ ap (map (renewed (told_by names heard))) (is
+    ∙ ap (λ (xs : List Row). rows_with xs (told_by names heard)) same) in
     ap (λ (xs : List Row). record { clock = heard.tick; rows = xs }) all
 
-pub table_all : (names : List Name) (heard : Heard) (named : List Bool) (rows new : List Row) → IsTable rows → AreMarks names rows named → IsRenewed heard named rows new → IsTable new
-table_all names heard named rows new table marks h = subst IsTable (sym (renewed_all names heard named rows new marks h)) (table_renewed (told_by names heard) rows table)
+pub table_all : (names : List Name) (heard : Heard) (named : List Bool) (rows new : List Row) → IsTable rows → AreMarks names rows named
+    → IsRenewed heard named rows new → IsTable new
+table_all names heard named rows new table marks h =
+    subst IsTable (sym (renewed_all names heard named rows new marks h)) (table_renewed (told_by names heard) rows table)

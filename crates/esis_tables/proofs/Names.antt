@@ -27,15 +27,18 @@ new_names-append there (x ∷ xs) ys = by (is_among there x) (new_names-append t
     by : (known : Bool) → new_names there (xs ++ ys) ≡ new_names there xs ++ new_names (there ++ new_names there xs) ys
         → new_names (there ++ x ∷ []) (xs ++ ys) ≡ new_names (there ++ x ∷ []) xs ++ new_names ((there ++ x ∷ []) ++ new_names (there ++ x ∷ []) xs) ys
         → (if known then new_names there (xs ++ ys) else x ∷ new_names (there ++ x ∷ []) (xs ++ ys))
-        ≡ (if known then new_names there xs else x ∷ new_names (there ++ x ∷ []) xs) ++ new_names (there ++ (if known then new_names there xs else x ∷ new_names (there ++ x ∷ []) xs)) ys
+        ≡ (if known then new_names there xs else x ∷ new_names (there ++ x ∷ []) xs) ++ new_names
+        (there ++ (if known then new_names there xs else x ∷ new_names (there ++ x ∷ []) xs)) ys
     by true here later = here
     by false here later =
         ap (λ (zs : List Name). x ∷ zs) later
         ∙ ap (λ (zs : List Name). x ∷ new_names (there ++ x ∷ []) xs ++ new_names zs ys) (append_assoc there (x ∷ []) (new_names (there ++ x ∷ []) xs))
 
 -- one name more
-pub new_names-push : (there xs : List Name) (name : Name) → new_names there (xs ++ name ∷ []) ≡ new_names there xs ++ if_new (is_among (there ++ new_names there xs) name) name
-new_names-push there xs name = new_names-append there xs (name ∷ []) ∙ ap (λ (zs : List Name). new_names there xs ++ zs) (by (is_among (there ++ new_names there xs) name))
+pub new_names-push : (there xs : List Name) (name : Name)
+    → new_names there (xs ++ name ∷ []) ≡ new_names there xs ++ if_new (is_among (there ++ new_names there xs) name) name
+new_names-push there xs name = new_names-append there xs (name ∷ [])
+    ∙ ap (λ (zs : List Name). new_names there xs ++ zs) (by (is_among (there ++ new_names there xs) name))
   where
     by : (known : Bool) → (if known then [] else name ∷ []) ≡ if_new known name
     by true = refl
@@ -47,17 +50,22 @@ new_are_names there [] = All-nil (λ name. is_among [] name ≡ true)
 new_are_names there (x ∷ names) = by (is_among there x) (new_are_names there names) (new_are_names (there ++ x ∷ []) names)
   where
     more : (others : List Name) → All (λ name. is_among names name ≡ true) others → All (λ name. is_among (x ∷ names) name ≡ true) others
-    more others = All-weaker (λ name. is_among names name ≡ true) (λ name. is_among (x ∷ names) name ≡ true) (λ name is. or_right (pointwise nat_eq x name) (is_among names name) is) others
+    more others = All-weaker (λ name. is_among names name ≡ true) (λ name. is_among (x ∷ names) name ≡ true)
+        (λ name is. or_right (pointwise nat_eq x name) (is_among names name) is) others
 
-    by : (known : Bool) → All (λ name. is_among names name ≡ true) (new_names there names) → All (λ name. is_among names name ≡ true) (new_names (there ++ x ∷ []) names)
+    by : (known : Bool) → All (λ name. is_among names name ≡ true) (new_names there names)
+        → All (λ name. is_among names name ≡ true) (new_names (there ++ x ∷ []) names)
         → All (λ name. is_among (x ∷ names) name ≡ true) (if known then new_names there names else x ∷ new_names (there ++ x ∷ []) names)
     by true here later = more (new_names there names) here
-    by false here later = All-cons (λ name. is_among (x ∷ names) name ≡ true) x (new_names (there ++ x ∷ []) names) (or_left (pointwise nat_eq x x) (is_among names x) (nat_list_eq_equiv.refl x)) (more (new_names (there ++ x ∷ []) names) later)
+    by false here later = All-cons (λ name. is_among (x ∷ names) name ≡ true) x (new_names (there ++ x ∷ []) names)
+        (or_left (pointwise nat_eq x x) (is_among names x) (nat_list_eq_equiv.refl x)) (more (new_names (there ++ x ∷ []) names) later)
 
 -- a name is there or is a new one
-pub named_somewhere : (there names : List Name) (name : Name) → is_among there name ≡ false → is_among (new_names there names) name ≡ false → is_among names name ≡ false
+pub named_somewhere : (there names : List Name) (name : Name) → is_among there name ≡ false → is_among (new_names there names) name ≡ false
+    → is_among names name ≡ false
 named_somewhere there [] name not_there not_new = refl
-named_somewhere there (x ∷ names) name not_there not_new = by (is_among there x) refl not_new (named_somewhere there names name not_there) (named_somewhere (there ++ x ∷ []) names name)
+named_somewhere there (x ∷ names) name not_there not_new =
+    by (is_among there x) refl not_new (named_somewhere there names name not_there) (named_somewhere (there ++ x ∷ []) names name)
   where
     other : (same : Bool) → is_among there x ≡ true → pointwise nat_eq x name ≡ same → same ≡ false
     other true known same = let clash : true ≡ false = sym known ∙ ap (is_among there) (same_text x name (sym same)) ∙ not_there in absurd cc
@@ -69,8 +77,10 @@ named_somewhere there (x ∷ names) name not_there not_new = by (is_among there 
         → is_among (x ∷ names) name ≡ false
     by true known none here later = or_from (pointwise nat_eq x name) (is_among names name) (other (pointwise nat_eq x name) known refl) (here none)
     by false known none here later =
-        let parts : (pointwise nat_eq x name ≡ false) × (is_among (new_names (there ++ x ∷ []) names) name ≡ false) = or_parts (pointwise nat_eq x name) (is_among (new_names (there ++ x ∷ []) names) name) none in
-        let behind : is_among (there ++ x ∷ []) name ≡ false = is_among-append there (x ∷ []) name ∙ or_from (is_among there name) (is_among (x ∷ []) name) not_there (or_from (pointwise nat_eq x name) false parts.0 refl) in
+        let parts : (pointwise nat_eq x name ≡ false) × (is_among (new_names (there ++ x ∷ []) names) name ≡ false) =
+        or_parts (pointwise nat_eq x name) (is_among (new_names (there ++ x ∷ []) names) name) none in
+        let behind : is_among (there ++ x ∷ []) name ≡ false = is_among-append there (x ∷ []) name
+        ∙ or_from (is_among there name) (is_among (x ∷ []) name) not_there (or_from (pointwise nat_eq x name) false parts.0 refl) in
         or_from (pointwise nat_eq x name) (is_among names name) parts.0 (later behind parts.1)
 
 -- an address behind others among which it is not
@@ -78,8 +88,10 @@ pub distinct_push : (xs : List Name) (name : Name) → AreDistinct xs → is_amo
 distinct_push [] name distinct fresh = (refl, tt)
 distinct_push (x ∷ xs) name distinct fresh =
     let parts : (pointwise nat_eq x name ≡ false) × (is_among xs name ≡ false) = or_parts (pointwise nat_eq x name) (is_among xs name) fresh in
-    let other : pointwise nat_eq name x ≡ false = nat_list_eq_equiv.symm name x ∙ parts.0 in
-    (is_among-append xs (name ∷ []) x ∙ or_from (is_among xs x) (is_among (name ∷ []) x) distinct.0 (or_from (pointwise nat_eq name x) false other refl), distinct_push xs name distinct.1 parts.1)
+    let other : pointwise nat_eq name x ≡ false = nat_list_eq_equiv.symm name x ∙ parts.0 in (
+      is_among-append xs (name ∷ []) x ∙ or_from (is_among xs x) (is_among (name ∷ []) x) distinct.0 (or_from (pointwise nat_eq name x) false other refl),
+      distinct_push xs name distinct.1 parts.1,
+    )
 
 -- a name at a place is among them
 pub among_at : (xs : List Name) (place : ℕ) (d : Name) → place < length xs → is_among xs (get_or xs place d) ≡ true
@@ -88,7 +100,8 @@ among_at (x ∷ xs) zero d within = or_left (pointwise nat_eq x x) (is_among xs 
 among_at (x ∷ xs) (suc place) d within = or_right (pointwise nat_eq x (get_or xs place d)) (is_among xs (get_or xs place d)) (among_at xs place d (omega arith))
 
 -- addresses that differ are at one place
-pub one_place : (xs : List Name) (first second : ℕ) (d : Name) → AreDistinct xs → first < length xs → second < length xs → get_or xs first d ≡ get_or xs second d → first ≡ second
+pub one_place : (xs : List Name) (first second : ℕ) (d : Name) → AreDistinct xs → first < length xs → second < length xs
+    → get_or xs first d ≡ get_or xs second d → first ≡ second
 one_place [] first second d distinct low high same = absurd (omega arith)
 one_place (x ∷ xs) zero zero d distinct low high same = refl
 one_place (x ∷ xs) zero (suc second) d distinct low high same =

@@ -30,7 +30,8 @@ not_greater o is = not-true (is_gt o) is
 
 upto_upto : (first second third : List ℕ) → is_upto first second ≡ true → is_upto second third ≡ true → is_upto first third ≡ true
 upto_upto first second third one two =
-    ap not (upto nat_list_cmp_total first second third (not-true (is_gt (slice_cmp nat_cmp first second)) one) (not-true (is_gt (slice_cmp nat_cmp second third)) two))
+    ap not (upto nat_list_cmp_total first second third (not-true (is_gt (slice_cmp nat_cmp first second)) one)
+    (not-true (is_gt (slice_cmp nat_cmp second third)) two))
 
 lesser_upto : (o : Ordering) → is_lt o ≡ true → not (is_gt o) ≡ true
 lesser_upto Less is = refl
@@ -79,16 +80,19 @@ module _ (now : ℕ) where
   one_more rows (Some least) row true false how is h = stays rows least row h (none_behind least.address row is)
   one_more rows (Some least) row true true how is h =
       let lower : is_upto row.address least.address ≡ true = lesser_upto (slice_cmp nat_cmp row.address least.address) how in
-      comes rows row is (All-weaker (Behind least.address) (Behind row.address) (λ other behind also. upto_upto row.address least.address other.address lower (behind also)) rows h.least)
+      comes rows row is (All-weaker (Behind least.address) (Behind row.address)
+      (λ other behind also. upto_upto row.address least.address other.address lower (behind also)) rows h.least)
 
   -- a loop's step
   pub least_at : (rows : List Row) (i : ℕ) (least next : Option Row) (row : Row) (lesser : Bool) → i < length rows → row ≡ get_or rows i row
-      → lesser ≡ is_lesser row least now → next ≡ (if lesser then Some row else least) → IsLeastRouter (take i rows) now least → IsLeastRouter (take (i + 1) rows) now next
+      → lesser ≡ is_lesser row least now → next ≡ (if lesser then Some row else least) → IsLeastRouter (take i rows) now least
+      → IsLeastRouter (take (i + 1) rows) now next
   least_at rows i least next row lesser within is how next_is h =
       let more : take (i + 1) rows ≡ take i rows ++ row ∷ [] = take_more rows i row within ∙ ap (λ (x : Row). take i rows ++ x ∷ []) (sym is) in
       let moved : next ≡ (if is_lesser row least now then Some row else least) = next_is ∙ ap (λ (b : Bool). if b then Some row else least) how in
       subst (λ (xs : List Row). IsLeastRouter xs now next) (sym more)
-      (subst (λ (found : Option Row). IsLeastRouter (take i rows ++ row ∷ []) now found) (sym moved) (one_more (take i rows) least row (is_before row least) (is_router now row) refl refl h))
+      (subst (λ (found : Option Row). IsLeastRouter (take i rows ++ row ∷ []) now found) (sym moved)
+      (one_more (take i rows) least row (is_before row least) (is_router now row) refl refl h))
 
 -- what is behind another is not before it
 reversed : (o : Ordering) → not (is_gt (ordering_reverse o)) ≡ true → is_lt o ≡ false
@@ -97,7 +101,8 @@ reversed Equal is = refl
 reversed Greater is = refl
 
 upto_not : (first second : List ℕ) → is_upto first second ≡ true → is_lt (slice_cmp nat_cmp second first) ≡ false
-upto_not first second is = reversed (slice_cmp nat_cmp second first) (ap (λ (o : Ordering). not (is_gt o)) (sym (nat_list_cmp_total.antisymm first second)) ∙ is)
+upto_not first second is = reversed (slice_cmp nat_cmp second first) (ap (λ (o : Ordering). not (is_gt o)) (sym (nat_list_cmp_total.antisymm first second))
+    ∙ is)
 
 tied : (o : Ordering) → not (is_gt o) ≡ true → not (is_gt (ordering_reverse o)) ≡ true → is_eq o ≡ true
 tied Less one two = absurd cc
@@ -107,20 +112,24 @@ tied Greater one two = absurd cc
 -- titles that are each up to the other are one
 pub one_title : (first second : List ℕ) → is_upto first second ≡ true → is_upto second first ≡ true → first ≡ second
 one_title first second one two =
-    let back : not (is_gt (ordering_reverse (slice_cmp nat_cmp first second))) ≡ true = ap (λ (o : Ordering). not (is_gt o)) (sym (nat_list_cmp_total.antisymm second first)) ∙ two in
+    let back : not (is_gt (ordering_reverse (slice_cmp nat_cmp first second))) ≡ true =
+    ap (λ (o : Ordering). not (is_gt o)) (sym (nat_list_cmp_total.antisymm second first)) ∙ two in
     same_text first second (sym (texts_ties first second ∙ tied (slice_cmp nat_cmp first second) one back))
 
 -- rows of one address are one row
 no_row : (rows : List Row) (row : Row) (address : List ℕ) → is_among (addresses rows) address ≡ false → Contains rows row → row.address ≡ address → ⊥
 no_row [] row address none there same = absurd (omega (arith, there.1))
 no_row (first ∷ rows) row address none there same =
-    let parts : (pointwise nat_eq first.address address ≡ false) × (is_among (addresses rows) address ≡ false) = or_parts (pointwise nat_eq first.address address) (is_among (addresses rows) address) none in
+    let parts : (pointwise nat_eq first.address address ≡ false) × (is_among (addresses rows) address ≡ false) =
+    or_parts (pointwise nat_eq first.address address) (is_among (addresses rows) address) none in
     elim (contains_cases first rows row there) [
-      | inl is ↦ let clash : true ≡ false = sym (nat_list_eq_equiv.refl address) ∙ ap (λ (x : List ℕ). pointwise nat_eq x address) (sym (ap (λ (x : Row). x.address) is ∙ same)) ∙ parts.0 in cc
+      | inl is ↦ let clash : true ≡ false = sym (nat_list_eq_equiv.refl address)
+          ∙ ap (λ (x : List ℕ). pointwise nat_eq x address) (sym (ap (λ (x : Row). x.address) is ∙ same)) ∙ parts.0 in cc
       | inr rest ↦ no_row rows row address parts.1 rest same
     ]
 
-same_row : (rows : List Row) (first second : Row) → AreDistinct (addresses rows) → Contains rows first → Contains rows second → first.address ≡ second.address → first ≡ second
+same_row : (rows : List Row) (first second : Row) → AreDistinct (addresses rows) → Contains rows first → Contains rows second → first.address ≡ second.address
+    → first ≡ second
 same_row [] first second distinct one two same = absurd (omega (arith, one.1))
 same_row (row ∷ rows) first second distinct one two same =
     elim (contains_cases row rows first one) [
@@ -141,18 +150,21 @@ module _ (now : ℕ) (rows : List Row) where
   passed : (row other : Row) → precedes now row other ≡ false → After row other
   passed row other not is = behind_upto other.address row.address (sym (ap (λ (b : Bool). b && is_lt (slice_cmp nat_cmp other.address row.address)) is) ∙ not)
 
-  past : (row other : Row) (router : Bool) → is_router now other ≡ router → (router ≡ true → is_upto row.address other.address ≡ true) → (router && is_lt (slice_cmp nat_cmp other.address row.address)) ≡ false
+  past : (row other : Row) (router : Bool) → is_router now other ≡ router → (router ≡ true → is_upto row.address other.address ≡ true)
+      → (router && is_lt (slice_cmp nat_cmp other.address row.address)) ≡ false
   past row other true is after = upto_not row.address other.address (after refl)
   past row other false is after = refl
 
   -- the test tells the row of least title
   tested : (row : Row) → Contains rows row → is_least rows now row ≡ true → IsLeastOf rows now row
   tested row there passes =
-      let parts : (is_router now row ≡ true) × (not (list_any (precedes now row) rows) ≡ true) = and_parts (is_router now row) (not (list_any (precedes now row) rows)) passes in
+      let parts : (is_router now row ≡ true) × (not (list_any (precedes now row) rows) ≡ true) =
+      and_parts (is_router now row) (not (list_any (precedes now row) rows)) passes in
       record {
         stands = there;
         router = parts.0;
-        least = All-weaker (λ other. precedes now row other ≡ false) (After row) (passed row) rows (none_pass (precedes now row) rows (not-true (list_any (precedes now row) rows) parts.1));
+        least = All-weaker (λ other. precedes now row other ≡ false) (After row) (passed row) rows
+            (none_pass (precedes now row) rows (not-true (list_any (precedes now row) rows) parts.1));
       }
 
   passes_test : (row : Row) → IsLeastOf rows now row → is_least rows now row ≡ true
@@ -161,9 +173,11 @@ module _ (now : ℕ) (rows : List Row) where
       (All-weaker (After row) (λ other. precedes now row other ≡ false) (λ other after. past row other (is_router now other) refl after) rows h.least) in
       ap (λ (b : Bool). b && not (list_any (precedes now row) rows)) h.router ∙ ap not none
 
-  found_least : (row : Row) → AreDistinct (addresses rows) → IsLeastOf rows now row → (found : Option Row) → find (is_least rows now) rows ≡ found → found ≡ Some row
+  found_least : (row : Row) → AreDistinct (addresses rows) → IsLeastOf rows now row → (found : Option Row) → find (is_least rows now) rows ≡ found
+      → found ≡ Some row
   found_least row distinct h None is =
-      let clash : true ≡ false = sym (passes_test row h) ∙ All-contains (λ x. is_least rows now x ≡ false) rows row (none_pass (is_least rows now) rows (find_none (is_least rows now) rows is)) h.stands in absurd cc
+      let clash : true ≡ false = sym (passes_test row h) ∙ All-contains (λ x. is_least rows now x ≡ false) rows row
+      (none_pass (is_least rows now) rows (find_none (is_least rows now) rows is)) h.stands in absurd cc
   found_least row distinct h (Some other) is =
       let there : Contains rows other × (is_least rows now other ≡ true) = find_some (is_least rows now) rows other is in
       let also : IsLeastOf rows now other = tested other there.0 there.1 in
@@ -179,9 +193,11 @@ module _ (now : ℕ) (rows : List Row) where
 
   pub same_router : (hop : Option Hop) → AreDistinct (addresses rows) → IsRouterHop rows now hop → hop ≡ router_in rows now
   same_router None distinct h = ap (option_map (λ row. row.heard.hop)) (sym (found_no h (find (is_least rows now) rows) refl))
-  same_router (Some hop) distinct h = ap Some h.2 ∙ ap (option_map (λ row. row.heard.hop)) (sym (found_least h.0 distinct h.1 (find (is_least rows now) rows) refl))
+  same_router (Some hop) distinct h = ap Some h.2 ∙ ap (option_map (λ row. row.heard.hop))
+      (sym (found_least h.0 distinct h.1 (find (is_least rows now) rows) refl))
 
 -- the hop that was found in the rows that a table lends
-pub router_at : (now : ℕ) (rows held lent : List Row) (hop : Option Hop) → held ≡ rows → lent ≡ held → IsTable held → IsRouterHop lent now hop → hop ≡ router_in rows now
+pub router_at : (now : ℕ) (rows held lent : List Row) (hop : Option Hop) → held ≡ rows → lent ≡ held → IsTable held → IsRouterHop lent now hop
+    → hop ≡ router_in rows now
 router_at now rows held lent hop same also table h =
     same_router now held hop table.distinct (subst (λ (xs : List Row). IsRouterHop xs now hop) also h) ∙ ap (λ (xs : List Row). router_in xs now) same

@@ -13,7 +13,8 @@ use Rattle.esis_pdu.specs.declared.hello.Hello.TheVariants.{Esh, Ish, Rd}
 use Rattle.esis_tables.specs.declared.known.HearRefusal.{HearRefusal}
 use Rattle.esis_tables.specs.declared.row.Row.{Row}
 use Rattle.esis_tables.specs.Told.{IsKnownRouter, IsRouter, Told, is_among, is_upto, known_hop, known_of, latest, or_this, told_of}
-use Rattle.esis_tables.specs.Rows.{Rows, addresses, find_row, has_row, heard_of, heard_table, hop_known, is_router, is_row_known, is_title, new_names, renewed, row_at, row_of, rows_with, swept_table}
+use Rattle.esis_tables.specs.Rows.{Rows, addresses, find_row, has_row, heard_of, heard_table, hop_known, is_router, is_row_known}
+use Rattle.esis_tables.specs.Rows.{is_title, new_names, renewed, row_at, row_of, rows_with, swept_table}
 use Rattle.esis_tables.specs.Stands.{IsRowOf, Stands, StandsStill, StandsWith}
 use Rattle.esis_tables.specs.steps.Least.{IsRouterHop}
 use Rattle.esis_tables.proofs.Lists.{contains_cases, find_none, find_some, list_any-map}
@@ -22,40 +23,51 @@ use Rattle.esis_tables.proofs.Names.{is_among-append, named_somewhere, new_are_n
 use Rattle.esis_tables.proofs.Marking.{addresses-renewed, addresses-with}
 
 -- the latest of the hellos and one more
-latest-push : (hellos : List Told) (told : Told) (address : List ℕ) → latest (hellos ++ told ∷ []) address ≡ (if is_among told.names address then Some told else latest hellos address)
+latest-push : (hellos : List Told) (told : Told) (address : List ℕ)
+    → latest (hellos ++ told ∷ []) address ≡ (if is_among told.names address then Some told else latest hellos address)
 latest-push [] told address = refl
-latest-push (first ∷ hellos) told address = ap (λ (found : Option Told). or_this found first address) (latest-push hellos told address) ∙ by (is_among told.names address)
+latest-push (first ∷ hellos) told address = ap (λ (found : Option Told). or_this found first address) (latest-push hellos told address)
+    ∙ by (is_among told.names address)
   where
-    by : (named : Bool) → or_this (if named then Some told else latest hellos address) first address ≡ (if named then Some told else or_this (latest hellos address) first address)
+    by : (named : Bool) → or_this (if named then Some told else latest hellos address) first
+        address ≡ (if named then Some told else or_this (latest hellos address) first address)
     by true = refl
     by false = refl
 
-latest_named : (hellos : List Told) (told : Told) (address : List ℕ) (named : Bool) → is_among told.names address ≡ named → latest (hellos ++ told ∷ []) address ≡ (if named then Some told else latest hellos address)
+latest_named : (hellos : List Told) (told : Told) (address : List ℕ) (named : Bool) → is_among told.names address ≡ named
+    → latest (hellos ++ told ∷ []) address ≡ (if named then Some told else latest hellos address)
 latest_named hellos told address named is = latest-push hellos told address ∙ ap (λ (b : Bool). if b then Some told else latest hellos address) is
 
 -- a row, once a hello more was heard
 row_heard : (hellos : List Told) (told : Told) (row : Row) (named : Bool) → is_among told.names row.address ≡ named → IsRowOf row (latest hellos row.address)
-    → IsRowOf (if named then record row { heard = heard_of told } else row) (latest (hellos ++ told ∷ []) (if named then record row { heard = heard_of told } else row).address)
+    → IsRowOf (if named then record row { heard = heard_of told } else row)
+    (latest (hellos ++ told ∷ []) (if named then record row { heard = heard_of told } else row).address)
 row_heard hellos told row true is h = subst (IsRowOf (record row { heard = heard_of told })) (sym (latest_named hellos told row.address true is)) refl
 row_heard hellos told row false is h = subst (IsRowOf row) (sym (latest_named hellos told row.address false is)) h
 
 row_new : (hellos : List Told) (told : Told) (name : List ℕ) (named : Bool) → is_among told.names name ≡ named → named ≡ true
-    → IsRowOf (if named then record (row_of told name) { heard = heard_of told } else row_of told name) (latest (hellos ++ told ∷ []) (if named then record (row_of told name) { heard = heard_of told } else row_of told name).address)
+    → IsRowOf (if named then record (row_of told name) { heard = heard_of told } else row_of told name)
+    (latest (hellos ++ told ∷ []) (if named then record (row_of told name) { heard = heard_of told } else row_of told name).address)
 row_new hellos told name true is holds = subst (IsRowOf (row_of told name)) (sym (latest_named hellos told name true is)) refl
 row_new hellos told name false is holds = absurd cc
 
-pub hear_stands : (old : Rows) (told : Told) (hellos : List Told) → old.clock ≤ told.tick → Stands old hellos old.clock → Stands (heard_table old told) (hellos ++ told ∷ []) told.tick
+pub hear_stands : (old : Rows) (told : Told) (hellos : List Told) → old.clock ≤ told.tick → Stands old hellos old.clock
+    → Stands (heard_table old told) (hellos ++ told ∷ []) told.tick
 hear_stands old told hellos later h =
     let P : Row → Type 0 = λ row. IsRowOf row (latest (hellos ++ told ∷ []) row.address) in
     let Q : Row → Type 0 = λ row. IsRowOf (renewed told row) (latest (hellos ++ told ∷ []) (renewed told row).address) in
     let names : List (List ℕ) = new_names (addresses old.rows) told.names in
     record {
       rows = All-map P (renewed told) (rows_with old.rows told) (All-append Q old.rows (map (row_of told) names)
-          (All-weaker (λ row. IsRowOf row (latest hellos row.address)) Q (λ row is. row_heard hellos told row (is_among told.names row.address) refl is) old.rows h.rows)
-          (All-map Q (row_of told) names (All-weaker (λ name. is_among told.names name ≡ true) (λ name. Q (row_of told name)) (λ name is. row_new hellos told name (is_among told.names name) refl is) names (new_are_names (addresses old.rows) told.names))));
+          (All-weaker (λ row. IsRowOf row (latest hellos row.address)) Q (λ row is. row_heard hellos told row (is_among told.names row.address) refl is)
+          old.rows h.rows)
+          (All-map Q (row_of told) names (All-weaker (λ name. is_among told.names name ≡ true) (λ name. Q (row_of told name))
+          (λ name is. row_new hellos told name (is_among told.names name) refl is) names (new_are_names (addresses old.rows) told.names))));
       others = λ address none at low.
-          let all : is_among (addresses old.rows ++ names) address ≡ false = ap (λ (xs : List (List ℕ)). is_among xs address) (sym (addresses-renewed told (rows_with old.rows told) ∙ addresses-with old.rows told)) ∙ none in
-          let parts : (has_row old.rows address ≡ false) × (is_among names address ≡ false) = or_parts (has_row old.rows address) (is_among names address) (sym (is_among-append (addresses old.rows) names address) ∙ all) in
+          let all : is_among (addresses old.rows ++ names) address ≡ false =
+          ap (λ (xs : List (List ℕ)). is_among xs address) (sym (addresses-renewed told (rows_with old.rows told) ∙ addresses-with old.rows told)) ∙ none in
+          let parts : (has_row old.rows address ≡ false) × (is_among names address ≡ false) =
+          or_parts (has_row old.rows address) (is_among names address) (sym (is_among-append (addresses old.rows) names address) ∙ all) in
           let unnamed : is_among told.names address ≡ false = named_somewhere (addresses old.rows) told.names address parts.0 parts.1 in
           ap (known_of at) (latest_named hellos told address false unnamed) ∙ h.others address parts.0 at (omega arith);
     }
@@ -74,21 +86,26 @@ found_row rows address row is =
     let there : Contains rows row × (pointwise nat_eq row.address address ≡ true) = find_some (λ row. pointwise nat_eq row.address address) rows row is in
     (there.0, same_text row.address address (sym there.1))
 
-pub find_stands : (table : Rows) (hellos : List Told) (since now : ℕ) (address : List ℕ) → since ≤ now → Stands table hellos since → find_row table.rows now address ≡ known_hop hellos now address
+pub find_stands : (table : Rows) (hellos : List Told) (since now : ℕ) (address : List ℕ) → since ≤ now → Stands table hellos since
+    → find_row table.rows now address ≡ known_hop hellos now address
 find_stands table hellos since now address later h = by (row_at table.rows address) refl
   where
     by : (found : Option Row) → row_at table.rows address ≡ found → hop_known now found ≡ known_hop hellos now address
     by None is = sym (h.others address (has_row-rows table.rows address ∙ find_none (λ row. pointwise nat_eq row.address address) table.rows is) now later)
     by (Some row) is =
         let there : Contains table.rows row × (row.address ≡ address) = found_row table.rows address row is in
-        row_known row now (latest hellos row.address) (All-contains (λ row. IsRowOf row (latest hellos row.address)) table.rows row h.rows there.0) ∙ ap (known_hop hellos now) there.1
+        row_known row now (latest hellos row.address) (All-contains (λ row. IsRowOf row (latest hellos row.address)) table.rows row h.rows there.0)
+        ∙ ap (known_hop hellos now) there.1
 
 -- a row that passes a test is among those that do
 kept_by : (p : Row → Bool) (row first : Row) (rows : List Row) (passes : Bool) → p first ≡ passes → p row ≡ true → (first ≡ row) ⊎ Contains rows row
-    → (Contains rows row → is_among (addresses (filter p rows)) row.address ≡ true) → is_among (addresses (cond passes (first ∷ filter p rows) (filter p rows))) row.address ≡ true
+    → (Contains rows row → is_among (addresses (filter p rows)) row.address ≡ true)
+    → is_among (addresses (cond passes (first ∷ filter p rows) (filter p rows))) row.address ≡ true
 kept_by p row first rows true is known (inl same) rest =
-    or_left (pointwise nat_eq first.address row.address) (is_among (addresses (filter p rows)) row.address) (ap (λ (x : Row). pointwise nat_eq x.address row.address) same ∙ nat_list_eq_equiv.refl row.address)
-kept_by p row first rows true is known (inr there) rest = or_right (pointwise nat_eq first.address row.address) (is_among (addresses (filter p rows)) row.address) (rest there)
+    or_left (pointwise nat_eq first.address row.address) (is_among (addresses (filter p rows)) row.address)
+    (ap (λ (x : Row). pointwise nat_eq x.address row.address) same ∙ nat_list_eq_equiv.refl row.address)
+kept_by p row first rows true is known (inr there) rest =
+    or_right (pointwise nat_eq first.address row.address) (is_among (addresses (filter p rows)) row.address) (rest there)
 kept_by p row first rows false is known (inl same) rest = let clash : true ≡ false = sym known ∙ ap p (sym same) ∙ is in absurd cc
 kept_by p row first rows false is known (inr there) rest = rest there
 
@@ -109,16 +126,21 @@ tick_stands old now hellos later h = record {
   others = λ address none at low. by address none at low (row_at old.rows address) refl;
 }
   where
-    gone : (row : Row) (known : Bool) → is_row_known now row ≡ known → Contains old.rows row → has_row (filter (is_row_known now) old.rows) row.address ≡ false → known ≡ false
+    gone : (row : Row) (known : Bool) → is_row_known now row ≡ known → Contains old.rows row → has_row (filter (is_row_known now) old.rows) row.address ≡ false
+        → known ≡ false
     gone row true is there none = let clash : true ≡ false = sym (kept_row (is_row_known now) row old.rows is there) ∙ none in absurd cc
     gone row false is there none = refl
 
-    by : (address : List ℕ) → has_row (filter (is_row_known now) old.rows) address ≡ false → (at : ℕ) → now ≤ at → (found : Option Row) → row_at old.rows address ≡ found → known_hop hellos at address ≡ None
-    by address none at low None is = h.others address (has_row-rows old.rows address ∙ find_none (λ row. pointwise nat_eq row.address address) old.rows is) at (omega arith)
+    by : (address : List ℕ) → has_row (filter (is_row_known now) old.rows) address ≡ false → (at : ℕ) → now ≤ at → (found : Option Row)
+        → row_at old.rows address ≡ found → known_hop hellos at address ≡ None
+    by address none at low None is = h.others address (has_row-rows old.rows address ∙ find_none (λ row. pointwise nat_eq row.address address) old.rows is) at
+        (omega arith)
     by address none at low (Some row) is =
         let there : Contains old.rows row × (row.address ≡ address) = found_row old.rows address row is in
-        let past : is_row_known now row ≡ false = gone row (is_row_known now row) refl there.0 (ap (has_row (filter (is_row_known now) old.rows)) there.1 ∙ none) in
-        ap (known_hop hellos at) (sym there.1) ∙ sym (row_known row at (latest hellos row.address) (All-contains (λ row. IsRowOf row (latest hellos row.address)) old.rows row h.rows there.0)) ∙ past_row row now at low past
+        let past : is_row_known now row ≡ false = gone row (is_row_known now row) refl there.0 (ap (has_row (filter (is_row_known now) old.rows)) there.1
+        ∙ none) in
+        ap (known_hop hellos at) (sym there.1) ∙ sym (row_known row at (latest hellos row.address)
+        (All-contains (λ row. IsRowOf row (latest hellos row.address)) old.rows row h.rows there.0)) ∙ past_row row now at low past
 
 -- the title of a router's row is its address
 titled : (row : Row) (title : Option (List ℕ)) → is_title title row.address ≡ true → title ≡ Some row.address
@@ -132,25 +154,37 @@ module _ (table : Rows) (hellos : List Told) (now : ℕ) (later : table.clock �
   -- a router's row is that of a router that the hellos make known
   router_told : (row : Row) → Contains table.rows row → is_router now row ≡ true → IsKnownRouter hellos now row.address row.heard.hop
   router_told row there router =
-      let parts : (is_row_known now row ≡ true) × (is_title row.heard.hop.title row.address ≡ true) = and_parts (is_row_known now row) (is_title row.heard.hop.title row.address) router in
-      let known : hop_known now (Some row) ≡ Some row.heard.hop = ap (λ (b : Bool). if b then Some row.heard.hop else None) parts.0 in
-      (sym (row_known row now (latest hellos row.address) (All-contains (λ row. IsRowOf row (latest hellos row.address)) table.rows row h.rows there)) ∙ known, titled row row.heard.hop.title parts.1)
+      let parts : (is_row_known now row ≡ true) × (is_title row.heard.hop.title row.address ≡ true) =
+      and_parts (is_row_known now row) (is_title row.heard.hop.title row.address) router in
+      let known : hop_known now (Some row) ≡ Some row.heard.hop = ap (λ (b : Bool). if b then Some row.heard.hop else None) parts.0 in (
+        sym (row_known row now (latest hellos row.address) (All-contains (λ row. IsRowOf row (latest hellos row.address)) table.rows row h.rows there))
+            ∙ known,
+        titled row row.heard.hop.title parts.1,
+      )
 
-  known_by : (row : Row) (hop : Hop) (known : Bool) → is_row_known now row ≡ known → (if known then Some row.heard.hop else None) ≡ Some hop → (is_row_known now row ≡ true) × (row.heard.hop ≡ hop)
+  known_by : (row : Row) (hop : Hop) (known : Bool) → is_row_known now row ≡ known → (if known then Some row.heard.hop else None) ≡ Some hop
+      → (is_row_known now row ≡ true) × (row.heard.hop ≡ hop)
   known_by row hop true is some = (is, cc)
   known_by row hop false is some = absurd cc
 
   -- a router that the hellos make known has a row
-  router_row : (title : List ℕ) (hop : Hop) → IsKnownRouter hellos now title hop → (row : Row) × Contains table.rows row × (row.address ≡ title) × (is_router now row ≡ true)
+  router_row : (title : List ℕ) (hop : Hop) → IsKnownRouter hellos now title hop
+      → (row : Row) × Contains table.rows row × (row.address ≡ title) × (is_router now row ≡ true)
   router_row title hop known = by (row_at table.rows title) refl (find_stands table hellos table.clock now title later h ∙ known.0)
     where
-      by : (found : Option Row) → row_at table.rows title ≡ found → hop_known now found ≡ Some hop → (row : Row) × Contains table.rows row × (row.address ≡ title) × (is_router now row ≡ true)
+      by : (found : Option Row) → row_at table.rows title ≡ found → hop_known now found ≡ Some hop
+          → (row : Row) × Contains table.rows row × (row.address ≡ title) × (is_router now row ≡ true)
       by None is some = absurd cc
       by (Some row) is some =
           let there : Contains table.rows row × (row.address ≡ title) = found_row table.rows title row is in
           let parts : (is_row_known now row ≡ true) × (row.heard.hop ≡ hop) = known_by row hop (is_row_known now row) refl some in
-          let named : row.heard.hop.title ≡ Some row.address = ap (λ (x : Hop). x.title) parts.1 ∙ known.1 ∙ ap Some (sym there.1) in
-          (row, there.0, there.1, and_from (is_row_known now row) (is_title row.heard.hop.title row.address) parts.0 (titled_back row row.heard.hop.title named))
+          let named : row.heard.hop.title ≡ Some row.address = ap (λ (x : Hop). x.title) parts.1 ∙ known.1 ∙ ap Some (sym there.1) in (
+            row,
+            there.0,
+            there.1,
+            and_from (is_row_known now row) (is_title row.heard.hop.title row.address) parts.0
+                (titled_back row row.heard.hop.title named),
+          )
 
   pub router_stands : (result : Option Hop) → IsRouterHop table.rows now result → IsRouter hellos now result
   router_stands None none = λ title hop known.
@@ -177,7 +211,8 @@ tick_told now from (Esh hold addresses) = refl
 tick_told now from (Ish hold title) = refl
 tick_told now from (Rd hold address snpa title) = refl
 
-pub heard_stands : (old new : Rows) (now : ℕ) (from : Port) (hello : Hello) (result : Result (Unit {0}) HearRefusal) → old.clock ≤ now → OnOk result (new ≡ heard_table old (told_of now from hello))
+pub heard_stands : (old new : Rows) (now : ℕ) (from : Port) (hello : Hello) (result : Result (Unit {0}) HearRefusal) → old.clock ≤ now
+    → OnOk result (new ≡ heard_table old (told_of now from hello))
     → OnOk result (StandsWith old (told_of now from hello) new)
 heard_stands old new now from hello (Ok done) later is = λ hellos h.
     subst (λ (table : Rows). Stands table (hellos ++ told_of now from hello ∷ []) table.clock) (sym is)
@@ -191,8 +226,10 @@ swept_stands old new now later is = λ hellos h. subst (λ (table : Rows). Stand
 unnamed : (table : Rows) (told : Told) (name : List ℕ) → has_row (heard_table table told).rows name ≡ false → is_among told.names name ≡ false
 unnamed table told name none =
     let names : List (List ℕ) = new_names (addresses table.rows) told.names in
-    let all : is_among (addresses table.rows ++ names) name ≡ false = ap (λ (xs : List (List ℕ)). is_among xs name) (sym (addresses-renewed told (rows_with table.rows told) ∙ addresses-with table.rows told)) ∙ none in
-    let parts : (has_row table.rows name ≡ false) × (is_among names name ≡ false) = or_parts (has_row table.rows name) (is_among names name) (sym (is_among-append (addresses table.rows) names name) ∙ all) in
+    let all : is_among (addresses table.rows ++ names) name ≡ false =
+    ap (λ (xs : List (List ℕ)). is_among xs name) (sym (addresses-renewed told (rows_with table.rows told) ∙ addresses-with table.rows told)) ∙ none in
+    let parts : (has_row table.rows name ≡ false) × (is_among names name ≡ false) =
+    or_parts (has_row table.rows name) (is_among names name) (sym (is_among-append (addresses table.rows) names name) ∙ all) in
     named_somewhere (addresses table.rows) told.names name parts.0 parts.1
 
 pub rows_of_names : (table : Rows) (told : Told) (name : List ℕ) → is_among told.names name ≡ true → has_row (heard_table table told).rows name ≡ true

@@ -19,7 +19,8 @@ pub record IsSweeping (now : ℕ) (old rows : List Row) (kept place : ℕ) : Typ
   pub rest : (k : ℕ) (other : Row) → place ≤ k → get_or rows k other ≡ get_or old k other
 
 module _ (now : ℕ) (old rows : List Row) (kept place : ℕ) where
-  pub sweeping_kept : (row : Row) → place < length old → row ≡ get_or rows place row → is_row_known now row ≡ true → IsSweeping now old rows kept place → IsSweeping now old (set rows kept row) (kept + 1) (place + 1)
+  pub sweeping_kept : (row : Row) → place < length old → row ≡ get_or rows place row → is_row_known now row ≡ true → IsSweeping now old rows kept place
+      → IsSweeping now old (set rows kept row) (kept + 1) (place + 1)
   sweeping_kept row within is known h =
       let room : kept < length rows = omega (arith, h.low, h.long) in
       let here : get_or old place row ≡ row = sym (h.rest place row (omega arith)) ∙ sym is in
@@ -34,7 +35,8 @@ module _ (now : ℕ) (old rows : List Row) (kept place : ℕ) where
         rest = λ k other high. get_or-set_other rows kept k row other (λ same. absurd (omega (arith, h.low))) ∙ h.rest k other (omega arith);
       }
 
-  pub sweeping_past : (row : Row) → place < length old → row ≡ get_or rows place row → is_row_known now row ≡ false → IsSweeping now old rows kept place → IsSweeping now old rows kept (place + 1)
+  pub sweeping_past : (row : Row) → place < length old → row ≡ get_or rows place row → is_row_known now row ≡ false → IsSweeping now old rows kept place
+      → IsSweeping now old rows kept (place + 1)
   sweeping_past row within is not h =
       let here : get_or old place row ≡ row = sym (h.rest place row (omega arith)) ∙ sym is in
       let fails : is_row_known now (get_or old place row) ≡ false = ap (is_row_known now) here ∙ not in
@@ -42,7 +44,8 @@ module _ (now : ℕ) (old rows : List Row) (kept place : ℕ) where
         low = omega (arith, h.low);
         long = h.long;
         front = h.front ∙ sym (filter_more (is_row_known now) old place row within
-            ∙ ap (λ (b : Bool). filter (is_row_known now) (take place old) ++ cond b (get_or old place row ∷ []) []) fails ∙ append-nil (filter (is_row_known now) (take place old)));
+            ∙ ap (λ (b : Bool). filter (is_row_known now) (take place old) ++ cond b (get_or old place row ∷ []) []) fails
+            ∙ append-nil (filter (is_row_known now) (take place old)));
         rest = λ k other high. h.rest k other (omega arith);
       }
 
@@ -51,16 +54,20 @@ module _ (now : ℕ) (old rows : List Row) (kept place : ℕ) where
 
 -- a part of a table is a table
 module _ (p : Row → Bool) where
-  among_by : (row : Row) (rows : List Row) (address : List ℕ) (passes : Bool) → is_among (addresses (row ∷ rows)) address ≡ false → is_among (addresses (filter p rows)) address ≡ false
+  among_by : (row : Row) (rows : List Row) (address : List ℕ) (passes : Bool) → is_among (addresses (row ∷ rows)) address ≡ false
+      → is_among (addresses (filter p rows)) address ≡ false
       → is_among (addresses (cond passes (row ∷ filter p rows) (filter p rows))) address ≡ false
-  among_by row rows address true none rest = or_from (pointwise nat_eq row.address address) (is_among (addresses (filter p rows)) address) (or_parts (pointwise nat_eq row.address address) (is_among (addresses rows) address) none).0 rest
+  among_by row rows address true none rest = or_from (pointwise nat_eq row.address address) (is_among (addresses (filter p rows)) address)
+      (or_parts (pointwise nat_eq row.address address) (is_among (addresses rows) address) none).0 rest
   among_by row rows address false none rest = rest
 
   among_filter : (rows : List Row) (address : List ℕ) → is_among (addresses rows) address ≡ false → is_among (addresses (filter p rows)) address ≡ false
   among_filter [] address none = refl
-  among_filter (row ∷ rows) address none = among_by row rows address (p row) none (among_filter rows address (or_parts (pointwise nat_eq row.address address) (is_among (addresses rows) address) none).1)
+  among_filter (row ∷ rows) address none = among_by row rows address (p row) none
+      (among_filter rows address (or_parts (pointwise nat_eq row.address address) (is_among (addresses rows) address) none).1)
 
-  distinct_by : (row : Row) (rows : List Row) (passes : Bool) → is_among (addresses (filter p rows)) row.address ≡ false → AreDistinct (addresses (filter p rows))
+  distinct_by : (row : Row) (rows : List Row) (passes : Bool) → is_among (addresses (filter p rows)) row.address ≡ false
+      → AreDistinct (addresses (filter p rows))
       → AreDistinct (addresses (cond passes (row ∷ filter p rows) (filter p rows)))
   distinct_by row rows true fresh rest = (fresh, rest)
   distinct_by row rows false fresh rest = rest
@@ -69,7 +76,8 @@ module _ (p : Row → Bool) where
   distinct_filter [] distinct = tt
   distinct_filter (row ∷ rows) distinct = distinct_by row rows (p row) (among_filter rows row.address distinct.0) (distinct_filter rows distinct.1)
 
-  short_by : (row : Row) (rows : List Row) (passes : Bool) → length (filter p rows) ≤ length rows → length (cond passes (row ∷ filter p rows) (filter p rows)) ≤ length (row ∷ rows)
+  short_by : (row : Row) (rows : List Row) (passes : Bool) → length (filter p rows) ≤ length rows
+      → length (cond passes (row ∷ filter p rows) (filter p rows)) ≤ length (row ∷ rows)
   short_by row rows true rest = omega arith
   short_by row rows false rest = omega arith
 

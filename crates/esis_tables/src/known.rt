@@ -2,7 +2,7 @@
 //!
 //! Profile: a table has at most 256 rows.
 
-ghost use Rattle.std.specs.Prelude.{◌≡◌, ◌<◌, ◌≤◌, ◌+◌, [], ◌∷◌, ◌++◌, ℕ, true, false, Err, OnOk, OnErr, IfOk, List, length, map, position, take, option_copied, nat_eq};
+ghost use Rattle.std.specs.Prelude.{◌≡◌, ◌<◌, ◌≤◌, [], ◌∷◌, ◌++◌, false, Err, OnOk, OnErr, IfOk, length, position, take, option_copied, nat_eq};
 ghost use Rattle.std.specs.List.{filter};
 ghost use Rattle.std.specs.Cmp.Lexicographic.{pointwise};
 ghost use Rattle.esis_tables.specs.declared.known.HearRefusal.TheVariants.{Full};

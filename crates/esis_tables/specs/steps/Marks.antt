@@ -34,4 +34,5 @@ renewed_if marked heard row = if marked then record row { heard = heard } else r
 -- each row that is marked holds what was heard, and the others stay
 pub record IsRenewed (heard : Heard) (named : List Bool) (old new : List Row) : Type 0 where
   pub long : length new ≡ length old
-  pub rows : (place : ℕ) (other : Row) → place < length old → slice_index_or new place other ≡ renewed_if (slice_index_or named place false) heard (slice_index_or old place other)
+  pub rows : (place : ℕ) (other : Row) → place < length old
+      → slice_index_or new place other ≡ renewed_if (slice_index_or named place false) heard (slice_index_or old place other)

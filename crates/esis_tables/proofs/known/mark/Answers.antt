@@ -8,8 +8,10 @@ pub returns-in-Err-clause-full : goal.returns-in-Err-clause-full
 returns-in-Err-clause-full c is =
     let e : c.in-Err.refusal ≡ Full = cc in
     let full : (256 ≤ length c.loop-name.rows.items) × (has_row c.loop-name.rows.items c.name-item.result ≡ false) = c.in-Err.ensures.full (ap Err e) in
-    marking_full c.args.rows.now.items c.args.names.now c.args.heard.now c.loop-name.rows.items c.loop-name.named c.loop-name.name-index c.name-item.result c.loop-name-test.true c.name-item.is c.loop-name.invariant full.0 full.1
+    marking_full c.args.rows.now.items c.args.names.now c.args.heard.now c.loop-name.rows.items c.loop-name.named c.loop-name.name-index c.name-item.result
+    c.loop-name-test.true c.name-item.is c.loop-name.invariant full.0 full.1
 
 pub loop-name-preserved : goal.loop-name-preserved
-loop-name-preserved c = marking_more c.args.rows.now.items c.args.names.now c.args.heard.now c.loop-name.rows.items c.place_of.new.rows.items c.loop-name.named c.loop-name.name-index c.in-Ok.place c.name-item.result
+loop-name-preserved c = marking_more c.args.rows.now.items c.args.names.now c.args.heard.now c.loop-name.rows.items c.place_of.new.rows.items c.loop-name.named
+    c.loop-name.name-index c.in-Ok.place c.name-item.result
     c.loop-name-test.true c.name-item.is c.loop-name.invariant c.in-Ok.ensures.ok c.in-Ok.ensures.table c.in-Ok.ensures.place

@@ -7,8 +7,10 @@ pub mark-requires-clause-none : goal.mark-requires-clause-none
 mark-requires-clause-none c = unmarked 256 refl
 
 pub invariant_of-self-2 : goal.invariant_of-self-2
-invariant_of-self-2 c = table_all c.args.names.now c.args.heard.now c.mark.new.named c.mark.new.rows.items c.renew.new.rows.items c.in_default.ensures.table c.in_default.ensures.marks c.renew.ensures
+invariant_of-self-2 c = table_all c.args.names.now c.args.heard.now c.mark.new.named c.mark.new.rows.items c.renew.new.rows.items c.in_default.ensures.table
+    c.in_default.ensures.marks c.renew.ensures
 
 pub returns-clause-ok : goal.returns-clause-ok
-returns-clause-ok c = table_heard c.args.self.now c.args.names.now c.args.heard.now c.mark.new.named c.mark.new.rows.items c.renew.new.rows.items c.self.inside.rows.items
+returns-clause-ok c = table_heard c.args.self.now c.args.names.now c.args.heard.now c.mark.new.named c.mark.new.rows.items c.renew.new.rows.items
+    c.self.inside.rows.items
     (ap (λ (table : Rows). table.rows) c.self.view_is) c.in_default.ensures.table c.in_default.ensures.ok c.in_default.ensures.marks c.renew.ensures

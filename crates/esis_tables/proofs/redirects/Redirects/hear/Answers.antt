@@ -5,4 +5,5 @@ use Rattle.esis_tables.proofs.Standing.{heard_stands}
 use Rattle.esis_tables.proofs.redirects.Redirects.hear.Goals as goal
 
 pub returns-in-Rd-clause-stands : goal.returns-in-Rd-clause-stands
-returns-in-Rd-clause-stands c = heard_stands c.args.self.now c.hear.new.self c.args.now (on_lan c.args.lan) (value_of c.args.hello.now) c.hear.result c.requires.later (search rules)
+returns-in-Rd-clause-stands c = heard_stands c.args.self.now c.hear.new.self c.args.now (on_lan c.args.lan) (value_of c.args.hello.now) c.hear.result
+    c.requires.later (search rules)
