@@ -1,0 +1,9 @@
+pub mod Accounts
+pub mod All
+pub mod Expedited
+pub mod Numbers
+pub mod Openings
+pub mod Past
+pub mod Rule
+pub mod Sound
+pub mod Steps

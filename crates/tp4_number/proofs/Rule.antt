@@ -1,0 +1,80 @@
+-- The sender's four words on its blocks say what the number rule says of all that was ever sent.
+use Rattle.std.proofs.Common.{◌≡◌, ℕ, ◌+◌, ◌*◌, ◌/◌, ◌<◌, ◌≤◌, inl, inr, true, arith}
+use Rattle.std.proofs.Math.Nat.{mul-le-mul_right}
+use Rattle.std.proofs.lemmas.Bool.{cases_lt}
+use Rattle.std.proofs.lemmas.Bool.Decides.{nat_tests}
+use Rattle.tp4_number.specs.Number.{three_on, MaySend}
+use Rattle.tp4_number.specs.Sender.{may_send}
+use Rattle.tp4_number.specs.Traffic.{Rules, IsFit, World, IsKept}
+use Rattle.tp4_number.proofs.Sound.{Sound}
+use Rattle.tp4_number.proofs.Accounts.{times, opens}
+
+three_on_to : (block n : ℕ) → three_on block n ≤ n + 3 * block
+unfolding three_on
+three_on_to block n = omega arith
+
+three_on_from : (block n : ℕ) → 0 < block → n + 2 * block < three_on block n
+unfolding three_on
+three_on_from block n some = omega arith
+
+-- no first number of a block lies within another block
+gap : (block k n : ℕ) → k * block < three_on block n → (k + 1) * block ≤ three_on block n
+unfolding three_on
+gap block k n low = elim (cases_lt k (n / block + 3)) [
+  | inl less ↦ mul-le-mul_right block (omega arith)
+  | inr more ↦ (let g : (n / block + 3) * block ≤ k * block = mul-le-mul_right block more in absurd (omega arith))
+]
+
+module _ (rules : Rules) (w : World) (fit : IsFit rules) (s : Sound rules w) where
+  -- what lies below the end of the newest block may go, unless it was never sent
+  below_end : (n : ℕ) → n < w.sender.blocks.first + rules.block → MaySend rules.block rules.limit w.sends n w.clock
+  below_end n low m tick c is =
+      let k = s.account.marks m tick c in
+      elim (cases_lt (tick + rules.limit) w.clock) [
+        | inl past ↦ past
+        | inr live ↦ absurd (omega (arith, k.in_use live, three_on_from rules.block m fit.some, s.account.blocks.whole.1, gap rules.block s.account.blocks.whole.0 m (omega (arith, k.in_use live, three_on_from rules.block m fit.some, s.account.blocks.whole.1))))
+      ]
+
+  rule : may_send rules.block rules.limit w.sender.blocks w.sender.next w.clock ≡ true → MaySend rules.block rules.limit w.sends w.sender.next w.clock
+  rule t = elim (cases_lt w.sender.next (w.sender.blocks.first + rules.block)) [
+    | inl within ↦ below_end w.sender.next within
+    | inr opening ↦ λ m tick c is.
+        let k = s.account.marks m tick c in
+        elim (opens _ _ _ _ _ _ opening t) [
+          | inl early ↦ absurd (omega (arith, three_on_from rules.block m fit.some, s.order.next_to, s.account.blocks.to))
+          | inr late ↦ omega (arith, k.third, three_on_from rules.block m fit.some, three_on_to rules.block m, s.order.next_to, s.account.blocks.to)
+        ]
+  ]
+
+  -- what the three words forbid, the rule forbids
+  only : MaySend rules.block rules.limit w.sends w.sender.next w.clock → may_send rules.block rules.limit w.sender.blocks w.sender.next w.clock ≡ true
+  only h = elim (cases_lt w.sender.next (w.sender.blocks.first + rules.block)) [
+    | inl within ↦ grind (arith, nat_tests)
+    | inr opening ↦ elim (cases_lt rules.block w.sender.blocks.first) [
+      | inr early ↦ grind (arith, nat_tests)
+      | inl late ↦
+          (let q = s.account.in_third late in
+          let above = three_on_from rules.block q.0 fit.some in
+          let below = three_on_to rules.block q.0 in
+          let k = s.account.blocks.whole.0 in
+          let start = s.account.blocks.whole.1 in
+          let one = gap rules.block k q.0 (omega arith) in
+          let is : w.sender.next ≡ three_on rules.block q.0 = elim (cases_lt ((k + 1) * rules.block) (three_on rules.block q.0)) [
+            | inl more ↦ absurd (omega (arith, gap rules.block (k + 1) q.0 more))
+            | inr same ↦ omega (arith, s.order.next_to, s.account.blocks.to)
+          ] in
+          let ago = h q.0 w.sender.blocks.third q.1 is in
+          grind (arith, nat_tests))
+    ]
+  ]
+
+  pub keeps : IsKept rules w
+  keeps = record {
+    rule = (rule, only);
+    base_low = s.order.base_low;
+    expected_low = s.order.expected_low;
+    high_low = s.order.high_low;
+    sent = λ n tick c. (s.account.marks n tick c).below;
+    again = λ n low. below_end n (omega (arith, s.account.blocks.to));
+    low = omega (arith, s.account.blocks.to, s.account.blocks.grown, times rules.block w.sender.blocks.newest w.clock s.account.blocks.newest_low);
+  }
