@@ -14,6 +14,7 @@ mod tpdu;
 mod writing;
 
 pub use fault::{TpduCause, TpduFault};
+pub use kind::Kind;
 pub use laws::{
     allowed_fits, either_format, front_or_fault, one_bundle, one_front, one_value, one_writing,
     same_target, spelling_is_first,

@@ -1,0 +1,4 @@
+pub mod Arrivals
+pub mod Joinings
+pub mod Wires
+pub mod Urgents

@@ -1,0 +1,2 @@
+-- What only carries proofs: the steps of private calls.
+pub mod Shown

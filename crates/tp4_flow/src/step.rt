@@ -1,0 +1,145 @@
+//! What an end tells and sends, in order.
+
+ghost use Rattle.std.specs.Prelude.{◌≡◌, [], ◌∷◌, ◌++◌, OnOk, OnErr};
+
+use crate::Options;
+use nsap::Nsap;
+use osi_base::{Bytes, NoMemory};
+use std::alloc::Global;
+use std::marker::Model;
+use tpdu::{Format, Kind, Tpdu, TpduCause};
+
+/// Why an end is gone.
+#[derive(Clone, Copy, Debug, PartialEq, Eq)]
+pub enum GoneCause {
+    /// A DR with this reason came.
+    Reason(u8),
+    /// The partner broke a rule of the protocol.
+    Protocol,
+    /// A TPDU was sent as often as it may be.
+    Exhausted,
+    /// Nothing came from the partner for too long.
+    Inactive,
+    /// The user did not answer a connect indication in time.
+    AnswerTime,
+}
+
+/// Of what the number rule holds a number back.
+#[derive(Clone, Copy, Debug, PartialEq, Eq)]
+pub enum HeldKind {
+    Dt,
+    Ed,
+}
+
+/// What an end tells.
+#[derive(Drop, Debug)]
+pub enum What {
+    /// A connect indication: the calling address, the partner's reference, both selectors, what is proposed.
+    Incoming {
+        from: Nsap,
+        partner: u16,
+        calling: Bytes,
+        called: Bytes,
+        options: Options,
+        octets: Bytes,
+    },
+    /// A connect response, with what is agreed.
+    Accept {
+        options: Options,
+        octets: Bytes,
+    },
+    /// A connect confirm, with what is agreed.
+    Confirm {
+        options: Options,
+        octets: Bytes,
+    },
+    /// A normal unit is shown.
+    Got(Bytes),
+    /// An expedited unit is shown.
+    Urgent(Bytes),
+    /// The credit in force.
+    Window(u16),
+    /// The number rule alone holds this number back.
+    Held(HeldKind, u64),
+    /// The end is gone, with the octets of the DR.
+    Gone(GoneCause, Bytes),
+    /// A TPDU was not taken; the octet at fault from 1, or 0 for none.
+    BadTpdu(TpduCause, u32),
+    /// A TPDU of this kind matches no end.
+    Unknown(Kind),
+}
+
+/// What the end of a reference tells; the reference is 0 where no end is concerned.
+#[derive(Drop, Debug)]
+pub struct EndEvent {
+    pub reference: u16,
+    pub what: What,
+}
+
+/// A TPDU on its way to an address, in a format, with a checksum or without.
+#[derive(Drop, Debug)]
+pub struct Sent {
+    pub to: Nsap,
+    pub tpdu: Tpdu,
+    pub format: Format,
+    pub sum: bool,
+}
+
+/// Events and TPDUs, each in order.
+#[derive(Drop, Debug)]
+pub struct Step {
+    events: Vec<EndEvent>,
+    tpdus: Vec<Sent>,
+}
+
+impl Model for Step {
+    ghost use Rattle.tp4_flow.specs.Told.{Told};
+
+    ghost Value = { Told };
+
+    ghost view = { λ s. record { events = s.events.items; tpdus = s.tpdus.items } };
+}
+
+impl Step {
+    /// Nothing yet.
+    pub fn new(alloc: Global) -> Step
+        ensures { result ≡ record { events = []; tpdus = [] } }
+    {
+        Step {
+            events: Vec::new(alloc),
+            tpdus: Vec::new(alloc),
+        }
+    }
+
+    /// The events, in order.
+    pub fn events(&self) -> &[EndEvent]
+        ensures { result.now ≡ self.now.events }
+    {
+        &self.events
+    }
+
+    /// The TPDUs, in order.
+    pub fn tpdus(&self) -> &[Sent]
+        ensures { result.now ≡ self.now.tpdus }
+    {
+        &self.tpdus
+    }
+
+    /// One event more.
+    pub fn event(&mut self, event: EndEvent) -> Result<(), NoMemory>
+        ensures ok { OnOk result (self.new ≡ record self.old { events = self.old.events ++ event ∷ [] }) }
+        ensures err { OnErr result (self.new ≡ self.old) }
+    {
+        self.events.push(event)?;
+        Ok(())
+    }
+
+    /// One TPDU more.
+    pub fn send(&mut self, sent: Sent) -> Result<(), NoMemory>
+        ensures ok { OnOk result (self.new ≡ record self.old { tpdus = self.old.tpdus ++ sent ∷ [] }) }
+        ensures err { OnErr result (self.new ≡ self.old) }
+    {
+        self.tpdus.push(sent)?;
+        Ok(())
+    }
+}
