@@ -1,0 +1,11 @@
+mod Cuttings
+mod Determined
+mod Dues
+mod Joins
+mod Pieces
+mod Read
+mod Runs
+mod Slots
+mod Storing
+mod Taking
+mod Units

@@ -1,0 +1,5 @@
+pub mod Cutting
+pub mod Joining
+pub mod Store
+pub mod Units
+pub mod steps

@@ -1,0 +1,48 @@
+//! What holds of cutting and joining, for all PDUs, rooms and segments.
+
+ghost use Rattle.clnp_segment.specs.Cutting.{CutsWritable, OneCutting, PiecesJoin};
+ghost use Rattle.clnp_segment.specs.Joining.{JoinsUnits};
+ghost use Rattle.clnp_segment.specs.Store.{OneAnswer, OneExpiry, ReadMayCome};
+ghost use Rattle.clnp_segment.specs.Units.{CutsAlike, JoinsAll};
+
+/// A PDU is cut for a room in one way.
+pub fn one_cutting()
+    ensures { OneCutting }
+{}
+
+/// The runs of the data are the data, one after another.
+pub fn pieces_join()
+    ensures { PiecesJoin }
+{}
+
+/// The pieces of a PDU that the grammar allows are allowed, with a header as short, and fit the room.
+pub fn cut_written()
+    ensures { CutsWritable }
+{}
+
+/// Segments of one unit never clash, and come to it in any order, with any repeats.
+pub fn joins_units()
+    ensures { JoinsUnits }
+{}
+
+/// The pieces of a segment of a unit are segments of the unit, however often it is cut.
+pub fn cut_alike()
+    ensures { CutsAlike }
+{}
+
+/// Segments of a unit that are taken in any order, with any repeats and among segments of any other units, come to no
+/// interference and to nothing whole but the unit.
+pub fn joins_all()
+    ensures { JoinsAll }
+{}
+
+/// What a segment comes to and what is then held follow from what was held, the tick and the segment; so does what expires.
+pub fn one_answer()
+    ensures takes { OneAnswer }
+    ensures expires { OneExpiry }
+{}
+
+/// A PDU that `read_pdu` gives may be taken where it has a segmentation part: the clauses of `read_pdu` alone say so.
+pub fn read_may_come()
+    ensures { ReadMayCome }
+{}

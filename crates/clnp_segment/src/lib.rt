@@ -1,0 +1,18 @@
+//! Cutting PDUs for a room, and joining the segments of units (X.233, segmentation and reassembly).
+#![tactic(auto)]
+
+mod cutting;
+mod held;
+mod laws;
+mod store;
+mod unit;
+
+pub use cutting::{CutRefusal, cut};
+pub use laws::{
+    cut_alike, cut_written, joins_all, joins_units, one_answer, one_cutting, pieces_join,
+    read_may_come,
+};
+pub use store::{Expired, Joined, Store};
+
+#[cfg(test)]
+mod tests;
