@@ -1,0 +1,358 @@
+-- The cells of an event tell it: the word in front names a row, and the row makes an event of the cells behind it.
+use Rattle.std.proofs.Common.{◌≡◌, ℕ, Bool, true, false, List, [], ◌∷◌, refl, Some, None}
+use Rattle.std.specs.Prelude.{if◌then◌else◌, Option, codes}
+use Rattle.osi_base.specs.declared.note.HelloCause.{HelloCause}
+use Rattle.osi_base.specs.declared.note.HelloCause.TheVariants as hello_causes
+use Rattle.osi_base.specs.declared.note.HelloKind.{HelloKind}
+use Rattle.osi_base.specs.declared.note.HelloKind.TheVariants as hellos
+use Rattle.osi_base.specs.declared.unit.DropCause.{DropCause}
+use Rattle.osi_base.specs.declared.unit.DropCause.TheVariants as drops
+use Rattle.osi_script.specs.Field.{is_word}
+use Rattle.osi_script.specs.declared.line.Options.{Options}
+use Rattle.osi_journal.specs.declared.event.Event.{Event}
+use Rattle.osi_journal.specs.declared.event.Event.TheVariants as events
+use Rattle.osi_journal.specs.declared.cause.GoneCause.{GoneCause}
+use Rattle.osi_journal.specs.declared.cause.GoneCause.TheVariants as gone
+use Rattle.osi_journal.specs.declared.cause.Refused.TheVariants as refused
+use Rattle.osi_journal.specs.declared.cause.Settled.TheVariants as settled
+use Rattle.osi_journal.specs.declared.cause.Standing.{Standing}
+use Rattle.osi_journal.specs.declared.cause.Standing.TheVariants as standings
+use Rattle.osi_journal.specs.declared.cause.TpduCause.{TpduCause}
+use Rattle.osi_journal.specs.declared.cause.TpduCause.TheVariants as tpdu_causes
+use Rattle.osi_journal.specs.declared.cause.TpduKind.{TpduKind}
+use Rattle.osi_journal.specs.declared.cause.TpduKind.TheVariants as tpdus
+use Rattle.osi_journal.specs.Told.{Cell, Word, Number, System, Lan, Digits, Octets, cells_of}
+
+-- the words of causes and kinds
+standing_of : List ℕ → Standing
+standing_of text =
+    if is_word (codes "crwait") text then standings.CrWait
+    else if is_word (codes "waitbeforeclose") text then standings.WaitBeforeClose
+    else if is_word (codes "userwait") text then standings.UserWait
+    else if is_word (codes "akwait") text then standings.AkWait
+    else if is_word (codes "opened") text then standings.Opened
+    else if is_word (codes "closing") text then standings.Closing
+    else if is_word (codes "frozen") text then standings.Frozen
+    else standings.Ended
+
+drop_cause_of : List ℕ → DropCause
+drop_cause_of text =
+    if is_word (codes "toolong") text then drops.TooLong
+    else if is_word (codes "noroute") text then drops.NoRoute
+    else if is_word (codes "full") text then drops.Full
+    else drops.IdsSpent
+
+hello_cause_of : List ℕ → HelloCause
+hello_cause_of text =
+    if is_word (codes "short") text then hello_causes.Short
+    else if is_word (codes "length") text then hello_causes.Length
+    else if is_word (codes "version") text then hello_causes.Version
+    else if is_word (codes "checksum") text then hello_causes.Checksum
+    else if is_word (codes "kind") text then hello_causes.Kind
+    else if is_word (codes "address") text then hello_causes.Address
+    else hello_causes.Option
+
+hello_of : List ℕ → HelloKind
+hello_of text =
+    if is_word (codes "esh") text then hellos.Esh
+    else if is_word (codes "ish") text then hellos.Ish
+    else hellos.Rd
+
+tpdu_cause_of : List ℕ → TpduCause
+tpdu_cause_of text =
+    if is_word (codes "short") text then tpdu_causes.Short
+    else if is_word (codes "length") text then tpdu_causes.Length
+    else if is_word (codes "code") text then tpdu_causes.Code
+    else if is_word (codes "fixed") text then tpdu_causes.Fixed
+    else if is_word (codes "class") text then tpdu_causes.Class
+    else if is_word (codes "param") text then tpdu_causes.Param
+    else if is_word (codes "unknown") text then tpdu_causes.Unknown
+    else if is_word (codes "checksum") text then tpdu_causes.Checksum
+    else tpdu_causes.Body
+
+tpdu_of : List ℕ → TpduKind
+tpdu_of text =
+    if is_word (codes "cr") text then tpdus.Cr
+    else if is_word (codes "cc") text then tpdus.Cc
+    else if is_word (codes "dr") text then tpdus.Dr
+    else if is_word (codes "dc") text then tpdus.Dc
+    else if is_word (codes "dt") text then tpdus.Dt
+    else if is_word (codes "ed") text then tpdus.Ed
+    else if is_word (codes "ak") text then tpdus.Ak
+    else if is_word (codes "ea") text then tpdus.Ea
+    else tpdus.Er
+
+-- the event of cells, by the word in front
+gone_of : Cell → Option GoneCause
+gone_of (Number reason) = Some (gone.Reason reason)
+gone_of (Word text) =
+    if is_word (codes "exhausted") text then Some gone.Exhausted
+    else if is_word (codes "inactive") text then Some gone.Inactive
+    else if is_word (codes "protocol") text then Some gone.Protocol
+    else Some gone.AnswerTime
+gone_of cell = None
+
+told_gone : ℕ → List ℕ → Option GoneCause → Option Event
+told_gone end octets (Some cause) = Some (events.Gone end cause octets)
+told_gone end octets None = None
+
+refused_of : List Cell → Option Event
+refused_of (Word cause ∷ []) =
+    if is_word (codes "nosuchend") cause then Some (events.No refused.NoSuchEnd)
+    else if is_word (codes "emptyunit") cause then Some (events.No refused.EmptyUnit)
+    else if is_word (codes "toolong") cause then Some (events.No refused.TooLong)
+    else if is_word (codes "noexpedited") cause then Some (events.No refused.NoExpedited)
+    else if is_word (codes "queuefull") cause then Some (events.No refused.QueueFull)
+    else if is_word (codes "refsspent") cause then Some (events.No refused.RefsSpent)
+    else if is_word (codes "noroute") cause then Some (events.No refused.NoRoute)
+    else if is_word (codes "full") cause then Some (events.No refused.Full)
+    else Some (events.No refused.IdsSpent)
+refused_of (Word cause ∷ Word standing ∷ []) = Some (events.No (refused.WrongState (standing_of standing)))
+refused_of cells = None
+
+-- cells by their kinds, each kind with the event that it makes
+number_of : (ℕ → Event) → List Cell → Option Event
+number_of make (Number n ∷ []) = Some (make n)
+number_of make cells = None
+
+system_of : (ℕ → Event) → List Cell → Option Event
+system_of make (System s ∷ []) = Some (make s)
+system_of make cells = None
+
+answer_of : (ℕ → ℕ → Event) → List Cell → Option Event
+answer_of make (Number n ∷ System s ∷ []) = Some (make n s)
+answer_of make cells = None
+
+octets_of : (ℕ → List ℕ → Event) → List Cell → Option Event
+octets_of make (Number n ∷ Octets o ∷ []) = Some (make n o)
+octets_of make cells = None
+
+raw_of : (ℕ → List ℕ → List ℕ → Event) → List Cell → Option Event
+raw_of make (System s ∷ Digits a ∷ Octets o ∷ []) = Some (make s a o)
+raw_of make cells = None
+
+options_of : List ℕ → ℕ → List ℕ → List ℕ → Options
+options_of extended size expedited sum =
+    record { extended = is_word (codes "extended") extended; size = size; expedited = is_word (codes "exp") expedited; sum = is_word (codes "sum") sum }
+
+agreed_of : (ℕ → Options → List ℕ → Event) → List Cell → Option Event
+agreed_of make (Number n ∷ Word extended ∷ Number size ∷ Word expedited ∷ Word sum ∷ Octets o ∷ []) = Some (make n (options_of extended size expedited sum) o)
+agreed_of make cells = None
+
+connect_of : List Cell → Option Event
+connect_of (Number n ∷ System s ∷ Number r ∷ Digits a ∷ Octets b ∷ Digits c ∷ Octets d ∷ Octets o ∷ []) = Some (events.Connect n s r a b c d o)
+connect_of cells = None
+
+incoming_of : List Cell → Option Event
+incoming_of (Number n ∷ System s ∷ Number r ∷ Digits a ∷ Number p ∷ Octets b ∷ Digits c ∷ Octets d ∷ Word extended ∷ Number size ∷ Word expedited ∷ Word sum ∷ Octets o ∷ []) =
+    Some (events.Incoming n s r a p b c d (options_of extended size expedited sum) o)
+incoming_of cells = None
+
+gone_line_of : List Cell → Option Event
+gone_line_of (Number n ∷ cause ∷ Octets o ∷ []) = told_gone n o (gone_of cause)
+gone_line_of cells = None
+
+held_of : List Cell → Option Event
+held_of (Number n ∷ Word kind ∷ Number m ∷ []) = Some (events.Held n (is_word (codes "ed") kind) m)
+held_of cells = None
+
+frame_of : List Cell → Option Event
+frame_of (Number n ∷ Lan l ∷ System s ∷ Digits a ∷ Number m ∷ []) = Some (events.Frame n l s a m)
+frame_of cells = None
+
+drop_of : List Cell → Option Event
+drop_of (Word text ∷ System s ∷ []) = Some (events.DropFrame s)
+drop_of (System s ∷ Word cause ∷ []) = Some (events.Dropped s (drop_cause_of cause))
+drop_of cells = None
+
+inject_of : List Cell → Option Event
+inject_of (System s ∷ []) = Some (events.Inject s)
+inject_of (Word text ∷ System s ∷ []) = Some (events.InjectNotThere s)
+inject_of cells = None
+
+discard_of : (ℕ → ℕ → ℕ → Event) → List Cell → Option Event
+discard_of make (System s ∷ Digits (reason ∷ []) ∷ Number place ∷ []) = Some (make s reason place)
+discard_of make cells = None
+
+window_of : List Cell → Option Event
+window_of (Number n ∷ Number m ∷ []) = Some (events.Window n m)
+window_of cells = None
+
+told_of : (ℕ → List ℕ → Event) → List Cell → Option Event
+told_of make (System s ∷ Word told ∷ []) = Some (make s told)
+told_of make cells = None
+
+hello_line_of : List Cell → Option Event
+hello_line_of (System s ∷ Word kind ∷ Digits a ∷ []) = Some (events.Hello s (hello_of kind) a)
+hello_line_of cells = None
+
+redirect_of : List Cell → Option Event
+redirect_of (System s ∷ Digits a ∷ Digits b ∷ []) = Some (events.Redirect s a b)
+redirect_of cells = None
+
+badtpdu_of : List Cell → Option Event
+badtpdu_of (System s ∷ Word cause ∷ Number place ∷ []) = Some (events.BadTpdu s (tpdu_cause_of cause) place)
+badtpdu_of cells = None
+
+-- the rows of the transcript: a word and what the cells behind it make
+abbrev Row : Type 0
+Row = List ℕ × (List Cell → Option Event)
+
+rows : List Row
+rows =
+    (codes "tick", number_of events.Tick)
+    ∷ (codes "connect", connect_of)
+    ∷ (codes "incoming", incoming_of)
+    ∷ (codes "accept", agreed_of events.Accept)
+    ∷ (codes "confirm", agreed_of events.Confirm)
+    ∷ (codes "data", octets_of events.Data)
+    ∷ (codes "got", octets_of events.Got)
+    ∷ (codes "expedite", octets_of events.Expedite)
+    ∷ (codes "urgent", octets_of events.Urgent)
+    ∷ (codes "refuse", octets_of events.Refuse)
+    ∷ (codes "disconnect", octets_of events.Disconnect)
+    ∷ (codes "gone", gone_line_of)
+    ∷ (codes "window", window_of)
+    ∷ (codes "held", held_of)
+    ∷ (codes "no", refused_of)
+    ∷ (codes "sent", raw_of events.Sent)
+    ∷ (codes "unit", raw_of events.Unit)
+    ∷ (codes "frame", frame_of)
+    ∷ (codes "drop", drop_of)
+    ∷ (codes "deliver", answer_of events.Deliver)
+    ∷ (codes "nosuch", answer_of events.NoSuch)
+    ∷ (codes "late", answer_of events.Late)
+    ∷ (codes "notthere", answer_of events.NotThere)
+    ∷ (codes "notours", answer_of events.NotOurs)
+    ∷ (codes "settled", number_of (λ n. events.Settle (settled.Settled n)))
+    ∷ (codes "stopped", number_of (λ n. events.Settle (settled.Stopped n)))
+    ∷ (codes "inject", inject_of)
+    ∷ (codes "discard", discard_of events.Discard)
+    ∷ (codes "report", discard_of events.Report)
+    ∷ (codes "alien", system_of events.Alien)
+    ∷ (codes "badhello", told_of (λ s cause. events.BadHello s (hello_cause_of cause)))
+    ∷ (codes "hellofull", system_of events.HelloFull)
+    ∷ (codes "hello", hello_line_of)
+    ∷ (codes "redirect", redirect_of)
+    ∷ (codes "badtpdu", badtpdu_of)
+    ∷ (codes "unknown", told_of (λ s kind. events.Unknown s (tpdu_of kind)))
+    ∷ (codes "strays", number_of events.Strays)
+    ∷ []
+
+by_row : List Row → List ℕ → List Cell → Option Event
+by_row [] word cells = None
+by_row (row ∷ more) word cells = if is_word row.0 word then row.1 cells else by_row more word cells
+
+pub event_of : List Cell → Option Event
+event_of (Word word ∷ cells) = by_row rows word cells
+event_of cells = None
+
+-- no cells make no event
+pub nothing_made : (event : Event) → event_of [] ≡ Some event → ⊥
+unfolding event_of
+nothing_made event is = absurd (cc)
+
+extended_back : (b : Bool) → is_word (codes "extended") (if b then codes "extended" else codes "normal") ≡ b
+extended_back true = refl
+extended_back false = refl
+
+expedited_back : (b : Bool) → is_word (codes "exp") (if b then codes "exp" else codes "noexp") ≡ b
+expedited_back true = refl
+expedited_back false = refl
+
+sum_back : (b : Bool) → is_word (codes "sum") (if b then codes "sum" else codes "nosum") ≡ b
+sum_back true = refl
+sum_back false = refl
+
+-- the cells of an event make it
+pub told_back : (event : Event) → event_of (cells_of event) ≡ Some event
+unfolding event_of by_row rows number_of system_of answer_of octets_of raw_of agreed_of options_of connect_of incoming_of gone_line_of gone_of told_gone window_of held_of refused_of
+    standing_of frame_of drop_of drop_cause_of inject_of discard_of told_of hello_cause_of hello_line_of hello_of redirect_of badtpdu_of tpdu_cause_of tpdu_of
+told_back (events.Tick now) = refl
+told_back (events.Connect end system reference calling calling_selector called called_selector octets) = refl
+told_back (events.Incoming end system reference calling partner calling_selector called called_selector options octets) = λ i.
+    Some (events.Incoming end system reference calling partner calling_selector called called_selector (record { extended = extended_back options.extended i; size = options.size; expedited = expedited_back options.expedited i; sum = sum_back options.sum i }) octets)
+told_back (events.Accept end options octets) = λ i. Some (events.Accept end (record { extended = extended_back options.extended i; size = options.size; expedited = expedited_back options.expedited i; sum = sum_back options.sum i }) octets)
+told_back (events.Confirm end options octets) = λ i. Some (events.Confirm end (record { extended = extended_back options.extended i; size = options.size; expedited = expedited_back options.expedited i; sum = sum_back options.sum i }) octets)
+told_back (events.Data end octets) = refl
+told_back (events.Got end octets) = refl
+told_back (events.Expedite end octets) = refl
+told_back (events.Urgent end octets) = refl
+told_back (events.Refuse end octets) = refl
+told_back (events.Disconnect end octets) = refl
+told_back (events.Gone end (gone.Reason reason) octets) = refl
+told_back (events.Gone end gone.Exhausted octets) = refl
+told_back (events.Gone end gone.Inactive octets) = refl
+told_back (events.Gone end gone.Protocol octets) = refl
+told_back (events.Gone end gone.AnswerTime octets) = refl
+told_back (events.Window end credit) = refl
+told_back (events.Held end true number) = refl
+told_back (events.Held end false number) = refl
+told_back (events.No refused.NoSuchEnd) = refl
+told_back (events.No refused.EmptyUnit) = refl
+told_back (events.No refused.TooLong) = refl
+told_back (events.No refused.NoExpedited) = refl
+told_back (events.No refused.QueueFull) = refl
+told_back (events.No refused.RefsSpent) = refl
+told_back (events.No refused.NoRoute) = refl
+told_back (events.No refused.Full) = refl
+told_back (events.No refused.IdsSpent) = refl
+told_back (events.No (refused.WrongState standings.CrWait)) = refl
+told_back (events.No (refused.WrongState standings.WaitBeforeClose)) = refl
+told_back (events.No (refused.WrongState standings.UserWait)) = refl
+told_back (events.No (refused.WrongState standings.AkWait)) = refl
+told_back (events.No (refused.WrongState standings.Opened)) = refl
+told_back (events.No (refused.WrongState standings.Closing)) = refl
+told_back (events.No (refused.WrongState standings.Frozen)) = refl
+told_back (events.No (refused.WrongState standings.Ended)) = refl
+told_back (events.Sent system to octets) = refl
+told_back (events.Unit system from octets) = refl
+told_back (events.Frame number lan system snpa length) = refl
+told_back (events.DropFrame system) = refl
+told_back (events.Dropped system drops.TooLong) = refl
+told_back (events.Dropped system drops.NoRoute) = refl
+told_back (events.Dropped system drops.Full) = refl
+told_back (events.Dropped system drops.IdsSpent) = refl
+told_back (events.Deliver number system) = refl
+told_back (events.NoSuch number system) = refl
+told_back (events.Late number system) = refl
+told_back (events.NotThere number system) = refl
+told_back (events.NotOurs number system) = refl
+told_back (events.Settle (settled.Settled count)) = refl
+told_back (events.Settle (settled.Stopped count)) = refl
+told_back (events.Inject system) = refl
+told_back (events.InjectNotThere system) = refl
+told_back (events.Discard system reason place) = refl
+told_back (events.Report system reason place) = refl
+told_back (events.Alien system) = refl
+told_back (events.BadHello system hello_causes.Short) = refl
+told_back (events.BadHello system hello_causes.Length) = refl
+told_back (events.BadHello system hello_causes.Version) = refl
+told_back (events.BadHello system hello_causes.Checksum) = refl
+told_back (events.BadHello system hello_causes.Kind) = refl
+told_back (events.BadHello system hello_causes.Address) = refl
+told_back (events.BadHello system hello_causes.Option) = refl
+told_back (events.HelloFull system) = refl
+told_back (events.Hello system hellos.Esh snpa) = refl
+told_back (events.Hello system hellos.Ish snpa) = refl
+told_back (events.Hello system hellos.Rd snpa) = refl
+told_back (events.Redirect system address snpa) = refl
+told_back (events.BadTpdu system tpdu_causes.Short place) = refl
+told_back (events.BadTpdu system tpdu_causes.Length place) = refl
+told_back (events.BadTpdu system tpdu_causes.Code place) = refl
+told_back (events.BadTpdu system tpdu_causes.Fixed place) = refl
+told_back (events.BadTpdu system tpdu_causes.Class place) = refl
+told_back (events.BadTpdu system tpdu_causes.Param place) = refl
+told_back (events.BadTpdu system tpdu_causes.Unknown place) = refl
+told_back (events.BadTpdu system tpdu_causes.Checksum place) = refl
+told_back (events.BadTpdu system tpdu_causes.Body place) = refl
+told_back (events.Unknown system tpdus.Cr) = refl
+told_back (events.Unknown system tpdus.Cc) = refl
+told_back (events.Unknown system tpdus.Dr) = refl
+told_back (events.Unknown system tpdus.Dc) = refl
+told_back (events.Unknown system tpdus.Dt) = refl
+told_back (events.Unknown system tpdus.Ed) = refl
+told_back (events.Unknown system tpdus.Ak) = refl
+told_back (events.Unknown system tpdus.Ea) = refl
+told_back (events.Unknown system tpdus.Er) = refl
+told_back (events.Strays count) = refl

@@ -1,0 +1,5 @@
+pub mod Injective
+pub mod Lawful
+pub mod RawLawful
+pub mod Told
+pub mod steps

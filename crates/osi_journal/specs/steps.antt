@@ -1,0 +1,2 @@
+-- What only carries the proof of a written line.
+pub mod Written

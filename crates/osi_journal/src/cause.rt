@@ -1,0 +1,92 @@
+//! Why ends go, why calls are refused, and what else a line of the transcript names.
+
+/// Why an end is gone (X.214, T-DISCONNECT indication).
+#[derive(Clone, Copy)]
+pub enum GoneCause {
+    /// The reason of a DR.
+    Reason(u8),
+    /// No answer came to the last sending.
+    Exhausted,
+    /// Nothing came for too long.
+    Inactive,
+    /// The partner end broke a rule.
+    Protocol,
+    /// The user did not answer in time.
+    AnswerTime,
+}
+
+/// The state of an end (X.224, state tables).
+#[derive(Clone, Copy)]
+pub enum Standing {
+    CrWait,
+    WaitBeforeClose,
+    UserWait,
+    AkWait,
+    Opened,
+    Closing,
+    Frozen,
+    /// Its reference is free again.
+    Ended,
+}
+
+/// Why a user's call is refused: the words after `no`.
+#[derive(Clone, Copy)]
+pub enum Refused {
+    /// No end has that number.
+    NoSuchEnd,
+    /// The end's state has no such call.
+    WrongState(Standing),
+    /// A unit with no octets.
+    EmptyUnit,
+    /// More octets than there may be.
+    TooLong,
+    /// No expedited data was agreed.
+    NoExpedited,
+    /// The sending queue is full.
+    QueueFull,
+    /// No reference is free.
+    RefsSpent,
+    /// No hop for the destination.
+    NoRoute,
+    /// As many units are on their way as may be.
+    Full,
+    /// No data unit identifier is free.
+    IdsSpent,
+}
+
+/// How a `settle` ends, with its deliveries.
+#[derive(Clone, Copy)]
+pub enum Settled {
+    /// Nothing was left to deliver.
+    Settled(u32),
+    /// There were as many deliveries as there may be.
+    Stopped(u32),
+}
+
+/// Why a TPDU cannot be read (X.224, structure and encoding of TPDUs).
+#[derive(Clone, Copy)]
+pub enum TpduCause {
+    Short,
+    Length,
+    Code,
+    Fixed,
+    Class,
+    Param,
+    Unknown,
+    Checksum,
+    Body,
+}
+
+/// The kinds of TPDU.
+#[derive(Clone, Copy)]
+pub enum TpduKind {
+    Cr,
+    Cc,
+    Dr,
+    Dc,
+    Dt,
+    Ed,
+    Ak,
+    Ea,
+    Er,
+}

@@ -1,0 +1,220 @@
+//! What happens in a run: one event for each line of the transcript.
+
+use crate::cause::{GoneCause, Refused, Settled, TpduCause, TpduKind};
+use osi_base::{Address, Bytes, DropCause, HelloCause, HelloKind, Tick};
+use osi_script::Options;
+
+/// One line of the transcript. Systems and LANs go by their numbers, from 0 in the order of
+/// declaration, ends by theirs, from 1 in the order in which they are made.
+#[derive(Drop)]
+pub enum Event {
+    /// The clock, at `start` and at each tick.
+    Tick {
+        now: Tick,
+    },
+    /// A connect request, which makes an end.
+    Connect {
+        end: u32,
+        system: u8,
+        reference: u16,
+        calling: Address,
+        calling_selector: Bytes,
+        called: Address,
+        called_selector: Bytes,
+        octets: Bytes,
+    },
+    /// A connect indication, which makes an end.
+    Incoming {
+        end: u32,
+        system: u8,
+        reference: u16,
+        calling: Address,
+        partner: u16,
+        calling_selector: Bytes,
+        called: Address,
+        called_selector: Bytes,
+        options: Options,
+        octets: Bytes,
+    },
+    /// A connect response, with what is agreed.
+    Accept {
+        end: u32,
+        options: Options,
+        octets: Bytes,
+    },
+    /// A connect confirm, with what is agreed.
+    Confirm {
+        end: u32,
+        options: Options,
+        octets: Bytes,
+    },
+    /// A normal unit that an end was asked to send.
+    Data {
+        end: u32,
+        octets: Bytes,
+    },
+    /// A normal unit that an end shows.
+    Got {
+        end: u32,
+        octets: Bytes,
+    },
+    /// An expedited unit that an end was asked to send.
+    Expedite {
+        end: u32,
+        octets: Bytes,
+    },
+    /// An expedited unit that an end shows.
+    Urgent {
+        end: u32,
+        octets: Bytes,
+    },
+    /// A refusal of a connect indication.
+    Refuse {
+        end: u32,
+        octets: Bytes,
+    },
+    /// A disconnect request.
+    Disconnect {
+        end: u32,
+        octets: Bytes,
+    },
+    /// A disconnect indication.
+    Gone {
+        end: u32,
+        cause: GoneCause,
+        octets: Bytes,
+    },
+    /// The credit that is in force.
+    Window {
+        end: u32,
+        credit: u16,
+    },
+    /// The first number that the number rule holds back, of a DT or of an ED.
+    Held {
+        end: u32,
+        expedited: bool,
+        number: u64,
+    },
+    /// A call that is refused.
+    No {
+        cause: Refused,
+    },
+    /// A raw unit that the network took from a system, for an address.
+    Sent {
+        system: u8,
+        to: Address,
+        octets: Bytes,
+    },
+    /// A raw unit that is shown at a system, from an address.
+    Unit {
+        system: u8,
+        from: Address,
+        octets: Bytes,
+    },
+    /// A frame that a system sent on a LAN to an SNPA, with the length of the whole 802.3 frame in octets.
+    Frame {
+        number: u32,
+        lan: u8,
+        system: u8,
+        snpa: [u8; 6],
+        length: u32,
+    },
+    /// A frame that is lost, since the LANs hold as many as they may.
+    DropFrame {
+        system: u8,
+    },
+    /// A transport unit that the network does not take.
+    Dropped {
+        system: u8,
+        cause: DropCause,
+    },
+    /// A frame that is taken by a system.
+    Deliver {
+        number: u32,
+        system: u8,
+    },
+    /// No frame has this number yet.
+    NoSuch {
+        number: u32,
+        system: u8,
+    },
+    /// The frame is older than the bound of its LAN.
+    Late {
+        number: u32,
+        system: u8,
+    },
+    /// The system has no port on the frame's LAN.
+    NotThere {
+        number: u32,
+        system: u8,
+    },
+    /// The system sent the frame, or it is for another one.
+    NotOurs {
+        number: u32,
+        system: u8,
+    },
+    /// The end of a `settle`.
+    Settle {
+        answer: Settled,
+    },
+    /// Octets that a system got, though no system sent them.
+    Inject {
+        system: u8,
+    },
+    /// The system has no port on the LAN of such octets.
+    InjectNotThere {
+        system: u8,
+    },
+    /// A PDU that a system discards, with the reason and the octet of its header that it names.
+    Discard {
+        system: u8,
+        reason: u8,
+        place: u8,
+    },
+    /// An error report that a system got.
+    Report {
+        system: u8,
+        reason: u8,
+        place: u8,
+    },
+    /// A frame that holds no PDU of the network.
+    Alien {
+        system: u8,
+    },
+    /// A hello that cannot be read.
+    BadHello {
+        system: u8,
+        cause: HelloCause,
+    },
+    /// A hello for which there is no room.
+    HelloFull {
+        system: u8,
+    },
+    /// A hello that a system heard, from an SNPA.
+    Hello {
+        system: u8,
+        kind: HelloKind,
+        snpa: [u8; 6],
+    },
+    /// A better way to an address that a system learned.
+    Redirect {
+        system: u8,
+        address: Address,
+        snpa: [u8; 6],
+    },
+    /// A TPDU that cannot be read, with the octet at which it cannot.
+    BadTpdu {
+        system: u8,
+        cause: TpduCause,
+        place: u32,
+    },
+    /// A TPDU that is for no end of the system.
+    Unknown {
+        system: u8,
+        kind: TpduKind,
+    },
+    /// How many units arrived that no system had sent.
+    Strays {
+        count: u32,
+    },
+}

@@ -1,0 +1,21 @@
+//! What holds of journals and their texts.
+
+ghost use Rattle.std.specs.Prelude.{◌≡◌, ◌++◌, ℕ, List};
+ghost use Rattle.osi_script.specs.Tags.{Tags, AreNames};
+ghost use Rattle.osi_journal.specs.Told.{journal_text};
+ghost use Rattle.osi_journal.specs.Injective.{EachTold};
+ghost use Rattle.osi_journal.specs.Lawful.{Lawful};
+ghost use Rattle.osi_journal.specs.RawLawful.{RawLawful};
+ghost use Rattle.osi_journal.specs.declared.event.Event.{Event};
+
+/// For given names no two lists of events have one text.
+pub fn text_is_injective()
+    ensures { (tags : Tags) (first second : List Event) → AreNames tags.systems → AreNames tags.lans → EachTold tags first → EachTold tags second
+        → journal_text tags first ≡ journal_text tags second → first ≡ second }
+{}
+
+/// Each front of a lawful journal is lawful.
+pub fn fronts_are_lawful()
+    ensures lawful { (titles : List (List ℕ)) (front back : List Event) → Lawful titles (front ++ back) → Lawful titles front }
+    ensures raw { (life : ℕ) (titles : List (List ℕ)) (front back : List Event) → RawLawful life titles (front ++ back) → RawLawful life titles front }
+{}

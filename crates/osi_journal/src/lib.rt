@@ -1,0 +1,20 @@
+//! The journal of a run: its events, the transcript's line of each, and what a lawful one is.
+#![tactic(auto)]
+
+mod cause;
+mod event;
+mod journal;
+mod laws;
+mod pieces;
+mod shapes;
+mod text;
+mod words;
+
+pub use cause::{GoneCause, Refused, Settled, Standing, TpduCause, TpduKind};
+pub use event::Event;
+pub use journal::{Journal, JournalRefusal};
+pub use laws::{fronts_are_lawful, text_is_injective};
+pub use text::write_event;
+
+#[cfg(test)]
+mod tests;

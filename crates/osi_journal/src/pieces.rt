@@ -1,0 +1,130 @@
+//! The fields of a transcript line, and how they are written.
+
+ghost use Rattle.std.specs.Prelude.{◌≡◌, ◌≤◌, ◌*◌, ◌++◌, map, drop, length, if◌then◌else◌, OnOk};
+ghost use Rattle.std.specs.Fmt.{decimal};
+ghost use Rattle.hex.specs.Hex.{encode_lower};
+ghost use Rattle.osi_script.specs.Tags.{tags_of};
+ghost use Rattle.osi_journal.specs.Told.{line};
+ghost use Rattle.osi_journal.specs.steps.Written.{piece_text, pieces_text, tail};
+
+use osi_base::NoMemory;
+use osi_script::Names;
+
+/// The most digits of a number.
+const MOST_DIGITS: usize = 20;
+
+/// A field of a transcript line.
+#[derive(Clone, Copy)]
+pub enum Piece<'a> {
+    Word(&'static str),
+    Number(u64),
+    System(u8),
+    Lan(u8),
+    /// Octets, at least one.
+    Digits(&'a [u8]),
+    /// Octets, `-` for none.
+    Octets(&'a [u8]),
+}
+
+/// Appends a line.
+pub fn write(pieces: &[Piece<'_>], names: &Names, out: &mut Vec<u8>) -> Result<(), NoMemory>
+    ensures { OnOk result (out.new.items ≡ out.old.items ++ line (pieces_text (tags_of names.now) pieces.now)) }
+{
+    let Some((first, others)) = pieces.split_first() else {
+        return push(b"\n", out);
+    };
+    push_piece(*first, names, out)?;
+    write_others(others, names, out)
+}
+
+/// Appends the fields behind the first of a line, each behind a blank, and a line feed.
+fn write_others(pieces: &[Piece<'_>], names: &Names, out: &mut Vec<u8>) -> Result<(), NoMemory>
+    ensures { OnOk result (out.new.items ≡ out.old.items ++ tail (pieces_text (tags_of names.now) pieces.now)) }
+{
+    for piece in pieces {
+        push(b" ", out)?;
+        push_piece(*piece, names, out)?;
+    }
+    push(b"\n", out)
+}
+
+/// Appends a field.
+fn push_piece(piece: Piece<'_>, names: &Names, out: &mut Vec<u8>) -> Result<(), NoMemory>
+    ensures { OnOk result (out.new.items ≡ out.old.items ++ piece_text (tags_of names.now) piece.entry) }
+{
+    match piece {
+        Piece::Word(text) => push(text.as_bytes(), out),
+        Piece::Number(number) => push_number(number, out),
+        Piece::System(system) => push(names.system_name(system), out),
+        Piece::Lan(lan) => push(names.lan_name(lan), out),
+        Piece::Digits(octets) => push_hex(octets, out),
+        Piece::Octets(octets) => {
+            if octets.is_empty() {
+                push(b"-", out)
+            } else {
+                push_hex(octets, out)
+            }
+        }
+    }
+}
+
+/// Appends octets in hexadecimal, in lower case.
+fn push_hex(octets: &[u8], out: &mut Vec<u8>) -> Result<(), NoMemory>
+    ensures { OnOk result (out.new.items ≡ out.old.items ++ encode_lower octets.now) }
+{
+    let before = out.len();
+    let Some(after) = octets
+        .len()
+        .checked_mul(2)
+        .and_then(|more| before.checked_add(more))
+    else {
+        return Err(NoMemory);
+    };
+    out.resize(after, 0)?;
+    fill_hex(octets, &mut out.as_mut_slice()[before..]);
+    Ok(())
+}
+
+/// Writes octets in hexadecimal over a place of just that room.
+fn fill_hex(octets: &[u8], place: &mut [u8])
+    requires { length place.old ≡ 2 * length octets.now }
+    ensures { place.new ≡ encode_lower octets.now }
+{
+    match hex::encode_to_slice(octets, place) {
+        Ok(()) => {}
+        Err(_) => unreachable!(),
+    }
+}
+
+/// Appends a number in decimal.
+fn push_number(number: u64, out: &mut Vec<u8>) -> Result<(), NoMemory>
+    ensures { OnOk result (out.new.items ≡ out.old.items ++ decimal number) }
+{
+    let mut digits = [0u8; MOST_DIGITS];
+    let start = fill_number(number, &mut digits);
+    push(&digits[start..], out)
+}
+
+/// Writes a number in decimal at the end of the digits, and answers where it starts.
+fn fill_number(number: u64, digits: &mut [u8; MOST_DIGITS]) -> usize
+    ensures within { result ≤ 20 }
+    ensures written { drop result digits.new ≡ decimal number }
+{
+    let mut left = number;
+    let mut start = MOST_DIGITS - 1;
+    while left >= 10 {
+        digits[start] = b'0' + (left % 10) as u8;
+        left /= 10;
+        start -= 1;
+    }
+    digits[start] = b'0' + left as u8;
+    start
+}
+
+/// Appends a text as it is.
+fn push(text: &[u8], out: &mut Vec<u8>) -> Result<(), NoMemory>
+    ensures { OnOk result (out.new.items ≡ out.old.items ++ text.now) }
+{
+    out.extend_from_slice(text)?;
+    Ok(())
+}

@@ -1,0 +1,14 @@
+pub mod Came
+pub mod Changes
+pub mod Digits
+pub mod Ends
+pub mod FieldSplits
+pub mod Filled
+pub mod FreshNames
+pub mod Keys
+pub mod LineNames
+pub mod Named
+pub mod Places
+pub mod Printing
+pub mod Readings
+pub mod Scripts

@@ -1,0 +1,132 @@
+-- What the lines so far declare, and what the fields of a line give.
+use Rattle.std.specs.Prelude.{ℕ, ◌==◌, Bool, false, nat_eq, List, [], ◌∷◌, Option, Some, None, slice_get, slice_set, position}
+use Rattle.std.specs.List.{list_any}
+use Rattle.std.specs.BTreeSet.{insert_key}
+use Rattle.std.specs.Cmp.Lexicographic.{pointwise, slice_cmp}
+use Rattle.std.specs.Ordering.{nat_cmp}
+use Rattle.nsap.specs.declared.port.Port.{Port}
+use Rattle.osi_script.specs.declared.settings.Settings.{Settings}
+use Rattle.osi_script.specs.declared.settings.Key.TheVariants as keys
+use Rattle.osi_script.specs.declared.form.Word.{Word}
+use Rattle.osi_script.specs.declared.line.PathKind.TheVariants as kinds
+use Rattle.osi_script.specs.declared.names.Built.{Built}
+use Rattle.osi_script.specs.declared.parts.Parts.{Parts}
+use Rattle.osi_script.specs.declared.system.LanRow.{LanRow}
+
+-- a system with its ports, routes and selectors; the selectors stand in ascending order
+pub record KnownSystem : Type 0 where
+  pub name : List ℕ
+  pub is_end : Bool
+  pub title : List ℕ
+  pub ports : List Port
+  pub routes : List (List ℕ)
+  pub selectors : List (List ℕ)
+
+-- the lines that are run: the words that name one, the most LANs, and whether a unit may have wishes
+pub record Lines : Type 0 where
+  pub words : List Word
+  pub lans : ℕ
+  pub wishes : Bool
+
+abbrev pub lines_of : Built → Lines
+lines_of built = record { words = built.words.now; lans = built.lans; wishes = built.wishes }
+
+-- one selector more
+abbrev pub with : List (List ℕ) → List ℕ → List (List ℕ)
+with selectors selector = insert_key (slice_cmp nat_cmp) selectors selector
+
+-- what the lines so far declare, and what lines there are
+pub record Declared : Type 0 where
+  pub built : Lines
+  pub settings : Settings
+  pub lans : List LanRow
+  pub systems : List KnownSystem
+  pub paths : List (List ℕ)
+  pub started : Bool
+
+abbrev pub nothing_declared : Lines → Declared
+nothing_declared built = record {
+  built = built;
+  settings = record { life = None; t1 = None; w = None; i = None; n = None; refs = None; credit = None; ct = None; hold = None };
+  lans = [];
+  systems = [];
+  paths = [];
+  started = false;
+}
+
+-- the fields of a line before the first
+abbrev pub no_parts : Parts
+no_parts = record {
+  name = [];
+  key = keys.Life;
+  number = 0;
+  amount = 0;
+  credit = 0;
+  system = 0;
+  other = 0;
+  lan = 0;
+  title = 0 ∷ [];
+  station = 0 ∷ 0 ∷ 0 ∷ 0 ∷ 0 ∷ 0 ∷ [];
+  prefix = [];
+  kind = kinds.Partial;
+  hops = [];
+  selector = [];
+  called = [];
+  options = record { extended = false; size = 0; expedited = false; sum = false };
+  wish = record { cut = false; report = false; trace = false; path = 0 };
+  octets = [];
+}
+
+-- the number of the first with this name
+abbrev pub system_at : List KnownSystem → List ℕ → Option ℕ
+system_at systems name = position (λ system. pointwise nat_eq system.name name) systems
+
+abbrev pub lan_at : List LanRow → List ℕ → Option ℕ
+lan_at lans name = position (λ lan. pointwise nat_eq lan.name name) lans
+
+abbrev pub path_at : List (List ℕ) → List ℕ → Option ℕ
+path_at paths name = position (λ path. pointwise nat_eq path name) paths
+
+-- one of the lists is this one
+abbrev pub is_among : List (List ℕ) → List ℕ → Bool
+is_among lists octets = list_any (λ other. pointwise nat_eq octets other) lists
+
+abbrev pub end_of : Option KnownSystem → Bool
+end_of None = false
+end_of (Some system) = system.is_end
+
+abbrev pub ports_of : Option KnownSystem → List Port
+ports_of None = []
+ports_of (Some system) = system.ports
+
+abbrev pub routes_of : Option KnownSystem → List (List ℕ)
+routes_of None = []
+routes_of (Some system) = system.routes
+
+abbrev pub selectors_of : Option KnownSystem → List (List ℕ)
+selectors_of None = []
+selectors_of (Some system) = system.selectors
+
+-- the system has a port with the SNPA
+abbrev pub has_snpa : KnownSystem → List ℕ → Bool
+has_snpa system snpa = list_any (λ port. pointwise nat_eq port.snpa snpa) system.ports
+
+-- the system of this number is an end system
+abbrev pub is_end : Declared → ℕ → Bool
+is_end names system = end_of (slice_get names.systems system)
+
+-- the system has a port on the LAN
+abbrev pub has_port : Declared → ℕ → ℕ → Bool
+has_port names system lan = list_any (λ port. port.lan == lan) (ports_of (slice_get names.systems system))
+
+-- a port of any system has this SNPA
+abbrev pub has_station : Declared → List ℕ → Bool
+has_station names snpa = list_any (λ system. has_snpa system snpa) names.systems
+
+abbrev pub with_changed : List KnownSystem → ℕ → (KnownSystem → KnownSystem) → Option KnownSystem → List KnownSystem
+with_changed systems at change None = systems
+with_changed systems at change (Some system) = slice_set systems at (change system)
+
+-- the system of this number is changed
+abbrev pub changed : List KnownSystem → ℕ → (KnownSystem → KnownSystem) → List KnownSystem
+changed systems at change = with_changed systems at change (slice_get systems at)

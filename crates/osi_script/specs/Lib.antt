@@ -1,0 +1,12 @@
+pub mod Causes
+pub mod Field
+pub mod Gives
+pub mod Grammar
+pub mod Known
+pub mod Names
+pub mod Reading
+pub mod Script
+pub mod Settings
+pub mod Table
+pub mod Tags
+pub mod steps

@@ -1,0 +1,68 @@
+-- The lines of the script as a table: for each line word its text, whether it belongs to the set-up, its fields and what it does.
+use Rattle.std.specs.Prelude.{ℕ, Bool, true, false, List, [], ◌∷◌, Option, codes, find}
+use Rattle.osi_script.specs.Field.{is_word}
+use Rattle.osi_script.specs.declared.form.Word.{Word}
+use Rattle.osi_script.specs.declared.form.Word.TheVariants as words
+use Rattle.osi_script.specs.declared.form.Effect.{Effect}
+use Rattle.osi_script.specs.declared.form.Effect.TheVariants as effects
+use Rattle.osi_script.specs.declared.form.Form.{Form}
+use Rattle.osi_script.specs.declared.form.Form.TheVariants as forms
+use Rattle.osi_script.specs.declared.form.Named.{Named}
+use Rattle.osi_script.specs.declared.form.Named.TheVariants as named
+use Rattle.osi_script.specs.declared.form.Plain.TheVariants as plain
+
+pub record LineRow : Type 0 where
+  pub text : List ℕ
+  pub of_set_up : Bool
+  pub fields : List Form
+  pub effect : Effect
+
+abbrev pub set_up : List ℕ → List Form → Effect → LineRow
+set_up text fields effect = record { text = text; of_set_up = true; fields = fields; effect = effect }
+
+abbrev pub event : List ℕ → List Form → LineRow
+event text fields = record { text = text; of_set_up = false; fields = fields; effect = effects.Nothing }
+
+-- a number of an end or a frame
+abbrev pub any_number : Form
+any_number = forms.Plain (plain.Number 0 999999999)
+
+abbrev pub name : Named → Form
+name named = forms.Named named
+
+-- FMT SIZE EXP SUM OCT
+abbrev pub agreement : List Form
+agreement = forms.Plain plain.Format ∷ forms.Plain plain.Size ∷ forms.Plain plain.Expedited ∷ forms.Plain plain.Sum ∷ forms.Octets ∷ []
+
+abbrev pub row_of : Word → LineRow
+row_of words.Set = set_up (codes "set") (forms.Plain plain.Key ∷ forms.Plain plain.Value ∷ []) effects.Setting
+row_of words.Lan = set_up (codes "lan") (forms.NewLan ∷ forms.Plain (plain.Number 1 16) ∷ forms.Plain (plain.Amount 264 1497) ∷ []) effects.Lan
+row_of words.Es = set_up (codes "es") (forms.NewSystem ∷ forms.Title ∷ []) effects.EndSystem
+row_of words.Is = set_up (codes "is") (forms.NewSystem ∷ forms.Title ∷ []) effects.IntermediateSystem
+row_of words.Port = set_up (codes "port") (name named.System ∷ name named.PortLan ∷ forms.Station ∷ []) effects.Port
+row_of words.Route = set_up (codes "route") (name named.System ∷ forms.Prefix ∷ name named.Next ∷ name named.RouteLan ∷ []) effects.Route
+row_of words.Path = set_up (codes "path") (forms.NewPath ∷ forms.Plain plain.PathKind ∷ forms.Hops ∷ []) effects.Path
+row_of words.Tsap = set_up (codes "tsap") (name named.EndSystem ∷ forms.NewSelector ∷ []) effects.Selector
+row_of words.Start = set_up (codes "start") [] effects.Start
+row_of words.Connect = event (codes "connect") (name named.EndSystem ∷ forms.Selector ∷ name named.To ∷ forms.Called ∷ agreement)
+row_of words.Accept = event (codes "accept") (any_number ∷ agreement)
+row_of words.Refuse = event (codes "refuse") (any_number ∷ forms.Octets ∷ [])
+row_of words.Disconnect = event (codes "disconnect") (any_number ∷ forms.Octets ∷ [])
+row_of words.Data = event (codes "data") (any_number ∷ forms.Octets ∷ [])
+row_of words.Expedite = event (codes "expedite") (any_number ∷ forms.Octets ∷ [])
+row_of words.Window = event (codes "window") (any_number ∷ forms.Plain plain.Credit ∷ [])
+row_of words.Unit =
+    record {
+      text = codes "unit";
+      of_set_up = false;
+      fields = name named.EndSystem ∷ name named.To ∷ forms.Plain plain.Flags ∷ name named.Path ∷ forms.Octets ∷ [];
+      effect = effects.Unit;
+    }
+row_of words.Tick = event (codes "tick") []
+row_of words.Settle = event (codes "settle") []
+row_of words.Deliver = event (codes "deliver") (any_number ∷ name named.System ∷ [])
+row_of words.Inject = event (codes "inject") (name named.Lan ∷ name named.System ∷ forms.Octets ∷ [])
+
+-- the word that a field is, among those that name a line
+abbrev pub word_of : List Word → List ℕ → Option Word
+word_of words field = find (λ word. is_word (row_of word).text field) words

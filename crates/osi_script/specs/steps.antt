@@ -1,0 +1,2 @@
+-- What only carries the proof of a line's reading.
+pub mod Split

@@ -1,0 +1,288 @@
+//! What a line says, or its first fault.
+
+ghost use Rattle.std.specs.Prelude.{◌≡◌, ◌≤◌, ◌<◌, not, length, position, IfSome, IsSomeAnd};
+ghost use Rattle.osi_script.specs.Field.{is_printable};
+ghost use Rattle.osi_script.specs.Grammar.{fault, count_fault, line_for, is_idle};
+
+use crate::fault::{FieldRefusal, LineCause, LineFault, LineRefusal};
+use crate::fields::Fields;
+use crate::form::{Form, Word};
+use crate::line::Line;
+use crate::names::Names;
+use crate::parts::Parts;
+use crate::table::{row_of, word_of};
+use osi_base::NoMemory;
+
+/// The most octets of a line.
+const LINE: usize = 40_000;
+
+fn fault(cause: LineCause, column: u32) -> LineFault
+    ensures { result ≡ fault cause column }
+{
+    LineFault { cause, column }
+}
+
+/// Too few fields, or too many.
+fn count_fault(past: u32, forms: &[Form], mut fields: Fields<'_>) -> Option<LineFault>
+    ensures { result ≡ count_fault past fields.entry.column forms.now fields.entry.fields }
+{
+    for _form in forms {
+        let Some(_field) = fields.next() else {
+            return Some(fault(LineCause::Fields, past));
+        };
+    }
+    if fields.is_empty() {
+        None
+    } else {
+        Some(fault(LineCause::Fields, fields.column()))
+    }
+}
+
+impl Names {
+    ghost use Rattle.osi_script.specs.Gives.{GivesAt};
+    ghost use Rattle.osi_script.specs.Known.{no_parts};
+    ghost use Rattle.osi_script.specs.Grammar.{fields_read, line_read, text_read, split_read, worded_read, whole_read, Reads};
+
+    /// What a line says after the lines before it. A line that is refused declares nothing.
+    #[tactic(auto, unfolding(crate::specs::Grammar::line_read))]
+    pub fn read_line(&mut self, octets: &[u8]) -> Result<Line, LineRefusal>
+        ensures { Reads (line_read self.old octets.now) self.old result self.new }
+    {
+        if octets.len() > LINE {
+            return Err(LineRefusal::Fault(fault(LineCause::Long, 40_001)));
+        }
+        match first_unprintable(octets) {
+            Some(place) => Err(LineRefusal::Fault(fault(LineCause::Ascii, place as u32 + 1))),
+            None => self.read_printable(octets),
+        }
+    }
+
+    fn read_printable(&mut self, octets: &[u8]) -> Result<Line, LineRefusal>
+        requires short { length octets.now ≤ 40000 }
+        requires printable { position (λ octet. not (is_printable octet)) octets.now ≡ None }
+        ensures { Reads (text_read self.old octets.now) self.old result self.new }
+    {
+        let Some(text) = text_of(octets) else {
+            unreachable!();
+        };
+        self.read_text(text)
+    }
+
+    /// A line of printable characters.
+    #[tactic(auto, unfolding(crate::specs::Grammar::text_read))]
+    fn read_text(&mut self, text: &str) -> Result<Line, LineRefusal>
+        requires { length text.now ≤ 40000 }
+        ensures { Reads (text_read self.old text.now) self.old result self.new }
+    {
+        if is_idle(text.as_bytes()) {
+            return Ok(Line::Nothing);
+        }
+        let mut fields = Fields::of(text);
+        match fields.next() {
+            Some(field) => match word_of(self.built.words, field) {
+                Some(word) => self.read_worded(text.len() as u32 + 1, word, fields),
+                None => Err(LineRefusal::Fault(fault(LineCause::Word, 1))),
+            },
+            None => Err(LineRefusal::Fault(fault(LineCause::Word, 1))),
+        }
+    }
+
+    /// The line of a word, with the fields after it. `past` is the column behind the line.
+    fn read_worded(
+        &mut self,
+        past: u32,
+        word: Word,
+        fields: Fields<'_>,
+    ) -> Result<Line, LineRefusal>
+        ensures { Reads (worded_read self.old past fields.entry.column fields.entry.fields (Some word)) self.old result self.new }
+    {
+        let row = row_of(word);
+        if row.of_set_up == self.started {
+            return Err(LineRefusal::Fault(fault(LineCause::Order, 1)));
+        }
+        if let Some(found) = count_fault(past, row.fields, fields.again()) {
+            return Err(LineRefusal::Fault(found));
+        }
+        let mut parts = Parts::new(self.alloc);
+        match self.read_fields(row.fields, fields, &mut parts) {
+            Ok(()) => self.take_up(word, parts),
+            Err(refusal) => Err(refusal),
+        }
+    }
+
+    /// The fields one after another.
+    fn read_fields(
+        &self,
+        forms: &[Form],
+        mut fields: Fields<'_>,
+        parts: &mut Parts,
+    ) -> Result<(), LineRefusal>
+        ensures { GivesAt (fields_read self.now parts.old fields.entry.column forms.now fields.entry.fields) result parts.new }
+    {
+        for form in forms {
+            let column = fields.column();
+            let Some(field) = fields.next() else {
+                return Ok(());
+            };
+            match self.read_field(*form, field, parts) {
+                Ok(()) => {}
+                Err(FieldRefusal::Cause(cause)) => {
+                    return Err(LineRefusal::Fault(fault(cause, column)));
+                }
+                Err(FieldRefusal::NoMemory) => return Err(LineRefusal::NoMemory),
+            }
+        }
+        Ok(())
+    }
+
+    /// The line whose fields are read, if it passes no limit.
+    fn take_up(&mut self, word: Word, parts: Parts) -> Result<Line, LineRefusal>
+        ensures { Reads (whole_read self.old word (Ok parts)) self.old result self.new }
+    {
+        let effect = row_of(word).effect;
+        if let Some(cause) = self.limit_cause(effect, &parts) {
+            return Err(LineRefusal::Fault(fault(cause, 1)));
+        }
+        let number = self.next_number(effect);
+        match self.declare(effect, &parts) {
+            Ok(()) => Ok(line_for(number, word, parts)),
+            Err(NoMemory) => Err(LineRefusal::NoMemory),
+        }
+    }
+}
+
+/// The line that the fields make.
+fn line_for(number: u8, word: Word, parts: Parts) -> Line
+    ensures { result ≡ line_for number word parts }
+{
+    let Parts {
+        system,
+        other,
+        lan,
+        title,
+        octets,
+        options,
+        ..
+    } = parts;
+    match word {
+        Word::Set => Line::Set {
+            key: parts.key,
+            value: parts.number,
+        },
+        Word::Lan => Line::Lan {
+            name: number,
+            bound: parts.number,
+            room: parts.amount,
+        },
+        Word::Es => Line::Es {
+            name: number,
+            title,
+        },
+        Word::Is => Line::Is {
+            name: number,
+            title,
+        },
+        Word::Port => Line::Port {
+            system,
+            lan,
+            snpa: parts.station,
+        },
+        Word::Route => Line::Route {
+            system,
+            prefix: parts.prefix,
+            next: other,
+            lan,
+        },
+        Word::Path => Line::Path {
+            name: number,
+            kind: parts.kind,
+            systems: parts.hops,
+        },
+        Word::Tsap => Line::Tsap {
+            system,
+            selector: parts.selector,
+        },
+        Word::Start => Line::Start,
+        Word::Connect => Line::Connect {
+            system,
+            selector: parts.selector,
+            to: other,
+            called: parts.called,
+            options,
+            octets,
+        },
+        Word::Accept => Line::Accept {
+            end: parts.number,
+            options,
+            octets,
+        },
+        Word::Refuse => Line::Refuse {
+            end: parts.number,
+            octets,
+        },
+        Word::Disconnect => Line::Disconnect {
+            end: parts.number,
+            octets,
+        },
+        Word::Data => Line::Data {
+            end: parts.number,
+            octets,
+        },
+        Word::Expedite => Line::Expedite {
+            end: parts.number,
+            octets,
+        },
+        Word::Window => Line::Window {
+            end: parts.number,
+            credit: parts.credit,
+        },
+        Word::Unit => Line::Unit {
+            system,
+            to: other,
+            wish: parts.wish,
+            octets,
+        },
+        Word::Tick => Line::Tick,
+        Word::Settle => Line::Settle,
+        Word::Deliver => Line::Deliver {
+            frame: parts.number,
+            system,
+        },
+        Word::Inject => Line::Inject {
+            lan,
+            system,
+            octets,
+        },
+    }
+}
+
+/// An empty line, or one that begins with `#`.
+fn is_idle(text: &[u8]) -> bool
+    ensures { result ≡ is_idle text.now }
+{
+    match text {
+        [] => true,
+        [first, ..] => *first == b'#',
+    }
+}
+
+/// The place of the first octet that is no printable character.
+fn first_unprintable(octets: &[u8]) -> Option<usize>
+    ensures place { result ≡ position (λ octet. not (is_printable octet)) octets.now }
+    ensures there { IfSome result (λ place. place < length octets.now) }
+{
+    octets
+        .iter()
+        .position(|octet| !matches!(octet, 0x20..=0x7e))
+}
+
+/// Printable characters as text.
+fn text_of(octets: &[u8]) -> Option<&str>
+    requires { position (λ octet. not (is_printable octet)) octets.now ≡ None }
+    ensures { IsSomeAnd result (λ text. text.now ≡ octets.now) }
+{
+    match str::from_utf8(octets) {
+        Ok(text) => Some(text),
+        Err(_) => None,
+    }
+}

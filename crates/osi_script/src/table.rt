@@ -1,0 +1,202 @@
+//! The lines of the script as a table.
+
+ghost use Rattle.std.specs.Prelude.{◌≡◌, true, false};
+ghost use Rattle.osi_script.specs.Field.{is_word};
+ghost use Rattle.osi_script.specs.Table.{row_of, word_of};
+
+use crate::form::{Effect, Form, Named, Plain, Word};
+
+/// What a line consists of.
+#[derive(Clone, Copy)]
+pub struct Row {
+    /// Its first field.
+    pub text: &'static str,
+    /// Whether it stands before `start`.
+    pub of_set_up: bool,
+    /// The fields after the first.
+    pub fields: &'static [Form],
+    /// What it does.
+    pub effect: Effect,
+}
+
+/// All words, those of long scripts first.
+pub const WORDS: [Word; 21] = [
+    Word::Deliver,
+    Word::Tick,
+    Word::Data,
+    Word::Unit,
+    Word::Settle,
+    Word::Window,
+    Word::Expedite,
+    Word::Connect,
+    Word::Accept,
+    Word::Refuse,
+    Word::Disconnect,
+    Word::Inject,
+    Word::Route,
+    Word::Tsap,
+    Word::Set,
+    Word::Lan,
+    Word::Es,
+    Word::Is,
+    Word::Port,
+    Word::Path,
+    Word::Start,
+];
+
+/// The number of an end or of a frame.
+const ANY_NUMBER: Form = Form::Plain(Plain::Number {
+    least: 0,
+    most: 999_999_999,
+});
+
+/// The bound of a LAN, in ticks.
+const BOUND: Form = Form::Plain(Plain::Number { least: 1, most: 16 });
+
+/// The room of a LAN, in octets.
+const ROOM: Form = Form::Plain(Plain::Amount {
+    least: 264,
+    most: 1497,
+});
+
+const SYSTEM: Form = Form::Named(Named::System);
+
+const END_SYSTEM: Form = Form::Named(Named::EndSystem);
+
+const FORMAT: Form = Form::Plain(Plain::Format);
+
+const SIZE: Form = Form::Plain(Plain::Size);
+
+const EXPEDITED: Form = Form::Plain(Plain::Expedited);
+
+const SUM: Form = Form::Plain(Plain::Sum);
+
+/// A line of the set-up.
+const fn set_up(text: &'static str, fields: &'static [Form], effect: Effect) -> Row
+    ensures { result ≡ record { text = text.entry; of_set_up = true; fields = fields.entry; effect = effect } }
+{
+    Row {
+        text,
+        of_set_up: true,
+        fields,
+        effect,
+    }
+}
+
+/// A line after the set-up.
+const fn event(text: &'static str, fields: &'static [Form], effect: Effect) -> Row
+    ensures { result ≡ record { text = text.entry; of_set_up = false; fields = fields.entry; effect = effect } }
+{
+    Row {
+        text,
+        of_set_up: false,
+        fields,
+        effect,
+    }
+}
+
+/// The row of a word.
+pub fn row_of(word: Word) -> Row
+    ensures text { result.text.now ≡ (row_of word).text }
+    ensures of_set_up { result.of_set_up ≡ (row_of word).of_set_up }
+    ensures fields { result.fields.now ≡ (row_of word).fields }
+    ensures effect { result.effect ≡ (row_of word).effect }
+{
+    match word {
+        Word::Set => set_up(
+            "set",
+            &[Form::Plain(Plain::Key), Form::Plain(Plain::Value)],
+            Effect::Setting,
+        ),
+        Word::Lan => set_up("lan", &[Form::NewLan, BOUND, ROOM], Effect::Lan),
+        Word::Es => set_up("es", &[Form::NewSystem, Form::Title], Effect::EndSystem),
+        Word::Is => set_up(
+            "is",
+            &[Form::NewSystem, Form::Title],
+            Effect::IntermediateSystem,
+        ),
+        Word::Port => set_up(
+            "port",
+            &[SYSTEM, Form::Named(Named::PortLan), Form::Station],
+            Effect::Port,
+        ),
+        Word::Route => set_up(
+            "route",
+            &[
+                SYSTEM,
+                Form::Prefix,
+                Form::Named(Named::Next),
+                Form::Named(Named::RouteLan),
+            ],
+            Effect::Route,
+        ),
+        Word::Path => set_up(
+            "path",
+            &[Form::NewPath, Form::Plain(Plain::PathKind), Form::Hops],
+            Effect::Path,
+        ),
+        Word::Tsap => set_up("tsap", &[END_SYSTEM, Form::NewSelector], Effect::Selector),
+        Word::Start => set_up("start", &[], Effect::Start),
+        Word::Connect => event(
+            "connect",
+            &[
+                END_SYSTEM,
+                Form::Selector,
+                Form::Named(Named::To),
+                Form::Called,
+                FORMAT,
+                SIZE,
+                EXPEDITED,
+                SUM,
+                Form::Octets,
+            ],
+            Effect::Nothing,
+        ),
+        Word::Accept => event(
+            "accept",
+            &[ANY_NUMBER, FORMAT, SIZE, EXPEDITED, SUM, Form::Octets],
+            Effect::Nothing,
+        ),
+        Word::Refuse => event("refuse", &[ANY_NUMBER, Form::Octets], Effect::Nothing),
+        Word::Disconnect => event("disconnect", &[ANY_NUMBER, Form::Octets], Effect::Nothing),
+        Word::Data => event("data", &[ANY_NUMBER, Form::Octets], Effect::Nothing),
+        Word::Expedite => event("expedite", &[ANY_NUMBER, Form::Octets], Effect::Nothing),
+        Word::Window => event(
+            "window",
+            &[ANY_NUMBER, Form::Plain(Plain::Credit)],
+            Effect::Nothing,
+        ),
+        Word::Unit => event(
+            "unit",
+            &[
+                END_SYSTEM,
+                Form::Named(Named::To),
+                Form::Plain(Plain::Flags),
+                Form::Named(Named::Path),
+                Form::Octets,
+            ],
+            Effect::Unit,
+        ),
+        Word::Tick => event("tick", &[], Effect::Nothing),
+        Word::Settle => event("settle", &[], Effect::Nothing),
+        Word::Deliver => event("deliver", &[ANY_NUMBER, SYSTEM], Effect::Nothing),
+        Word::Inject => event(
+            "inject",
+            &[Form::Named(Named::Lan), SYSTEM, Form::Octets],
+            Effect::Nothing,
+        ),
+    }
+}
+
+/// The first of the words whose text is the field.
+pub fn word_of(words: &[Word], field: &str) -> Option<Word>
+    ensures { result ≡ word_of words.now field.now }
+{
+    words.iter().copied().find(|word| is_named(*word, field))
+}
+
+fn is_named(word: Word, field: &str) -> bool
+    ensures { result ≡ is_word (row_of word).text field.now }
+{
+    field == row_of(word).text
+}
