@@ -8,7 +8,7 @@ use Rattle.clnp_segment.specs.declared.held.Verdict.TheVariants as verdict
 use Rattle.clnp_segment.proofs.Slots.{all_counted, clash_found, clash_none, counted_all, written_above, written_below, written_in, written_length}
 
 -- ---- the relation of the public call
-get_within : {A : Type 0} (xs : List A) (i : ℕ) → i < length xs → (x : A) × (slice_get xs i ≡ Some x)
+pub get_within : {A : Type 0} (xs : List A) (i : ℕ) → i < length xs → (x : A) × (slice_get xs i ≡ Some x)
 get_within [] i h = absurd (omega (arith, h))
 get_within (x ∷ xs) zero h = (x, refl)
 get_within (x ∷ xs) (suc i) h = get_within xs i (omega (arith, h))

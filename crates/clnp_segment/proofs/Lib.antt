@@ -1,11 +1,14 @@
 mod Cuttings
+mod Deliveries
 mod Determined
 mod Dues
-mod Joins
+pub mod Joins
 mod Pieces
 mod Read
+mod Rooms
 mod Runs
 mod Slots
 mod Storing
 mod Taking
-mod Units
+pub mod Units
+mod Wholes

@@ -75,13 +75,13 @@ held_both [] rest = omega arith
 held_both (x ∷ before) rest = omega (arith, held_both before rest)
 
 -- ---- keys
-apart_out : (before : List Partial) (unit : Partial) (rest : List Partial) → AreApart (before ++ unit ∷ rest) → AreApart (before ++ rest)
+pub apart_out : (before : List Partial) (unit : Partial) (rest : List Partial) → AreApart (before ++ unit ∷ rest) → AreApart (before ++ rest)
 apart_out [] unit rest h = h.1
 apart_out (x ∷ before) unit rest h =
     let P : Partial → Type 0 = λ other. key_of other ≢ key_of x in
     (all_both P before rest (all_front P before (unit ∷ rest) h.0) (all_back P before (unit ∷ rest) h.0).1, apart_out before unit rest h.1)
 
-apart_change : (before : List Partial) (unit other : Partial) (rest : List Partial) → key_of other ≡ key_of unit → AreApart (before ++ unit ∷ rest) → AreApart (before ++ other ∷ rest)
+pub apart_change : (before : List Partial) (unit other : Partial) (rest : List Partial) → key_of other ≡ key_of unit → AreApart (before ++ unit ∷ rest) → AreApart (before ++ other ∷ rest)
 apart_change [] unit other rest same h = (subst (λ (k : Key). AllByRecursion (λ u. key_of u ≢ k) rest) (sym same) h.0, h.1)
 apart_change (x ∷ before) unit other rest same h =
     let P : Partial → Type 0 = λ u. key_of u ≢ key_of x in
@@ -90,7 +90,7 @@ apart_change (x ∷ before) unit other rest same h =
       apart_change before unit other rest same h.1,
     )
 
-apart_more : (units : List Partial) (unit : Partial) → AllByRecursion (λ other. key_of other ≢ key_of unit) units → AreApart units → AreApart (units ++ unit ∷ [])
+pub apart_more : (units : List Partial) (unit : Partial) → AllByRecursion (λ other. key_of other ≢ key_of unit) units → AreApart units → AreApart (units ++ unit ∷ [])
 apart_more [] unit h k = (tt, tt)
 apart_more (x ∷ units) unit h k =
     let P : Partial → Type 0 = λ other. key_of other ≢ key_of x in
@@ -139,14 +139,14 @@ within_at store other held units octets h = record {
 }
 
 -- ---- finding a key
-same_numbers : (xs : List ℕ) → pointwise nat_eq xs xs ≡ true
+pub same_numbers : (xs : List ℕ) → pointwise nat_eq xs xs ≡ true
 same_numbers [] = refl
 same_numbers (x ∷ xs) = grind (arith, same_numbers xs)
 
 both_true : (a b : Bool) → a ≡ true → b ≡ true → (a && b) ≡ true
 both_true a b h k = ap (λ (c : Bool). c && b) h ∙ k
 
-own_key : (unit : Partial) → has_key (key_of unit) unit ≡ true
+pub own_key : (unit : Partial) → has_key (key_of unit) unit ≡ true
 own_key unit = both_true _ _ (both_true _ _ (same_numbers unit.source) (same_numbers unit.destination)) (grind arith)
 
 -- a unit that has not the key of another has another one

@@ -16,7 +16,7 @@ and_parts : (a b : Bool) → (a && b) ≡ true → (a ≡ true) × (b ≡ true)
 and_parts true b h = (refl, h)
 and_parts false b h = absurd cc
 
-same_numbers : (xs ys : List ℕ) → pointwise nat_eq xs ys ≡ true → xs ≡ ys
+pub same_numbers : (xs ys : List ℕ) → pointwise nat_eq xs ys ≡ true → xs ≡ ys
 same_numbers [] [] h = refl
 same_numbers [] (y ∷ ys) h = absurd cc
 same_numbers (x ∷ xs) [] h = absurd cc
@@ -28,7 +28,7 @@ same_numbers (x ∷ xs) (y ∷ ys) h =
     one : (x y : ℕ) → nat_eq x y ≡ true → x ≡ y
     one x y h = grind (arith, h)
 
-key_there : (key : Key) (unit : Partial) → has_key key unit ≡ true → key_of unit ≡ key
+pub key_there : (key : Key) (unit : Partial) → has_key key unit ≡ true → key_of unit ≡ key
 key_there key unit h =
     let all : ((pointwise nat_eq unit.source key.source && pointwise nat_eq unit.destination key.destination) ≡ true) × ((unit.id == key.id) ≡ true) = and_parts _ _ h in
     let two : (pointwise nat_eq unit.source key.source ≡ true) × (pointwise nat_eq unit.destination key.destination ≡ true) = and_parts _ _ all.0 in
@@ -41,12 +41,12 @@ key_there key unit h =
     one x y h = grind (arith, h)
 
 -- ---- nothing is of each unit
-empty_place : (n p octet : ℕ) → slice_get (replicate {A = Option ℕ} n None) p ≡ Some (Some octet) → ⊥
+pub empty_place : (n p octet : ℕ) → slice_get (replicate {A = Option ℕ} n None) p ≡ Some (Some octet) → ⊥
 empty_place zero p octet h = cc h
 empty_place (suc n) zero octet h = cc h
 empty_place (suc n) (suc p) octet h = empty_place n p octet h
 
-nothing_is : (unit : List ℕ) (header : ℕ) (segment : Segment) → IsSegmentOf unit header segment → IsOf unit header (nothing_of segment)
+pub nothing_is : (unit : List ℕ) (header : ℕ) (segment : Segment) → IsSegmentOf unit header segment → IsOf unit header (nothing_of segment)
 nothing_is unit header segment h = record {
   header_is = h.header_is;
   total_is = h.total_is;
@@ -67,7 +67,7 @@ module _ (key : Key) (unit : List ℕ) (header : ℕ) where
     pub key_is : (new : Held) (deadline : ℕ) → key_of (partial_with found coming new deadline) ≡ coming.key
     pub held_is : (new : Held) (deadline : ℕ) → (partial_with found coming new deadline).held ≡ new
 
-  about : (coming : Coming) (held before : List Partial) (found : Option Partial) (rest : List Partial) → At coming.key held before found rest → AllByRecursion Only held
+  pub about : (coming : Coming) (held before : List Partial) (found : Option Partial) (rest : List Partial) → At coming.key held before found rest → AllByRecursion Only held
       → (coming.key ≡ key → IsSegmentOf unit header coming.segment) → About coming before found rest
   about coming held before found rest (At.There partial found_is held_is there none) all of =
       let parted : AllByRecursion Only (before ++ partial ∷ rest) = subst (AllByRecursion Only) held_is all in
@@ -93,7 +93,7 @@ module _ (key : Key) (unit : List ℕ) (header : ℕ) where
       → AllByRecursion Only after.held
   only_at store after before rest clock is front back = subst (λ (h : Holding). AllByRecursion Only h.held) (sym is) (all_both Only before rest front back)
 
-  one : (store : Holding) (now : ℕ) (coming : Coming) (before : List Partial) (found : Option Partial) (rest : List Partial) (answer : Joined) (after : Holding)
+  pub one : (store : Holding) (now : ℕ) (coming : Coming) (before : List Partial) (found : Option Partial) (rest : List Partial) (answer : Joined) (after : Holding)
       → AllByRecursion Only store.held → About coming before found rest → (coming.key ≡ key → IsSegmentOf unit header coming.segment)
       → TakesAt store now coming before found rest answer after → (coming.key ≡ key → AnswersOnly unit answer) × AllByRecursion Only after.held
   one store now coming before found rest joined.Interference after all a of h =

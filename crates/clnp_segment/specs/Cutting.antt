@@ -43,7 +43,8 @@ Cuts pdu room (Some part) None = ⊥
 
 -- a PDU is cut for a room in one way
 abbrev pub OneCutting : Type 0
-OneCutting = (pdu : Pdu) (room : ℕ) (part : Option SegmentPart) (pdus others : List Pdu) → Cuts pdu room part (Some pdus) → Cuts pdu room part (Some others) → pdus ≡ others
+OneCutting = (pdu : Pdu) (room : ℕ) (part : Option SegmentPart) (pdus others : List Pdu) → Cuts pdu room part (Some pdus)
+    → Cuts pdu room part (Some others) → pdus ≡ others
 
 -- the runs are the data, one after another
 abbrev pub PiecesJoin : Type 0

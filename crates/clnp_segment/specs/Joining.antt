@@ -69,7 +69,9 @@ pub record IsSegmentOf (unit : List ℕ) (header : ℕ) (segment : Segment) : Ty
 
 -- segments of one unit never clash, stay of that unit, and come to it where they fill it
 pub record JoinsUnits : Type 0 where
-  pub no_clash : (unit : List ℕ) (header : ℕ) (held : Held) (segment : Segment) → IsOf unit header held → IsSegmentOf unit header segment → Clash held segment → ⊥
-  pub kept : (unit : List ℕ) (header : ℕ) (old : Held) (segment : Segment) (new : Held) → IsOf unit header old → IsSegmentOf unit header segment → Together old segment new
+  pub no_clash : (unit : List ℕ) (header : ℕ) (held : Held) (segment : Segment) → IsOf unit header held → IsSegmentOf unit header segment
+      → Clash held segment → ⊥
+  pub kept : (unit : List ℕ) (header : ℕ) (old : Held) (segment : Segment) (new : Held) → IsOf unit header old → IsSegmentOf unit header segment
+      → Together old segment new
       → IsOf unit header new
   pub whole : (unit octets : List ℕ) (header : ℕ) (held : Held) → IsOf unit header held → IsUnit held octets → octets ≡ unit

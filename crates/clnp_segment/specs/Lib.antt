@@ -1,5 +1,7 @@
 pub mod Cutting
+pub mod Delivery
 pub mod Joining
 pub mod Store
 pub mod Units
+pub mod Whole
 pub mod steps

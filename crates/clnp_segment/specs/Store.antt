@@ -36,11 +36,14 @@ pub record Holding : Type 0 where
   pub octets : ℕ
   pub held : List Partial
 
-abbrev pub has_key : Key → Partial → Bool
-has_key key unit = pointwise nat_eq unit.source key.source && pointwise nat_eq unit.destination key.destination && unit.id == key.id
+abbrev pub is_key : Key → Key → Bool
+is_key key other = pointwise nat_eq other.source key.source && pointwise nat_eq other.destination key.destination && other.id == key.id
 
 abbrev pub key_of : Partial → Key
 key_of unit = record { source = unit.source; destination = unit.destination; id = unit.id }
+
+abbrev pub has_key : Key → Partial → Bool
+has_key key unit = is_key key (key_of unit)
 
 -- how many octets are held of all units
 abbrev pub octets_held : List Partial → ℕ
@@ -99,7 +102,8 @@ IsAt old now new = (new.clock ≡ now) × (new.units ≡ old.units) × (new.octe
 
 -- the units before that of the key, it, and those after; or none is there
 pub data At (key : Key) (held before : List Partial) (found : Option Partial) (after : List Partial) : Type 0 where
-  There : (unit : Partial) → found ≡ Some unit → held ≡ before ++ unit ∷ after → has_key key unit ≡ true → list_any (has_key key) before ≡ false → At key held before found after
+  There : (unit : Partial) → found ≡ Some unit → held ≡ before ++ unit ∷ after → has_key key unit ≡ true → list_any (has_key key) before ≡ false
+      → At key held before found after
   New : found ≡ None → before ≡ held → after ≡ [] → list_any (has_key key) held ≡ false → At key held before found after
 
 -- what is held of the key; of one that is not there nothing, with the lengths of this segment
@@ -171,7 +175,8 @@ Expires store now (Some expired) after = ExpiresFirst store now expired after
 
 -- the answer and what is then held follow from what was held, the tick and the segment
 abbrev pub OneAnswer : Type 0
-OneAnswer = (store : Holding) (now : ℕ) (coming : Coming) (answer other : Joined) (after more : Holding) → Takes store now coming answer after → Takes store now coming other more
+OneAnswer = (store : Holding) (now : ℕ) (coming : Coming) (answer other : Joined) (after more : Holding) → Takes store now coming answer after
+    → Takes store now coming other more
     → (answer ≡ other) × (after ≡ more)
 
 -- what expires and what is then held follow from what was held and the tick
@@ -181,5 +186,6 @@ OneExpiry = (store : Holding) (now : ℕ) (expired other : Option Expired) (afte
 
 -- a PDU that was read, with the header that is lent, ends within the initial PDU where it has a segmentation part
 abbrev pub ReadMayCome : Type 0
-ReadMayCome = (octets rest : List ℕ) (pdu : PduRef) (part : SegmentPart) → BeginsWith IsPdu octets (value_of pdu) rest → pdu.header.now ≡ take (header_length (value_of pdu)) octets
+ReadMayCome = (octets rest : List ℕ) (pdu : PduRef) (part : SegmentPart) → BeginsWith IsPdu octets (value_of pdu) rest
+    → pdu.header.now ≡ take (header_length (value_of pdu)) octets
     → pdu.segment ≡ Some part → MayCome pdu

@@ -38,7 +38,8 @@ AnswersOnly unit joined.Held = Unit {0}
 
 -- the segments of a unit, in any order and with any repeats, among segments of any other keys
 abbrev pub JoinsAll : Type 0
-JoinsAll = (key : Key) (unit : List ℕ) (header : ℕ) (store after : Holding) (list : List Came) → HoldsOnly key unit header store → AllByRecursion (IsOnly key unit header) list
+JoinsAll = (key : Key) (unit : List ℕ) (header : ℕ) (store after : Holding) (list : List Came) → HoldsOnly key unit header store
+    → AllByRecursion (IsOnly key unit header) list
     → TakesAll store list after → AllByRecursion (λ came. came.coming.key ≡ key → AnswersOnly unit came.answer) list × HoldsOnly key unit header after
 
 -- ---- what is cut
@@ -53,5 +54,6 @@ IsOfUnit unit header pdu = MatchOption pdu.segment ⊥ (λ part. IsSegmentOf uni
 
 -- what a segment of a unit is cut into are segments of the unit, so however often it is cut
 abbrev pub CutsAlike : Type 0
-CutsAlike = (pdu : Pdu) (part : SegmentPart) (room : ℕ) (pdus : List Pdu) (unit : List ℕ) (header : ℕ) → pdu.segment ≡ Some part → IsSegmentOf unit header (segment_in pdu part)
+CutsAlike = (pdu : Pdu) (part : SegmentPart) (room : ℕ) (pdus : List Pdu) (unit : List ℕ) (header : ℕ) → pdu.segment ≡ Some part
+    → IsSegmentOf unit header (segment_in pdu part)
     → Cuts pdu room (Some part) (Some pdus) → AllByRecursion (IsOfUnit unit header) pdus

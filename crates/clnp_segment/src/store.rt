@@ -61,7 +61,8 @@ impl Model for Store {
 
     ghost view = { λ s. record { clock = s.clock; units = s.units; octets = s.octets; held = s.held.items } };
 
-    ghost invariant = { λ s. IsWithin (record { clock = s.clock; units = s.units; octets = s.octets; held = s.held.items }) × (s.used ≡ octets_held s.held.items) };
+    ghost invariant = { λ s. IsWithin (record { clock = s.clock; units = s.units; octets = s.octets; held = s.held.items })
+        × (s.used ≡ octets_held s.held.items) };
 }
 
 impl Store {

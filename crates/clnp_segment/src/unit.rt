@@ -55,7 +55,15 @@ impl Model for HeldUnit {
 
     ghost Value = { Partial };
 
-    ghost view = { λ u. record { source = u.source; destination = u.destination; id = u.id; held = u.joint; deadline = u.deadline; reportable = u.reportable; first = u.first } };
+    ghost view = { λ u. record {
+      source = u.source;
+      destination = u.destination;
+      id = u.id;
+      held = u.joint;
+      deadline = u.deadline;
+      reportable = u.reportable;
+      first = u.first;
+    } };
 }
 
 impl HeldUnit {

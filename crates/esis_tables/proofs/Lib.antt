@@ -1,7 +1,8 @@
 pub mod Fronts
 pub mod Lists
 pub mod Names
-pub mod Marking
+pub mod Placing
 pub mod Sweeping
 pub mod Routers
 pub mod Standing
+pub mod Swept

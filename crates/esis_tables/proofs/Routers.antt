@@ -71,7 +71,7 @@ module _ (now : ℕ) where
     least = All-push (Behind row.address) rows row behind (λ also. upto_itself row.address);
   }
 
-  one_more : (rows : List Row) (least : Option Row) (row : Row) (before router : Bool) → is_before row least ≡ before → is_router now row ≡ router
+  pub one_more : (rows : List Row) (least : Option Row) (row : Row) (before router : Bool) → is_before row least ≡ before → is_router now row ≡ router
       → IsLeastRouter rows now least → IsLeastRouter (rows ++ row ∷ []) now (if before && router then Some row else least)
   one_more rows None row false router how is h = absurd cc
   one_more rows None row true false how is h = All-push IsNone rows row h is

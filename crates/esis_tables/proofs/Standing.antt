@@ -20,7 +20,7 @@ use Rattle.esis_tables.specs.steps.Least.{IsRouterHop}
 use Rattle.esis_tables.proofs.Lists.{contains_cases, find_none, find_some, list_any-map}
 use Rattle.esis_tables.proofs.Routers.{one_title}
 use Rattle.esis_tables.proofs.Names.{is_among-append, named_somewhere, new_are_names}
-use Rattle.esis_tables.proofs.Marking.{addresses-renewed, addresses-with}
+use Rattle.esis_tables.proofs.Placing.{addresses-renewed, addresses-with}
 
 -- the latest of the hellos and one more
 latest-push : (hellos : List Told) (told : Told) (address : List ℕ)
@@ -34,7 +34,7 @@ latest-push (first ∷ hellos) told address = ap (λ (found : Option Told). or_t
     by true = refl
     by false = refl
 
-latest_named : (hellos : List Told) (told : Told) (address : List ℕ) (named : Bool) → is_among told.names address ≡ named
+pub latest_named : (hellos : List Told) (told : Told) (address : List ℕ) (named : Bool) → is_among told.names address ≡ named
     → latest (hellos ++ told ∷ []) address ≡ (if named then Some told else latest hellos address)
 latest_named hellos told address named is = latest-push hellos told address ∙ ap (λ (b : Bool). if b then Some told else latest hellos address) is
 
@@ -51,9 +51,9 @@ row_new : (hellos : List Told) (told : Told) (name : List ℕ) (named : Bool) �
 row_new hellos told name true is holds = subst (IsRowOf (row_of told name)) (sym (latest_named hellos told name true is)) refl
 row_new hellos told name false is holds = absurd cc
 
-pub hear_stands : (old : Rows) (told : Told) (hellos : List Told) → old.clock ≤ told.tick → Stands old hellos old.clock
+pub hear_stands : (old : Rows) (told : Told) (hellos : List Told) (since : ℕ) → since ≤ told.tick → Stands old hellos since
     → Stands (heard_table old told) (hellos ++ told ∷ []) told.tick
-hear_stands old told hellos later h =
+hear_stands old told hellos since later h =
     let P : Row → Type 0 = λ row. IsRowOf row (latest (hellos ++ told ∷ []) row.address) in
     let Q : Row → Type 0 = λ row. IsRowOf (renewed told row) (latest (hellos ++ told ∷ []) (renewed told row).address) in
     let names : List (List ℕ) = new_names (addresses old.rows) told.names in
@@ -81,7 +81,7 @@ has_row-rows : (rows : List Row) (name : List ℕ) → has_row rows name ≡ lis
 has_row-rows rows name = list_any-map (λ x. pointwise nat_eq x name) (λ row. row.address) rows
 
 -- a row that is found is there, with that address
-found_row : (rows : List Row) (address : List ℕ) (row : Row) → row_at rows address ≡ Some row → Contains rows row × (row.address ≡ address)
+pub found_row : (rows : List Row) (address : List ℕ) (row : Row) → row_at rows address ≡ Some row → Contains rows row × (row.address ≡ address)
 found_row rows address row is =
     let there : Contains rows row × (pointwise nat_eq row.address address ≡ true) = find_some (λ row. pointwise nat_eq row.address address) rows row is in
     (there.0, same_text row.address address (sym there.1))
@@ -109,7 +109,7 @@ kept_by p row first rows true is known (inr there) rest =
 kept_by p row first rows false is known (inl same) rest = let clash : true ≡ false = sym known ∙ ap p (sym same) ∙ is in absurd cc
 kept_by p row first rows false is known (inr there) rest = rest there
 
-kept_row : (p : Row → Bool) (row : Row) (rows : List Row) → p row ≡ true → Contains rows row → is_among (addresses (filter p rows)) row.address ≡ true
+pub kept_row : (p : Row → Bool) (row : Row) (rows : List Row) → p row ≡ true → Contains rows row → is_among (addresses (filter p rows)) row.address ≡ true
 kept_row p row [] known there = absurd (omega (arith, there.1))
 kept_row p row (first ∷ rows) known there = kept_by p row first rows (p first) refl known (contains_cases first rows row there) (kept_row p row rows known)
 
@@ -120,8 +120,8 @@ past_row row now later after not =
     let past : is_row_known later row ≡ false = le-ltb later (row.heard.tick + row.heard.ticks) (omega arith) in
     ap (λ (b : Bool). if b then Some row.heard.hop else None) past
 
-pub tick_stands : (old : Rows) (now : ℕ) (hellos : List Told) → old.clock ≤ now → Stands old hellos old.clock → Stands (swept_table old now) hellos now
-tick_stands old now hellos later h = record {
+pub tick_stands : (old : Rows) (now : ℕ) (hellos : List Told) (since : ℕ) → since ≤ now → Stands old hellos since → Stands (swept_table old now) hellos now
+tick_stands old now hellos since later h = record {
   rows = All-filter (is_row_known now) (λ row. IsRowOf row (latest hellos row.address)) old.rows h.rows;
   others = λ address none at low. by address none at low (row_at old.rows address) refl;
 }
@@ -150,7 +150,7 @@ titled row (Some title) is = ap Some (same_text title row.address (sym is))
 titled_back : (row : Row) (title : Option (List ℕ)) → title ≡ Some row.address → is_title title row.address ≡ true
 titled_back row title is = ap (λ (found : Option (List ℕ)). is_title found row.address) is ∙ nat_list_eq_equiv.refl row.address
 
-module _ (table : Rows) (hellos : List Told) (now : ℕ) (later : table.clock ≤ now) (h : Stands table hellos table.clock) where
+module _ (table : Rows) (hellos : List Told) (since now : ℕ) (later : since ≤ now) (h : Stands table hellos since) where
   -- a router's row is that of a router that the hellos make known
   router_told : (row : Row) → Contains table.rows row → is_router now row ≡ true → IsKnownRouter hellos now row.address row.heard.hop
   router_told row there router =
@@ -170,7 +170,7 @@ module _ (table : Rows) (hellos : List Told) (now : ℕ) (later : table.clock �
   -- a router that the hellos make known has a row
   router_row : (title : List ℕ) (hop : Hop) → IsKnownRouter hellos now title hop
       → (row : Row) × Contains table.rows row × (row.address ≡ title) × (is_router now row ≡ true)
-  router_row title hop known = by (row_at table.rows title) refl (find_stands table hellos table.clock now title later h ∙ known.0)
+  router_row title hop known = by (row_at table.rows title) refl (find_stands table hellos since now title later h ∙ known.0)
     where
       by : (found : Option Row) → row_at table.rows title ≡ found → hop_known now found ≡ Some hop
           → (row : Row) × Contains table.rows row × (row.address ≡ title) × (is_router now row ≡ true)
@@ -216,11 +216,11 @@ pub heard_stands : (old new : Rows) (now : ℕ) (from : Port) (hello : Hello) (r
     → OnOk result (StandsWith old (told_of now from hello) new)
 heard_stands old new now from hello (Ok done) later is = λ hellos h.
     subst (λ (table : Rows). Stands table (hellos ++ told_of now from hello ∷ []) table.clock) (sym is)
-    (hear_stands old (told_of now from hello) hellos (subst (λ (at : ℕ). old.clock ≤ at) (sym (tick_told now from hello)) later) h)
+    (hear_stands old (told_of now from hello) hellos old.clock (subst (λ (at : ℕ). old.clock ≤ at) (sym (tick_told now from hello)) later) h)
 heard_stands old new now from hello (Err refusal) later is = tt
 
 pub swept_stands : (old new : Rows) (now : ℕ) → old.clock ≤ now → new ≡ swept_table old now → StandsStill old new
-swept_stands old new now later is = λ hellos h. subst (λ (table : Rows). Stands table hellos table.clock) (sym is) (tick_stands old now hellos later h)
+swept_stands old new now later is = λ hellos h. subst (λ (table : Rows). Stands table hellos table.clock) (sym is) (tick_stands old now hellos old.clock later h)
 
 -- an address that has no row once a hello was heard is not one that it names
 unnamed : (table : Rows) (told : Told) (name : List ℕ) → has_row (heard_table table told).rows name ≡ false → is_among told.names name ≡ false

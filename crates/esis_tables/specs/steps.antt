@@ -1,3 +1,3 @@
 -- What only carries a proof.
-pub mod Marks
+pub mod Places
 pub mod Least

@@ -3,11 +3,11 @@
 //! Profile: a table has at most 256 rows.
 
 ghost use Rattle.std.specs.Prelude.{◌≡◌, ◌<◌, ◌≤◌, [], ◌∷◌, ◌++◌, false, Err, OnOk, OnErr, IfOk, length, position, take, option_copied, nat_eq};
-ghost use Rattle.std.specs.List.{filter};
+ghost use Rattle.std.specs.List.{All, filter};
 ghost use Rattle.std.specs.Cmp.Lexicographic.{pointwise};
 ghost use Rattle.esis_tables.specs.declared.known.HearRefusal.TheVariants.{Full};
 ghost use Rattle.esis_tables.specs.Rows.{IsTable, count_with, find_row, has_row, heard_table, is_row_known, no_rows, router_in, row_at, rows_with, swept_table};
-ghost use Rattle.esis_tables.specs.steps.Marks.{AreMarks, AreUnmarked, IsPlace, IsRenewed, row_added, told_by};
+ghost use Rattle.esis_tables.specs.steps.Places.{ArePlaces, IsPlace, IsRenewed, row_added, told_by};
 ghost use Rattle.esis_tables.specs.steps.Least.{IsLeastRouter, IsRouterHop, is_lesser};
 
 use crate::row::{Heard, Row};
@@ -42,6 +42,7 @@ impl From<NoMemory> for HearRefusal {
 /// The rows of a table, and the latest tick of a call that changed them.
 #[derive(Drop)]
 pub struct Known {
+    alloc: Global,
     clock: Tick,
     rows: Vec<Row>,
 }
@@ -63,6 +64,7 @@ impl Known {
         ensures { result ≡ no_rows }
     {
         Known {
+            alloc,
             clock: 0,
             rows: Vec::new(alloc),
         }
@@ -96,14 +98,17 @@ impl Known {
         ensures unchanged { OnErr result (self.new ≡ self.old) }
     {
         let stood = self.rows.len();
-        let mut named = [false; MOST_ROWS];
-        if let Err(refusal) = mark(&mut self.rows, names, heard, &mut named) {
-            self.rows.truncate(stood);
-            return Err(refusal);
+        match places_of(self.alloc, &mut self.rows, names, heard) {
+            Ok(places) => {
+                renew(&mut self.rows, heard, &places);
+                self.clock = heard.tick;
+                Ok(())
+            }
+            Err(refusal) => {
+                self.rows.truncate(stood);
+                Err(refusal)
+            }
         }
-        renew(&mut self.rows, heard, &named);
-        self.clock = heard.tick;
-        Ok(())
     }
 
     /// Takes away the rows that are no longer known.
@@ -163,39 +168,45 @@ fn place_of(rows: &mut Vec<Row>, name: &Nsap, heard: &Heard) -> Result<usize, He
     Ok(rows.len() - 1)
 }
 
-// Puts a row for each name that has none, and marks the rows that are named.
-fn mark(
+// Puts a row for each name that has none, and gives the places of the rows that are named.
+fn places_of(
+    alloc: Global,
     rows: &mut Vec<Row>,
     names: &[Nsap],
     heard: &Heard,
-    named: &mut [bool],
-) -> Result<(), HearRefusal>
-    requires table { IsTable rows.old.items }
-    requires none { AreUnmarked named.old }
+) -> Result<Vec<usize>, HearRefusal>
+    requires { IsTable rows.old.items }
     ensures table { IsTable rows.new.items }
     ensures ok { OnOk result (rows.new.items ≡ rows_with rows.old.items (told_by names.now heard.now)) }
-    ensures marks { OnOk result (AreMarks names.now rows.new.items named.new) }
+    ensures places { IfOk result (λ places. ArePlaces names.now rows.new.items places.items) }
     ensures full { result ≡ Err Full → 256 < count_with rows.old.items (told_by names.now heard.now) }
     ensures kept { take (length rows.old.items) rows.new.items ≡ rows.old.items }
 {
+    let mut places = Vec::new(alloc);
     for name in names {
         match place_of(rows, name, heard) {
-            Ok(place) => named[place] = true,
+            Ok(place) => note(&mut places, place)?,
             Err(refusal) => return Err(refusal),
         }
     }
+    Ok(places)
+}
+
+// Notes a place behind the others.
+fn note(places: &mut Vec<usize>, place: usize) -> Result<(), NoMemory>
+    ensures { OnOk result (places.new.items ≡ places.old.items ++ place ∷ []) }
+{
+    places.push(place)?;
     Ok(())
 }
 
-// The rows that are marked hold what was heard.
-fn renew(rows: &mut Vec<Row>, heard: &Heard, named: &[bool])
-    requires { length rows.old.items ≤ length named.now }
-    ensures { IsRenewed heard.now named.now rows.old.items rows.new.items }
+// The rows at these places hold what was heard.
+fn renew(rows: &mut Vec<Row>, heard: &Heard, places: &[usize])
+    requires { All (λ place. place < length rows.old.items) places.now }
+    ensures { IsRenewed heard.now places.now rows.old.items rows.new.items }
 {
-    for (place, row) in rows.iter_mut().enumerate() {
-        if named[place] {
-            row.heard = *heard;
-        }
+    for place in places {
+        rows[*place].heard = *heard;
     }
 }
 

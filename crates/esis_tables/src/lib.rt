@@ -11,6 +11,9 @@ mod row;
 mod tests;
 
 pub use known::HearRefusal;
-pub use laws::{empty_stands, named_have_rows, one_router};
+pub use laws::{
+    count_is_told, empty_stands, finds_what_is_told, named_have_rows, one_router, stays_swept,
+    stays_table,
+};
 pub use neighbours::Neighbours;
 pub use redirects::Redirects;

@@ -1,5 +1,5 @@
 use Rattle.std.proofs.Common.{arith}
-use Rattle.esis_tables.proofs.Marking.{added, last_place, no_place, some_place, table_push, there_already}
+use Rattle.esis_tables.proofs.Placing.{added, last_place, no_place, some_place, table_push, there_already}
 use Rattle.esis_tables.proofs.known.place_of.Goals as goal
 
 pub returns-in-Some-clause-ok : goal.returns-in-Some-clause-ok

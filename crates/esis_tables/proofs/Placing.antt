@@ -1,20 +1,21 @@
--- Rows are put for the names that have none, and those that are named are marked. A name marks one row, since addresses differ;
--- so, once every name was seen, the marked rows are those that the hello names.
-use Rattle.std.proofs.Common.{◌≡◌, ◌≢◌, ℕ, zero, suc, ◌+◌, ◌-◌, ◌<◌, ◌≤◌, Bool, true, false, List, [], ◌∷◌, ◌++◌, length, get_or, take, drop, set, Some, None, refl, sym, ap, ◌∙◌, subst, arith, append_assoc, length-append, length-set, inl, inr, replicate}
-use Rattle.std.specs.Prelude.{◌||◌, ◌⊎◌, nat_eq, if◌then◌else◌, map, position}
+-- Rows are put for the names that have none, and the places of those that are named are noted. A name has one row, since addresses
+-- differ; so, once every name was seen, the rows whose places are noted are those that the hello names.
+use Rattle.std.proofs.Common.{◌≡◌, ◌≢◌, ℕ, suc, ◌+◌, ◌-◌, ◌<◌, ◌≤◌, Bool, true, false, List, [], ◌∷◌, ◌++◌, length, get_or, take, drop, set, Some, None, refl, sym, ap, ◌∙◌, subst, arith, append_assoc, length-append, length-set, inl, inr}
+use Rattle.std.specs.Prelude.{◌||◌, ◌==◌, ◌⊎◌, nat_eq, if◌then◌else◌, map, position}
 use Rattle.std.specs.List.{list_any}
 use Rattle.std.specs.Cmp.Lexicographic.{pointwise, same_text, nat_list_eq_equiv}
 use Rattle.std.proofs.Math.Seq.{drop-cons, get_or-append_seam, take-append_seam}
-use Rattle.std.proofs.lemmas.List.{length-replicate, append-nil, map-append, length-map, get_or-map, get_or_append_left, take_more, take-append-drop, get_or-set_same, get_or-set_other, same_lists}
+use Rattle.std.proofs.lemmas.List.{append-nil, map-append, length-map, get_or-map, get_or_append_left, take_more, take-append-drop, get_or-set_same, get_or-set_other, get_or_default, same_lists}
 use Rattle.std.proofs.Math.Bool.{or-false}
 use Rattle.std.proofs.lemmas.Bool.{cases_eq, or_left, or_right}
 use Rattle.std.proofs.lemmas.List.Folds.{list_any-append}
+use Rattle.std.proofs.lemmas.List.Elements.{All-push, All-weaker}
 use Rattle.std.proofs.lemmas.List.Quantifiers.{position-Some}
 use Rattle.esis_tables.specs.declared.row.Heard.{Heard}
 use Rattle.esis_tables.specs.declared.row.Row.{Row}
 use Rattle.esis_tables.specs.Told.{Told, is_among}
 use Rattle.esis_tables.specs.Rows.{AreDistinct, IsTable, Rows, addresses, count_with, has_row, heard_of, heard_table, new_names, renewed, row_of, rows_with}
-use Rattle.esis_tables.specs.steps.Marks.{AreMarks, AreUnmarked, IsPlace, IsRenewed, renewed_if, row_added, told_by}
+use Rattle.esis_tables.specs.steps.Places.{ArePlaces, IsPlace, IsRenewed, is_noted, renewed_if, row_added, told_by}
 use Rattle.esis_tables.proofs.Lists.{list_any-map, position_none}
 use Rattle.esis_tables.proofs.Names.{among_at, distinct_push, new_names-append, new_names-push, one_place}
 
@@ -83,20 +84,11 @@ pub long-with : (old : List Row) (told : Told) → length (rows_with old told) �
 long-with old told = length-append old (map (row_of told) (new_names (addresses old) told.names))
     ∙ ap (λ (n : ℕ). length old + n) (length-map (new_names (addresses old) told.names) (row_of told))
 
--- the first names were seen: their rows were put and are marked
-pub record IsMarking (old : List Row) (names : List Name) (heard : Heard) (rows : List Row) (named : List Bool) : Type 0 where
+-- the first names were seen: their rows were put, and their places are noted
+pub record IsPlacing (old : List Row) (names : List Name) (heard : Heard) (rows : List Row) (places : List ℕ) : Type 0 where
   pub rows_is : rows ≡ rows_with old (told_by names heard)
   pub table : IsTable rows
-  pub marks : AreMarks names rows named
-  pub room : length named ≡ 256
-
-none_marked : (count place : ℕ) → get_or (replicate count false) place false ≡ false
-none_marked zero place = refl
-none_marked (suc count) zero = refl
-none_marked (suc count) (suc place) = none_marked count place
-
-pub unmarked : (count : ℕ) → count ≡ 256 → AreUnmarked (replicate count false)
-unmarked count is = record { room = length-replicate count false ∙ is; none = none_marked count }
+  pub noted : ArePlaces names rows places
 
 module _ (old : List Row) (names : List Name) (heard : Heard) where
   rows_step : (rows new : List Row) (name : Name) (there : Bool) → has_row rows name ≡ there → rows ≡ rows_with old (told_by names heard)
@@ -119,14 +111,14 @@ module _ (old : List Row) (names : List Name) (heard : Heard) where
           ∙ append_assoc old (map (row_of (told_by names heard)) (new_names (addresses old) names)) (record { address = name; heard = heard } ∷ [])
           ∙ ap (λ (xs : List Row). old ++ xs) (sym (map-append (row_of (told_by names heard)) (new_names (addresses old) names) (name ∷ [])))
 
-  old_marks : (rows new : List Row) (name : Name) (named : List Bool) (place : ℕ) (there : Bool) → AreMarks names rows named
+  old_places : (rows new : List Row) (name : Name) (places : List ℕ) (place : ℕ) (there : Bool) → ArePlaces names rows places
       → new ≡ (if there then rows else rows ++ record { address = name; heard = heard } ∷ []) → place < length new
       → (get_or (addresses new) place [] ≡ name → ⊥)
-      → get_or named place false ≡ is_among names (get_or (addresses new) place [])
-  old_marks rows new name named place true marks is low other =
+      → is_noted places place ≡ is_among names (get_or (addresses new) place [])
+  old_places rows new name places place true h is low other =
       let same : addresses new ≡ addresses rows = ap addresses is in
-      marks place (omega (arith, ap length is)) ∙ ap (λ (xs : List Name). is_among names (get_or xs place [])) (sym same)
-  old_marks rows new name named place false marks is low other =
+      h.noted place (omega (arith, ap length is)) ∙ ap (λ (xs : List Name). is_among names (get_or xs place [])) (sym same)
+  old_places rows new name places place false h is low other =
       let row : Row = record { address = name; heard = heard } in
       let split : addresses new ≡ addresses rows ++ name ∷ [] = ap addresses is ∙ addresses-push rows row in
       let long : length new ≡ length rows + 1 = ap length is ∙ length-append rows (row ∷ []) in
@@ -139,62 +131,73 @@ module _ (old : List Row) (names : List Name) (heard : Heard) where
       let inside : place < length (addresses rows) = omega arith in
       let here : get_or (addresses new) place [] ≡ get_or (addresses rows) place [] =
       ap (λ (xs : List Name). get_or xs place []) split ∙ get_or_append_left (addresses rows) (name ∷ []) [] place inside in
-      marks place within ∙ ap (is_among names) (sym here)
+      h.noted place within ∙ ap (is_among names) (sym here)
 
-  marks_step : (rows new : List Row) (name : Name) (named : List Bool) (place : ℕ) (there : Bool) → AreMarks names rows named → length named ≡ 256
+  no_shorter : (rows new : List Row) (name : Name) (there : Bool) → new ≡ (if there then rows else rows ++ record { address = name; heard = heard } ∷ [])
+      → length rows ≤ length new
+  no_shorter rows new name true is = omega (arith, ap length is)
+  no_shorter rows new name false is = omega (arith, ap length is, length-append rows (record { address = name; heard = heard } ∷ []))
+
+  places_step : (rows new : List Row) (name : Name) (places : List ℕ) (place : ℕ) (there : Bool) → ArePlaces names rows places
       → new ≡ (if there then rows else rows ++ record { address = name; heard = heard } ∷ []) → IsTable new → IsPlace new name place
-      → AreMarks (names ++ name ∷ []) new (set named place true)
-  marks_step rows new name named place there marks room is table at k low = by (cases_eq k place)
+      → ArePlaces (names ++ name ∷ []) new (places ++ place ∷ [])
+  places_step rows new name places place there h is table at = record {
+    within = All-push (λ p. p < length new) places place
+        (All-weaker (λ p. p < length rows) (λ p. p < length new) (λ p low. omega (arith, low, no_shorter rows new name there is)) places h.within) at.within;
+    noted = λ k low. by k low (cases_eq k place);
+  }
     where
-      address : Name
-      address = get_or (addresses new) k []
-
-      both : is_among (names ++ name ∷ []) (get_or (addresses new) k [])
+      both : (k : ℕ) → is_among (names ++ name ∷ []) (get_or (addresses new) k [])
           ≡ (is_among names (get_or (addresses new) k []) || (pointwise nat_eq name (get_or (addresses new) k []) || false))
-      both = list_any-append (λ x. pointwise nat_eq x (get_or (addresses new) k [])) names (name ∷ [])
+      both k = list_any-append (λ x. pointwise nat_eq x (get_or (addresses new) k [])) names (name ∷ [])
 
-      other : (k ≢ place) → get_or (addresses new) k [] ≡ name → ⊥
-      other apart same =
+      more : (k : ℕ) → is_noted (places ++ place ∷ []) k ≡ (is_noted places k || ((place == k) || false))
+      more k = list_any-append (λ noted. noted == k) places (place ∷ [])
+
+      other : (k : ℕ) → k < length new → (k ≢ place) → get_or (addresses new) k [] ≡ name → ⊥
+      other k low apart same =
           let count : length (addresses new) ≡ length new = long-addresses new in
-          let low : k < length (addresses new) = omega arith in
+          let within : k < length (addresses new) = omega arith in
           let high : place < length (addresses new) = omega (arith, at.within) in
-          apart (one_place (addresses new) k place [] table.distinct low high (same ∙ sym at.is))
+          apart (one_place (addresses new) k place [] table.distinct within high (same ∙ sym at.is))
 
-      unlike : (k ≢ place) → (b : Bool) → pointwise nat_eq name (get_or (addresses new) k []) ≡ b → b ≡ false
-      unlike apart true same = absurd (other apart (sym (same_text name (get_or (addresses new) k []) (sym same))))
-      unlike apart false same = refl
+      unlike : (k : ℕ) → k < length new → (k ≢ place) → (b : Bool) → pointwise nat_eq name (get_or (addresses new) k []) ≡ b → b ≡ false
+      unlike k low apart true same = absurd (other k low apart (sym (same_text name (get_or (addresses new) k []) (sym same))))
+      unlike k low apart false same = refl
 
-      by : (k ≡ place) ⊎ (k ≢ place) → get_or (set named place true) k false ≡ is_among (names ++ name ∷ []) (get_or (addresses new) k [])
-      by (inl same) =
-          let inside : place < length named = omega (arith, at.within, table.few) in
+      by : (k : ℕ) → k < length new → (k ≡ place) ⊎ (k ≢ place) → is_noted (places ++ place ∷ []) k ≡ is_among (names ++ name ∷ []) (get_or (addresses new) k [])
+      by k low (inl same) =
           let here : get_or (addresses new) k [] ≡ name = ap (λ (n : ℕ). get_or (addresses new) n []) same ∙ at.is in
           let passes : pointwise nat_eq name (get_or (addresses new) k []) ≡ true = ap (pointwise nat_eq name) here ∙ nat_list_eq_equiv.refl name in
-          ap (λ (n : ℕ). get_or (set named place true) n false) same ∙ get_or-set_same named place true false inside
-          ∙ sym (both ∙ or_right (is_among names (get_or (addresses new) k [])) (pointwise nat_eq name (get_or (addresses new) k []) || false)
+          let found : (place == k) ≡ true = grind (arith, same) in
+          more k ∙ or_right (is_noted places k) ((place == k) || false) (or_left (place == k) false found)
+          ∙ sym (both k ∙ or_right (is_among names (get_or (addresses new) k [])) (pointwise nat_eq name (get_or (addresses new) k []) || false)
           (or_left (pointwise nat_eq name (get_or (addresses new) k [])) false passes))
-      by (inr apart) =
-          get_or-set_other named place k true false apart ∙ old_marks rows new name named k there marks is low (other apart)
-          ∙ sym (both ∙ ap (λ (b : Bool). is_among names (get_or (addresses new) k []) || (b || false))
-          (unlike apart (pointwise nat_eq name (get_or (addresses new) k [])) refl) ∙ or-false (is_among names (get_or (addresses new) k [])))
+      by k low (inr apart) =
+          let missed : (place == k) ≡ false = grind (arith, apart) in
+          more k ∙ ap (λ (b : Bool). is_noted places k || (b || false)) missed ∙ or-false (is_noted places k)
+          ∙ old_places rows new name places k there h is low (other k low apart)
+          ∙ sym (both k ∙ ap (λ (b : Bool). is_among names (get_or (addresses new) k []) || (b || false))
+          (unlike k low apart (pointwise nat_eq name (get_or (addresses new) k [])) refl) ∙ or-false (is_among names (get_or (addresses new) k [])))
 
-pub marking_more : (old : List Row) (names : List Name) (heard : Heard) (rows new : List Row) (named : List Bool) (i place : ℕ) (name : Name) → i < length names
+pub placing_more : (old : List Row) (names : List Name) (heard : Heard) (rows new : List Row) (places more_places : List ℕ) (i place : ℕ) (name : Name) → i < length names
     → name ≡ get_or names i name
-    → IsMarking old (take i names) heard rows named → new ≡ row_added rows name heard → IsTable new → IsPlace new name place
-    → IsMarking old (take (i + 1) names) heard new (set named place true)
-marking_more old names heard rows new named i place name low is h added table at =
+    → IsPlacing old (take i names) heard rows places → new ≡ row_added rows name heard → IsTable new → IsPlace new name place → more_places ≡ places ++ place ∷ []
+    → IsPlacing old (take (i + 1) names) heard new more_places
+placing_more old names heard rows new places more_places i place name low is h added table at places_is =
     let more : take i names ++ name ∷ [] ≡ take (i + 1) names = ap (λ (x : Name). take i names ++ x ∷ []) is ∙ sym (take_more names i name low) in
-    subst (λ (xs : List Name). IsMarking old xs heard new (set named place true)) more (record {
+    subst (λ (ps : List ℕ). IsPlacing old (take (i + 1) names) heard new ps) (sym places_is)
+    (subst (λ (xs : List Name). IsPlacing old xs heard new (places ++ place ∷ [])) more (record {
       rows_is = rows_step old (take i names) heard rows new name (has_row rows name) refl h.rows_is added;
       table = table;
-      marks = marks_step old (take i names) heard rows new name named place (has_row rows name) h.marks h.room added table at;
-      room = length-set named place true ∙ h.room;
-    })
+      noted = places_step old (take i names) heard rows new name places place (has_row rows name) h.noted added table at;
+    }))
 
 -- a name that has no row where there are 256: the names would pass them
-pub marking_full : (old : List Row) (names : List Name) (heard : Heard) (rows : List Row) (named : List Bool) (i : ℕ) (name : Name) → i < length names
+pub placing_full : (old : List Row) (names : List Name) (heard : Heard) (rows : List Row) (places : List ℕ) (i : ℕ) (name : Name) → i < length names
     → name ≡ get_or names i name
-    → IsMarking old (take i names) heard rows named → 256 ≤ length rows → has_row rows name ≡ false → 256 < count_with old (told_by names heard)
-marking_full old names heard rows named i name low is h full fresh =
+    → IsPlacing old (take i names) heard rows places → 256 ≤ length rows → has_row rows name ≡ false → 256 < count_with old (told_by names heard)
+placing_full old names heard rows places i name low is h full fresh =
     let there = addresses old in
     let among : is_among (there ++ new_names there (take i names)) name ≡ false =
     ap (λ (xs : List Name). is_among xs name) (sym (addresses-with old (told_by (take i names) heard)) ∙ ap addresses (sym h.rows_is)) ∙ fresh in
@@ -220,21 +223,21 @@ marking_full old names heard rows named i name low is h full fresh =
         ap (λ (n : ℕ). take i xs ++ get_or xs i d ∷ drop n xs) next ∙ ap (λ (ys : List Name). take i xs ++ ys) (sym (drop-cons xs i d low))
         ∙ take-append-drop i xs
 
-pub marking_kept : (old : List Row) (names : List Name) (heard : Heard) (rows : List Row) (named : List Bool) → IsMarking old names heard rows named
+pub placing_kept : (old : List Row) (names : List Name) (heard : Heard) (rows : List Row) (places : List ℕ) → IsPlacing old names heard rows places
     → take (length old) rows ≡ old
-marking_kept old names heard rows named h = ap (take (length old)) h.rows_is
+placing_kept old names heard rows places h = ap (take (length old)) h.rows_is
     ∙ take-append_seam old (map (row_of (told_by names heard)) (new_names (addresses old) names))
 
--- once all names were seen, the marked rows are those that the hello names
-pub renewed_all : (names : List Name) (heard : Heard) (named : List Bool) (rows new : List Row) → AreMarks names rows named → IsRenewed heard named rows new
+-- once all names were seen, the rows whose places are noted are those that the hello names
+pub renewed_all : (names : List Name) (heard : Heard) (places : List ℕ) (rows new : List Row) → ArePlaces names rows places → IsRenewed heard places rows new
     → new ≡ map (renewed (told_by names heard)) rows
-renewed_all names heard named rows new marks h =
+renewed_all names heard places rows new at h =
     let told = told_by names heard in
     same_lists new (map (renewed told) rows) (h.long ∙ sym (length-map rows (renewed told))) (λ k d low.
     let within : k < length rows = omega (arith, h.long) in
-    let mark : get_or named k false ≡ is_among names (get_or rows k d).address = marks k within
+    let noted : is_noted places k ≡ is_among names (get_or rows k d).address = at.noted k within
     ∙ ap (is_among names) (get_or-map address_of rows k d [] within) in
-    h.rows k d within ∙ ap (λ (b : Bool). renewed_if b heard (get_or rows k d)) mark ∙ sym (get_or-map (renewed told) rows k d d within))
+    h.rows k d within ∙ ap (λ (b : Bool). renewed_if b heard (get_or rows k d)) noted ∙ sym (get_or-map (renewed told) rows k d d within))
 
 address-renewed : (told : Told) (row : Row) (named : Bool) → address_of (if named then record row { heard = heard_of told } else row) ≡ row.address
 address-renewed told row true = refl
@@ -250,23 +253,52 @@ table_renewed told rows table = record {
   few = rw (length-map rows (renewed told)) table.few;
 }
 
--- the rows below that place were seen, and those from there on are as they were
-pub record IsRenewing (heard : Heard) (named : List Bool) (old rows : List Row) (place : ℕ) : Type 0 where
-  pub long : length rows ≡ length old
-  pub before : (k : ℕ) (other : Row) → k < place → get_or rows k other ≡ renewed_if (get_or named k false) heard (get_or old k other)
-  pub after : (k : ℕ) (other : Row) → place ≤ k → get_or rows k other ≡ get_or old k other
+-- one place more
+pub renewing_more : (heard : Heard) (all : List ℕ) (old rows new : List Row) (i place : ℕ) (d : Row) → i < length all → place ≡ get_or all i place → place < length old
+    → new ≡ set rows place (record (get_or rows place d) { heard = heard }) → IsRenewed heard (take i all) old rows → IsRenewed heard (take (i + 1) all) old new
+renewing_more heard all old rows new i place d low is within new_is h =
+    let more : take i all ++ place ∷ [] ≡ take (i + 1) all = ap (λ (x : ℕ). take i all ++ x ∷ []) is ∙ sym (take_more all i place low) in
+    subst (λ (ps : List ℕ). IsRenewed heard ps old new) more (record {
+      long = ap length new_is ∙ length-set rows place (record (get_or rows place d) { heard = heard }) ∙ h.long;
+      rows = λ k other inside. by k other inside (cases_eq k place);
+    })
+  where
+    noted : (k : ℕ) → is_noted (take i all ++ place ∷ []) k ≡ (is_noted (take i all) k || ((place == k) || false))
+    noted k = list_any-append (λ noted. noted == k) (take i all) (place ∷ [])
 
--- the table once the marked rows hold what was heard
-pub table_heard : (old : Rows) (names : List Name) (heard : Heard) (named : List Bool) (rows new held : List Row) → held ≡ old.rows → IsTable rows
+    twice : (b : Bool) (row : Row) → record (renewed_if b heard row) { heard = heard } ≡ record row { heard = heard }
+    twice true row = refl
+    twice false row = refl
+
+    by : (k : ℕ) (other : Row) → k < length old → (k ≡ place) ⊎ (k ≢ place) → get_or new k other ≡ renewed_if (is_noted (take i all ++ place ∷ []) k) heard (get_or old k other)
+    by k other inside (inl same) =
+        let found : (place == k) ≡ true = grind (arith, same) in
+        let all_noted : is_noted (take i all ++ place ∷ []) k ≡ true = noted k ∙ or_right (is_noted (take i all) k) ((place == k) || false) (or_left (place == k) false found) in
+        let room : place < length rows = omega (arith, h.long, within) in
+        let here : get_or rows place d ≡ renewed_if (is_noted (take i all) place) heard (get_or old place d) = h.rows place d within in
+        let row : get_or old place d ≡ get_or old place other = get_or_default old place d other within in
+        ap (λ (xs : List Row). get_or xs k other) new_is ∙ ap (λ (n : ℕ). get_or (set rows place (record (get_or rows place d) { heard = heard })) n other) same
+        ∙ get_or-set_same rows place (record (get_or rows place d) { heard = heard }) other room
+        ∙ ap (λ (r : Row). record r { heard = heard }) here ∙ twice (is_noted (take i all) place) (get_or old place d)
+        ∙ ap (λ (r : Row). record r { heard = heard }) (row ∙ ap (λ (n : ℕ). get_or old n other) (sym same))
+        ∙ ap (λ (b : Bool). renewed_if b heard (get_or old k other)) (sym all_noted)
+    by k other inside (inr apart) =
+        let missed : (place == k) ≡ false = grind (arith, apart) in
+        ap (λ (xs : List Row). get_or xs k other) new_is ∙ get_or-set_other rows place k (record (get_or rows place d) { heard = heard }) other apart
+        ∙ h.rows k other inside
+        ∙ ap (λ (b : Bool). renewed_if b heard (get_or old k other)) (sym (noted k ∙ ap (λ (b : Bool). is_noted (take i all) k || (b || false)) missed ∙ or-false (is_noted (take i all) k)))
+
+-- the table once the rows at these places hold what was heard
+pub table_heard : (old : Rows) (names : List Name) (heard : Heard) (places : List ℕ) (rows new held : List Row) → held ≡ old.rows
     → rows ≡ rows_with held (told_by names heard)
-    → AreMarks names rows named → IsRenewed heard named rows new → record { clock = heard.tick; rows = new } ≡ heard_table old (told_by names heard)
-table_heard old names heard named rows new held same table is marks h =
+    → ArePlaces names rows places → IsRenewed heard places rows new → record { clock = heard.tick; rows = new } ≡ heard_table old (told_by names heard)
+table_heard old names heard places rows new held same is at h =
     let all : new ≡ map (renewed (told_by names heard)) (rows_with old.rows (told_by names heard)) =
-    renewed_all names heard named rows new marks h ∙ ap (map (renewed (told_by names heard))) (is
+    renewed_all names heard places rows new at h ∙ ap (map (renewed (told_by names heard))) (is
     ∙ ap (λ (xs : List Row). rows_with xs (told_by names heard)) same) in
     ap (λ (xs : List Row). record { clock = heard.tick; rows = xs }) all
 
-pub table_all : (names : List Name) (heard : Heard) (named : List Bool) (rows new : List Row) → IsTable rows → AreMarks names rows named
-    → IsRenewed heard named rows new → IsTable new
-table_all names heard named rows new table marks h =
-    subst IsTable (sym (renewed_all names heard named rows new marks h)) (table_renewed (told_by names heard) rows table)
+pub table_all : (names : List Name) (heard : Heard) (places : List ℕ) (rows new : List Row) → IsTable rows → ArePlaces names rows places
+    → IsRenewed heard places rows new → IsTable new
+table_all names heard places rows new table at h =
+    subst IsTable (sym (renewed_all names heard places rows new at h)) (table_renewed (told_by names heard) rows table)
