@@ -242,7 +242,7 @@ fn split_at_feed(octets: &[u8]) -> Option<(&[u8], &[u8])>
     ensures none { IfNone result (HasNoFeed octets.now) }
     ensures some { IfSome result (λ parts. HasNoFeed parts.0.now × (octets.now ≡ parts.0.now ++ 10 ∷ parts.1.now)) }
 {
-    let end = octets.iter().position(|octet| *octet == b'\n')?;
+    let end = memchr::memchr(b'\n', octets)?;
     Some((&octets[..end], &octets[end + 1..]))
 }
 

@@ -15,15 +15,15 @@ use Rattle.clnp_header.specs.declared.pdu.Pdu.{Pdu}
 use Rattle.clnp_header.specs.declared.pdu.SegmentPart.{SegmentPart}
 use Rattle.clnp_header.specs.Grammar.{IsPdu}
 use Rattle.pdu_parts.specs.Front.{BeginsWith}
-use Rattle.osi_bench.specs.declared.event.Event.{Event}
-use Rattle.osi_bench.specs.declared.event.Event.TheVariants as events
+use Rattle.osi_journal.specs.declared.event.Event.{Event}
+use Rattle.osi_journal.specs.declared.event.Event.TheVariants as events
 use Rattle.osi_bench.specs.declared.lan.Lan.{Lan}
 use Rattle.osi_bench.specs.declared.lan.Frame.{Frame}
 use Rattle.osi_bench.specs.declared.lan.Picked.{Picked}
 use Rattle.osi_bench.specs.declared.lan.Picked.TheVariants.{Taken, NoSuch, Late, NotThere, NotOurs}
-use Rattle.osi_bench.specs.World.{System, World, initial_lifetime, raw_address, unit_pdu, frame_of, bound_of, delivery}
+use Rattle.osi_bench.specs.World.{System, World, initial_lifetime, unit_pdu, frame_of, bound_of, delivery, titles_of}
+use Rattle.osi_journal.specs.RawLawful.{raw_address, clock_from, tick_after, WasSent}
 use Rattle.osi_bench.specs.LineSteps.{shown, handed_up, Receives, Takes, Delivers}
-use Rattle.osi_bench.specs.Lawful.{clock_from, tick_after, titles_of, WasSent}
 use Rattle.osi_bench.specs.steps.OneRun.{HeaderLaws}
 use Rattle.osi_bench.proofs.Journals.{clock_from-append, IsOther, no_unit}
 use Rattle.osi_bench.proofs.Standing.{FrameSent, Standing, NewSent, none_new, goes_on, along, stays, quiet, title_stands}
@@ -125,7 +125,7 @@ record HasFrame (world : World) (journal : List Event) (system bound : ℕ) (end
 -- a unit of that frame was sent: its lifetime is at least the bound
 delivered : (laws : HeaderLaws) (world : World) (journal : List Event) (number system bound : ℕ) (end : System) (frame : Frame) (pdu : Pdu) (rest : List ℕ)
     → HasFrame world journal system bound end frame → BeginsWith IsPdu frame.octets pdu rest → is_same_system pdu.destination end.title ≡ true → nat_lt pdu.lifetime bound ≡ false
-    → WasSent (titles_of world) (journal ++ events.Deliver number system ∷ []) system pdu.source pdu.body
+    → WasSent initial_lifetime (titles_of world) (journal ++ events.Deliver number system ∷ []) system pdu.source pdu.body
 delivered laws world journal number system bound end frame pdu rest has begins ours lives =
     let sent = has.sent in
     let written : Pdu = unit_pdu (raw_address sent.sender_title) (raw_address sent.own_title) sent.octets in
@@ -164,12 +164,12 @@ received_units laws world journal number system bound end frame made has (inl a)
       let told : List Event = journal ++ events.Deliver number system ∷ [] in
       let own = chosen_units system (is_same_system a.0.destination end.title) (nat_lt a.0.lifetime bound) (handed_of system a.0) before after at from octets (sym a.3 ∙ is) in
       let h = handed_units system a.0.source a.0.body a.0.segment (selector_of a.0.destination) a.0.kind before after at from octets own.2 in
-      let base : WasSent (titles_of world) told system a.0.source a.0.body = delivered laws world journal number system bound end frame a.0 a.1 has a.2 own.0 own.1 in
+      let base : WasSent initial_lifetime (titles_of world) told system a.0.source a.0.body = delivered laws world journal number system bound end frame a.0 a.1 has a.2 own.0 own.1 in
       let none : told ≡ told ++ before = sym (append-nil told) ∙ ap (λ (xs : List Event). told ++ xs) (sym h.0) in
-      subst (λ (o : List ℕ). WasSent (titles_of world) (told ++ before) at from o) (sym h.3)
-      (subst (λ (f : List ℕ). WasSent (titles_of world) (told ++ before) at f a.0.body) (sym h.2)
-      (subst (λ (n : ℕ). WasSent (titles_of world) (told ++ before) n a.0.source a.0.body) (sym h.1)
-      (subst (λ (all : List Event). WasSent (titles_of world) all system a.0.source a.0.body) none base)));
+      subst (λ (o : List ℕ). WasSent initial_lifetime (titles_of world) (told ++ before) at from o) (sym h.3)
+      (subst (λ (f : List ℕ). WasSent initial_lifetime (titles_of world) (told ++ before) at f a.0.body) (sym h.2)
+      (subst (λ (n : ℕ). WasSent initial_lifetime (titles_of world) (told ++ before) n a.0.source a.0.body) (sym h.1)
+      (subst (λ (all : List Event). WasSent initial_lifetime (titles_of world) all system a.0.source a.0.body) none base)));
 }
 received_units laws world journal number system bound end frame made has (inr a) =
     none_new (titles_of world) (journal ++ events.Deliver number system ∷ []) made (subst (λ (all : List Event). AllByRecursion IsOther all) (sym a.2) (tt, tt))
@@ -190,7 +190,7 @@ new_behind titles journal made first other new = record {
   each = λ before after at from octets is.
       let h = behind first made before after at from octets other is in
       let whole : (journal ++ first ∷ []) ++ h.0 ≡ journal ++ before = append_assoc journal (first ∷ []) h.0 ∙ ap (λ (xs : List Event). journal ++ xs) (sym h.1) in
-      subst (λ (all : List Event). WasSent titles all at from octets) whole (new.each h.0 after at from octets h.2);
+      subst (λ (all : List Event). WasSent initial_lifetime titles all at from octets) whole (new.each h.0 after at from octets h.2);
 }
 
 -- the first test

@@ -2,9 +2,9 @@
 use Rattle.std.proofs.Common.{◌≡◌, ℕ, zero, suc, ◌⊎◌, List, [], ◌∷◌, ◌++◌, Some, refl, sym, ◌∙◌, ap, subst, inl, inr}
 use Rattle.std.specs.Prelude.{slice_get}
 use Rattle.std.specs.List.{AllByRecursion}
-use Rattle.osi_bench.specs.declared.event.Event.{Event}
-use Rattle.osi_bench.specs.declared.event.Event.TheVariants as events
-use Rattle.osi_bench.specs.Lawful.{clock_after, clock_from}
+use Rattle.osi_journal.specs.declared.event.Event.{Event}
+use Rattle.osi_journal.specs.declared.event.Event.TheVariants as events
+use Rattle.osi_journal.specs.RawLawful.{clock_after, clock_from}
 
 -- an element keeps its place where more follows
 pub get_append : {X : Type 0} (xs ys : List X) (i : ℕ) (x : X) → slice_get xs i ≡ Some x → slice_get (xs ++ ys) i ≡ Some x
@@ -40,17 +40,8 @@ clock_from-append now (x ∷ xs) ys = clock_from-append (clock_after now x) xs y
 
 -- the event shows no unit
 abbrev pub IsOther : Event → Type 0
-IsOther (events.Tick now) = Unit {0}
-IsOther (events.Sent system to octets) = Unit {0}
 IsOther (events.Unit system from octets) = ⊥
-IsOther (events.No cause) = Unit {0}
-IsOther (events.Frame number lan system snpa length) = Unit {0}
-IsOther (events.Deliver number system) = Unit {0}
-IsOther (events.NoSuch number system) = Unit {0}
-IsOther (events.Late number system) = Unit {0}
-IsOther (events.NotThere number system) = Unit {0}
-IsOther (events.NotOurs number system) = Unit {0}
-IsOther (events.Discard system reason place) = Unit {0}
+IsOther event = Unit {0}
 
 pub no_unit : (made before after : List Event) (system : ℕ) (from octets : List ℕ) → AllByRecursion IsOther made → made ≡ before ++ events.Unit system from octets ∷ after → ⊥
 no_unit [] [] after system from octets others is = cc

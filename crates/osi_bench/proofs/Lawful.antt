@@ -4,16 +4,15 @@ use Rattle.std.proofs.Common.{◌≡◌, ℕ, ◌+◌, List, [], ◌∷◌, ◌+
 use Rattle.std.specs.Prelude.{slice_get}
 use Rattle.std.proofs.lemmas.List.{append-nil}
 use Rattle.nsap.specs.declared.port.Port.{Port}
-use Rattle.osi_bench.specs.declared.event.Event.{Event}
-use Rattle.osi_bench.specs.declared.event.Event.TheVariants as events
-use Rattle.osi_bench.specs.declared.event.Refused.{Refused}
-use Rattle.osi_bench.specs.declared.line.Line.{Line}
-use Rattle.osi_bench.specs.declared.line.Line.TheVariants as lines
+use Rattle.osi_journal.specs.declared.event.Event.{Event}
+use Rattle.osi_journal.specs.declared.event.Event.TheVariants as events
+use Rattle.osi_journal.specs.declared.cause.Refused.{Refused}
+use Rattle.osi_script.specs.declared.line.Line.{Line}
+use Rattle.osi_script.specs.declared.line.Line.TheVariants as lines
 use Rattle.osi_bench.specs.declared.lan.Frame.{Frame}
-use Rattle.osi_bench.specs.World.{System, World, raw_address, sending, frame_of, delivery}
-use Rattle.osi_bench.specs.World.{empty_world}
+use Rattle.osi_bench.specs.World.{System, World, sending, frame_of, delivery, empty_world, titles_of, initial_lifetime}
+use Rattle.osi_journal.specs.RawLawful.{raw_address, RawLawful}
 use Rattle.osi_bench.specs.LineSteps.{Sends, with_route, WorldStep, WorldRuns}
-use Rattle.osi_bench.specs.Lawful.{titles_of, RawLawful}
 use Rattle.osi_bench.specs.steps.OneRun.{HeaderLaws}
 use Rattle.osi_bench.proofs.Journals.{get_push, no_unit}
 use Rattle.osi_bench.proofs.Standing.{FrameSent, Standing, none_new, frame_later, moved, same_titles, along, quiet, title_stands, set_up, system_stands, routed_title, clock_stands, joined}
@@ -77,12 +76,25 @@ step_stands laws (lines.Route system prefix next lan) old new journal made stand
     along _ new journal made [] step.4 step.5
     (system_stands old journal system step.0 (with_route step.0 prefix step.1.port) stands step.2 (routed_title step.0 prefix step.1.port))
 step_stands laws lines.Start old new journal made stands step = along _ new journal made _ step.0 step.1 (clock_stands old journal 0 stands)
-step_stands laws (lines.Unit system to octets) old new journal made stands step =
+step_stands laws (lines.Unit system to wish octets) old new journal made stands step =
     sends_stands old new journal made system to step.0 step.1 octets (sending old.lans step.0 (raw_address step.1.title) octets) stands step.2 step.3 step.4
 step_stands laws lines.Tick old new journal made stands step = along _ new journal made _ step.0 step.1 (clock_stands old journal (old.clock + 1) stands)
 step_stands laws (lines.Deliver number system) old new journal made stands step =
     along old new journal made made refl step.2
     (delivers_stands laws old journal made number system step.0 (delivery old.clock old.lans step.0.port system (frame_of old.frames number)) stands step.1 refl step.3)
+step_stands laws (lines.Set key value) old new journal made stands step = absurd step
+step_stands laws (lines.Is name title) old new journal made stands step = absurd step
+step_stands laws (lines.Path name kind systems) old new journal made stands step = absurd step
+step_stands laws (lines.Tsap system selector) old new journal made stands step = absurd step
+step_stands laws (lines.Connect system selector to called options octets) old new journal made stands step = absurd step
+step_stands laws (lines.Accept end options octets) old new journal made stands step = absurd step
+step_stands laws (lines.Refuse end octets) old new journal made stands step = absurd step
+step_stands laws (lines.Disconnect end octets) old new journal made stands step = absurd step
+step_stands laws (lines.Data end octets) old new journal made stands step = absurd step
+step_stands laws (lines.Expedite end octets) old new journal made stands step = absurd step
+step_stands laws (lines.Window end credit) old new journal made stands step = absurd step
+step_stands laws lines.Settle old new journal made stands step = absurd step
+step_stands laws (lines.Inject lan system octets) old new journal made stands step = absurd step
 
 -- what holds so far holds after the lines
 pub run_stands : (laws : HeaderLaws) (script : List Line) (first last : World) (journal rest : List Event) → Standing first journal
@@ -102,5 +114,5 @@ nothing_stands = record {
 }
 
 -- a unit's lifetime alone sees to it that a unit is shown in time, whatever the bounds of the LANs
-pub raw_lawful : (laws : HeaderLaws) (script : List Line) (journal : List Event) (last : World) → WorldRuns empty_world script journal last → RawLawful (titles_of last) journal
+pub raw_lawful : (laws : HeaderLaws) (script : List Line) (journal : List Event) (last : World) → WorldRuns empty_world script journal last → RawLawful initial_lifetime (titles_of last) journal
 raw_lawful laws script journal last run = (run_stands laws script empty_world last [] journal nothing_stands run).lawful

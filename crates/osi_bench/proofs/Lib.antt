@@ -2,12 +2,10 @@ pub mod Agreement
 pub mod Courses
 pub mod Decimals
 pub mod Deliveries
-pub mod Digits
-pub mod FieldSplits
 pub mod Frames
 pub mod Journals
+pub mod Keeping
 pub mod Lawful
-pub mod Printing
 pub mod Routes
 pub mod ScriptRuns
 pub mod Standing

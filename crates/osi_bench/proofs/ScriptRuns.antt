@@ -1,37 +1,42 @@
 -- What ran on the bench is the run of the network for the lines of the script, and so it is lawful.
-use Rattle.std.proofs.Common.{◌≡◌, ◌⊎◌, ℕ, ◌+◌, ◌≤◌, List, [], ◌∷◌, ◌++◌, length, inl, inr, refl, sym, ◌∙◌, ap, subst, Option, Some}
-use Rattle.std.proofs.lemmas.List.{append-nil}
+use Rattle.std.proofs.Common.{◌≡◌, ◌⊎◌, ℕ, zero, suc, ◌+◌, ◌-◌, ◌<◌, ◌≤◌, List, [], ◌∷◌, ◌++◌, length, take, drop, inl, inr, refl, sym, ◌∙◌, ap, subst, Option, Some, arith, append_assoc, length-append}
+use Rattle.std.specs.Prelude.{Ok}
+use Rattle.std.proofs.lemmas.List.{append-nil, take-append-drop}
 use Rattle.osi_base.specs.declared.status.Status.{Status}
 use Rattle.osi_base.specs.declared.status.Status.TheVariants.{Done, RefusedLine, RefusedWords, ReadFault, WriteFault, NoMemory, RefusedCapture, TooMuch}
 use Rattle.osi_base.specs.Ends.{HasRisen, Took, Put, IsAtEnd}
 use Rattle.line_loop.specs.Limits.{most_octets, most_read}
-use Rattle.line_loop.specs.Lines.{open_line, last_line}
+use Rattle.line_loop.specs.Lines.{open_line, last_line, without_return}
 use Rattle.line_loop.specs.Outcome.{Asks, AsksFor, Outcome}
 use Rattle.line_loop.specs.Exact.{IsAccepted, IsFailure}
 use Rattle.line_loop.proofs.Driving.{cut_of, Ran as RanOver}
 use Rattle.line_loop.proofs.Exclusion.{ran_exact, ran_accepted, complete}
 use Rattle.osi_bench.specs.steps.BenchLaws.{bench_laws}
-use Rattle.osi_bench.specs.declared.event.Event.{Event}
-use Rattle.osi_bench.specs.declared.line.Line.{Line}
-use Rattle.osi_bench.specs.Bench.{Bench, RunsLine, first_bench, bench_meaning}
-use Rattle.line_loop.specs.Course.{Runs, IsTooMuch, IsTooMuchAtEnd, IsRefusedAt, IsRefusedAtEnd}
-use Rattle.osi_bench.specs.Grammar.{Names}
-use Rattle.osi_bench.specs.Lawful.{RawLawful, titles_of}
+use Rattle.osi_journal.specs.declared.event.Event.{Event}
+use Rattle.osi_journal.specs.declared.event.Event.TheVariants as events
+use Rattle.osi_script.specs.declared.line.Line.{Line}
+use Rattle.osi_bench.specs.Bench.{Bench, RunsLine, FillsJournal, first_bench, bench_meaning, most_events}
+use Rattle.line_loop.specs.Course.{Runs, IsRead, IsWhole, IsOver, IsTooMuch, IsTooMuchAtEnd, IsRefusedAt, IsRefusedAtEnd}
+use Rattle.osi_script.specs.declared.fault.LineFault.{LineFault}
+use Rattle.osi_script.specs.Grammar.{line_read}
+use Rattle.osi_script.specs.Script.{Says}
+use Rattle.osi_journal.specs.RawLawful.{RawLawful}
+use Rattle.osi_bench.specs.World.{titles_of, initial_lifetime}
 use Rattle.osi_bench.specs.steps.OneRun.{HeaderLaws}
-use Rattle.osi_bench.specs.LineSteps.{WorldRuns}
-use Rattle.osi_bench.specs.Top.{Script, IsScriptRun, ShowsSent, texts_in, RefusedRun, TooMuchRun, AskedRun, OutcomeRun, IsTranscript}
+use Rattle.osi_bench.specs.LineSteps.{WorldStep, WorldRuns}
+use Rattle.osi_bench.specs.Top.{IsScriptRun, ShowsSent, texts_in, RefusedRun, IsFilledRun, OverRun, TooMuchRun, AskedRun, OutcomeRun, IsTranscript}
 use Rattle.osi_bench.proofs.Lawful.{raw_lawful}
 
 -- the lines that the texts say, with what they did
 record Ran (first : Bench) (texts : List (List ℕ)) (journal : List Event) (last : Bench) : Type 0 where
   pub script : List Line
-  pub lines : Script first.names texts script last.names
+  pub lines : Says first.names texts script last.names
   pub runs : WorldRuns first.world script journal last.world
 
 ran : (first : Bench) (texts : List (List ℕ)) (journal : List Event) (last : Bench) → Runs bench_meaning first texts journal last → Ran first texts journal last
 ran first [] journal last h = record {
   script = [];
-  lines = (refl, ap (λ (b : Bench). b.names) h.1);
+  lines = ap (λ (b : Bench). b.names) h.1;
   runs = (h.0, ap (λ (b : Bench). b.world) h.1);
 }
 ran first (text ∷ texts) journal last h =
@@ -39,7 +44,7 @@ ran first (text ∷ texts) journal last h =
     let rest = ran h.1 texts h.2 last h.5 in
     record {
       script = one.line ∷ rest.script;
-      lines = (one.line, rest.script, one.meaning, refl, subst (λ (names : Names). Script names texts rest.script last.names) one.names rest.lines);
+      lines = (h.1.names, one.meaning, rest.lines);
       runs = (h.1.world, h.0, h.2, one.steps, h.4, rest.runs);
     }
 
@@ -48,40 +53,138 @@ script_run texts journal last h =
     let r = ran first_bench texts journal last h in
     record { script = r.script; lines = r.lines; run = record { last = last.world; runs = r.runs; frames_are = refl } }
 
-lawful_run : (laws : HeaderLaws) (texts : List (List ℕ)) (journal : List Event) (last : Bench) → Runs bench_meaning first_bench texts journal last → RawLawful (titles_of last.world) journal
+lawful_run : (laws : HeaderLaws) (texts : List (List ℕ)) (journal : List Event) (last : Bench) → Runs bench_meaning first_bench texts journal last → RawLawful initial_lifetime (titles_of last.world) journal
 lawful_run laws texts journal last h =
     let r = ran first_bench texts journal last h in
     raw_lawful laws r.script journal last.world r.runs
 
+-- one line more
+ran_more : (first : Bench) (texts : List (List ℕ)) (before : List Event) (state : Bench) (text : List ℕ) (line : Line) (made : List Event) (last : Bench)
+    → Runs bench_meaning first texts before state → line_read state.names text ≡ Ok (record { line = line; names = last.names }) → WorldStep state.world line made last.world
+    → Ran first (texts ++ text ∷ []) (before ++ made) last
+ran_more first [] before state text line made last h read step =
+    let same : state ≡ first = h.1 in
+    record {
+      script = line ∷ [];
+      lines = (last.names, subst (λ (b : Bench). line_read b.names text ≡ Ok (record { line = line; names = last.names })) same read, refl);
+      runs = (last.world, made, [], subst (λ (b : Bench). WorldStep b.world line made last.world) same step, ap (λ (j : List Event). j ++ made) h.0 ∙ sym (append-nil made), (refl, refl));
+    }
+ran_more first (other ∷ texts) before state text line made last h read step =
+    let one : RunsLine first other h.0 h.1 = h.3 in
+    let rest = ran_more h.1 texts h.2 state text line made last h.5 read step in
+    record {
+      script = one.line ∷ rest.script;
+      lines = (h.1.names, one.meaning, rest.lines);
+      runs = (h.1.world, h.0, h.2 ++ made, one.steps, ap (λ (j : List Event). j ++ made) h.4 ∙ append_assoc h.0 h.2 made, rest.runs);
+    }
+
+-- a front of what is lawful is lawful
+front_lawful : (titles : List (List ℕ)) (front back : List Event) → RawLawful initial_lifetime titles (front ++ back) → RawLawful initial_lifetime titles front
+front_lawful titles front back raw = λ before after system from octets is.
+    raw before (after ++ back) system from octets (ap (λ (journal : List Event). journal ++ back) is ∙ append_assoc before (events.Unit system from octets ∷ after) back)
+
+filled_lawful : (laws : HeaderLaws) (texts : List (List ℕ)) (before : List Event) (state : Bench) (text : List ℕ) (made journal : List Event) (last : Bench)
+    → Runs bench_meaning first_bench texts before state → FillsJournal state text made last → journal ≡ before ++ made → RawLawful initial_lifetime (titles_of last.world) journal
+filled_lawful laws texts before state text made journal last runs h is =
+    let r = ran_more first_bench texts before state text h.line h.whole last runs h.meaning h.steps in
+    let kept : ℕ = most_events - state.events in
+    let journal_is : journal ≡ before ++ take kept h.whole = is ∙ ap (λ (m : List Event). before ++ m) h.made_is in
+    let whole_is : before ++ h.whole ≡ journal ++ drop kept h.whole =
+    ap (λ (w : List Event). before ++ w) (sym (take-append-drop kept h.whole)) ∙ sym (append_assoc before (take kept h.whole) (drop kept h.whole))
+    ∙ ap (λ (j : List Event). j ++ drop kept h.whole) (sym journal_is) in
+    front_lawful (titles_of last.world) journal (drop kept h.whole)
+    (subst (λ (j : List Event). RawLawful initial_lifetime (titles_of last.world) j) whole_is (raw_lawful laws r.script (before ++ h.whole) last.world r.runs))
+
+over_lawful : (laws : HeaderLaws) (front : List ℕ) (octet : ℕ) (before made : List Event) (state last : Bench) (journal : List Event) → Runs bench_meaning first_bench (texts_in front) before state
+    → journal ≡ before ++ made → IsOver bench_meaning state front octet made last → RawLawful initial_lifetime (titles_of last.world) journal
+over_lawful laws front octet before made state last journal runs is (inl limit) =
+    let all : before ≡ journal = sym (is ∙ ap (λ (m : List Event). before ++ m) limit.1 ∙ append-nil before) in
+    subst (λ (b : Bench). RawLawful initial_lifetime (titles_of b.world) journal) (sym limit.2)
+    (subst (λ (j : List Event). RawLawful initial_lifetime (titles_of state.world) j) all (lawful_run laws (texts_in front) before state runs))
+over_lawful laws front octet before made state last journal runs is (inr fills) =
+    filled_lawful laws (texts_in front) before state (without_return (open_line front)) made journal last runs fills.2 is
+
+course_sent : (laws : HeaderLaws) (front : List ℕ) (journal : List Event) (last : Bench)
+    → IsRead bench_meaning first_bench front journal last
+    ⊎ (IsWhole bench_meaning first_bench front journal last ⊎ (IsTooMuch bench_meaning first_bench front journal last ⊎ IsTooMuchAtEnd bench_meaning first_bench front journal last))
+    → RawLawful initial_lifetime (titles_of last.world) journal
+course_sent laws front journal last (inl read) = lawful_run laws _ journal last read.runs
+course_sent laws front journal last (inr (inl whole)) = lawful_run laws _ journal last whole.runs
+course_sent laws front journal last (inr (inr (inl h))) = over_lawful laws h.front h.octet h.before h.events h.state last journal h.so_far.runs h.journal_is h.over
+course_sent laws front journal last (inr (inr (inr h))) =
+    filled_lawful laws (texts_in front) h.before h.state (open_line front) h.events journal last h.so_far.runs h.fills h.journal_is
+
 pub shows_sent : (laws : HeaderLaws) (octets : List ℕ) → ShowsSent octets
-shows_sent laws octets journal last h =
-    elim h.run [ inl read ↦ lawful_run laws _ journal last read.runs | inr whole ↦ lawful_run laws _ journal last whole.runs ]
+shows_sent laws octets journal last h = course_sent laws h.front journal last h.run
 
 -- the same of what octets ask for, by how the run ends
-refused_run : {end : Type 0} (read : List ℕ) (line : ℕ) (journal : List Event) (last : Bench)
-    → (asked : IsRefusedAt bench_meaning first_bench read line tt journal last ⊎ (end × IsRefusedAtEnd bench_meaning first_bench read line tt journal last))
-    → RefusedRun read line journal last asked
-refused_run read line journal last (inl here) = script_run (texts_in here.front) journal last here.so_far.runs
-refused_run read line journal last (inr at_end) = script_run (texts_in read) journal last at_end.1.so_far.runs
+refused_run : {end : Type 0} (read : List ℕ) (line : ℕ) (said : LineFault) (journal : List Event) (last : Bench)
+    → (asked : IsRefusedAt bench_meaning first_bench read line said journal last ⊎ (end × IsRefusedAtEnd bench_meaning first_bench read line said journal last))
+    → RefusedRun read line said journal last asked
+refused_run read line said journal last (inl here) = script_run (texts_in here.front) journal last here.so_far.runs
+refused_run read line said journal last (inr at_end) = script_run (texts_in read) journal last at_end.1.so_far.runs
 
-limit_run : (texts : List (List ℕ)) (before : List Event) (state : Bench) (events : List Event) (journal : List Event) (last : Bench) → Runs bench_meaning first_bench texts before state
-    → events ≡ [] → last ≡ state → journal ≡ before ++ events → IsScriptRun texts journal last
-limit_run texts before state events journal last runs none same is =
-    let all : before ≡ journal = sym (is ∙ ap (λ (made : List Event). before ++ made) none ∙ append-nil before) in
+limit_run : (texts : List (List ℕ)) (before : List Event) (state : Bench) (made : List Event) (journal : List Event) (last : Bench) → Runs bench_meaning first_bench texts before state
+    → made ≡ [] → last ≡ state → journal ≡ before ++ made → IsScriptRun texts journal last
+limit_run texts before state made journal last runs none same is =
+    let all : before ≡ journal = sym (is ∙ ap (λ (m : List Event). before ++ m) none ∙ append-nil before) in
     script_run texts journal last (subst (λ (j : List Event). Runs bench_meaning first_bench texts j last) all (subst (λ (bench : Bench). Runs bench_meaning first_bench texts before bench) (sym same) runs))
+
+-- the bench counts the events of a run, which the journal has room for
+record Counts (first : Bench) (journal : List Event) (last : Bench) : Type 0 where
+  events : last.events ≡ first.events + length journal
+  room : last.events ≤ most_events
+
+counts : (first : Bench) (texts : List (List ℕ)) (journal : List Event) (last : Bench) → first.events ≤ most_events → Runs bench_meaning first texts journal last → Counts first journal last
+counts first [] journal last room h =
+    let same : last.events ≡ first.events = ap (λ (b : Bench). b.events) h.1 in
+    let none : length journal ≡ 0 = ap (λ (j : List Event). length j) h.0 in
+    record { events = omega (arith, same, none); room = subst (λ (n : ℕ). n ≤ most_events) (sym same) room }
+counts first (text ∷ texts) journal last room h =
+    let one : RunsLine first text h.0 h.1 = h.3 in
+    let rest = counts h.1 texts h.2 last one.room h.5 in
+    let all : length journal ≡ length h.0 + length h.2 = ap (λ (j : List Event). length j) h.4 ∙ length-append h.0 h.2 in
+    record { events = omega (arith, one.events, rest.events, all); room = rest.room }
+
+-- a front that goes past the first of two lists
+take_past : (most : ℕ) (before made : List Event) → length before ≤ most → before ++ take (most - length before) made ≡ take most (before ++ made)
+take_past most [] made room =
+    let same : most - 0 ≡ most = omega arith in
+    ap (λ (n : ℕ). take n made) same
+take_past zero (event ∷ before) made room = absurd (omega arith)
+take_past (suc most) (event ∷ before) made room =
+    let same : suc most - length (event ∷ before) ≡ most - length before = omega arith in
+    ap (λ (n : ℕ). event ∷ (before ++ take n made)) same ∙ ap (λ (j : List Event). event ∷ j) (take_past most before made (omega arith))
+
+filled_run : (texts : List (List ℕ)) (before : List Event) (state : Bench) (text : List ℕ) (part journal : List Event) (last : Bench) → Runs bench_meaning first_bench texts before state
+    → FillsJournal state text part last → journal ≡ before ++ part → IsFilledRun (texts ++ text ∷ []) journal last
+filled_run texts before state text part journal last runs h is =
+    let c = counts first_bench texts before state (omega arith) runs in
+    let count : state.events ≡ length before = omega (arith, c.events) in
+    let r = ran_more first_bench texts before state text h.line h.whole last runs h.meaning h.steps in
+    let made : part ≡ take (most_events - length before) h.whole = h.made_is ∙ ap (λ (n : ℕ). take (most_events - n) h.whole) count in
+    record {
+      whole = before ++ h.whole;
+      run = record { script = r.script; lines = r.lines; run = record { last = last.world; runs = r.runs; frames_are = refl } };
+      over = subst (λ (n : ℕ). most_events < n) (ap (λ (n : ℕ). n + length h.whole) count ∙ sym (length-append before h.whole)) h.over;
+      journal_is = is ∙ ap (λ (m : List Event). before ++ m) made ∙ take_past most_events before h.whole (subst (λ (n : ℕ). n ≤ most_events) count c.room);
+    }
+
+over_run : (front : List ℕ) (octet : ℕ) (before part : List Event) (state last : Bench) (journal : List Event) → Runs bench_meaning first_bench (texts_in front) before state
+    → journal ≡ before ++ part → (over : IsOver bench_meaning state front octet part last) → OverRun front octet part state last journal over
+over_run front octet before part state last journal runs is (inl limit) = limit_run (texts_in front) before state part journal last runs limit.1 limit.2 is
+over_run front octet before part state last journal runs is (inr fills) = filled_run (texts_in front) before state (without_return (open_line front)) part journal last runs fills.2 is
 
 too_much_run : {end : Type 0} (read : List ℕ) (journal : List Event) (last : Bench)
     → (asked : IsTooMuch bench_meaning first_bench read journal last ⊎ (end × IsTooMuchAtEnd bench_meaning first_bench read journal last))
     → TooMuchRun read journal last asked
-too_much_run read journal last (inl here) = elim here.over [
-  | inl limit ↦ limit_run (texts_in here.front) here.before here.state here.events journal last here.so_far.runs limit.1 limit.2 here.journal_is
-  | inr filled ↦ absurd filled.2
-]
-too_much_run read journal last (inr at_end) = at_end.1.fills
+too_much_run read journal last (inl here) = over_run here.front here.octet here.before here.events here.state last journal here.so_far.runs here.journal_is here.over
+too_much_run read journal last (inr at_end) =
+    filled_run (texts_in read) at_end.1.before at_end.1.state (open_line read) at_end.1.events journal last at_end.1.so_far.runs at_end.1.fills at_end.1.journal_is
 
 asked_run : (end : Type 0) (read text : List ℕ) (status : Status) (asked : Asks bench_meaning end first_bench read text status) → AskedRun end read text status asked
 asked_run end read text Done asked = script_run (texts_in read ++ last_line (open_line read)) asked.0 asked.1 asked.3.runs
-asked_run end read text RefusedLine asked = refused_run read asked.0 asked.2 asked.3 asked.4
+asked_run end read text RefusedLine asked = refused_run read asked.0 asked.1 asked.2 asked.3 asked.4
 asked_run end read text TooMuch asked = too_much_run read asked.0 asked.1 asked.2
 asked_run end read text ReadFault asked = script_run (texts_in read) asked.0 asked.1 asked.2.runs
 asked_run end read text WriteFault asked = asked

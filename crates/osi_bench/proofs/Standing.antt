@@ -9,12 +9,12 @@ use Rattle.std.proofs.lemmas.List.{map-append}
 use Rattle.std.proofs.lemmas.Option.{slice_get-map, get_or_from_slice_get}
 use Rattle.nsap.specs.declared.port.Port.{Port}
 use Rattle.clnp_header.specs.Grammar.{IsPdu}
-use Rattle.osi_bench.specs.declared.event.Event.{Event}
-use Rattle.osi_bench.specs.declared.event.Event.TheVariants as events
+use Rattle.osi_journal.specs.declared.event.Event.{Event}
+use Rattle.osi_journal.specs.declared.event.Event.TheVariants as events
 use Rattle.osi_bench.specs.declared.lan.Frame.{Frame}
-use Rattle.osi_bench.specs.World.{System, World, raw_address, unit_pdu}
+use Rattle.osi_bench.specs.World.{System, World, unit_pdu, titles_of, initial_lifetime}
+use Rattle.osi_journal.specs.RawLawful.{raw_address, clock_after, clock_from, tick_after, WasSent, RawLawful}
 use Rattle.osi_bench.specs.LineSteps.{with_route, with_system}
-use Rattle.osi_bench.specs.Lawful.{clock_after, clock_from, tick_after, titles_of, WasSent, RawLawful}
 use Rattle.osi_bench.proofs.Journals.{get_append, split_at, clock_from-append, IsOther, no_unit}
 
 -- each system keeps its title
@@ -38,7 +38,7 @@ pub record FrameSent (titles : List (List ℕ)) (journal : List Event) (frame : 
 pub record Standing (world : World) (journal : List Event) : Type 0 where
   pub clock_is : world.clock ≡ tick_after journal
   pub frames_sent : (i : ℕ) (frame : Frame) → slice_get world.frames i ≡ Some frame → FrameSent (titles_of world) journal frame
-  pub lawful : RawLawful (titles_of world) journal
+  pub lawful : RawLawful initial_lifetime (titles_of world) journal
 
 -- what follows a list that stands before an event
 pub goes_on : (journal made earlier later : List Event) (event : Event) → journal ≡ earlier ++ event ∷ later → journal ++ made ≡ earlier ++ event ∷ (later ++ made)
@@ -60,8 +60,8 @@ frame_later titles others journal made frame keeps h = record {
 }
 
 -- a unit that was sent, by the titles of a later time
-still_sent : (titles others : List (List ℕ)) (before : List Event) (system : ℕ) (from octets : List ℕ) → Keeps titles others → WasSent titles before system from octets
-    → WasSent others before system from octets
+still_sent : (titles others : List (List ℕ)) (before : List Event) (system : ℕ) (from octets : List ℕ) → Keeps titles others → WasSent initial_lifetime titles before system from octets
+    → WasSent initial_lifetime others before system from octets
 still_sent titles others before system from octets keeps h = record {
   sender = h.sender;
   sender_title = h.sender_title;
@@ -78,14 +78,14 @@ still_sent titles others before system from octets keeps h = record {
 -- the units among the new events were sent
 pub record NewSent (titles : List (List ℕ)) (journal made : List Event) : Type 0 where
   pub each : (before after : List Event) (system : ℕ) (from octets : List ℕ) → made ≡ before ++ events.Unit system from octets ∷ after
-      → WasSent titles (journal ++ before) system from octets
+      → WasSent initial_lifetime titles (journal ++ before) system from octets
 
 -- a lawful journal that goes on lawfully
-lawful_more : (titles others : List (List ℕ)) (journal made : List Event) → Keeps titles others → RawLawful titles journal → NewSent others journal made → RawLawful others (journal ++ made)
+lawful_more : (titles others : List (List ℕ)) (journal made : List Event) → Keeps titles others → RawLawful initial_lifetime titles journal → NewSent others journal made → RawLawful initial_lifetime others (journal ++ made)
 lawful_more titles others journal made keeps lawful new before after system from octets is =
     elim (split_at journal made before after (events.Unit system from octets) is) [
       | inl found ↦ still_sent titles others before system from octets keeps (lawful before found.0 system from octets found.1)
-      | inr found ↦ subst (λ (all : List Event). WasSent others all system from octets) (sym found.1) (new.each found.0 after system from octets found.2)
+      | inr found ↦ subst (λ (all : List Event). WasSent initial_lifetime others all system from octets) (sym found.1) (new.each found.0 after system from octets found.2)
     ]
 
 -- there are no new units

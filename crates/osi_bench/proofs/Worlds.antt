@@ -2,14 +2,15 @@
 use Rattle.std.proofs.Common.{◌≡◌, ℕ, ◌+◌, List, [], ◌∷◌, ◌++◌, length, Option, Some, Result, Ok, Err, refl, sym, subst}
 use Rattle.nsap.specs.declared.port.Port.{Port}
 use Rattle.clnp_header.specs.Grammar.{IsPdu}
-use Rattle.osi_bench.specs.declared.event.Event.{Event}
-use Rattle.osi_bench.specs.declared.event.Event.TheVariants as events
-use Rattle.osi_bench.specs.declared.event.Refused.{Refused}
+use Rattle.osi_journal.specs.declared.event.Event.{Event}
+use Rattle.osi_journal.specs.declared.event.Event.TheVariants as events
+use Rattle.osi_journal.specs.declared.cause.Refused.{Refused}
 use Rattle.osi_bench.specs.declared.lan.Lan.{Lan}
 use Rattle.osi_bench.specs.declared.lan.Frame.{Frame}
 use Rattle.osi_bench.specs.declared.lan.Picked.{Picked}
 use Rattle.osi_bench.specs.declared.lan.Picked.TheVariants.{Taken}
-use Rattle.osi_bench.specs.World.{System, World, raw_address, unit_pdu, bound_of}
+use Rattle.osi_bench.specs.World.{System, World, unit_pdu, bound_of}
+use Rattle.osi_journal.specs.RawLawful.{raw_address}
 use Rattle.osi_bench.specs.LineSteps.{Sends, Delivers, Receives}
 
 -- a unit that is refused

@@ -1,50 +1,79 @@
--- The bench as a machine: what a line of a script does to the names declared and to the network.
-use Rattle.std.specs.Prelude.{◌≡◌, ℕ, ◌+◌, false, List, [], Some, None}
-use Rattle.osi_bench.specs.declared.event.Event.{Event}
-use Rattle.osi_bench.specs.declared.line.Line.{Line}
-use Rattle.osi_bench.specs.Grammar.{Names, no_names, line_of, declared_by}
-use Rattle.osi_bench.specs.World.{empty_world}
+-- The bench as a machine: what a line of a script does to the names declared, to the network and to the journal.
+use Rattle.std.specs.Prelude.{◌≡◌, ℕ, ◌+◌, ◌-◌, ◌<◌, ◌≤◌, false, List, [], ◌∷◌, length, take, Ok, Err}
+use Rattle.osi_script.specs.declared.fault.LineFault.{LineFault}
+use Rattle.osi_script.specs.declared.fault.LineCause.TheVariants as causes
+use Rattle.osi_script.specs.declared.form.Word.TheVariants as words
+use Rattle.osi_script.specs.declared.line.Line.{Line}
+use Rattle.osi_script.specs.Grammar.{line_read, fault}
+use Rattle.osi_script.specs.Known.{Declared, Lines, nothing_declared}
+use Rattle.osi_script.specs.Tags.{tags_of}
+use Rattle.osi_journal.specs.declared.event.Event.{Event}
+use Rattle.osi_journal.specs.Told.{journal_text}
 use Rattle.line_loop.specs.Meaning.{Meaning}
 use Rattle.osi_bench.specs.LineSteps.{WorldStep}
-use Rattle.osi_bench.specs.Text.{text, done_line, refused_line, toomuch_line}
-use Rattle.osi_bench.specs.World.{World}
+use Rattle.osi_bench.specs.Text.{done_line, refused_line, toomuch_line}
+use Rattle.osi_bench.specs.World.{World, empty_world}
 
--- the names declared, the network, and how many lines were run
+-- the lines that the network runs: those of one LAN and its end systems, with units that have no wishes
+abbrev pub bench_lines : Lines
+bench_lines = record {
+  words = words.Deliver ∷ words.Tick ∷ words.Unit ∷ words.Route ∷ words.Port ∷ words.Es ∷ words.Lan ∷ words.Start ∷ [];
+  lans = 1;
+  wishes = false;
+}
+
+-- the most events of a journal
+abbrev pub most_events : ℕ
+most_events = 4194304
+
+-- the names declared, the network, how many lines were run, and how many events there were
 pub record Bench : Type 0 where
-  pub names : Names
+  pub names : Declared
   pub world : World
   pub lines : ℕ
+  pub events : ℕ
 
 abbrev pub first_bench : Bench
-first_bench = record { names = no_names; world = empty_world; lines = 0 }
+first_bench = record { names = nothing_declared bench_lines; world = empty_world; lines = 0; events = 0 }
 
--- a line of a script has a meaning, declares its names, and takes its step
+-- a line of a script is read, declares its names, and takes its step, and the journal has room for its events
 pub record RunsLine (old : Bench) (octets : List ℕ) (made : List Event) (new : Bench) : Type 0 where
   pub line : Line
-  pub meaning : line_of old.names octets ≡ Some line
-  pub names : new.names ≡ declared_by old.names octets line
+  pub meaning : line_read old.names octets ≡ Ok (record { line = line; names = new.names })
   pub steps : WorldStep old.world line made new.world
   pub lines : new.lines ≡ old.lines + 1
+  pub events : new.events ≡ old.events + length made
+  pub room : new.events ≤ most_events
 
--- of a line that is refused nothing is said
-abbrev pub RefusesLine : Bench → List ℕ → Unit {0} → Type 0
-RefusesLine bench octets said = line_of bench.names octets ≡ None
+-- a line is refused by its first fault
+abbrev pub RefusesLine : Bench → List ℕ → LineFault → Type 0
+RefusesLine bench octets found = line_read bench.names octets ≡ Err found
+
+-- the journal has no room for all events of a line: those before the first without room are told
+pub record FillsJournal (old : Bench) (octets : List ℕ) (made : List Event) (new : Bench) : Type 0 where
+  pub line : Line
+  pub whole : List Event
+  pub meaning : line_read old.names octets ≡ Ok (record { line = line; names = new.names })
+  pub steps : WorldStep old.world line whole new.world
+  pub lines : new.lines ≡ old.lines + 1
+  pub over : most_events < old.events + length whole
+  pub made_is : made ≡ take (most_events - old.events) whole
+  pub events : new.events ≡ most_events
 
 -- events come only after the set-up, when all names are declared
 abbrev pub TellsEvents : Bench → List Event → Type 0
 TellsEvents bench journal = bench.names.started ≡ false → journal ≡ []
 
-abbrev pub bench_meaning : Meaning Bench Event (Unit {0})
+abbrev pub bench_meaning : Meaning Bench Event LineFault
 bench_meaning = record {
   step = RunsLine;
   refuses = RefusesLine;
-  -- nothing limits the journal but the lines of an input
-  fills = λ old octets made new. ⊥;
-  too_long = λ bench. tt;
-  text = λ bench journal. text bench.names.tags journal;
+  fills = FillsJournal;
+  too_long = λ bench. fault causes.Long 40001;
+  text = λ bench journal. journal_text (tags_of bench.names) journal;
   tells = TellsEvents;
   lines = λ bench. bench.lines;
   done = λ bench. done_line;
-  refused = λ bench line said. refused_line line;
+  refused = λ bench line found. refused_line line found;
   too_much = λ bench. toomuch_line;
 }

@@ -1,10 +1,6 @@
 pub mod Bench
-pub mod Field
-pub mod Grammar
-pub mod Lawful
 pub mod LineSteps
 pub mod Routes
-pub mod Tags
 pub mod Text
 pub mod Top
 pub mod World

@@ -1,5 +1,5 @@
 -- What each line does to the network, and the events that it makes.
-use Rattle.std.specs.Prelude.{◌≡◌, ◌==◌, ℕ, ◌+◌, not, nat_lt, ◌⊎◌, if◌then◌else◌, List, [], ◌∷◌, ◌++◌, length, slice_get, slice_set, Option, Some, None, Result, Ok, Err}
+use Rattle.std.specs.Prelude.{◌≡◌, ◌==◌, ℕ, ◌+◌, false, not, nat_lt, ◌⊎◌, if◌then◌else◌, List, [], ◌∷◌, ◌++◌, length, slice_get, slice_set, Option, Some, None, Result, Ok, Err}
 use Rattle.nsap.specs.Address.{selector_of, is_same_system}
 use Rattle.nsap.specs.declared.port.Port.{Port}
 use Rattle.pdu_parts.specs.Front.{BeginsWith}
@@ -12,16 +12,18 @@ use Rattle.clnp_header.specs.declared.pdu.Pdu.{Pdu}
 use Rattle.clnp_header.specs.declared.pdu.SegmentPart.{SegmentPart}
 use Rattle.clnp_header.specs.Grammar.{IsPdu}
 use Rattle.clnp_header.specs.Faults.{IsPduFault}
-use Rattle.osi_bench.specs.declared.event.Event.{Event}
-use Rattle.osi_bench.specs.declared.event.Event.TheVariants as events
-use Rattle.osi_bench.specs.declared.event.Refused.{Refused}
-use Rattle.osi_bench.specs.declared.line.Line.{Line}
-use Rattle.osi_bench.specs.declared.line.Line.TheVariants as lines
+use Rattle.osi_base.specs.declared.unit.Wish.{Wish}
+use Rattle.osi_journal.specs.declared.event.Event.{Event}
+use Rattle.osi_journal.specs.declared.event.Event.TheVariants as events
+use Rattle.osi_journal.specs.declared.cause.Refused.{Refused}
+use Rattle.osi_script.specs.declared.line.Line.{Line}
+use Rattle.osi_script.specs.declared.line.Line.TheVariants as lines
 use Rattle.osi_bench.specs.declared.lan.Lan.{Lan}
 use Rattle.osi_bench.specs.declared.lan.Frame.{Frame}
 use Rattle.osi_bench.specs.declared.lan.Picked.{Picked}
 use Rattle.osi_bench.specs.declared.lan.Picked.TheVariants.{Taken, NoSuch, Late, NotThere, NotOurs}
-use Rattle.osi_bench.specs.World.{System, World, raw_address, unit_pdu, sending, frame_of, bound_of, delivery}
+use Rattle.osi_bench.specs.World.{System, World, unit_pdu, sending, frame_of, bound_of, delivery}
+use Rattle.osi_journal.specs.RawLawful.{raw_address}
 
 -- a unit that came whole is shown; a segment shows nothing
 abbrev pub shown : ℕ → List ℕ → List ℕ → Option SegmentPart → List Event
@@ -72,6 +74,10 @@ Delivers lans number system end frame Late made = made ≡ events.Late number sy
 Delivers lans number system end frame NotThere made = made ≡ events.NotThere number system ∷ []
 Delivers lans number system end frame NotOurs made = made ≡ events.NotOurs number system ∷ []
 
+-- a unit without flags and without a source route
+abbrev pub no_wish : Wish
+no_wish = record { cut = false; report = false; trace = false; path = 0 }
+
 -- a route to a system with no port adds nothing
 abbrev pub with_route : System → List ℕ → Option Port → System
 with_route end prefix None = end
@@ -80,7 +86,7 @@ with_route end prefix (Some hop) = record end { rows = end.rows ++ record { pref
 abbrev pub with_system : World → ℕ → System → World
 with_system old system end = record old { systems = slice_set old.systems system end }
 
--- what a line does: the network before it, the events, the network after it
+-- what a line does: the network before it, the events, the network after it; the network runs these lines alone
 abbrev pub WorldStep : World → Line → List Event → World → Type 0
 WorldStep old lines.Nothing made new = (made ≡ []) × (new ≡ old)
 WorldStep old (lines.Lan name bound room) made new = (made ≡ []) × (new ≡ record old { lans = old.lans ++ record { bound = bound; room = room } ∷ [] })
@@ -93,13 +99,15 @@ WorldStep old (lines.Route system prefix next lan) made new =
     (end other : System) × (slice_get old.systems system ≡ Some end) × (slice_get old.systems next ≡ Some other) × (made ≡ [])
     × (new ≡ with_system old system (with_route end prefix other.port))
 WorldStep old lines.Start made new = (made ≡ events.Tick 0 ∷ []) × (new ≡ record old { clock = 0 })
-WorldStep old (lines.Unit system to octets) made new =
+WorldStep old (lines.Unit system to wish octets) made new =
     (sender receiver : System) × (slice_get old.systems system ≡ Some sender) × (slice_get old.systems to ≡ Some receiver)
     × Sends old system sender (raw_address receiver.title) octets (sending old.lans sender (raw_address receiver.title) octets) made new
+    × (wish ≡ no_wish)
 WorldStep old lines.Tick made new = (made ≡ events.Tick (old.clock + 1) ∷ []) × (new ≡ record old { clock = old.clock + 1 })
 WorldStep old (lines.Deliver number system) made new =
     (end : System) × (slice_get old.systems system ≡ Some end) × (new ≡ old)
     × Delivers old.lans number system end (frame_of old.frames number) (delivery old.clock old.lans end.port system (frame_of old.frames number)) made
+WorldStep old line made new = ⊥
 
 -- the lines have these events, one after another
 abbrev pub WorldRuns : World → List Line → List Event → World → Type 0

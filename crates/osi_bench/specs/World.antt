@@ -1,12 +1,13 @@
 -- The network that a script runs: its clock, its LANs, its systems with their routes, and the frames that were sent.
-use Rattle.std.specs.Prelude.{◌==◌, ℕ, ◌+◌, ◌-◌, Bool, true, false, ◌&&◌, ◌||◌, not, nat_lt, nat_eq, if◌then◌else◌, List, [], ◌∷◌, ◌++◌, length, fold, slice_get, Option, Some, None, option_map, unwrap_or, Result, Ok, Err}
+use Rattle.std.specs.Prelude.{◌==◌, ℕ, ◌+◌, ◌-◌, Bool, true, false, ◌&&◌, ◌||◌, not, nat_lt, nat_eq, if◌then◌else◌, List, [], ◌∷◌, length, map, fold, slice_get, Option, Some, None, option_map, unwrap_or, Result, Ok, Err}
 use Rattle.std.specs.Cmp.Lexicographic.{pointwise}
-use Rattle.nsap.specs.Address.{system_part, is_same_system, covers}
+use Rattle.nsap.specs.Address.{is_same_system, covers}
 use Rattle.nsap.specs.declared.port.Port.{Port}
 use Rattle.clnp_header.specs.declared.pdu.Pdu.{Pdu}
 use Rattle.clnp_options.specs.declared.reason.PduKind.TheVariants.{Dt}
-use Rattle.osi_bench.specs.declared.event.Refused.{Refused}
-use Rattle.osi_bench.specs.declared.event.Refused.TheVariants.{EmptyUnit, TooLong, NoRoute}
+use Rattle.osi_journal.specs.RawLawful.{raw_address}
+use Rattle.osi_journal.specs.declared.cause.Refused.{Refused}
+use Rattle.osi_journal.specs.declared.cause.Refused.TheVariants.{EmptyUnit, TooLong, NoRoute}
 use Rattle.osi_bench.specs.declared.lan.Lan.{Lan}
 use Rattle.osi_bench.specs.declared.lan.Frame.{Frame}
 use Rattle.osi_bench.specs.declared.lan.Picked.{Picked}
@@ -25,6 +26,10 @@ pub record World : Type 0 where
   pub systems : List System
   pub frames : List Frame
 
+-- the titles of the systems, by number
+abbrev pub titles_of : World → List (List ℕ)
+titles_of world = map (λ end. end.title) world.systems
+
 -- no LAN, system or frame, and the clock at 0
 abbrev pub empty_world : World
 empty_world = record { clock = 0; lans = []; systems = []; frames = [] }
@@ -32,10 +37,6 @@ empty_world = record { clock = 0; lans = []; systems = []; frames = [] }
 -- the initial lifetime of a unit, in ticks
 abbrev pub initial_lifetime : ℕ
 initial_lifetime = 32
-
--- the address of a system for raw units
-abbrev pub raw_address : List ℕ → List ℕ
-raw_address title = system_part title ++ 2 ∷ []
 
 -- the row is better than the best so far: it covers the address, and its prefix is longer
 abbrev pub is_longer : Row → Option Row → Bool

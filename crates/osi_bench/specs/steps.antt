@@ -3,6 +3,4 @@ pub mod Agreeing
 pub mod BenchLaws
 pub mod Known
 pub mod OneRun
-pub mod Readings
-pub mod Split
-pub mod TextLaws
+pub mod Reads

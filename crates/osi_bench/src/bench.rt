@@ -1,111 +1,99 @@
-//! The bench: what a line of a script does to the names declared and to the network.
+//! The bench: what a line of a script does to the names declared, to the network and to the journal.
 
-ghost use Rattle.std.specs.Prelude.{◌≡◌, ◌<◌, ◌++◌, List, length, OnOk, IsErrOf};
-ghost use Rattle.osi_bench.specs.declared.event.Event.{Event};
-ghost use Rattle.osi_bench.specs.Text.{text as text_of_events};
-ghost use Rattle.osi_bench.specs.steps.Known.{NamesSystems, most_counted};
-ghost use Rattle.osi_bench.specs.LineSteps.{WorldStep};
+ghost use Rattle.std.specs.Prelude.{◌≡◌, ◌<◌, ◌≤◌, ◌+◌, ◌-◌};
+ghost use Rattle.osi_script.specs.Known.{lines_of};
+ghost use Rattle.osi_bench.specs.Bench.{bench_lines, most_events};
 
-use crate::event::Event;
-use crate::line::{Line, LineRefusal};
-use crate::names::{Names, printable};
-use crate::tags::Tags;
 use crate::text::{push_done, push_events, push_refusal, push_too_much};
 use crate::world::World;
 use line_loop::{LineError, Machine};
 use osi_base::NoMemory;
+use osi_journal::Event;
+use osi_script::{Built, LineCause, LineFault, LineRefusal, Names, Word};
 use std::alloc::Global;
 use std::marker::Model;
 
-/// The names declared, the network, and how many lines were run.
+/// The words of the lines that the network runs, those of long scripts first.
+const WORDS: [Word; 8] = [
+    Word::Deliver,
+    Word::Tick,
+    Word::Unit,
+    Word::Route,
+    Word::Port,
+    Word::Es,
+    Word::Lan,
+    Word::Start,
+];
+
+/// The most events of a transcript.
+const MOST_EVENTS: u32 = 4_194_304;
+
+/// The column of the first octet that is too many for a line.
+const TOO_LONG: u32 = 40_001;
+
+/// The names declared, the network, how many lines were run and how many events there were, and the events of the last
+/// line.
 #[derive(Drop)]
 pub struct Bench {
-    alloc: Global,
     names: Names,
     world: World,
     lines: u32,
+    count: u32,
+    events: Vec<Event>,
     stopped: bool,
 }
 
-// Until memory has run out, the network has the systems that are declared, and counts no more ticks and frames than lines.
+// Until a run stops, the network has the systems that are declared, and counts no more ticks and frames than lines.
 impl Model for Bench {
-    ghost use Rattle.osi_bench.specs.Bench.{Bench as BenchState};
-    ghost use Rattle.std.specs.Prelude.{◌≡◌, false};
+    ghost use Rattle.osi_bench.specs.Bench.{Bench as BenchState, most_events};
+    ghost use Rattle.std.specs.Prelude.{◌≡◌, ◌≤◌, false};
     ghost use Rattle.osi_bench.specs.steps.Agreeing.{Agrees};
 
     ghost Value = { BenchState };
 
-    ghost view = { λ b. record { names = b.names; world = b.world; lines = b.lines } };
+    ghost view = { λ b. record { names = b.names; world = b.world; lines = b.lines; events = b.count } };
 
-    ghost invariant = { λ b. b.stopped ≡ false → Agrees b.names b.world b.lines };
+    ghost invariant = { λ b. b.stopped ≡ false → Agrees b.names b.world b.lines × (b.count ≤ most_events) };
 }
 
 impl Bench {
-    ghost use Rattle.osi_bench.specs.Bench.{RefusesLine, first_bench, bench_meaning};
-    ghost use Rattle.line_loop.specs.Meaning.{HasRun};
+    ghost use Rattle.osi_bench.specs.Bench.{first_bench};
 
     /// A bench that ran no line yet.
     pub fn new(alloc: Global) -> Bench
         ensures { result ≡ first_bench }
     {
         Bench {
-            alloc,
-            names: Names::new(alloc),
+            names: Names::new(alloc, network_lines()),
             world: World::new(alloc),
             lines: 0,
+            count: 0,
+            events: Vec::new(alloc),
             stopped: false,
         }
     }
+}
 
-    /// Runs a line, and appends its part of the transcript.
-    #[tactic(auto, unfolding(crate::specs::Grammar::line_of))]
-    fn run(&mut self, line: &[u8], out: &mut Vec<u8>) -> Result<(), LineRefusal>
-        requires { self.old.lines < 100000 }
-        ensures ok { OnOk result (HasRun bench_meaning self.old line.now out.old.items self.new out.new.items) }
-        ensures refused { IsErrOf result LineRefusal.Refused → RefusesLine self.old line.now tt × (self.new ≡ self.old) × (out.new.items ≡ out.old.items) }
-    {
-        if self.stopped {
-            return Err(LineRefusal::NoMemory);
-        }
-        let Some(text) = printable(line) else {
-            return Err(LineRefusal::Refused);
-        };
-        self.stopped = true;
-        let line = match self.names.read_line(self.alloc, text) {
-            Ok(line) => line,
-            Err(LineRefusal::Refused) => {
-                self.stopped = false;
-                return Err(LineRefusal::Refused);
-            }
-            Err(LineRefusal::NoMemory) => return Err(LineRefusal::NoMemory),
-        };
-        let Ok(()) = advance(self.alloc, &mut self.world, line, self.names.tags(), out) else {
-            return Err(LineRefusal::NoMemory);
-        };
-        self.lines += 1;
-        self.stopped = false;
-        Ok(())
+/// The lines that the network runs.
+fn network_lines() -> Built
+    ensures { lines_of result ≡ bench_lines }
+{
+    Built {
+        words: &WORDS,
+        lans: 1,
+        wishes: false,
     }
 }
 
-/// Does what a line says, and appends its part of the transcript.
-fn advance(
-    alloc: Global,
-    world: &mut World,
-    line: Line,
-    tags: &Tags,
-    out: &mut Vec<u8>,
-) -> Result<(), NoMemory>
-    requires known { NamesSystems (length world.old.systems) line }
-    requires clock { world.old.clock < most_counted }
-    requires frames { length world.old.frames < most_counted }
-    ensures { OnOk result ((events : List Event) × WorldStep world.old line events world.new
-        × (out.new.items ≡ out.old.items ++ text_of_events tags.now events)) }
+/// How many of so many events of a line a journal has room for, after `count` events.
+fn told_of(count: u32, made: usize) -> usize
+    requires { count ≤ most_events }
+    ensures most { result ≤ made }
+    ensures room { count + result ≤ most_events }
+    ensures full { result < made → result ≡ most_events - count }
 {
-    let mut events = Vec::new(alloc);
-    world.step(line, &mut events)?;
-    push_events(&events, tags, out)?;
-    Ok(())
+    let room = (MOST_EVENTS - count) as usize;
+    if made <= room { made } else { room }
 }
 
 impl Machine for Bench {
@@ -114,29 +102,59 @@ impl Machine for Bench {
 
     type Event = Event;
 
-    /// Of a line that is refused nothing is said.
-    type Refusal = ();
+    /// The first fault of a line that is refused.
+    type Refusal = LineFault;
 
     ghost meaning = { bench_meaning };
 
     ghost laws = { bench_laws };
 
-    fn run_line(&mut self, line: &[u8], out: &mut Vec<u8>) -> Result<(), LineError<()>> {
-        match self.run(line, out) {
-            Ok(()) => Ok(()),
-            Err(LineRefusal::Refused) => Err(LineError::Refused(())),
-            Err(LineRefusal::NoMemory) => Err(LineError::NoMemory),
+    fn run_line(&mut self, line: &[u8], out: &mut Vec<u8>) -> Result<(), LineError<LineFault>> {
+        if self.stopped {
+            return Err(LineError::NoMemory);
         }
+        let line = match self.names.read_line(line) {
+            Ok(line) => line,
+            Err(LineRefusal::Fault(fault)) => return Err(LineError::Refused(fault)),
+            Err(LineRefusal::NoMemory) => return Err(LineError::NoMemory),
+        };
+        self.stopped = true;
+        self.events.clear();
+        let Ok(()) = self.world.step(line, &mut self.events) else {
+            return Err(LineError::NoMemory);
+        };
+        self.lines += 1;
+        let made = self.events.len();
+        let told = told_of(self.count, made);
+        let Ok(()) = push_events(&self.events[..told], &self.names, out) else {
+            return Err(LineError::NoMemory);
+        };
+        self.count += told as u32;
+        if told < made {
+            return Err(LineError::Full);
+        }
+        self.stopped = false;
+        Ok(())
     }
 
-    fn too_long(&self) {}
+    fn too_long(&self) -> LineFault {
+        LineFault {
+            cause: LineCause::Long,
+            column: TOO_LONG,
+        }
+    }
 
     fn push_done(&self, out: &mut Vec<u8>) -> Result<(), NoMemory> {
         push_done(out)
     }
 
-    fn push_refusal(&self, line: u32, _refusal: (), out: &mut Vec<u8>) -> Result<(), NoMemory> {
-        push_refusal(line, out)
+    fn push_refusal(
+        &self,
+        line: u32,
+        refusal: LineFault,
+        out: &mut Vec<u8>,
+    ) -> Result<(), NoMemory> {
+        push_refusal(line, refusal, out)
     }
 
     fn push_too_much(&self, out: &mut Vec<u8>) -> Result<(), NoMemory> {

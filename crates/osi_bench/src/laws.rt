@@ -5,13 +5,12 @@ ghost use Rattle.osi_bench.specs.Bench.{bench_meaning, first_bench};
 ghost use Rattle.line_loop.specs.Total.{AsksSomething};
 ghost use Rattle.line_loop.specs.Exact.{OneCourse, AsksOne};
 ghost use Rattle.osi_bench.specs.Top.{RunsScripts};
-ghost use Rattle.osi_bench.specs.declared.event.Event.{Event};
-ghost use Rattle.osi_bench.specs.declared.line.Line.{Line};
-ghost use Rattle.osi_bench.specs.World.{World, next_row};
+ghost use Rattle.osi_journal.specs.declared.event.Event.{Event};
+ghost use Rattle.osi_script.specs.declared.line.Line.{Line};
+ghost use Rattle.osi_bench.specs.World.{World, next_row, empty_world, titles_of, initial_lifetime};
 ghost use Rattle.osi_bench.specs.Routes.{IsLongest};
 ghost use Rattle.osi_bench.specs.declared.system.Row.{Row};
-ghost use Rattle.osi_bench.specs.World.{empty_world};
-ghost use Rattle.osi_bench.specs.Lawful.{titles_of, RawLawful};
+ghost use Rattle.osi_journal.specs.RawLawful.{RawLawful};
 ghost use Rattle.osi_bench.specs.LineSteps.{WorldRuns};
 
 /// The lines of a script have one journal, and leave one network.
@@ -28,7 +27,7 @@ pub fn one_journal()
 /// most the initial lifetime before.
 pub fn raw_units_are_lawful()
     ensures { (script : List Line) (journal : List Event) (last : World) → WorldRuns empty_world script journal last
-        → RawLawful (titles_of last) journal }
+        → RawLawful initial_lifetime (titles_of last) journal }
 {
     clnp_header::one_front();
     clnp_header::one_spelling();
@@ -40,7 +39,7 @@ pub fn script_runs()
     ensures { RunsScripts }
 {}
 
-/// All octets ask for a status and a transcript: each line of the grammar has a step, and any other is refused.
+/// All octets ask for a status and a transcript: each line has a step, or fills the journal, or is refused.
 pub fn some_outcome()
     ensures { (all : List ℕ) → AsksSomething bench_meaning first_bench all }
 {}

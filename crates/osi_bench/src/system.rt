@@ -3,12 +3,13 @@
 
 ghost use Rattle.std.specs.Prelude.{◌≡◌, ◌++◌, ◌∷◌, ◌<◌, ◌≤◌, [], Some, length, OnOk, IfOk};
 ghost use Rattle.std.specs.Option.{option_copied};
-ghost use Rattle.osi_bench.specs.World.{next_row, sending, raw_address, better_row, is_longer, header_octets};
+ghost use Rattle.osi_bench.specs.World.{next_row, sending, better_row, is_longer, header_octets};
+ghost use Rattle.osi_journal.specs.RawLawful.{raw_address};
 
-use crate::event::Refused;
 use crate::lan::{Lan, room_of};
 use nsap::{Nsap, Port, Prefix};
 use osi_base::NoMemory;
+use osi_journal::Refused;
 use std::alloc::Global;
 use std::marker::Model;
 

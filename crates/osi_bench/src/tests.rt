@@ -6,6 +6,8 @@ use std::alloc::Global;
 use std::process::Abort;
 use std::test::Fail;
 
+mod refused;
+
 /// Two end systems on one LAN: seven lines.
 const SET_UP: &str = "lan x 1 1497\nes a 490a00\nes b 490b00\nport a x 02000000000a\n\
     port b x 02000000000b\nroute a 490b b x\nroute b 490a a x\n";
@@ -37,12 +39,12 @@ const RUNS: [[&str; 2]; 10] = [
     ["start\n", "tick 0\ndone\n"],
     ["start\r\ntick\r\n", "tick 0\ntick 1\ndone\n"],
     ["start\ntick", "tick 0\ntick 1\ndone\n"],
-    ["start\ntick\r", "tick 0\nrefused 2 1 word\n"],
-    ["start\ntick\r\r\n", "tick 0\nrefused 2 1 word\n"],
-    ["\n#\n\r\nstart \ntick\n", "refused 4 1 word\n"],
-    ["lan x 0 1497\n", "refused 1 1 word\n"],
-    ["lan x 01 1497\n", "refused 1 1 word\n"],
-    ["lan frame 1 1497\n", "refused 1 1 word\n"],
+    ["start\ntick\r", "tick 0\nrefused 2 5 ascii\n"],
+    ["start\ntick\r\r\n", "tick 0\nrefused 2 5 ascii\n"],
+    ["\n#\n\r\nstart \ntick\n", "refused 4 7 fields\n"],
+    ["lan x 0 1497\n", "refused 1 7 range\n"],
+    ["lan x 01 1497\n", "refused 1 7 syntax\n"],
+    ["lan frame 1 1497\n", "refused 1 5 syntax\n"],
 ];
 
 /// What is shown of events after the set-up and `start`.
@@ -67,29 +69,6 @@ const EVENTS: [[&str; 2]; 7] = [
 const TAKEN: &str = "\n# tsap\nes x 490d00\nes frames 490d00\nes dZ345678 4900\n\
     es d 4900000000000000000000000000000000000000\nport c x 0200000000aB\n\
     route a 490b00 b x\nroute a - a x\nroute b 490b b x";
-
-/// Lines that are refused after the set-up and `es c 490c00`, before `start`.
-const REFUSED: &str =
-    "lan y 1 1497\nes a 490d00\nes d 490b00\nes d 00\nes d 490d01\nes d 490d0\nes d -\n\
-    es d 490000000000000000000000000000000000000000\nes frame 490d00\nes D 490d00\nes d- 490d00\n\
-    es d23456789 490d00\nes d\nes d 490d00 x\nes d 490d00 \nes  d 490d00\n es d 490d00\nport a x 02000000000d\n\
-    port c x 02000000000b\nport c x 01000000000c\nport c x 0200000000\nport c x -\nport c y 02000000000c\n\
-    port d x 02000000000d\nroute a 490b a x\nroute a 490B b x\nroute a 490c c x\nroute c 490a a x\n\
-    route a 490 b x\nroute a 49 d x\nroute a 49 b y\ntick\nunit a b - - 00\ndeliver 1 a\nStart\nstart x\n\
-    tsap b bb\nis r 490900\nset life 1\n#\t\n#\u{e9}";
-
-/// Lines that are refused after the set-up and `start`.
-const REFUSED_LATER: &str =
-    "unit a b s - 00\nunit a b - p 00\nunit a b - - 0\nunit a b - - 0g\nunit a b - - \n\
-    unit a b - -\nunit a b - - 00 00\nunit a c - - 00\nunit c b - - 00\ndeliver 01 b\ndeliver 1234567890 b\n\
-    deliver -1 b\ndeliver 1 c\ndeliver 1\ntick 1\ntick \n tick\nsettle\nstart\nlan y 1 1497\nes d 490d00";
-
-/// What stands after the set-up, lines of which each one comes next, and the transcript.
-const LINES: [(&str, &str, &str); 3] = [
-    ("es c 490c00\n", TAKEN, "done\n"),
-    ("es c 490c00\n", REFUSED, "refused 9 1 word\n"),
-    ("start\n", REFUSED_LATER, "tick 0\nrefused 9 1 word\n"),
-];
 
 /// How a run ends that has this transcript.
 fn ending(transcript: &str) -> Status {
@@ -122,7 +101,7 @@ fn scripts_have_their_transcripts(rt: HostRuntime) -> Result<(), Fail> {
     for [script, transcript] in RUNS {
         expect(&rt, rt.alloc(), &[script], &[transcript])?;
     }
-    let full = "refused 17 1 word\n";
+    let full = "refused 17 1 many\n";
     expect(&rt, rt.alloc(), &[SIXTEEN], &["done\n"])?;
     expect(&rt, rt.alloc(), &[SIXTEEN, "es q 1700\n"], &[full])?;
     expect(&rt, rt.alloc(), &[SET_UP, AGE], &[AGE_SHOWN, "done\n"])?;
@@ -135,10 +114,26 @@ fn lines_have_their_answers(rt: HostRuntime) -> Result<(), Fail> {
         let script = [SET_UP, "start\n", events, "\n"];
         expect(&rt, rt.alloc(), &script, &["tick 0\n", shown, "\ndone\n"])?;
     }
-    for (front, lines, transcript) in LINES {
-        for line in lines.split('\n') {
-            expect(&rt, rt.alloc(), &[SET_UP, front, line, "\n"], &[transcript])?;
-        }
+    for line in TAKEN.split('\n') {
+        expect(
+            &rt,
+            rt.alloc(),
+            &[SET_UP, "es c 490c00\n", line, "\n"],
+            &["done\n"],
+        )?;
+    }
+    for [line, fault] in refused::SET_UP {
+        let script = [SET_UP, "es c 490c00\n", line, "\n"];
+        expect(&rt, rt.alloc(), &script, &["refused 9 ", fault, "\n"])?;
+    }
+    for [line, fault] in refused::EVENTS {
+        let script = [SET_UP, "start\n", line, "\n"];
+        expect(
+            &rt,
+            rt.alloc(),
+            &script,
+            &["tick 0\nrefused 9 ", fault, "\n"],
+        )?;
     }
     Ok(())
 }
@@ -219,7 +214,7 @@ const LIMITS: [(usize, usize, &str, &str); 8] = [
     (0, 100_000, "#", "toomuch\n"),
     (0, 99_999, "x", "refused 100000 1 word\n"),
     (40_000, 1, "", "done\n"),
-    (40_001, 1, "", "refused 1 1 word\n"),
+    (40_001, 1, "", "refused 1 40001 long\n"),
 ];
 
 /// So many comments of so many octets, and what stands after them, have the transcript.

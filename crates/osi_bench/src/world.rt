@@ -5,19 +5,19 @@ ghost use Rattle.std.specs.Option.{option_copied};
 ghost use Rattle.clnp_header.specs.Grammar.{IsPdu};
 ghost use Rattle.clnp_header.specs.Values.{value_of};
 ghost use Rattle.clnp_options.specs.Reasons.{code_of};
-ghost use Rattle.osi_bench.specs.declared.event.Event.{Event};
+ghost use Rattle.osi_journal.specs.declared.event.Event.{Event};
 ghost use Rattle.osi_bench.specs.World.{frame_of, bound_of, unit_pdu};
 ghost use Rattle.osi_bench.specs.steps.Known.{IsPlainUnit};
 ghost use Rattle.osi_bench.specs.LineSteps.{handed_up, reaction, shown, Receives};
 ghost use Rattle.nsap.specs.Address.{selector_of};
 
-use crate::event::{Event, Refused};
 use crate::lan::{FRAME_HEADER, Frame, Lan, Picked, bound_of, delivery, frame_of};
-use crate::line::Line;
 use crate::system::{RAW, System, header_octets};
 use clnp_header::{Pdu, PduKind, PduRef, Reason, read_pdu, write_pdu};
 use nsap::{Nsap, Port, Prefix, Snpa};
 use osi_base::{Address, Bytes, HeaderRefusal, Items, NoMemory, Tick};
+use osi_journal::{Event, Refused};
+use osi_script::Line;
 use std::alloc::Global;
 use std::marker::Model;
 
@@ -49,10 +49,10 @@ impl Model for World {
 }
 
 impl World {
-    ghost use Rattle.osi_bench.specs.World.{System as SystemState, sending, raw_address, unit_pdu, delivery};
+    ghost use Rattle.osi_bench.specs.World.{System as SystemState, sending, unit_pdu, delivery, empty_world};
+    ghost use Rattle.osi_journal.specs.RawLawful.{raw_address};
     ghost use Rattle.osi_bench.specs.LineSteps.{WorldStep, Sends, Delivers, with_system, with_route};
-    ghost use Rattle.osi_bench.specs.steps.Known.{NamesSystems, most_counted};
-    ghost use Rattle.osi_bench.specs.World.{empty_world};
+    ghost use Rattle.osi_bench.specs.steps.Known.{CanRun, most_counted};
 
     /// Nothing was declared, and nothing was sent.
     pub fn new(alloc: Global) -> World
@@ -67,10 +67,10 @@ impl World {
         }
     }
 
-    /// Does what the line says, and adds its events.
+    /// Does what a line that the network runs says, and adds its events.
     pub fn step(&mut self, line: Line, events: &mut Vec<Event>) -> Result<(), NoMemory>
         requires none { events.old.items ≡ [] }
-        requires known { NamesSystems (length self.old.systems) line }
+        requires known { CanRun (length self.old.systems) line }
         requires clock { self.old.clock < most_counted }
         requires frames { length self.old.frames < most_counted }
         ensures { OnOk result (WorldStep self.old line events.new.items self.new) }
@@ -90,12 +90,31 @@ impl World {
                 self.clock = 0;
                 self.tell_clock(events)
             }
-            Line::Unit { system, to, octets } => self.unit(system, to, octets, events),
+            Line::Unit {
+                system,
+                to,
+                octets,
+                ..
+            } => self.unit(system, to, octets, events),
             Line::Tick => {
                 self.clock += 1;
                 self.tell_clock(events)
             }
             Line::Deliver { frame, system } => self.deliver(frame, system, events),
+            // The bench reads no such line.
+            Line::Set { .. }
+            | Line::Is { .. }
+            | Line::Path { .. }
+            | Line::Tsap { .. }
+            | Line::Connect { .. }
+            | Line::Accept { .. }
+            | Line::Refuse { .. }
+            | Line::Disconnect { .. }
+            | Line::Data { .. }
+            | Line::Expedite { .. }
+            | Line::Window { .. }
+            | Line::Settle
+            | Line::Inject { .. } => unreachable!(),
         }
     }
 

@@ -27,28 +27,33 @@ pub enum Piece<'a> {
 }
 
 /// Appends a line.
+#[inline(always)]
 pub fn write(pieces: &[Piece<'_>], names: &Names, out: &mut Vec<u8>) -> Result<(), NoMemory>
     ensures { OnOk result (out.new.items ≡ out.old.items ++ line (pieces_text (tags_of names.now) pieces.now)) }
 {
     let Some((first, others)) = pieces.split_first() else {
-        return push(b"\n", out);
+        out.push(b'\n')?;
+        return Ok(());
     };
     push_piece(*first, names, out)?;
     write_others(others, names, out)
 }
 
 /// Appends the fields behind the first of a line, each behind a blank, and a line feed.
+#[inline(always)]
 fn write_others(pieces: &[Piece<'_>], names: &Names, out: &mut Vec<u8>) -> Result<(), NoMemory>
     ensures { OnOk result (out.new.items ≡ out.old.items ++ tail (pieces_text (tags_of names.now) pieces.now)) }
 {
     for piece in pieces {
-        push(b" ", out)?;
+        out.push(b' ')?;
         push_piece(*piece, names, out)?;
     }
-    push(b"\n", out)
+    out.push(b'\n')?;
+    Ok(())
 }
 
 /// Appends a field.
+#[inline(always)]
 fn push_piece(piece: Piece<'_>, names: &Names, out: &mut Vec<u8>) -> Result<(), NoMemory>
     ensures { OnOk result (out.new.items ≡ out.old.items ++ piece_text (tags_of names.now) piece.entry) }
 {
@@ -60,7 +65,8 @@ fn push_piece(piece: Piece<'_>, names: &Names, out: &mut Vec<u8>) -> Result<(), 
         Piece::Digits(octets) => push_hex(octets, out),
         Piece::Octets(octets) => {
             if octets.is_empty() {
-                push(b"-", out)
+                out.push(b'-')?;
+                Ok(())
             } else {
                 push_hex(octets, out)
             }
@@ -122,6 +128,7 @@ fn fill_number(number: u64, digits: &mut [u8; MOST_DIGITS]) -> usize
 }
 
 /// Appends a text as it is.
+#[inline(always)]
 fn push(text: &[u8], out: &mut Vec<u8>) -> Result<(), NoMemory>
     ensures { OnOk result (out.new.items ≡ out.old.items ++ text.now) }
 {

@@ -12,6 +12,7 @@ use osi_base::{Address, Bytes, NoMemory};
 use osi_script::{Names, Options};
 
 /// A word and a number.
+#[inline(always)]
 pub fn write_count(
     word: &'static str,
     count: u32,
@@ -53,6 +54,7 @@ pub fn write_told(
 }
 
 /// A word, a number and a system.
+#[inline(always)]
 pub fn write_answer(
     word: &'static str,
     count: u32,

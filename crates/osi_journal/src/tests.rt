@@ -1,11 +1,15 @@
 //! The line of each event, as the format of the transcript states it.
 
-mod words;
+mod lines;
 
-use crate::{Event, GoneCause, Journal, Settled, write_event};
-use osi_base::{Address, Bytes, DropCause, HelloKind};
+use self::lines::{CALLS, ENDS, NETWORK_CAUSES, NETWORKS, TPDUS};
+use crate::{
+    Event, GoneCause, Journal, Refused, Settled, Standing, TpduCause, TpduKind, write_event,
+};
+use osi_base::{Address, Bytes, DropCause, HelloCause, HelloKind};
 use osi_script::{Names, Options, WHOLE};
 use std::alloc::Global;
+use std::test::Fail;
 
 const NORMAL: Options = Options {
     extended: false,
@@ -21,238 +25,282 @@ const EXTENDED: Options = Options {
     sum: false,
 };
 
-/// The names `a` and `b` of systems, and `x` of a LAN.
-fn set_up(alloc: Global) -> Names {
+const SNPA: [u8; 6] = [2, 0, 0, 0, 0, 0x0b];
+
+/// The lines of events, where `a` and `b` are systems and `x` is a LAN.
+fn told(alloc: Global, events: &[Event]) -> Result<Vec<u8>, Fail> {
     let mut names = Names::new(alloc, WHOLE);
     for line in ["es a 490a00", "es b 490b00", "lan x 1 1497"] {
         let _line = names.read_line(line.as_bytes());
     }
-    names
-}
-
-/// Whether the event has this line, where `a` and `b` are systems and `x` is a LAN.
-fn is_told(alloc: Global, event: &Event, text: &str) -> bool {
-    let names = set_up(alloc);
     let mut out = Vec::new(alloc);
-    write_event(event, &names, &mut out).is_ok() && out.as_slice() == text.as_bytes()
+    for event in events {
+        write_event(event, &names, &mut out)
+            .ok()
+            .ok_or("no memory")?;
+    }
+    Ok(out)
 }
 
-fn bytes(alloc: Global, octets: &[u8]) -> Bytes {
-    match octets.to_vec(alloc) {
-        Ok(octets) => Bytes::of(octets),
-        Err(_) => Bytes::of(Vec::new(alloc)),
-    }
+fn bytes(alloc: Global, octets: &[u8]) -> Result<Bytes, Fail> {
+    Ok(Bytes::of(octets.to_vec(alloc)?))
+}
+
+fn address(last: u8) -> Address {
+    Address::of(&[0x49, last, 1])
 }
 
 #[test]
 fn a_journal_has_its_events_in_order(rt: HostRuntime) {
     let mut journal = Journal::new(rt.alloc());
-    assert!(rt; journal.add(Event::Tick { now: 0 }).is_ok(), "room");
-    assert!(rt; journal.add(Event::Alien { system: 3 }).is_ok(), "room");
-    let events = journal.events();
-    assert!(rt; matches!(events, [Event::Tick { now: 0 }, Event::Alien { system: 3 }]));
+    assert!(rt; journal.add(Event::Tick { now: 0 }).is_ok());
+    assert!(rt; journal.add(Event::Alien { system: 3 }).is_ok());
+    assert!(rt;
+        matches!(
+            journal.events(),
+            [Event::Tick { now: 0 }, Event::Alien { system: 3 }]
+        )
+    );
 }
 
 #[test]
-fn an_event_of_a_frame_has_its_line(rt: HostRuntime) {
-    let (number, system) = (2, 1);
-    for (event, text) in [
-        (Event::Tick { now: 0 }, "tick 0\n"),
-        (Event::DropFrame { system }, "drop frame b\n"),
-        (Event::Deliver { number, system }, "deliver 2 b\n"),
-        (Event::NoSuch { number, system }, "nosuch 2 b\n"),
-        (Event::Late { number, system }, "late 2 b\n"),
-        (Event::NotThere { number, system }, "notthere 2 b\n"),
-        (Event::NotOurs { number, system }, "notours 2 b\n"),
-        (Event::Inject { system }, "inject b\n"),
-        (Event::InjectNotThere { system }, "inject notthere b\n"),
-        (Event::Alien { system }, "alien b\n"),
-        (Event::HelloFull { system }, "hellofull b\n"),
-        (Event::Strays { count: 3 }, "strays 3\n"),
-    ] {
-        assert!(rt; is_told(rt.alloc(), &event, text), "{text}");
-    }
+fn an_event_of_a_network_has_its_line(rt: HostRuntime) -> Result<(), Fail> {
+    let (number, system, lan, snpa) = (2, 1, 0, SNPA);
+    let (reason, place) = (0xa0, 4);
+    let events = [
+        Event::Tick { now: 0 },
+        Event::Frame {
+            number,
+            lan,
+            system,
+            snpa,
+            length: 63,
+        },
+        Event::DropFrame { system },
+        Event::Deliver { number, system },
+        Event::NoSuch { number, system },
+        Event::Late { number, system },
+        Event::NotThere { number, system },
+        Event::NotOurs { number, system },
+        Event::Settle {
+            answer: Settled::Settled(2),
+        },
+        Event::Settle {
+            answer: Settled::Stopped(65_536),
+        },
+        Event::Inject { system },
+        Event::InjectNotThere { system },
+        Event::Discard {
+            system,
+            reason,
+            place,
+        },
+        Event::Report {
+            system,
+            reason,
+            place,
+        },
+        Event::Alien { system },
+        Event::HelloFull { system },
+        Event::Redirect {
+            system,
+            address: address(0x0a),
+            snpa,
+        },
+        Event::Strays { count: 3 },
+    ];
+    assert_eq!(rt; told(rt.alloc(), &events)?.as_slice(), NETWORKS.as_bytes());
+    Ok(())
 }
 
-#[test]
-fn an_event_of_a_pdu_has_its_line(rt: HostRuntime) {
-    let (system, kind, cause) = (1, HelloKind::Rd, DropCause::NoRoute);
-    let (lan, number, length) = (0, 7, 63);
-    let (place, reason) = (4, 0xa0);
-    let address = Address::of(&[0x49, 0x0a, 2]);
-    let snpa = [2, 0, 0, 0, 0, 0x0b];
-    for (event, text) in [
-        (
-            Event::Frame {
-                number,
-                lan,
-                system,
-                snpa,
-                length,
-            },
-            "frame 7 x b 02000000000b 63\n",
-        ),
-        (Event::Dropped { system, cause }, "drop b noroute\n"),
-        (
-            Event::Discard {
-                system,
-                reason,
-                place,
-            },
-            "discard b a0 4\n",
-        ),
-        (
-            Event::Report {
-                system,
-                reason,
-                place,
-            },
-            "report b a0 4\n",
-        ),
-        (
-            Event::Hello { system, kind, snpa },
-            "hello b rd 02000000000b\n",
-        ),
-        (
-            Event::Redirect {
-                system,
-                address,
-                snpa,
-            },
-            "redirect b 490a02 02000000000b\n",
-        ),
-    ] {
-        assert!(rt; is_told(rt.alloc(), &event, text), "{text}");
-    }
-}
-
-#[test]
-fn a_settle_has_its_line(rt: HostRuntime) {
-    for (answer, text) in [
-        (Settled::Settled(2), "settled 2\n"),
-        (Settled::Stopped(65_536), "stopped 65536\n"),
-    ] {
-        assert!(rt;
-            is_told(rt.alloc(), &Event::Settle { answer }, text),
-            "{text}"
-        );
-    }
-}
-
-#[test]
-fn a_raw_unit_has_its_line(rt: HostRuntime) {
-    let to = Address::of(&[0x49, 0x0b, 2]);
-    let none = bytes(rt.alloc(), &[]);
-    let sent = Event::Sent {
-        system: 0,
-        to,
-        octets: none,
-    };
-    assert!(rt; is_told(rt.alloc(), &sent, "sent a 490b02 -\n"));
-    let shown = Event::Unit {
-        system: 1,
-        from: Address::of(&[0x49, 0x0a, 2]),
-        octets: bytes(rt.alloc(), &[0, 0xff]),
-    };
-    assert!(rt; is_told(rt.alloc(), &shown, "unit b 490a02 00ff\n"));
-}
-
-#[test]
-fn a_connect_has_its_line(rt: HostRuntime) {
-    let connect = Event::Connect {
+/// The events of a connection that is made, with octets or without.
+fn connecting(alloc: Global) -> Result<Vec<Event>, Fail> {
+    let mut events = Vec::new(alloc);
+    events.push(Event::Connect {
         end: 1,
         system: 0,
         reference: 9,
-        calling: Address::of(&[0x49, 0x0a, 1]),
-        calling_selector: bytes(rt.alloc(), &[0xaa]),
-        called: Address::of(&[0x49, 0x0b, 1]),
-        called_selector: bytes(rt.alloc(), &[0xbb]),
-        octets: bytes(rt.alloc(), &[]),
-    };
-    let line = "connect 1 a 9 490a01 aa 490b01 bb -\n";
-    assert!(rt; is_told(rt.alloc(), &connect, line));
-}
-
-#[test]
-fn an_incoming_has_its_line(rt: HostRuntime) {
-    let incoming = Event::Incoming {
+        calling: address(0x0a),
+        calling_selector: bytes(alloc, &[0xaa])?,
+        called: address(0x0b),
+        called_selector: bytes(alloc, &[0xbb])?,
+        octets: bytes(alloc, &[])?,
+    })?;
+    events.push(Event::Incoming {
         end: 2,
         system: 1,
         reference: 3,
-        calling: Address::of(&[0x49, 0x0a, 1]),
+        calling: address(0x0a),
         partner: 9,
-        calling_selector: bytes(rt.alloc(), &[0xaa]),
-        called: Address::of(&[0x49, 0x0b, 1]),
-        called_selector: bytes(rt.alloc(), &[]),
+        calling_selector: bytes(alloc, &[0xaa])?,
+        called: address(0x0b),
+        called_selector: bytes(alloc, &[])?,
         options: NORMAL,
-        octets: bytes(rt.alloc(), &[0, 0xff]),
-    };
-    let line = "incoming 2 b 3 490a01 9 aa 490b01 - normal 1024 exp sum 00ff\n";
-    assert!(rt; is_told(rt.alloc(), &incoming, line));
+        octets: bytes(alloc, &[0, 0xff])?,
+    })?;
+    for (options, first) in [(NORMAL, 5), (EXTENDED, 7)] {
+        let (end, octets) = (2, bytes(alloc, &[first])?);
+        events.push(Event::Accept {
+            end,
+            options,
+            octets,
+        })?;
+        let (end, octets) = (1, bytes(alloc, &[])?);
+        events.push(Event::Confirm {
+            end,
+            options,
+            octets,
+        })?;
+    }
+    Ok(events)
+}
+
+/// Appends the events of an end that have octets, and those of a raw unit.
+fn carry(alloc: Global, events: &mut Vec<Event>) -> Result<(), Fail> {
+    let (end, system) = (3, 1);
+    let octets = bytes(alloc, &[])?;
+    events.push(Event::Data { end, octets })?;
+    let octets = bytes(alloc, &[4])?;
+    events.push(Event::Got { end, octets })?;
+    let octets = bytes(alloc, &[5, 0])?;
+    events.push(Event::Expedite { end, octets })?;
+    let octets = bytes(alloc, &[6])?;
+    events.push(Event::Urgent { end, octets })?;
+    let octets = bytes(alloc, &[7])?;
+    events.push(Event::Refuse { end, octets })?;
+    let octets = bytes(alloc, &[8])?;
+    events.push(Event::Disconnect { end, octets })?;
+    let (to, octets) = (address(0x0b), bytes(alloc, &[])?);
+    events.push(Event::Sent { system, to, octets })?;
+    let (from, octets) = (address(0x0a), bytes(alloc, &[0, 0xff])?);
+    events.push(Event::Unit {
+        system,
+        from,
+        octets,
+    })?;
+    Ok(())
 }
 
 #[test]
-fn what_is_agreed_has_its_line(rt: HostRuntime) {
-    let accept = Event::Accept {
-        end: 2,
-        options: NORMAL,
-        octets: bytes(rt.alloc(), &[]),
-    };
-    assert!(rt; is_told(rt.alloc(), &accept, "accept 2 normal 1024 exp sum -\n"));
-    let confirm = Event::Confirm {
-        end: 1,
-        options: EXTENDED,
-        octets: bytes(rt.alloc(), &[7]),
-    };
-    let line = "confirm 1 extended 8192 noexp nosum 07\n";
-    assert!(rt; is_told(rt.alloc(), &confirm, line));
-}
-
-#[test]
-fn a_request_of_an_end_has_its_line(rt: HostRuntime) {
-    let end = 3;
-    let octets = bytes(rt.alloc(), &[1]);
-    let data = Event::Data { end, octets };
-    assert!(rt; is_told(rt.alloc(), &data, "data 3 01\n"));
-    let octets = bytes(rt.alloc(), &[2, 0]);
-    let expedite = Event::Expedite { end, octets };
-    assert!(rt; is_told(rt.alloc(), &expedite, "expedite 3 0200\n"));
-    let octets = bytes(rt.alloc(), &[3]);
-    let refuse = Event::Refuse { end, octets };
-    assert!(rt; is_told(rt.alloc(), &refuse, "refuse 3 03\n"));
-    let octets = bytes(rt.alloc(), &[]);
-    let disconnect = Event::Disconnect { end, octets };
-    assert!(rt; is_told(rt.alloc(), &disconnect, "disconnect 3 -\n"));
-}
-
-#[test]
-fn an_indication_of_an_end_has_its_line(rt: HostRuntime) {
-    let end = 4;
-    let octets = bytes(rt.alloc(), &[]);
-    let got = Event::Got { end, octets };
-    assert!(rt; is_told(rt.alloc(), &got, "got 4 -\n"));
-    let octets = bytes(rt.alloc(), &[0xff]);
-    let urgent = Event::Urgent { end, octets };
-    assert!(rt; is_told(rt.alloc(), &urgent, "urgent 4 ff\n"));
-    let (cause, octets) = (GoneCause::Reason(128), bytes(rt.alloc(), &[]));
-    let gone = Event::Gone { end, cause, octets };
-    assert!(rt; is_told(rt.alloc(), &gone, "gone 4 128 -\n"));
-}
-
-#[test]
-fn a_window_and_what_is_held_have_their_lines(rt: HostRuntime) {
+fn an_event_of_an_end_has_its_line(rt: HostRuntime) -> Result<(), Fail> {
+    let mut events = connecting(rt.alloc())?;
+    carry(rt.alloc(), &mut events)?;
     let end = 1;
-    let window = Event::Window { end, credit: 15 };
-    assert!(rt; is_told(rt.alloc(), &window, "window 1 15\n"));
-    for (expedited, number, text) in [
-        (false, 96, "held 1 dt 96\n"),
-        (true, 4_294_967_296, "held 1 ed 4294967296\n"),
-    ] {
-        let held = Event::Held {
+    events.push(Event::Window { end, credit: 15 })?;
+    for (expedited, number) in [(false, 96), (true, 4_294_967_296)] {
+        events.push(Event::Held {
             end,
             expedited,
             number,
-        };
-        assert!(rt; is_told(rt.alloc(), &held, text), "{text}");
+        })?;
     }
+    assert_eq!(rt; told(rt.alloc(), &events)?.as_slice(), ENDS.as_bytes());
+    Ok(())
+}
+
+#[test]
+fn a_cause_has_its_word(rt: HostRuntime) -> Result<(), Fail> {
+    let mut events = Vec::new(rt.alloc());
+    for cause in [
+        GoneCause::Reason(128),
+        GoneCause::Exhausted,
+        GoneCause::Inactive,
+        GoneCause::Protocol,
+        GoneCause::AnswerTime,
+    ] {
+        let (end, octets) = (1, bytes(rt.alloc(), &[])?);
+        events.push(Event::Gone { end, cause, octets })?;
+    }
+    for cause in [
+        Refused::NoSuchEnd,
+        Refused::WrongState(Standing::CrWait),
+        Refused::WrongState(Standing::WaitBeforeClose),
+        Refused::WrongState(Standing::UserWait),
+        Refused::WrongState(Standing::AkWait),
+        Refused::WrongState(Standing::Opened),
+        Refused::WrongState(Standing::Closing),
+        Refused::WrongState(Standing::Frozen),
+        Refused::WrongState(Standing::Ended),
+        Refused::EmptyUnit,
+        Refused::TooLong,
+        Refused::NoExpedited,
+        Refused::QueueFull,
+        Refused::RefsSpent,
+        Refused::NoRoute,
+        Refused::Full,
+        Refused::IdsSpent,
+    ] {
+        events.push(Event::No { cause })?;
+    }
+    assert_eq!(rt; told(rt.alloc(), &events)?.as_slice(), CALLS.as_bytes());
+    Ok(())
+}
+
+#[test]
+fn a_network_cause_has_its_word(rt: HostRuntime) -> Result<(), Fail> {
+    let (mut events, system, snpa) = (Vec::new(rt.alloc()), 0, SNPA);
+    for cause in [
+        DropCause::TooLong,
+        DropCause::NoRoute,
+        DropCause::Full,
+        DropCause::IdsSpent,
+    ] {
+        events.push(Event::Dropped { system, cause })?;
+    }
+    for kind in [HelloKind::Esh, HelloKind::Ish, HelloKind::Rd] {
+        events.push(Event::Hello { system, kind, snpa })?;
+    }
+    for cause in [
+        HelloCause::Short,
+        HelloCause::Length,
+        HelloCause::Version,
+        HelloCause::Checksum,
+        HelloCause::Kind,
+        HelloCause::Address,
+        HelloCause::Option,
+    ] {
+        events.push(Event::BadHello { system, cause })?;
+    }
+    assert_eq!(rt;
+        told(rt.alloc(), &events)?.as_slice(),
+        NETWORK_CAUSES.as_bytes()
+    );
+    Ok(())
+}
+
+#[test]
+fn a_tpdu_has_its_words(rt: HostRuntime) -> Result<(), Fail> {
+    let (mut events, system, place) = (Vec::new(rt.alloc()), 0, 10);
+    for cause in [
+        TpduCause::Short,
+        TpduCause::Length,
+        TpduCause::Code,
+        TpduCause::Fixed,
+        TpduCause::Class,
+        TpduCause::Param,
+        TpduCause::Unknown,
+        TpduCause::Checksum,
+        TpduCause::Body,
+    ] {
+        events.push(Event::BadTpdu {
+            system,
+            cause,
+            place,
+        })?;
+    }
+    for kind in [
+        TpduKind::Cr,
+        TpduKind::Cc,
+        TpduKind::Dr,
+        TpduKind::Dc,
+        TpduKind::Dt,
+        TpduKind::Ed,
+        TpduKind::Ak,
+        TpduKind::Ea,
+        TpduKind::Er,
+    ] {
+        events.push(Event::Unknown { system, kind })?;
+    }
+    assert_eq!(rt; told(rt.alloc(), &events)?.as_slice(), TPDUS.as_bytes());
+    Ok(())
 }

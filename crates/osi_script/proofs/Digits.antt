@@ -10,7 +10,7 @@ use Rattle.std.proofs.lemmas.Str.Parse.{digits_value-take-le}
 use Rattle.std.proofs.lemmas.Bool.Decides.{nat_tests}
 use Rattle.osi_script.specs.Field.{is_digit}
 
-passes_at : (p : ℕ → Bool) (xs : List ℕ) (i : ℕ) (b : Bool) → i < length xs → list_all p xs ≡ true → p (get_or xs i 0) ≡ b → p (get_or xs i 0) ≡ true
+pub passes_at : (p : ℕ → Bool) (xs : List ℕ) (i : ℕ) (b : Bool) → i < length xs → list_all p xs ≡ true → p (get_or xs i 0) ≡ b → p (get_or xs i 0) ≡ true
 passes_at p xs i true lt all is = is
 passes_at p xs i false lt all is = absurd (false≢true (sym (list_all_at p xs i 0 lt is) ∙ all))
 

@@ -1,9 +1,11 @@
 -- One turn of the table's two loops, and how the answers of the steps make the answer of a line.
 use Rattle.std.proofs.Common.{◌≡◌, ℕ, ◌+◌, ◌<◌, Bool, true, false, List, [], ◌∷◌, length, drop, refl, subst, add-one, drop-cons}
 use mathlib.Core.Bool.{beq}
-use Rattle.std.specs.Prelude.{Ok, Some, None, Result, not, if◌then◌else◌}
+use Rattle.std.specs.Prelude.{Err, Some, None, Option, Result, not, if◌then◌else◌}
 use Rattle.osi_script.specs.declared.fault.LineCause.TheVariants as causes
+use Rattle.osi_script.specs.declared.fault.LineFault.{LineFault}
 use Rattle.osi_script.specs.declared.fault.LineRefusal.{LineRefusal}
+use Rattle.osi_script.specs.declared.fault.LineRefusal.TheVariants as refusals
 use Rattle.osi_script.specs.declared.line.Line.{Line}
 use Rattle.osi_script.specs.declared.form.Form.{Form}
 use Rattle.osi_script.specs.declared.form.Form.TheVariants as kinds
@@ -11,12 +13,9 @@ use Rattle.osi_script.specs.declared.form.Word.{Word}
 use Rattle.osi_script.specs.declared.parts.Parts.{Parts}
 use Rattle.osi_script.specs.Known.{Declared, no_parts}
 use Rattle.osi_script.specs.Table.{row_of}
-use Rattle.osi_script.specs.Grammar.{fault, next_column, count_fault, fields_read, is_out_of_order, whole_read, worded_read, Reads}
-
--- where no field is left, nothing more is read
-pub none_left : (names : Declared) (parts : Parts) (column : ℕ) (forms : List Form) → fields_read names parts column forms [] ≡ Ok parts
-none_left names parts column [] = refl
-none_left names parts column (form ∷ forms) = refl
+use Rattle.osi_script.specs.Grammar.{fault, next_column, count_fault, fields_read, counted_read, is_out_of_order, whole_read, worded_read, Reads}
+use Rattle.osi_script.specs.Gives.{GivesAt}
+use Rattle.osi_script.specs.steps.Counted.{counted, all_read}
 
 -- a field is counted
 pub count_step : (past column : ℕ) (forms : List Form) (i : ℕ) (fields : List (List ℕ)) (field : List ℕ) (rest : List (List ℕ)) (next : ℕ)
@@ -35,28 +34,43 @@ in_order true false differ = refl
 in_order false true differ = refl
 in_order false false differ = absurd (cc)
 
+-- the fields gone over once answer as those that are counted first
+counted_whole : (names : Declared) (word : Word) (column : ℕ) (fields : List (List ℕ)) (found : Option LineFault)
+    → counted_read names word column fields found ≡ whole_read names word (counted found (fields_read names no_parts column (row_of word).fields fields))
+counted_whole names word column fields None = refl
+counted_whole names word column fields (Some found) = refl
+
 -- the answer of the steps after a word is that of the line
-pub worded_by : (names : Declared) (word : Word) (past column : ℕ) (fields : List (List ℕ)) (parts : Parts)
+worded_by : (names : Declared) (word : Word) (past column : ℕ) (fields : List (List ℕ)) (read : Result Parts LineFault)
     → is_out_of_order names word ≡ false
-    → count_fault past column (row_of word).fields fields ≡ None
-    → fields_read names no_parts column (row_of word).fields fields ≡ Ok parts
+    → all_read names no_parts past column (row_of word).fields fields ≡ read
     → (result : Result Line LineRefusal) (new : Declared)
-    → Reads (whole_read names word (Ok parts)) names result new
+    → Reads (whole_read names word read) names result new
     → Reads (worded_read names past column fields (Some word)) names result new
-worded_by names word past column fields parts order count read result new r = rw (order, count, read) r
+worded_by names word past column fields read order is result new r =
+    rw (order, counted_whole names word column fields (count_fault past column (row_of word).fields fields), is) r
 
 -- the same by what the code knows of its row
-pub worded_from : (names : Declared) (word : Word) (past column : ℕ) (fields : List (List ℕ)) (parts first : Parts) (set_up started : Bool) (forms : List Form)
+pub worded_from : (names : Declared) (word : Word) (past column : ℕ) (fields : List (List ℕ)) (read : Result Parts LineFault) (first : Parts) (set_up started : Bool) (forms : List Form)
     → set_up ≡ (row_of word).of_set_up → started ≡ names.started → forms ≡ (row_of word).fields → first ≡ no_parts
     → beq set_up started ≡ false
-    → count_fault past column forms fields ≡ None
-    → fields_read names first column forms fields ≡ Ok parts
+    → all_read names first past column forms fields ≡ read
     → (result : Result Line LineRefusal) (new : Declared)
-    → Reads (whole_read names word (Ok parts)) names result new
+    → Reads (whole_read names word read) names result new
     → Reads (worded_read names past column fields (Some word)) names result new
-worded_from names word past column fields parts first set_up started forms is_set_up is_started is_forms is_first differ count read result new r =
-    worded_by names word past column fields parts
+worded_from names word past column fields read first set_up started forms is_set_up is_started is_forms is_first differ is result new r =
+    worded_by names word past column fields read
     (in_order (row_of word).of_set_up names.started (subst (λ (b : Bool). beq b names.started ≡ false) is_set_up (subst (λ (b : Bool). beq set_up b ≡ false) is_started differ)))
-    (subst (λ (f : List Form). count_fault past column f fields ≡ None) is_forms count)
-    (subst (λ (f : List Form). fields_read names no_parts column f fields ≡ Ok parts) is_forms (subst (λ (p : Parts). fields_read names p column forms fields ≡ Ok parts) is_first read))
+    (subst (λ (f : List Form). all_read names no_parts past column f fields ≡ read) is_forms (subst (λ (p : Parts). all_read names p past column forms fields ≡ read) is_first is))
     result new r
+
+-- the same where a field is refused
+pub worded_refused : (names : Declared) (word : Word) (past column : ℕ) (fields : List (List ℕ)) (first after : Parts) (set_up started : Bool) (forms : List Form)
+    → set_up ≡ (row_of word).of_set_up → started ≡ names.started → forms ≡ (row_of word).fields → first ≡ no_parts
+    → beq set_up started ≡ false
+    → (refusal : LineRefusal)
+    → GivesAt {A = Parts} {U = Unit {0}} (all_read names first past column forms fields) (Err refusal) after
+    → Reads (worded_read names past column fields (Some word)) names (Err refusal) names
+worded_refused names word past column fields first after set_up started forms is_set_up is_started is_forms is_first differ (refusals.Fault found) is =
+    worded_from names word past column fields (Err found) first set_up started forms is_set_up is_started is_forms is_first differ is (Err (refusals.Fault found)) names (refl, refl)
+worded_refused names word past column fields first after set_up started forms is_set_up is_started is_forms is_first differ refusals.NoMemory is = refl

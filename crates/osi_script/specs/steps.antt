@@ -1,2 +1,3 @@
 -- What only carries the proof of a line's reading.
+pub mod Counted
 pub mod Split

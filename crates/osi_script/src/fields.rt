@@ -44,16 +44,6 @@ impl<'a> Fields<'a> {
         }
     }
 
-    /// The same fields once more.
-    pub fn again(&self) -> Fields<'a>
-        ensures { result ≡ self.now }
-    {
-        Fields {
-            rest: self.rest,
-            column: self.column,
-        }
-    }
-
     /// The column of the next field, or one past the end behind the last one.
     pub fn column(&self) -> u32
         ensures { result ≡ self.now.column }

@@ -1,8 +1,10 @@
 //! What a line says, or its first fault.
 
 ghost use Rattle.std.specs.Prelude.{◌≡◌, ◌≤◌, ◌<◌, not, length, position, IfSome, IsSomeAnd};
+ghost use Rattle.std.specs.List.{list_all};
 ghost use Rattle.osi_script.specs.Field.{is_printable};
 ghost use Rattle.osi_script.specs.Grammar.{fault, count_fault, line_for, is_idle};
+ghost use Rattle.osi_script.specs.steps.Counted.{first_of};
 
 use crate::fault::{FieldRefusal, LineCause, LineFault, LineRefusal};
 use crate::fields::Fields;
@@ -20,6 +22,16 @@ fn fault(cause: LineCause, column: u32) -> LineFault
     ensures { result ≡ fault cause column }
 {
     LineFault { cause, column }
+}
+
+/// The fault of the count of the fields that are left, or else the one that was found.
+fn first_of(past: u32, forms: &[Form], fields: Fields<'_>, found: LineFault) -> LineFault
+    ensures { result ≡ first_of (count_fault past fields.entry.column forms.now fields.entry.fields) found }
+{
+    match count_fault(past, forms, fields) {
+        Some(first) => first,
+        None => found,
+    }
 }
 
 /// Too few fields, or too many.
@@ -41,7 +53,8 @@ fn count_fault(past: u32, forms: &[Form], mut fields: Fields<'_>) -> Option<Line
 impl Names {
     ghost use Rattle.osi_script.specs.Gives.{GivesAt};
     ghost use Rattle.osi_script.specs.Known.{no_parts};
-    ghost use Rattle.osi_script.specs.Grammar.{fields_read, line_read, text_read, split_read, worded_read, whole_read, Reads};
+    ghost use Rattle.osi_script.specs.Grammar.{line_read, text_read, split_read, worded_read, whole_read, Reads};
+    ghost use Rattle.osi_script.specs.steps.Counted.{all_read};
 
     /// What a line says after the lines before it. A line that is refused declares nothing.
     #[tactic(auto, unfolding(crate::specs::Grammar::line_read))]
@@ -100,39 +113,44 @@ impl Names {
         if row.of_set_up == self.started {
             return Err(LineRefusal::Fault(fault(LineCause::Order, 1)));
         }
-        if let Some(found) = count_fault(past, row.fields, fields.again()) {
-            return Err(LineRefusal::Fault(found));
-        }
         let mut parts = Parts::new(self.alloc);
-        match self.read_fields(row.fields, fields, &mut parts) {
+        match self.read_fields(past, row.fields, fields, &mut parts) {
             Ok(()) => self.take_up(word, parts),
             Err(refusal) => Err(refusal),
         }
     }
 
-    /// The fields one after another.
+    /// The fields one after another, each once.
     fn read_fields(
         &self,
+        past: u32,
         forms: &[Form],
         mut fields: Fields<'_>,
         parts: &mut Parts,
     ) -> Result<(), LineRefusal>
-        ensures { GivesAt (fields_read self.now parts.old fields.entry.column forms.now fields.entry.fields) result parts.new }
+        ensures { GivesAt (all_read self.now parts.old past fields.entry.column forms.now fields.entry.fields) result parts.new }
     {
-        for form in forms {
+        let mut left = forms;
+        while let Some((form, others)) = left.split_first() {
             let column = fields.column();
             let Some(field) = fields.next() else {
-                return Ok(());
+                return Err(LineRefusal::Fault(fault(LineCause::Fields, past)));
             };
             match self.read_field(*form, field, parts) {
                 Ok(()) => {}
                 Err(FieldRefusal::Cause(cause)) => {
-                    return Err(LineRefusal::Fault(fault(cause, column)));
+                    let found = fault(cause, column);
+                    return Err(LineRefusal::Fault(first_of(past, others, fields, found)));
                 }
                 Err(FieldRefusal::NoMemory) => return Err(LineRefusal::NoMemory),
             }
+            left = others;
         }
-        Ok(())
+        if fields.is_empty() {
+            Ok(())
+        } else {
+            Err(LineRefusal::Fault(fault(LineCause::Fields, fields.column())))
+        }
     }
 
     /// The line whose fields are read, if it passes no limit.
@@ -155,15 +173,6 @@ impl Names {
 fn line_for(number: u8, word: Word, parts: Parts) -> Line
     ensures { result ≡ line_for number word parts }
 {
-    let Parts {
-        system,
-        other,
-        lan,
-        title,
-        octets,
-        options,
-        ..
-    } = parts;
     match word {
         Word::Set => Line::Set {
             key: parts.key,
@@ -176,22 +185,22 @@ fn line_for(number: u8, word: Word, parts: Parts) -> Line
         },
         Word::Es => Line::Es {
             name: number,
-            title,
+            title: parts.title,
         },
         Word::Is => Line::Is {
             name: number,
-            title,
+            title: parts.title,
         },
         Word::Port => Line::Port {
-            system,
-            lan,
+            system: parts.system,
+            lan: parts.lan,
             snpa: parts.station,
         },
         Word::Route => Line::Route {
-            system,
+            system: parts.system,
             prefix: parts.prefix,
-            next: other,
-            lan,
+            next: parts.other,
+            lan: parts.lan,
         },
         Word::Path => Line::Path {
             name: number,
@@ -199,59 +208,59 @@ fn line_for(number: u8, word: Word, parts: Parts) -> Line
             systems: parts.hops,
         },
         Word::Tsap => Line::Tsap {
-            system,
+            system: parts.system,
             selector: parts.selector,
         },
         Word::Start => Line::Start,
         Word::Connect => Line::Connect {
-            system,
+            system: parts.system,
             selector: parts.selector,
-            to: other,
+            to: parts.other,
             called: parts.called,
-            options,
-            octets,
+            options: parts.options,
+            octets: parts.octets,
         },
         Word::Accept => Line::Accept {
             end: parts.number,
-            options,
-            octets,
+            options: parts.options,
+            octets: parts.octets,
         },
         Word::Refuse => Line::Refuse {
             end: parts.number,
-            octets,
+            octets: parts.octets,
         },
         Word::Disconnect => Line::Disconnect {
             end: parts.number,
-            octets,
+            octets: parts.octets,
         },
         Word::Data => Line::Data {
             end: parts.number,
-            octets,
+            octets: parts.octets,
         },
         Word::Expedite => Line::Expedite {
             end: parts.number,
-            octets,
+            octets: parts.octets,
         },
         Word::Window => Line::Window {
             end: parts.number,
             credit: parts.credit,
         },
         Word::Unit => Line::Unit {
-            system,
-            to: other,
+            system: parts.system,
+            to: parts.other,
             wish: parts.wish,
-            octets,
+            octets: parts.octets,
         },
         Word::Tick => Line::Tick,
         Word::Settle => Line::Settle,
         Word::Deliver => Line::Deliver {
             frame: parts.number,
-            system,
+            system: parts.system,
         },
         Word::Inject => Line::Inject {
-            lan,
-            system,
-            octets,
+            lan: parts.lan,
+            system: parts.system,
+            octets: parts.octets,
         },
     }
 }
@@ -267,13 +276,32 @@ fn is_idle(text: &[u8]) -> bool
 }
 
 /// The place of the first octet that is no printable character.
+#[tactic(auto, using(crate::proofs::Printing::all_printable))]
 fn first_unprintable(octets: &[u8]) -> Option<usize>
     ensures place { result ≡ position (λ octet. not (is_printable octet)) octets.now }
     ensures there { IfSome result (λ place. place < length octets.now) }
 {
-    octets
-        .iter()
-        .position(|octet| !matches!(octet, 0x20..=0x7e))
+    if are_printable(octets) {
+        return None;
+    }
+    octets.iter().position(|octet| !is_printable(*octet))
+}
+
+/// Whether all octets are printable characters. It looks at each of them, which many at a time cost less.
+fn are_printable(octets: &[u8]) -> bool
+    ensures { result ≡ list_all is_printable octets.now }
+{
+    let mut all = true;
+    for octet in octets {
+        all &= is_printable(*octet);
+    }
+    all
+}
+
+fn is_printable(octet: u8) -> bool
+    ensures { result ≡ is_printable octet }
+{
+    matches!(octet, 0x20..=0x7e)
 }
 
 /// Printable characters as text.

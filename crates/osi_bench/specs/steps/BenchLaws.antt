@@ -1,87 +1,135 @@
 -- A line has one course on the bench, and events that were told stay told.
-use Rattle.std.proofs.Common.{◌≡◌, ℕ, false, List, [], ◌++◌, Option, Some, None, refl, sym, ◌∙◌, ap, subst}
+use Rattle.std.proofs.Common.{◌≡◌, ◌⊎◌, ℕ, ◌+◌, ◌-◌, ◌<◌, ◌≤◌, Bool, true, false, List, [], ◌++◌, length, take, Result, Ok, Err, inl, inr, refl, sym, ◌∙◌, ap, subst, arith}
 use Rattle.std.proofs.lemmas.Bool.{false≢true}
+use Rattle.std.proofs.lemmas.List.Concat.{flat_map-append}
 use Rattle.clnp_header.proofs.Answered.{one_front, apart}
 use Rattle.clnp_header.proofs.Spelled.{one_list}
-use Rattle.osi_bench.specs.declared.event.Event.{Event}
-use Rattle.osi_bench.specs.declared.line.Line.{Line}
-use Rattle.osi_bench.specs.declared.line.Line.TheVariants as lines
-use Rattle.osi_bench.specs.Bench.{Bench, RunsLine, TellsEvents, bench_meaning}
-use Rattle.osi_bench.specs.Grammar.{Names, line_of, declared_by}
-use Rattle.osi_bench.specs.steps.Known.{IsPlaced}
+use Rattle.osi_script.specs.declared.fault.LineFault.{LineFault}
+use Rattle.osi_script.specs.declared.line.Line.{Line}
+use Rattle.osi_script.specs.declared.line.Line.TheVariants as lines
+use Rattle.osi_script.specs.Grammar.{Reading, line_read}
+use Rattle.osi_script.specs.Known.{Declared}
+use Rattle.osi_script.specs.Tags.{Tags, tags_of}
+use Rattle.osi_journal.specs.declared.event.Event.{Event}
+use Rattle.osi_journal.specs.Told.{event_text, journal_text}
 use Rattle.line_loop.specs.Meaning.{Laws}
-use Rattle.osi_bench.specs.steps.OneRun.{HeaderLaws, one_step}
-use Rattle.osi_bench.specs.steps.Readings.{line_placed}
+use Rattle.osi_bench.specs.Bench.{Bench, RunsLine, FillsJournal, TellsEvents, bench_meaning, most_events}
 use Rattle.osi_bench.specs.LineSteps.{WorldStep}
-use Rattle.osi_bench.specs.Text.{text}
-use Rattle.osi_bench.specs.steps.TextLaws.{text-append}
 use Rattle.osi_bench.specs.World.{World}
+use Rattle.osi_bench.specs.steps.Known.{IsPlaced, started_after}
+use Rattle.osi_bench.specs.steps.OneRun.{HeaderLaws, one_step}
+use Rattle.osi_bench.specs.steps.Reads.{Moves, line_moves}
 
 header_laws : HeaderLaws
 header_laws = record { one_front = one_front; one_spelling = one_list; apart = apart }
 
--- an octet string says one line
-one_line : (found : Option Line) (line other : Line) → found ≡ Some line → found ≡ Some other → line ≡ other
-one_line found line other a b = let some : Some line ≡ Some other = sym a ∙ b in cc
+-- ---- one course
+
+one_reading : (read : Result Reading LineFault) (first second : Reading) → read ≡ Ok first → read ≡ Ok second → first ≡ second
+one_reading read first second a b = cc
+
+one_fault : (read : Result Reading LineFault) (first second : LineFault) → read ≡ Err first → read ≡ Err second → first ≡ second
+one_fault read first second a b = cc
+
+not_both : (read : Result Reading LineFault) (reading : Reading) (found : LineFault) → read ≡ Ok reading → read ≡ Err found → ⊥
+not_both read reading found a b = absurd (cc)
+
+-- a line that is read has one step
+record OneLine (made other : List Event) (names declared : Declared) (new next : World) : Type 0 where
+  made_is : made ≡ other
+  names_are : names ≡ declared
+  world_is : new ≡ next
+
+one_line : (old : Bench) (octets : List ℕ) (line second : Line) (names declared : Declared) (made other : List Event) (new next : World)
+    → line_read old.names octets ≡ Ok (record { line = line; names = names }) → line_read old.names octets ≡ Ok (record { line = second; names = declared })
+    → WorldStep old.world line made new → WorldStep old.world second other next → OneLine made other names declared new next
+one_line old octets line second names declared made other new next first_is second_is a b =
+    let same = one_reading (line_read old.names octets) (record { line = line; names = names }) (record { line = second; names = declared }) first_is second_is in
+    let lines : line ≡ second = ap (λ (r : Reading). r.line) same in
+    let steps : WorldStep old.world second made new = subst (λ (l : Line). WorldStep old.world l made new) lines a in
+    let one = one_step header_laws second old.world made other new next steps b in
+    record { made_is = one.0; names_are = ap (λ (r : Reading). r.names) same; world_is = one.1 }
 
 one_course : (old : Bench) (octets : List ℕ) (made other : List Event) (new next : Bench) → RunsLine old octets made new → RunsLine old octets other next → (made ≡ other) × (new ≡ next)
 one_course old octets made other new next a b =
-    let same : a.line ≡ b.line = one_line (line_of old.names octets) a.line b.line a.meaning b.meaning in
-    let steps : WorldStep old.world b.line made new.world = subst (λ (line : Line). WorldStep old.world line made new.world) same a.steps in
-    let one = one_step header_laws b.line old.world made other new.world next.world steps b.steps in
-    let names : new.names ≡ next.names = a.names ∙ ap (λ (line : Line). declared_by old.names octets line) same ∙ sym b.names in
+    let one = one_line old octets a.line b.line new.names next.names made other new.world next.world a.meaning b.meaning a.steps b.steps in
     let lines : new.lines ≡ next.lines = a.lines ∙ sym b.lines in
-    (one.0, λ i. record { names = names i; world = one.1 i; lines = lines i })
+    let events : new.events ≡ next.events = a.events ∙ ap (λ (m : List Event). old.events + length m) one.made_is ∙ sym b.events in
+    (one.made_is, λ i. record { names = one.names_are i; world = one.world_is i; lines = lines i; events = events i })
 
-no_meaning : (old : Bench) (octets : List ℕ) (made : List Event) (new : Bench) → RunsLine old octets made new → line_of old.names octets ≡ None → ⊥
-no_meaning old octets made new a none = let clash : Some a.line ≡ None = sym a.meaning ∙ none in absurd cc
+one_filling : (old : Bench) (octets : List ℕ) (made other : List Event) (new next : Bench) → FillsJournal old octets made new → FillsJournal old octets other next → (made ≡ other) × (new ≡ next)
+one_filling old octets made other new next a b =
+    let one = one_line old octets a.line b.line new.names next.names a.whole b.whole new.world next.world a.meaning b.meaning a.steps b.steps in
+    let lines : new.lines ≡ next.lines = a.lines ∙ sym b.lines in
+    let events : new.events ≡ next.events = a.events ∙ sym b.events in
+    let same : made ≡ other = a.made_is ∙ ap (λ (w : List Event). take (most_events - old.events) w) one.made_is ∙ sym b.made_is in
+    (same, λ i. record { names = one.names_are i; world = one.world_is i; lines = lines i; events = events i })
 
--- the events so far and those of a line are told by the names after it
-pub record Told (old : Names) (new : Names) (journal made : List Event) : Type 0 where
-  pub tells : new.started ≡ false → journal ++ made ≡ []
-  pub said : text new.tags (journal ++ made) ≡ text old.tags journal ++ text new.tags made
+no_room : (most events now size other : ℕ) → now ≡ events + size → now ≤ most → size ≡ other → most < events + other → ⊥
+no_room most events now size other now-is room same over = omega arith
 
--- where the set-up goes on nothing was told
-told_before : (old new : Names) (journal made : List Event) → journal ≡ [] → made ≡ [] → Told old new journal made
-told_before old new journal made none nothing =
-    let all : journal ++ made ≡ [] = ap (λ (j : List Event). j ++ made) none ∙ nothing in
-    record {
-      tells = λ _. all;
-      said = ap (text new.tags) all ∙ ap (λ (j : List Event). text old.tags j ++ text new.tags []) (sym none) ∙ ap (λ (m : List Event). text old.tags journal ++ text new.tags m) (sym nothing);
-    }
+not_filled : (old : Bench) (octets : List ℕ) (made other : List Event) (new next : Bench) → RunsLine old octets made new → FillsJournal old octets other next → ⊥
+not_filled old octets made other new next a b =
+    let one = one_line old octets a.line b.line new.names next.names made b.whole new.world next.world a.meaning b.meaning a.steps b.steps in
+    no_room most_events old.events new.events (length made) (length b.whole) a.events a.room (ap (λ (m : List Event). length m) one.made_is) b.over
 
--- where the names stay the same
-told_same : (names : Names) (journal made : List Event) → (names.started ≡ false → journal ++ made ≡ []) → Told names names journal made
-told_same names journal made tells = record { tells = tells; said = text-append names.tags journal made }
+-- ---- what was told stays told
 
-told_on : (names : Names) (octets : List ℕ) (line : Line) (world : World) (made : List Event) (new : World) (journal : List Event)
-    → IsPlaced names.started line → WorldStep world line made new → (names.started ≡ false → journal ≡ []) → Told names (declared_by names octets line) journal made
-told_on names octets lines.Nothing world made new journal placed step tells = told_same names journal made (λ not_yet. ap (λ (j : List Event). j ++ made) (tells not_yet) ∙ step.0)
-told_on names octets (lines.Lan name bound room) world made new journal placed step tells = told_before names _ journal made (tells placed) step.0
-told_on names octets (lines.Es name title) world made new journal placed step tells = told_before names _ journal made (tells placed) step.0
-told_on names octets (lines.Port system lan snpa) world made new journal placed step tells = told_before names _ journal made (tells placed) step.2
-told_on names octets (lines.Route system prefix next lan) world made new journal placed step tells = told_before names _ journal made (tells placed) step.4
-told_on names octets lines.Start world made new journal placed step tells =
-    record { tells = λ not_yet. absurd (false≢true (sym not_yet)); said = text-append names.tags journal made }
-told_on names octets (lines.Unit system to unit) world made new journal placed step tells = told_same names journal made (λ not_yet. absurd (false≢true (sym not_yet ∙ placed)))
-told_on names octets lines.Tick world made new journal placed step tells = told_same names journal made (λ not_yet. absurd (false≢true (sym not_yet ∙ placed)))
-told_on names octets (lines.Deliver frame system) world made new journal placed step tells = told_same names journal made (λ not_yet. absurd (false≢true (sym not_yet ∙ placed)))
+-- while the set-up goes on nothing happens
+quiet : (started : Bool) (line : Line) (old new : World) (made : List Event) → IsPlaced started line → WorldStep old line made new → started_after started line ≡ false
+    → (started ≡ false) × (made ≡ [])
+quiet started lines.Nothing old new made placed step later = (later, step.0)
+quiet started (lines.Lan name bound room) old new made placed step later = (placed, step.0)
+quiet started (lines.Es name title) old new made placed step later = (placed, step.0)
+quiet started (lines.Port system lan snpa) old new made placed step later = (placed, step.2)
+quiet started (lines.Route system prefix next lan) old new made placed step later = (placed, step.4)
+quiet started lines.Start old new made placed step later = absurd (false≢true (sym later))
+quiet started (lines.Unit system to wish octets) old new made placed step later = absurd (false≢true (sym later ∙ placed))
+quiet started lines.Tick old new made placed step later = absurd (false≢true (sym later ∙ placed))
+quiet started (lines.Deliver frame system) old new made placed step later = absurd (false≢true (sym later ∙ placed))
+quiet started (lines.Set key value) old new made placed step later = absurd step
+quiet started (lines.Is name title) old new made placed step later = absurd step
+quiet started (lines.Path name kind systems) old new made placed step later = absurd step
+quiet started (lines.Tsap system selector) old new made placed step later = absurd step
+quiet started (lines.Connect system selector to called options octets) old new made placed step later = absurd step
+quiet started (lines.Accept end options octets) old new made placed step later = absurd step
+quiet started (lines.Refuse end octets) old new made placed step later = absurd step
+quiet started (lines.Disconnect end octets) old new made placed step later = absurd step
+quiet started (lines.Data end octets) old new made placed step later = absurd step
+quiet started (lines.Expedite end octets) old new made placed step later = absurd step
+quiet started (lines.Window end credit) old new made placed step later = absurd step
+quiet started lines.Settle old new made placed step later = absurd step
+quiet started (lines.Inject lan system octets) old new made placed step later = absurd step
 
-told : (old : Bench) (octets : List ℕ) (made : List Event) (new : Bench) (journal : List Event) → RunsLine old octets made new → TellsEvents old journal → Told old.names new.names journal made
-told old octets made new journal a tells =
-    subst (λ (names : Names). Told old.names names journal made) (sym a.names)
-    (told_on old.names octets a.line old.world made new.world journal (line_placed old.names octets a.line a.meaning) a.steps tells)
+tells_on : (names new : Declared) (line : Line) (world next : World) (journal made : List Event) → Moves names line new → WorldStep world line made next
+    → (names.started ≡ false → journal ≡ []) → new.started ≡ false → journal ++ made ≡ []
+tells_on names new line world next journal made moves step tells later =
+    let both = quiet names.started line world next made moves.placed step (sym moves.started ∙ later) in
+    ap (λ (j : List Event). j ++ made) (tells both.0) ∙ both.1
+
+text-append : (tags : Tags) (first second : List Event) → journal_text tags (first ++ second) ≡ journal_text tags first ++ journal_text tags second
+text-append tags first second = flat_map-append (event_text tags) first second
+
+said_on : (names new : Declared) (journal made : List Event) → (names.started ≡ false) ⊎ (tags_of new ≡ tags_of names) → (names.started ≡ false → journal ≡ [])
+    → journal_text (tags_of new) (journal ++ made) ≡ journal_text (tags_of names) journal ++ journal_text (tags_of new) made
+said_on names new journal made (inl not_yet) tells =
+    let none : journal ≡ [] = tells not_yet in
+    ap (λ (j : List Event). journal_text (tags_of new) (j ++ made)) none ∙ ap (λ (j : List Event). journal_text (tags_of names) j ++ journal_text (tags_of new) made) (sym none)
+said_on names new journal made (inr same) tells =
+    text-append (tags_of new) journal made ∙ ap (λ (t : Tags). journal_text t journal ++ journal_text (tags_of new) made) same
 
 pub bench_laws : Laws bench_meaning
 bench_laws = record {
   one_step = one_course;
-  one_refusal = λ state octets said other a b. refl;
-  one_filling = λ old octets made other new next a b. absurd a;
-  step_or_refusal = λ old octets made new said a none. no_meaning old octets made new a none;
-  step_or_filling = λ old octets made other new next a b. b;
-  refusal_or_filling = λ old octets said made new a b. b;
+  one_refusal = λ state octets said other a b. one_fault (line_read state.names octets) said other a b;
+  one_filling = one_filling;
+  step_or_refusal = λ old octets made new said a found. not_both (line_read old.names octets) (record { line = a.line; names = new.names }) said a.meaning found;
+  step_or_filling = not_filled;
+  refusal_or_filling = λ old octets said made new found a. not_both (line_read old.names octets) (record { line = a.line; names = new.names }) said a.meaning found;
   counted = λ old octets made new a. a.lines;
   none_told = λ state. (λ _. refl, refl);
-  told = λ old octets made new journal a tells. let t = told old octets made new journal a tells in (t.tells, t.said);
-  told_full = λ old octets made new journal a tells. absurd a;
+  told = λ old octets made new journal a tells.
+      let moves = line_moves old.names octets a.line new.names a.meaning in
+      (tells_on old.names new.names a.line old.world new.world journal made moves a.steps tells, said_on old.names new.names journal made moves.tags tells);
+  told_full = λ old octets made new journal a tells. said_on old.names new.names journal made (line_moves old.names octets a.line new.names a.meaning).tags tells;
 }

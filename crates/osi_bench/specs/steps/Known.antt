@@ -1,39 +1,30 @@
--- What a line that was read keeps: the systems that it names are declared, there is room for what it declares, and it
--- stands where it may.
+-- What a line that was read keeps: the network runs it, the systems that it names are declared, and it stands where it may.
 use Rattle.std.specs.Prelude.{◌≡◌, ℕ, ◌<◌, ◌≤◌, Bool, true, false, [], length, None}
 use Rattle.clnp_header.specs.declared.pdu.Pdu.{Pdu}
 use Rattle.clnp_options.specs.declared.reason.PduKind.TheVariants.{Dt}
-use Rattle.osi_bench.specs.declared.line.Line.{Line}
-use Rattle.osi_bench.specs.declared.line.Line.TheVariants as lines
-use Rattle.osi_bench.specs.Grammar.{Names}
+use Rattle.pdu_parts.specs.Field.{IsAddress}
+use Rattle.osi_script.specs.declared.line.Line.{Line}
+use Rattle.osi_script.specs.declared.line.Line.TheVariants as lines
+use Rattle.osi_journal.specs.RawLawful.{raw_address}
+use Rattle.osi_bench.specs.LineSteps.{no_wish}
 
--- the line names systems of which there are so many
-abbrev pub NamesSystems : ℕ → Line → Type 0
-NamesSystems count lines.Nothing = Unit {0}
-NamesSystems count (lines.Lan name bound room) = Unit {0}
-NamesSystems count (lines.Es name title) = Unit {0}
-NamesSystems count (lines.Port system lan snpa) = system < count
-NamesSystems count (lines.Route system prefix next lan) = (system < count) × (next < count)
-NamesSystems count lines.Start = Unit {0}
-NamesSystems count (lines.Unit system to octets) = (system < count) × (to < count)
-NamesSystems count lines.Tick = Unit {0}
-NamesSystems count (lines.Deliver frame system) = system < count
+-- the network runs the line, and the systems that it names are among so many
+abbrev pub CanRun : ℕ → Line → Type 0
+CanRun count lines.Nothing = Unit {0}
+CanRun count (lines.Lan name bound room) = Unit {0}
+CanRun count (lines.Es name title) = Unit {0}
+CanRun count (lines.Port system lan snpa) = system < count
+CanRun count (lines.Route system prefix next lan) = (system < count) × (next < count)
+CanRun count lines.Start = Unit {0}
+CanRun count (lines.Unit system to wish octets) = (system < count) × (to < count) × (wish ≡ no_wish)
+CanRun count lines.Tick = Unit {0}
+CanRun count (lines.Deliver frame system) = system < count
+CanRun count line = ⊥
 
--- there is room for the system or the LAN that a line declares
-abbrev pub HasRoom : Names → Line → Type 0
-HasRoom names lines.Nothing = Unit {0}
-HasRoom names (lines.Lan name bound room) = length names.tags.lans ≡ 0
-HasRoom names (lines.Es name title) = length names.tags.systems < 16
-HasRoom names (lines.Port system lan snpa) = Unit {0}
-HasRoom names (lines.Route system prefix next lan) = Unit {0}
-HasRoom names lines.Start = Unit {0}
-HasRoom names (lines.Unit system to octets) = Unit {0}
-HasRoom names lines.Tick = Unit {0}
-HasRoom names (lines.Deliver frame system) = Unit {0}
-
--- there is room for what the line declares, and the systems that it names are declared
-abbrev pub StandsAfter : Names → Line → Type 0
-StandsAfter names line = HasRoom names line × NamesSystems (length names.tags.systems) line
+-- a title is an address, also for raw units
+abbrev pub TitleFits : Line → Type 0
+TitleFits (lines.Es name title) = IsAddress (raw_address title)
+TitleFits line = Unit {0}
 
 -- a DT PDU in one piece without options, with a unit that is not too long
 pub record IsPlainUnit (pdu : Pdu) : Type 0 where
@@ -54,6 +45,18 @@ IsPlaced started (lines.Es name title) = started ≡ false
 IsPlaced started (lines.Port system lan snpa) = started ≡ false
 IsPlaced started (lines.Route system prefix next lan) = started ≡ false
 IsPlaced started lines.Start = started ≡ false
-IsPlaced started (lines.Unit system to octets) = started ≡ true
-IsPlaced started lines.Tick = started ≡ true
-IsPlaced started (lines.Deliver frame system) = started ≡ true
+IsPlaced started (lines.Set key value) = started ≡ false
+IsPlaced started (lines.Is name title) = started ≡ false
+IsPlaced started (lines.Path name kind systems) = started ≡ false
+IsPlaced started (lines.Tsap system selector) = started ≡ false
+IsPlaced started line = started ≡ true
+
+-- whether the set-up has ended after a line
+abbrev pub started_after : Bool → Line → Bool
+started_after started lines.Start = true
+started_after started line = started
+
+-- how many systems a line declares
+abbrev pub systems_of : Line → ℕ
+systems_of (lines.Es name title) = 1
+systems_of line = 0

@@ -8,16 +8,17 @@ use Rattle.clnp_options.specs.declared.reason.PduKind.TheVariants.{Dt}
 use Rattle.clnp_header.specs.declared.pdu.Pdu.{Pdu}
 use Rattle.clnp_header.specs.Grammar.{IsPdu}
 use Rattle.clnp_header.specs.Faults.{IsPduFault}
-use Rattle.osi_bench.specs.declared.event.Event.{Event}
-use Rattle.osi_bench.specs.declared.event.Event.TheVariants as events
-use Rattle.osi_bench.specs.declared.event.Refused.{Refused}
-use Rattle.osi_bench.specs.declared.line.Line.{Line}
-use Rattle.osi_bench.specs.declared.line.Line.TheVariants as lines
+use Rattle.osi_journal.specs.declared.event.Event.{Event}
+use Rattle.osi_journal.specs.declared.event.Event.TheVariants as events
+use Rattle.osi_journal.specs.declared.cause.Refused.{Refused}
+use Rattle.osi_script.specs.declared.line.Line.{Line}
+use Rattle.osi_script.specs.declared.line.Line.TheVariants as lines
 use Rattle.osi_bench.specs.declared.lan.Lan.{Lan}
 use Rattle.osi_bench.specs.declared.lan.Frame.{Frame}
 use Rattle.osi_bench.specs.declared.lan.Picked.{Picked}
 use Rattle.osi_bench.specs.declared.lan.Picked.TheVariants.{Taken, NoSuch, Late, NotThere, NotOurs}
-use Rattle.osi_bench.specs.World.{System, World, raw_address, unit_pdu, sending, frame_of, bound_of, delivery}
+use Rattle.osi_bench.specs.World.{System, World, unit_pdu, sending, frame_of, bound_of, delivery}
+use Rattle.osi_journal.specs.RawLawful.{raw_address}
 use Rattle.osi_bench.specs.LineSteps.{reaction, Receives, Sends, Takes, Delivers, with_route, with_system, WorldStep, WorldRuns}
 
 -- what the grammar of PDUs and its faults ensure
@@ -84,7 +85,7 @@ one_step laws (lines.Route system prefix next lan) old made other new last a b =
           ∙ ap (λ (found : System). with_system old system (with_route b.0 prefix found.port)) hop ∙ sym b.5,
     )
 one_step laws lines.Start old made other new last a b = (a.0 ∙ sym b.0, a.1 ∙ sym b.1)
-one_step laws (lines.Unit system to octets) old made other new last a b =
+one_step laws (lines.Unit system to wish octets) old made other new last a b =
     let sender : a.0 ≡ b.0 = one_system _ a.0 b.0 a.2 b.2 in
     let receiver : a.1 ≡ b.1 = one_system _ a.1 b.1 a.3 b.3 in
     let P : System → System → Type 0 =
@@ -99,6 +100,19 @@ one_step laws (lines.Deliver number system) old made other new last a b =
           (subst P (sym same) b.3),
       a.2 ∙ sym b.2,
     )
+one_step laws (lines.Set key value) old made other new last a b = absurd a
+one_step laws (lines.Is name title) old made other new last a b = absurd a
+one_step laws (lines.Path name kind systems) old made other new last a b = absurd a
+one_step laws (lines.Tsap system selector) old made other new last a b = absurd a
+one_step laws (lines.Connect system selector to called options octets) old made other new last a b = absurd a
+one_step laws (lines.Accept end options octets) old made other new last a b = absurd a
+one_step laws (lines.Refuse end octets) old made other new last a b = absurd a
+one_step laws (lines.Disconnect end octets) old made other new last a b = absurd a
+one_step laws (lines.Data end octets) old made other new last a b = absurd a
+one_step laws (lines.Expedite end octets) old made other new last a b = absurd a
+one_step laws (lines.Window end credit) old made other new last a b = absurd a
+one_step laws lines.Settle old made other new last a b = absurd a
+one_step laws (lines.Inject lan system octets) old made other new last a b = absurd a
 
 pub one_run : (laws : HeaderLaws) (script : List Line) (first : World) (journal other : List Event) (last end : World)
     → WorldRuns first script journal last → WorldRuns first script other end → (journal ≡ other) × (last ≡ end)

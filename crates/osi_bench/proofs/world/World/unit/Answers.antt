@@ -3,7 +3,8 @@ use Rattle.std.specs.Prelude.{slice_get}
 use Rattle.std.proofs.lemmas.Option.{slice_get_read}
 use Rattle.clnp_header.specs.declared.pdu.Pdu.{Pdu}
 use Rattle.clnp_header.specs.Grammar.{IsPdu}
-use Rattle.osi_bench.specs.World.{raw_address, sending, unit_pdu}
+use Rattle.osi_journal.specs.RawLawful.{raw_address}
+use Rattle.osi_bench.specs.World.{sending, unit_pdu}
 use Rattle.osi_bench.proofs.Worlds.{sends_refused, sends_sent}
 use Rattle.osi_bench.proofs.world.World.unit.Goals as goal
 

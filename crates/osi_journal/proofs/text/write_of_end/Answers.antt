@@ -6,7 +6,7 @@ use Rattle.osi_script.specs.Tags.{tags_of, name_at}
 use Rattle.osi_journal.specs.Told.{octets_text}
 use Rattle.osi_journal.specs.steps.Written.{piece_text}
 use Rattle.osi_journal.proofs.Tails.{told_by}
-use Rattle.osi_journal.proofs.text.write_event.Goals as goal
+use Rattle.osi_journal.proofs.text.write_of_end.Goals as goal
 
 pub returns-in-Incoming : goal.returns-in-Incoming
 returns-in-Incoming c =
@@ -24,9 +24,3 @@ returns-in-Accept c = rw c.in-Accept.is (told_by _ _ _ _ _ (c.agreed.ensures (ta
 
 pub returns-in-Confirm : goal.returns-in-Confirm
 returns-in-Confirm c = rw c.in-Confirm.is (told_by _ _ _ _ _ (c.agreed-in-Confirm.ensures (tags_of c.args.names.now)) c.write-in-Confirm.ensures)
-
-pub returns-in-Sent : goal.returns-in-Sent
-returns-in-Sent c = rw c.in-Sent.is (told_by _ _ _ _ _ (c.raw.ensures (tags_of c.args.names.now)) c.write-in-Sent.ensures)
-
-pub returns-in-Unit : goal.returns-in-Unit
-returns-in-Unit c = rw c.in-Unit.is (told_by _ _ _ _ _ (c.raw-in-Unit.ensures (tags_of c.args.names.now)) c.write-in-Unit.ensures)

@@ -1,0 +1,19 @@
+-- The fields of a line gone over once: a fault of their count comes before a fault in one of them.
+use Rattle.std.specs.Prelude.{ℕ, List, Option, Some, None, Result, Err}
+use Rattle.osi_script.specs.declared.fault.LineFault.{LineFault}
+use Rattle.osi_script.specs.declared.form.Form.{Form}
+use Rattle.osi_script.specs.declared.parts.Parts.{Parts}
+use Rattle.osi_script.specs.Grammar.{count_fault, fields_read}
+use Rattle.osi_script.specs.Known.{Declared}
+
+-- the first of two faults
+abbrev pub first_of : Option LineFault → LineFault → LineFault
+first_of None found = found
+first_of (Some first) found = first
+
+abbrev pub counted : Option LineFault → Result Parts LineFault → Result Parts LineFault
+counted None read = read
+counted (Some found) read = Err found
+
+abbrev pub all_read : Declared → Parts → ℕ → ℕ → List Form → List (List ℕ) → Result Parts LineFault
+all_read names parts past column forms fields = counted (count_fault past column forms fields) (fields_read names parts column forms fields)
