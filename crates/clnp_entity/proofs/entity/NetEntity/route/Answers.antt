@@ -1,0 +1,7 @@
+use Rattle.clnp_entity.specs.Kept.{IsNear}
+use Rattle.clnp_entity.proofs.Near.{next_is, near_of}
+use Rattle.clnp_entity.proofs.entity.NetEntity.route.Goals as goal
+
+pub returns-clause-near : goal.returns-clause-near
+returns-clause-near c = near_of _ _ _ _ c.self.view_is c.next_hop.ensures
+    (next_is (IsNear c.self.inside.setup) c.self.inside.setup.rows c.args.address.now c.self.invariant.setting.hops)

@@ -1,0 +1,4 @@
+mod Indices
+mod Parts
+mod Passing
+mod Places

@@ -1,0 +1,81 @@
+//! The frames of a system are offered to the carrier below, and what it tells is passed on.
+
+ghost use Rattle.std.specs.Prelude.{◌≡◌, ◌++◌, OnOk};
+ghost use Rattle.clnp_net.specs.steps.Telling.{Passes, Tells, note_in};
+ghost use Rattle.clnp_step.specs.Handling.{OffersFrame, OffersFrames, drop_note};
+
+use nsap::{Nsap, Port};
+use osi_base::{Carrier, NoMemory, Note, Offered, Unit, Up, Wish};
+use std::collections::VecDeque;
+
+/// What waits to be taken up.
+pub type Ups = VecDeque<Up<Nsap>>;
+
+/// A frame is offered as it is.
+const PLAIN: Wish = Wish {
+    cut: false,
+    report: false,
+    trace: false,
+    path: 0,
+};
+
+/// Passes on the notes that wait below, until nothing waits there.
+pub fn pass_notes<C: Carrier<Addr = Port>>(link: &mut C, waiting: &mut Ups) -> Result<(), NoMemory>
+    ensures { OnOk result (Passes C.link C.steps link.old waiting.old.items link.new waiting.new.items) }
+{
+    while let Some(up) = link.next_up() {
+        pass_note(up, waiting)?;
+    }
+    Ok(())
+}
+
+/// Passes on a note.
+fn pass_note(up: Up<Port>, waiting: &mut Ups) -> Result<(), NoMemory>
+    ensures { OnOk result (waiting.new.items ≡ waiting.old.items ++ note_in up) }
+{
+    let Up::Note(note) = up else {
+        return Ok(());
+    };
+    waiting.push_back(Up::Note(note))?;
+    Ok(())
+}
+
+/// Offers the frames of a system, one after another.
+pub fn offer_frames<C: Carrier<Addr = Port>>(
+    link: &mut C,
+    system: u8,
+    frames: Vec<Unit<Port>>,
+    waiting: &mut Ups,
+) -> Result<(), NoMemory>
+    ensures { OnOk result (Tells waiting.old.items waiting.new.items (λ told. OffersFrames C.link C.steps link.old system frames.items link.new told)) }
+{
+    for frame in frames {
+        offer_frame(link, system, frame, waiting)?;
+    }
+    Ok(())
+}
+
+/// Offers a frame of a system, and tells where it is lost.
+fn offer_frame<C: Carrier<Addr = Port>>(
+    link: &mut C,
+    system: u8,
+    frame: Unit<Port>,
+    waiting: &mut Ups,
+) -> Result<(), NoMemory>
+    ensures { OnOk result (Tells waiting.old.items waiting.new.items (λ told. OffersFrame C.link C.steps link.old system frame link.new told)) }
+{
+    let answer = link.offer(frame, PLAIN)?;
+    pass_notes(link, waiting)?;
+    tell_drop(system, answer, waiting)
+}
+
+/// Tells that a frame is lost, where it is.
+fn tell_drop(system: u8, answer: Offered, waiting: &mut Ups) -> Result<(), NoMemory>
+    ensures { OnOk result (waiting.new.items ≡ waiting.old.items ++ drop_note system answer) }
+{
+    match answer {
+        Offered::Taken => {}
+        Offered::Dropped(_) => waiting.push_back(Up::Note(Note::DropFrame { system }))?,
+    }
+    Ok(())
+}

@@ -1,0 +1,14 @@
+pub mod Arrived
+pub mod Carrying
+pub mod Dropping
+pub mod Handled
+pub mod Headers
+pub mod Joined
+pub mod Lists
+pub mod Numbered
+pub mod Offered
+pub mod Passed
+pub mod Received
+pub mod Seen
+pub mod Ticked
+pub mod Kept

@@ -1,0 +1,5 @@
+pub mod Handling
+pub mod Laws
+pub mod Network
+pub mod Sound
+pub mod Step

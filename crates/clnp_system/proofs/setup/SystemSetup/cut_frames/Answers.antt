@@ -1,0 +1,17 @@
+use Rattle.std.proofs.Common.{List, Some, All, arith, sym, subst}
+use Rattle.clnp_header.specs.declared.pdu.Pdu.{Pdu}
+use Rattle.clnp_segment.specs.Cutting.{Cuts}
+use Rattle.clnp_system.specs.Written.{MayBeWritten}
+use Rattle.clnp_system.proofs.Lans.{lan_of}
+use Rattle.clnp_system.proofs.Writable.{cut_may_be_written}
+use Rattle.clnp_system.proofs.setup.SystemSetup.cut_frames.Goals as goal
+
+pub pieces-requires-clause-least : goal.pieces-requires-clause-least
+pieces-requires-clause-least c = let lan = lan_of c.args.self.now c.args.to.lan c.requires.setting c.requires.port in omega (arith, c.room.ensures)
+
+pub frames-requires-clause-written : goal.frames-requires-clause-written
+frames-requires-clause-written c =
+    let lan = lan_of c.args.self.now c.args.to.lan c.requires.setting c.requires.port in
+    let cuts : Cuts c.args.pdu c.room.result c.args.pdu.segment (Some c.in-Some.pdus.items) = rw c.in-Some.is at c.in_ok-pdus.ensures in
+    subst (λ (ps : List Pdu). All MayBeWritten ps) (sym c.deref.ensures.value)
+    (cut_may_be_written c.room.result c.args.pdu c.in-Some.pdus.items c.cut_written.ensures (omega (arith, c.room.ensures)) (omega (arith, c.room.ensures)) c.requires.written cuts)

@@ -1,0 +1,15 @@
+pub mod Deriving
+pub mod Forwarding
+pub mod Hearing
+pub mod Hellos
+pub mod Hops
+pub mod Identifiers
+pub mod Node
+pub mod Receiving
+pub mod Reporting
+pub mod Sending
+pub mod Setting
+pub mod Tables
+pub mod Ticking
+pub mod Verdicts
+pub mod Written

@@ -1,0 +1,196 @@
+//! The frames that a system sends (X.233, PDU composition; ISO 9542, request redirect).
+
+ghost use Rattle.std.specs.Prelude.{◌≡◌, ◌≤◌, ◌∷◌, [], All, IfOk, IsSome, Some, length, option_map, option_to_list};
+ghost use Rattle.clnp_header.specs.Writing.{header_length as length_of_header, pdu_length as length_of_pdu};
+ghost use Rattle.clnp_segment.specs.Cutting.{Cuts};
+ghost use Rattle.esis_pdu.specs.Hellos.{size_of, title_field};
+ghost use Rattle.esis_pdu.specs.declared.hello.Hello.TheVariants.{Rd};
+ghost use Rattle.clnp_system.specs.Hellos.{RedirectsTo, is_detour, sender};
+ghost use Rattle.clnp_system.specs.Setting.{IsSetting, port_on};
+ghost use Rattle.clnp_system.specs.Written.{AreFrames, CutFrames, IsHelloFrame, IsPduFrame, MayBeWritten};
+
+use crate::setup::SystemSetup;
+use clnp_header::{Pdu, header_length, write_pdu};
+use clnp_segment::{CutRefusal, cut, cut_written};
+use esis_pdu::{Hello, write_esis};
+use nsap::{Hop, Nsap, Port};
+use osi_base::{Bytes, HeaderRefusal, NoMemory, Unit};
+use std::alloc::Global;
+
+impl SystemSetup {
+    /// The frames of a PDU, cut for the room of the LAN. None exactly where it does not fit and may not be cut.
+    pub(crate) fn cut_frames(
+        &self,
+        alloc: Global,
+        to: Port,
+        pdu: Pdu,
+    ) -> Result<Option<Vec<Unit<Port>>>, NoMemory>
+        requires setting { IsSetting self.now }
+        requires port { IsSome (port_on self.now to.lan) }
+        requires written { MayBeWritten pdu }
+        ensures { IfOk result (λ frames. CutFrames self.now to pdu (option_map (λ list. list.items) frames)) }
+    {
+        cut_written();
+        match pieces(alloc, pdu, self.room(to.lan))? {
+            Some(pdus) => Ok(Some(self.frames(alloc, to, &pdus)?)),
+            None => Ok(None),
+        }
+    }
+
+    /// A frame for each PDU, in order, from the own port on the LAN.
+    fn frames(&self, alloc: Global, to: Port, pdus: &[Pdu]) -> Result<Vec<Unit<Port>>, NoMemory>
+        requires port { IsSome (port_on self.now to.lan) }
+        requires written { All MayBeWritten pdus.now }
+        ensures { IfOk result (λ frames. AreFrames self.now to pdus.now frames.items) }
+    {
+        let mut frames = Vec::new(alloc);
+        for pdu in pdus {
+            frames.push(self.frame(alloc, to, pdu)?)?;
+        }
+        Ok(frames)
+    }
+
+    /// The frame of a PDU, from the own port on the LAN.
+    pub(crate) fn frame(&self, alloc: Global, to: Port, pdu: &Pdu) -> Result<Unit<Port>, NoMemory>
+        requires port { IsSome (port_on self.now to.lan) }
+        requires written { MayBeWritten pdu.now }
+        ensures { IfOk result (λ frame. IsPduFrame self.now to pdu.now frame) }
+    {
+        match write_pdu(alloc, pdu) {
+            Ok(octets) => Ok(self.unit(to, octets)),
+            Err(HeaderRefusal::TooLong) => unreachable!(),
+            Err(HeaderRefusal::NoMemory) => Err(NoMemory),
+        }
+    }
+
+    /// The frame of a hello, from the own port on the LAN.
+    pub(crate) fn hello_frame(
+        &self,
+        alloc: Global,
+        to: Port,
+        hello: &Hello,
+    ) -> Result<Unit<Port>, NoMemory>
+        requires port { IsSome (port_on self.now to.lan) }
+        requires short { size_of hello.now ≤ 254 }
+        ensures { IfOk result (λ frame. IsHelloFrame self.now to hello.now frame) }
+    {
+        match write_esis(alloc, hello) {
+            Ok(octets) => Ok(self.unit(to, octets)),
+            Err(HeaderRefusal::TooLong) => unreachable!(),
+            Err(HeaderRefusal::NoMemory) => Err(NoMemory),
+        }
+    }
+
+    /// The redirect to the sender of a frame, about a PDU for that destination that goes to the hop. None exactly where the
+    /// hop is on another LAN, or is the sender.
+    pub(crate) fn redirect(
+        &self,
+        alloc: Global,
+        from: Port,
+        at: Port,
+        destination: Nsap,
+        hop: &Hop,
+    ) -> Result<Option<Unit<Port>>, NoMemory>
+        requires { IsSome (port_on self.now at.lan) }
+        ensures { IfOk result (λ frame. RedirectsTo self.now from at destination hop.now (option_to_list frame)) }
+    {
+        if !is_detour(&from, &at, hop) {
+            return Ok(None);
+        }
+        let hello = self.rd(destination, hop);
+        let frame = self.hello_frame(alloc, sender(&from, &at), &hello)?;
+        Ok(Some(frame))
+    }
+
+    /// A redirect to the hop.
+    fn rd(&self, destination: Nsap, hop: &Hop) -> Hello
+        ensures value { result ≡ Rd self.now.hold destination hop.now.port.snpa hop.now.title }
+        ensures short { size_of result ≤ 254 }
+    {
+        // Their lengths are known once they are read.
+        let _octets = destination.octets().len()
+            + hop.port.snpa.octets().len()
+            + title_octets(&hop.title);
+        Hello::Rd {
+            hold: self.hold,
+            address: destination,
+            snpa: hop.port.snpa,
+            title: hop.title,
+        }
+    }
+
+    /// Octets on their way from the own port on the LAN.
+    fn unit(&self, to: Port, octets: Vec<u8>) -> Unit<Port>
+        requires { IsSome (port_on self.now to.lan) }
+        ensures from { Some result.from ≡ port_on self.now to.lan }
+        ensures to { result.to ≡ to }
+        ensures octets { result.octets ≡ octets.items }
+    {
+        Unit {
+            from: self.port_on(to.lan).unwrap(),
+            to,
+            octets: Bytes::of(octets),
+        }
+    }
+}
+
+/// The sender of a frame, on the LAN on which it came.
+pub(crate) fn sender(from: &Port, at: &Port) -> Port
+    ensures { result ≡ sender from.now at.now }
+{
+    Port {
+        lan: at.lan,
+        snpa: from.snpa,
+    }
+}
+
+/// Whether the hop is on the LAN on which a frame came, and is not its sender.
+fn is_detour(from: &Port, at: &Port, hop: &Hop) -> bool
+    ensures { result ≡ is_detour from.now at.now hop.now }
+{
+    hop.port.lan == at.lan && hop.port.snpa != from.snpa
+}
+
+/// The octets of a title and its length.
+fn title_octets(title: &Option<Nsap>) -> usize
+    ensures count { result ≡ length (title_field title.now) }
+    ensures most { result ≤ 21 }
+{
+    match title {
+        Some(title) => 1 + title.octets().len(),
+        None => 1,
+    }
+}
+
+/// The pieces of a PDU for a room; one that fits is its one piece. None exactly where it does not fit and may not be cut.
+fn pieces(alloc: Global, pdu: Pdu, room: u32) -> Result<Option<Vec<Pdu>>, NoMemory>
+    requires least { 264 ≤ room }
+    requires written { MayBeWritten pdu }
+    ensures { IfOk result (λ pdus. Cuts pdu room pdu.segment (option_map (λ list. list.items) pdus)) }
+{
+    if pdu_length(&pdu) <= room as usize {
+        return Ok(Some(alone(alloc, pdu)?));
+    }
+    match cut(alloc, &pdu, room) {
+        Ok(pdus) => Ok(Some(pdus)),
+        Err(CutRefusal::NotPermitted) => Ok(None),
+        Err(CutRefusal::NoMemory) => Err(NoMemory),
+    }
+}
+
+/// The PDU alone.
+fn alone(alloc: Global, pdu: Pdu) -> Result<Vec<Pdu>, NoMemory>
+    ensures { IfOk result (λ pdus. pdus.items ≡ pdu ∷ []) }
+{
+    let mut pdus = Vec::new(alloc);
+    pdus.push(pdu)?;
+    Ok(pdus)
+}
+
+/// The octets of a PDU, header and data.
+pub(crate) fn pdu_length(pdu: &Pdu) -> usize
+    requires { length_of_header pdu.now ≤ 254 }
+    ensures { result ≡ length_of_pdu pdu.now }
+{
+    header_length(pdu).unwrap() + pdu.body.as_slice().len()
+}

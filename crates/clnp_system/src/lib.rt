@@ -1,0 +1,24 @@
+//! One system of the network: what each of its steps comes to, and the parts of a step that keep nothing between calls
+//! (X.233, functions of the protocol; ISO 9542, functions of the protocol).
+#![tactic(auto)]
+
+mod aim;
+mod answer;
+mod forwarding;
+mod framing;
+mod hello;
+mod laws;
+mod report;
+mod sending;
+mod setup;
+#[cfg(test)]
+mod tests;
+mod verdict;
+
+pub use aim::Aim;
+pub use answer::{Handled, NetSent};
+pub use hello::{ALL_ENDS, ALL_INTERMEDIATES};
+pub use laws::{comes_up, derived, quiet_tick, sent, stored};
+pub use report::Reported;
+pub use setup::{Path, SystemSetup};
+pub use verdict::Verdict;
