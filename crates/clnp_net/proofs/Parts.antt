@@ -1,5 +1,5 @@
 -- Parts of a call are put together: one frame more, one arrival more, one system more.
-use Rattle.std.proofs.Common.{◌≡◌, ◌⊎◌, inl, inr, ℕ, ◌+◌, ◌<◌, ◌≤◌, Bool, true, false, List, [], ◌∷◌, ◌++◌, length, take, drop, slice_get, slice_index_or, slice_set, refl, sym, ◌∙◌, ap, subst, append_assoc, arith, Option, Some, None, length-append, length-drop, zero, suc}
+use Rattle.std.proofs.Common.{◌≡◌, inl, inr, ℕ, ◌+◌, ◌<◌, ◌≤◌, Bool, true, false, List, [], ◌∷◌, ◌++◌, length, take, drop, slice_get, slice_index_or, slice_set, refl, sym, ◌∙◌, ap, subst, append_assoc, arith, Some, None, length-append, length-drop, zero, suc}
 use Rattle.std.specs.Prelude.{◌&&◌, ◌↔◌, IsTrue, Result, Ok, Err, cond, min, nat_eq}
 use Rattle.std.specs.Cmp.Lexicographic.{pointwise}
 use Rattle.std.specs.List.{All, AllByRecursion, filter, list_any, position}
@@ -23,18 +23,16 @@ use Rattle.osi_base.specs.Floated.{Floated, is_unit_of, is_young}
 use Rattle.osi_base.specs.Gathering.{Gathers}
 use Rattle.esis_tables.specs.Rows.{Rows}
 use Rattle.clnp_system.specs.Node.{Frame, Node, Reaction}
-use Rattle.clnp_system.specs.Receiving.{Receives}
-use Rattle.clnp_system.specs.Sending.{Sends}
 use Rattle.clnp_system.specs.Tables.{Tables, rows_tables}
 use Rattle.clnp_system.specs.Ticking.{NodeTicks}
 use Rattle.clnp_system.proofs.Arriving.{stored_is}
-use Rattle.clnp_step.specs.Handling.{Changes, Handles, IsReceived, Nobody, OffersFrame, OffersFrames, Somebody, TicksAll, drop_note, is_system, notes_of, plain_wish}
+use Rattle.clnp_step.specs.Handling.{Changes, Handles, IsReceived, Nobody, OffersFrame, OffersFrames, Somebody, TicksAll, is_system, notes_of}
 use Rattle.clnp_step.specs.Network.{Network}
 use Rattle.clnp_step.specs.Sound.{IsTimely}
 use Rattle.clnp_step.specs.Step.{Arrives, Begins, IsDropped, IsNobodys, IsTaken, NetOffers, NetTicks, counted, is_source, strays_in}
 use Rattle.clnp_step.proofs.Lists.{all_back, all_both, all_front, all_weaker}
-use Rattle.clnp_net.specs.steps.Telling.{AreBehind, DropsUnit, HandsOut, IsSentBy, IsSourceAt, Passes, Reacts, ReceivesAt, SendsAt, SendsFrom, Tells, TicksAt}
-use Rattle.clnp_net.proofs.Places.{IsFirstAt, first_at, none_there, parts}
+use Rattle.clnp_net.specs.steps.Telling.{AreBehind, DropsUnit, HandsOut, IsSourceAt, Passes, Reacts, ReceivesAt, SendsAt, SendsFrom, Tells, TicksAt}
+use Rattle.clnp_net.proofs.Places.{first_at, none_there, parts}
 
 -- ---- what is told
 

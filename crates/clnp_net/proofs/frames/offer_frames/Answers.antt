@@ -1,4 +1,4 @@
-use Rattle.std.proofs.Common.{rules, ◌≡◌, ◌∙◌, ◌++◌, ◌∷◌, [], ap, append_assoc, List, ℕ, sym}
+use Rattle.std.proofs.Common.{◌∙◌, ◌++◌, ◌∷◌, [], ap, append_assoc, List, sym}
 use Rattle.clnp_system.specs.Node.{Frame}
 use Rattle.clnp_net.proofs.Parts.{offers_more, tells_on}
 use Rattle.clnp_net.proofs.frames.offer_frames.Goals as goal

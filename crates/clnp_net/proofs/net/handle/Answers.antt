@@ -1,7 +1,5 @@
-use Rattle.std.proofs.Common.{rules, ◌≡◌, List, [], ◌∷◌}
-use Rattle.nsap.specs.declared.port.Port.{Port}
-use Rattle.osi_base.specs.declared.unit.Up.{Up}
-use Rattle.clnp_net.proofs.Parts.{all_handled, handling_next, handling_none}
+use Rattle.std.proofs.Common.{rules, ◌≡◌, [], ◌∷◌}
+use Rattle.clnp_net.proofs.Parts.{all_handled, handling_next}
 use Rattle.clnp_net.proofs.net.handle.Goals as goal
 
 pub loop-up-preserved : goal.loop-up-preserved

@@ -1,4 +1,4 @@
-use Rattle.std.proofs.Common.{◌≡◌, ◌∙◌, ◌<◌, ◌≤◌, length, arith}
+use Rattle.std.proofs.Common.{arith}
 use Rattle.clnp_net.proofs.Parts.{counted_whole, counting_next}
 use Rattle.clnp_net.proofs.net.strays_after.Goals as goal
 

@@ -1,4 +1,3 @@
-use Rattle.std.proofs.Common.{◌≡◌, ◌∙◌, refl}
 use Rattle.clnp_system.specs.Node.{reaction_of}
 use Rattle.clnp_net.proofs.Parts.{ticking_next}
 use Rattle.clnp_net.proofs.net.tick_all.Goals as goal

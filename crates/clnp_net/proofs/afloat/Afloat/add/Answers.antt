@@ -1,4 +1,4 @@
-use Rattle.std.proofs.Common.{rules, ◌≡◌, ◌∙◌, ◌∷◌, ℕ, List, refl}
+use Rattle.std.proofs.Common.{rules, ◌≡◌, ◌∙◌}
 use Rattle.clnp_net.proofs.Indices.{indexed_grown, indexed_kept, indexed_same}
 use Rattle.clnp_net.proofs.afloat.Afloat.add.Goals as goal
 

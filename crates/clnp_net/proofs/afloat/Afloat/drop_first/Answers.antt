@@ -1,4 +1,4 @@
-use Rattle.std.proofs.Common.{rules, ◌≡◌, ◌∷◌, ℕ, List, refl}
+use Rattle.std.proofs.Common.{rules, ◌≡◌, ◌∷◌, refl}
 use Rattle.clnp_net.proofs.Indices.{indexed_popped}
 use Rattle.clnp_net.proofs.afloat.Afloat.drop_first.Goals as goal
 

@@ -1,4 +1,4 @@
-use Rattle.std.proofs.Common.{◌≡◌, ◌∙◌, ℕ}
+use Rattle.std.proofs.Common.{◌∙◌}
 use Rattle.osi_base.specs.Calls.{Choose}
 use Rattle.clnp_system.specs.Tables.{rows_tables}
 use Rattle.clnp_step.proofs.Kept.{stays_sound}

@@ -1,4 +1,3 @@
-use Rattle.std.proofs.Common.{◌≡◌, ◌∙◌, [], List, ap, sym, subst}
 use Rattle.clnp_system.specs.Tables.{rows_tables}
 use Rattle.clnp_step.proofs.Kept.{begins_soundly}
 use Rattle.clnp_net.proofs.Parts.{begun, begun_all}

@@ -1,4 +1,4 @@
-use Rattle.std.proofs.Common.{◌≡◌, ◌∙◌, ◌<◌, ℕ, ◌+◌, sym, ap, subst}
+use Rattle.std.proofs.Common.{◌∙◌, ◌<◌, ℕ, sym, ap, subst}
 use Rattle.esis_tables.specs.Rows.{Rows}
 use Rattle.osi_base.specs.Floated.{is_young}
 use Rattle.std.specs.List.{filter}

@@ -1,11 +1,6 @@
-use Rattle.std.proofs.Common.{◌≡◌, ◌∙◌, ◌<◌, ℕ, ap, refl, subst, sym, length}
-use Rattle.osi_base.specs.Calls.{Offer}
+use Rattle.std.proofs.Common.{length}
 use Rattle.osi_base.specs.declared.unit.Offered.TheVariants.{Taken as WasTaken, Dropped}
-use Rattle.esis_tables.specs.Rows.{Rows}
 use Rattle.clnp_system.specs.Tables.{rows_tables}
-use Rattle.clnp_step.specs.Network.{Network}
-use Rattle.clnp_step.specs.Sound.{IsSound}
-use Rattle.clnp_step.specs.Step.{NetOffers}
 use Rattle.clnp_step.proofs.Offered.{offer_keeps}
 use Rattle.clnp_net.proofs.Parts.{handed, network_of, not_full, offer_dropped, offer_taken, past_all}
 use Rattle.clnp_net.proofs.net.ClnpNet.send.Goals as goal

@@ -1,9 +1,7 @@
-use Rattle.std.proofs.Common.{rules, ◌≡◌, ◌∙◌, ℕ, List, sym, subst, ap}
-use Rattle.nsap.specs.declared.port.Port.{Port}
-use Rattle.osi_base.specs.declared.unit.Unit.{Unit as CarriedUnit}
+use Rattle.std.proofs.Common.{ℕ, List, subst, ap}
 use Rattle.std.specs.List.{slice_set}
 use Rattle.esis_tables.specs.Rows.{Rows}
-use Rattle.clnp_system.specs.Node.{Frame, Node, reaction_of}
+use Rattle.clnp_system.specs.Node.{Node, reaction_of}
 use Rattle.clnp_net.proofs.Parts.{got_at}
 use Rattle.clnp_system.specs.Receiving.{Receives}
 use Rattle.clnp_system.specs.Tables.{rows_tables}

@@ -1,4 +1,4 @@
-use Rattle.std.proofs.Common.{◌≡◌, ◌∙◌, sym, refl}
+use Rattle.std.proofs.Common.{◌∙◌, sym, refl}
 use Rattle.clnp_system.specs.Node.{sent_of}
 use Rattle.clnp_net.proofs.Parts.{sent_at, sent_none, source_at, within_at}
 use Rattle.clnp_step.specs.Step.{is_source}
