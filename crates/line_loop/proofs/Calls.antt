@@ -1,8 +1,8 @@
 -- How a feed goes on by what the calls of the code ensure: the views of the code's values are those of `Feeding`.
 use Rattle.std.proofs.lemmas.Bool.Decides.{nat_tests}
 use Rattle.std.specs.Prelude.{Result, Ok, Err, OnOk}
-use Rattle.std.proofs.Common.{◌≡◌, ◌≢◌, ◌==◌, true, false, ℕ, ◌+◌, ◌-◌, ◌<◌, ◌≤◌, List, [], ◌∷◌, ◌++◌, length, take, drop, get_or, inl, inr, refl, sym, ◌∙◌, ap, subst, append_assoc, arith}
-use Rattle.std.proofs.lemmas.List.{length-append, length-take-le, take-append-drop, drop_more}
+use Rattle.std.proofs.Common.{◌≡◌, ◌≢◌, ◌==◌, true, false, ℕ, ◌+◌, ◌<◌, ◌≤◌, List, [], ◌∷◌, ◌++◌, length, inr, refl, sym, ◌∙◌, ap, subst, append_assoc, arith}
+use Rattle.std.proofs.lemmas.List.{length-append}
 use Rattle.line_loop.specs.Limits.{most_octets}
 use Rattle.line_loop.specs.Lines.{most_lines, most_in_line, without_return}
 use Rattle.line_loop.specs.Meaning.{Meaning, Laws, HasRun, HasRefused, HasFilled}
@@ -159,29 +159,6 @@ module _ {M E R : Type 0} (meaning : Meaning M E R) where
       within_too_much octets rest old before mid between last after w
       (subst (λ (xs : List ℕ). Stops meaning (IsTooMuch meaning) xs mid between last after) (append_assoc part (10 ∷ []) left ∙ sym parts)
       (too_much_stays meaning (part ++ 10 ∷ []) left mid between last after h))
-
-  -- the octets that there is room for, and one more
-  pub past_room : (octets : List ℕ) (old inner new : Held M) (before after : List ℕ) → inner ≡ old → inner.octets ≤ most_octets → most_octets - inner.octets < length octets
-      → new.octets ≡ old.octets + length (take (most_octets - inner.octets) octets) → Feeds meaning (take (most_octets - inner.octets) octets) old before new after
-      → Stops meaning (IsTooMuch meaning) octets old before new.machine after
-  past_room octets old inner new before after same most past count f =
-      let room : ℕ = most_octets - inner.octets in
-      let known : inner.octets ≡ old.octets = ap (λ (h : Held M). h.octets) same in
-      let taken : length (take room octets) ≡ room = length-take-le room octets (omega arith) in
-      subst (λ (xs : List ℕ). Stops meaning (IsTooMuch meaning) xs old before new.machine after) (ap (λ (xs : List ℕ). take room octets ++ xs) (sym (drop_more octets room 0 past)) ∙ take-append-drop room octets)
-      (feeds_stop meaning (IsTooMuch meaning) (take room octets) (get_or octets room 0 ∷ drop (room + 1) octets) old before new after new.machine after f
-      (stops_full meaning (get_or octets room 0) (drop (room + 1) octets) new after (inl (omega arith))))
-
-  pub front_refused : (number : ℕ) (said : R) (room : ℕ) (octets : List ℕ) (old : Held M) (before : List ℕ) (last : M) (after : List ℕ)
-      → StopsAtLine meaning number said (take room octets) old before last after → StopsAtLine meaning number said octets old before last after
-  front_refused number said room octets old before last after h =
-      subst (λ (xs : List ℕ). StopsAtLine meaning number said xs old before last after) (take-append-drop room octets)
-      (refused_stays meaning number said (take room octets) (drop room octets) old before last after h)
-
-  pub front_too_much : (room : ℕ) (octets : List ℕ) (old : Held M) (before : List ℕ) (last : M) (after : List ℕ)
-      → Stops meaning (IsTooMuch meaning) (take room octets) old before last after → Stops meaning (IsTooMuch meaning) octets old before last after
-  front_too_much room octets old before last after h =
-      subst (λ (xs : List ℕ). Stops meaning (IsTooMuch meaning) xs old before last after) (take-append-drop room octets) (too_much_stays meaning (take room octets) (drop room octets) old before last after h)
 
 pub count_left : (rest part left : List ℕ) (before now all : ℕ) → rest ≡ part ++ 10 ∷ left → now ≡ before + length part + 1 → before + length rest ≡ all → now + length left ≡ all
 count_left rest part left before now all parts count sum = omega (arith, ap length parts, length-append part (10 ∷ left))

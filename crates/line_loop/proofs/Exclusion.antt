@@ -3,6 +3,7 @@
 -- one course.
 use Rattle.std.proofs.Common.{◌≡◌, ◌≢◌, ◌⊎◌, ℕ, ◌+◌, List, [], ◌∷◌, ◌++◌, length, map, inl, inr, refl, sym, ◌∙◌, ap, subst, append_assoc, arith, Option, Some}
 use Rattle.std.proofs.lemmas.List.{append-nil, length-append, length_push}
+pub use Rattle.octet_loop.proofs.Exact.{complete}
 use Rattle.osi_base.specs.declared.status.Status.{Status}
 use Rattle.osi_base.specs.declared.status.Status.TheVariants.{Done, RefusedLine, RefusedWords, ReadFault, WriteFault, NoMemory, RefusedCapture, TooMuch}
 use Rattle.line_loop.specs.Lines.{whole_lines, open_line, last_line, without_return}
@@ -11,7 +12,7 @@ use Rattle.line_loop.specs.Course.{Runs, IsRead, IsWhole, IsFull, IsWithin, IsOv
 use Rattle.line_loop.specs.Outcome.{Asks, AsksFor, Outcome}
 use Rattle.line_loop.specs.Exact.{OneCourse, IsAccepted, IsFailure, AsksOne}
 use Rattle.line_loop.proofs.Lines.{feed_or_other, whole_feed, whole_part, open_part}
-use Rattle.osi_base.specs.Ends.{HasRisen, Took, Put, IsAtEnd}
+use Rattle.osi_base.specs.Ends.{Took, Put, IsAtEnd}
 use Rattle.line_loop.proofs.Driving.{Ran}
 use Rattle.line_loop.proofs.Reading.{runs_split, one_step_of, refused_more, too_much_more}
 use Rattle.line_loop.proofs.ReadFronts.{last_line-push, one_run, one_read, AnyRead, runs_front, front_read}
@@ -386,11 +387,3 @@ module _ {M E R : Type 0} (meaning : Meaning M E R) (laws : Laws meaning) where
             inl (done.0, r.1, ((λ is. absurd (cc)), done.1), r.3)
         | inr fails ↦ inr fails
       ]
-
--- where neither a read nor a write fails, only memory does
-pub complete : {T : Type 0} (status : Status) (reads reads_now writes writes_now : ℕ) → T ⊎ IsFailure status → (status ≡ ReadFault → HasRisen reads reads_now) → (status ≡ WriteFault → HasRisen writes writes_now)
-    → ¬ HasRisen reads reads_now → ¬ HasRisen writes writes_now → T ⊎ (status ≡ NoMemory)
-complete status reads reads_now writes writes_now (inl done) read write no_read no_write = inl done
-complete status reads reads_now writes writes_now (inr (inl fault)) read write no_read no_write = absurd (no_read (read fault))
-complete status reads reads_now writes writes_now (inr (inr (inl fault))) read write no_read no_write = absurd (no_write (write fault))
-complete status reads reads_now writes writes_now (inr (inr (inr memory))) read write no_read no_write = inr memory

@@ -3,8 +3,8 @@ pub mod Driving
 pub mod Exclusion
 pub mod Feeding
 pub mod Lines
+pub mod Pieces
 pub mod ReadFronts
 pub mod Reading
 pub mod Returns
 pub mod Totality
-pub mod Written

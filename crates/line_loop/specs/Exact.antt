@@ -1,8 +1,8 @@
 -- Octets come to one thing at most: they were read, or one line is refused, or a limit is passed. What all octets of a
 -- source ask for comes, or a failure in its place.
-use Rattle.std.specs.Prelude.{◌≡◌, ◌⊎◌, ℕ, List}
+use Rattle.std.specs.Prelude.{◌≡◌, ℕ, List}
 use Rattle.osi_base.specs.declared.status.Status.{Status}
-use Rattle.osi_base.specs.declared.status.Status.TheVariants.{ReadFault, WriteFault, NoMemory}
+pub use Rattle.octet_loop.specs.Outcome.{IsFailure}
 use Rattle.line_loop.specs.Meaning.{Meaning}
 use Rattle.line_loop.specs.Course.{IsRead, IsWhole, IsTooMuch, IsTooMuchAtEnd, IsRefusedAt, IsRefusedAtEnd}
 use Rattle.line_loop.specs.Outcome.{AsksFor}
@@ -39,10 +39,6 @@ pub record OneCourse {M E R : Type 0} (meaning : Meaning M E R) : Type 0 where
       → IsWhole meaning first octets journal last → IsTooMuchAtEnd meaning first octets other state → ⊥
   pub ends_not_both : (first : M) (octets : List ℕ) (line : ℕ) (said : R) (journal : List E) (last : M) (other : List E) (state : M)
       → IsRefusedAtEnd meaning first octets line said journal last → IsTooMuchAtEnd meaning first octets other state → ⊥
-
--- a read, a write or memory failed
-abbrev pub IsFailure : Status → Type 0
-IsFailure status = (status ≡ ReadFault) ⊎ (status ≡ WriteFault) ⊎ (status ≡ NoMemory)
 
 -- an input asks for at most one status and one transcript: Done, or the first refused line, or that a limit is passed
 abbrev pub AsksOne : {M E R : Type 0} → Meaning M E R → Type 0

@@ -1,13 +1,14 @@
 //! Lines out of pieces of any size. Each line is run when it has come whole.
 
-ghost use Rattle.std.specs.Prelude.{◌≡◌, ◌++◌, ◌+◌, ◌<◌, ◌≤◌, ◌∷◌, [], ℕ, List, length, drop, IfSome, IfNone, OnOk, IsErrOf};
+ghost use Rattle.std.specs.Prelude.{◌≡◌, ◌++◌, ◌+◌, ◌<◌, ◌≤◌, ◌∷◌, [], ℕ, List, length, IfSome, IfNone, OnOk, IsErrOf};
 ghost use Rattle.line_loop.specs.Limits.{most_octets};
 ghost use Rattle.line_loop.specs.Lines.{most_lines, most_in_line, without_return};
 ghost use Rattle.line_loop.specs.Meaning.{HasRun, HasRefused, HasFilled};
 ghost use Rattle.line_loop.specs.steps.Joined.{HasNoFeed};
+ghost use Rattle.line_loop.specs.steps.Taking.{IsClosing};
 
 use crate::machine::{LineError, Machine};
-use osi_base::NoMemory;
+use osi_base::{NoMemory, Status};
 use std::alloc::Global;
 use std::marker::Model;
 
@@ -15,8 +16,6 @@ use std::marker::Model;
 const MOST_LINES: u32 = 100_000;
 /// The most octets of a line before its line feed, a carriage return among them.
 const MOST_IN_LINE: usize = 40_000;
-/// The most octets of an input.
-const MOST_OCTETS: u32 = 16_777_216;
 
 /// Why the input does not go on.
 #[derive(Clone, Copy)]
@@ -68,28 +67,8 @@ impl<M: Machine> Feed<M> {
         }
     }
 
-    /// Takes a piece of the input, and appends to `out` what its whole lines did.
-    pub fn feed(&mut self, octets: &[u8], out: &mut Vec<u8>) -> Result<(), FeedError<M::Refusal>>
-        requires { IsCounted M.meaning self.old }
-        ensures ok { OnOk result (Feeds M.meaning octets.now self.old out.old.items self.new out.new.items) }
-        ensures refused { (said : M.Refusal) → IsErrOf result (FeedError.Refused said)
-            → StopsAtLine M.meaning (self.new.lines + 1) said octets.now self.old out.old.items self.new.machine out.new.items }
-        ensures too_much { IsErrOf result FeedError.TooMuch → StopsFull M.meaning octets.now self.old out.old.items self.new.machine out.new.items }
-        ensures counted { OnOk result (IsCounted M.meaning self.new) }
-        ensures octets { OnOk result (self.new.octets ≡ self.old.octets + length octets.now) }
-    {
-        let room = (MOST_OCTETS - self.octets) as usize;
-        if octets.len() <= room {
-            return self.feed_within(octets, out);
-        }
-        match self.feed_within(&octets[..room], out) {
-            Ok(()) => Err(FeedError::TooMuch),
-            Err(error) => Err(error),
-        }
-    }
-
     /// Takes octets that the limit of an input has room for.
-    fn feed_within(&mut self, octets: &[u8], out: &mut Vec<u8>) -> Result<(), FeedError<M::Refusal>>
+    pub fn feed(&mut self, octets: &[u8], out: &mut Vec<u8>) -> Result<(), FeedError<M::Refusal>>
         requires counted { IsCounted M.meaning self.old }
         requires room { self.old.octets + length octets.now ≤ most_octets }
         ensures ok { OnOk result (Feeds M.meaning octets.now self.old out.old.items self.new out.new.items) }
@@ -178,7 +157,7 @@ impl<M: Machine> Feed<M> {
     }
 
     /// The input ends. An open line is run as it stands.
-    pub fn finish(&mut self, out: &mut Vec<u8>) -> Result<(), LineError<M::Refusal>>
+    pub fn run_last(&mut self, out: &mut Vec<u8>) -> Result<(), LineError<M::Refusal>>
         requires { IsCounted M.meaning self.old }
         ensures ok { OnOk result (Ends M.meaning self.old out.old.items self.new.machine out.new.items) }
         ensures refused { (said : M.Refusal) → IsErrOf result (LineError.Refused said)
@@ -191,22 +170,45 @@ impl<M: Machine> Feed<M> {
         self.machine.run_line(&self.held, out)
     }
 
-    /// Appends what closes the transcript where the input was handled to its end.
-    pub fn push_done(&self, out: &mut Vec<u8>) -> Result<(), NoMemory>
-        ensures { OnOk result (out.new.items ≡ out.old.items ++ M.meaning.done self.now.machine) }
+    /// How many octets were taken.
+    pub fn count(&self) -> u32
+        ensures { result ≡ self.now.octets }
     {
-        self.machine.push_done(out)
+        self.octets
     }
 
-    /// Appends what closes the transcript where the open line was refused.
-    pub fn push_refusal(&self, refusal: M::Refusal, out: &mut Vec<u8>) -> Result<(), NoMemory>
-        ensures { OnOk result (out.new.items ≡ out.old.items ++ M.meaning.refused self.now.machine (self.now.lines + 1) refusal) }
+    /// Appends what closes the transcript where the input was handled to its end, and answers how the run ends.
+    pub fn end(&self, out: &mut Vec<u8>) -> Status
+        ensures { IsClosing (M.meaning.done self.now.machine) Status.Done out.old.items out.new.items result }
     {
-        self.machine.push_refusal(self.lines + 1, refusal, out)
+        match self.machine.push_done(out) {
+            Ok(()) => Status::Done,
+            Err(NoMemory) => Status::NoMemory,
+        }
+    }
+
+    /// Appends what closes the transcript where the open line was refused, and answers how the run ends.
+    pub fn refuse(&self, refusal: M::Refusal, out: &mut Vec<u8>) -> Status
+        ensures { IsClosing (M.meaning.refused self.now.machine (self.now.lines + 1) refusal) Status.RefusedLine out.old.items out.new.items result }
+    {
+        match self.machine.push_refusal(self.lines + 1, refusal, out) {
+            Ok(()) => Status::RefusedLine,
+            Err(NoMemory) => Status::NoMemory,
+        }
+    }
+
+    /// Appends what closes the transcript where a limit was passed, and answers how the run ends.
+    pub fn overflow(&self, out: &mut Vec<u8>) -> Status
+        ensures { IsClosing (M.meaning.too_much self.now.machine) Status.TooMuch out.old.items out.new.items result }
+    {
+        match self.push_limit(out) {
+            Ok(()) => Status::TooMuch,
+            Err(NoMemory) => Status::NoMemory,
+        }
     }
 
     /// Appends what closes the transcript where a limit was passed.
-    pub fn push_too_much(&self, out: &mut Vec<u8>) -> Result<(), NoMemory>
+    pub fn push_limit(&self, out: &mut Vec<u8>) -> Result<(), NoMemory>
         ensures { OnOk result (out.new.items ≡ out.old.items ++ M.meaning.too_much self.now.machine) }
     {
         self.machine.push_too_much(out)

@@ -7,8 +7,8 @@
 mod feed;
 mod machine;
 mod running;
-mod writing;
+mod taking;
 
 pub use machine::{LineError, Machine};
+pub use octet_loop::{write_all, write_last};
 pub use running::drive;
-pub use writing::{write_all, write_last};

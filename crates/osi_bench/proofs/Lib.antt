@@ -9,4 +9,5 @@ pub mod Lawful
 pub mod Routes
 pub mod ScriptRuns
 pub mod Standing
+mod Words
 pub mod Worlds

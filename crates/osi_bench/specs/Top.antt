@@ -1,4 +1,4 @@
--- The words of the program, and what it writes for a script: the transcript of the run of the network.
+-- The words of the program, and what it writes for a script: the transcript of the run of the network; and for a capture.
 use Rattle.std.specs.Prelude.{◌≡◌, ◌⊎◌, ℕ, ◌+◌, ◌<◌, ◌≤◌, Bool, false, List, [], ◌∷◌, ◌++◌, length, map, take, codes}
 use Rattle.std.proofs.Common.{inl, inr}
 use Rattle.std.specs.Str.{bytes_eq}
@@ -25,6 +25,12 @@ abbrev pub is_run : List (List ℕ) → Bool
 is_run [] = false
 is_run (word ∷ []) = bytes_eq word (codes "run")
 is_run (word ∷ other ∷ words) = false
+
+-- the words are the one word `decode`
+abbrev pub is_decode : List (List ℕ) → Bool
+is_decode [] = false
+is_decode (word ∷ []) = bytes_eq word (codes "decode")
+is_decode (word ∷ other ∷ words) = false
 
 -- from a network with no LAN, system or frame, its clock 0, the lines have this journal, and leave a network with these frames
 pub record WorldRun (script : List Line) (journal : List Event) (frames : List Frame) : Type 0 where

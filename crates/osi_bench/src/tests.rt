@@ -240,6 +240,13 @@ fn an_input_has_limits(rt: HostRuntime) -> Result<(), Fail> {
     Ok(())
 }
 
+/// A header, a record with one frame that carries five octets from 490a02 to 490b02, and ten octets of another record.
+const CAPTURE: &[u8] =
+    b"\xd4\xc3\xb2\xa1\x02\x00\x04\x00\x00\x00\x00\x00\x00\x00\x00\x00\xff\xff\x00\x00\x01\x00\x00\x00\
+        \x01\x00\x00\x00\x02\x00\x00\x00'\x00\x00\x00'\x00\x00\x00\
+        \x02\x00\x00\x00\x00\x0b\x02\x00\x00\x00\x00\x0a\x00\x19\xfe\xfe\x03\
+        \x81\x11\x01\x20\x1c\x00\x16\x15S\x03I\x0b\x02\x03I\x0a\x02hello\x00\x00\x00\x00\x00\x00\x00\x00\x00\x00";
+
 #[test]
 fn other_words_are_refused(rt: HostRuntime) -> Result<(), Fail> {
     let calls: [&[&str]; 3] = [&[], &["walk"], &["run", "run"]];
@@ -260,5 +267,17 @@ fn other_words_are_refused(rt: HostRuntime) -> Result<(), Fail> {
         );
         assert_eq!(rt; source.read(&mut [0; 8]), Ok(6));
     }
+    Ok(())
+}
+
+#[test]
+fn a_capture_is_decoded(rt: HostRuntime) -> Result<(), Fail> {
+    let alloc = rt.alloc();
+    let made = run_in_memory(alloc, &["decode".to_string(alloc)?], CAPTURE)?;
+    assert_eq!(rt; made.status, Status::RefusedCapture);
+    assert_eq!(rt;
+        made.octets.as_slice(),
+        b"1 1 2 39 dt 49.0b.02 49.0a.02 32 - - - 5\nrefused 79 short\n".as_slice()
+    );
     Ok(())
 }

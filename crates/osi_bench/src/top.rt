@@ -1,25 +1,29 @@
 //! The call of the program.
 
-ghost use Rattle.std.specs.Prelude.{◌≡◌, ◌≢◌, ◌⊎◌, ◌+◌, ◌≤◌, ◌++◌, true, false, List, ℕ, [], Some, map, max, string_bytes, IfOk};
+ghost use Rattle.std.specs.Prelude.{◌≡◌, ◌≢◌, ◌⊎◌, ◌+◌, ◌≤◌, ◌++◌, true, false, List, ℕ, [], Some, length, map, max, string_bytes, IfOk};
 ghost use Rattle.osi_base.specs.Ends.{HasRisen, Took, Put, IsAtEnd};
 ghost use Rattle.osi_bench.specs.Bench.{first_bench, bench_meaning};
 ghost use Rattle.line_loop.specs.Exact.{IsAccepted, IsFailure};
-ghost use Rattle.line_loop.specs.Limits.{most_read};
+ghost use Rattle.line_loop.specs.Limits.{most_octets, most_read};
 ghost use Rattle.line_loop.specs.Outcome.{AsksFor};
+ghost use Rattle.octet_loop.specs.Outcome.{AsksFor as CaptureAsksFor, IsOver, Outcome};
+ghost use Rattle.osi_capture.specs.declared.cause.Cause.{Cause};
+ghost use Rattle.osi_capture.specs.Course.{capture_course, Finishes, Refuses, IsAccepted as IsCaptureAccepted, IsRefused, IsPast};
 ghost use Rattle.osi_bench.specs.Text.{usage_line};
-ghost use Rattle.osi_bench.specs.Top.{is_run, IsTranscript};
+ghost use Rattle.osi_bench.specs.Top.{is_run, is_decode, IsTranscript};
 ghost use Rattle.line_loop.specs.Writing.{IsPrefix, IsWritten};
 
 use crate::bench::Bench;
 use crate::text::usage;
 use line_loop::{drive, write_last};
 use osi_base::{Bytes, NoMemory, PlainSink, PlainSource, Sink, Source, Status};
+use osi_capture::decode;
 use std::alloc::Global;
 
 /// Does what the words of the program ask for, and answers how it ended.
 ///
-/// `run` reads a script from the source and writes its transcript to the sink. Other words write the
-/// usage line.
+/// `run` reads a script from the source and writes its transcript to the sink; `decode` reads a capture and writes the
+/// lines of its records. Other words write the usage line.
 pub fn osi<S: Source, K: Sink>(
     alloc: Global,
     words: &[String],
@@ -42,8 +46,36 @@ pub fn osi<S: Source, K: Sink>(
         → ¬ HasRisen (S.faults source.old) (S.faults source.new) → ¬ HasRisen (K.faults sink.old) (K.faults sink.new)
         → ((result ≡ Status.Done) × (text : List ℕ) × AsksFor bench_meaning first_bench all text Status.Done × Put (K.held sink.old) text (K.held sink.new))
         ⊎ (result ≡ Status.NoMemory) }
+    // Of the octets of a capture that were read, what was written is told as the status says.
+    ensures decode { is_decode (map string_bytes words.now) ≡ true
+        → (read : List ℕ) × (written : List ℕ)
+        × Took (S.left source.old) read (S.left source.new)
+        × Put (K.held sink.old) written (K.held sink.new)
+        × Outcome capture_course (IsAtEnd (S.left source.new)) read written result
+        × (length read ≤ most_octets + most_read) }
+    // What all octets of the source ask for as a capture comes, or a failure in its place.
+    ensures decode_exact { is_decode (map string_bytes words.now) ≡ true
+        → (all text : List ℕ) (asked : Status) → S.left source.old ≡ Some all → CaptureAsksFor capture_course all text asked
+        → ((result ≡ asked) × Put (K.held sink.old) text (K.held sink.new)) ⊎ IsFailure result }
+    // A capture without a fault within the limit is Done, unless memory runs out, where neither count of faults rises
+    // or stands at its last value.
+    ensures decode_complete { is_decode (map string_bytes words.now) ≡ true
+        → (all : List ℕ) → S.left source.old ≡ Some all → IsCaptureAccepted all
+        → ¬ HasRisen (S.faults source.old) (S.faults source.new) → ¬ HasRisen (K.faults sink.old) (K.faults sink.new)
+        → ((result ≡ Status.Done) × (text : List ℕ) × Finishes all text × Put (K.held sink.old) text (K.held sink.new))
+        ⊎ (result ≡ Status.NoMemory) }
+    // Where a fault of the capture shows within the limit, it is refused for it, or a failure comes in its place.
+    ensures decode_refused { is_decode (map string_bytes words.now) ≡ true
+        → (all : List ℕ) (offset : ℕ) (cause : Cause) → S.left source.old ≡ Some all → IsRefused all offset cause
+        → ((result ≡ Status.RefusedCapture) × (text : List ℕ) × Refuses all text offset cause × Put (K.held sink.old) text (K.held sink.new))
+        ⊎ IsFailure result }
+    // Where octet 16,777,217 of the capture comes before a fault shows, it is too much, or a failure comes in its place.
+    ensures decode_past { is_decode (map string_bytes words.now) ≡ true
+        → (all : List ℕ) → S.left source.old ≡ Some all → IsPast all
+        → ((result ≡ Status.TooMuch) × (text : List ℕ) × IsOver capture_course all text × Put (K.held sink.old) text (K.held sink.new))
+        ⊎ IsFailure result }
     // Other words: the usage line was written, or a front of it, and nothing was read.
-    ensures words { is_run (map string_bytes words.now) ≡ false
+    ensures words { is_run (map string_bytes words.now) ≡ false → is_decode (map string_bytes words.now) ≡ false
         → (S.left source.new ≡ S.left source.old) × IsWritten K.held sink.old usage_line Status.RefusedWords sink.new result }
     // One read asks for no more than 4,096 octets.
     ensures asked { S.asked source.new ≤ max (S.asked source.old) most_read }
@@ -59,6 +91,8 @@ pub fn osi<S: Source, K: Sink>(
     clnp_header::front_or_fault();
     if is_run(words) {
         drive(alloc, Bench::new(alloc), source, sink)
+    } else if is_decode(words) {
+        decode(alloc, source, sink)
     } else {
         refuse_words(sink)
     }
@@ -70,6 +104,16 @@ fn is_run(words: &[String]) -> bool
 {
     match words {
         [word] => word.as_str() == "run",
+        _ => false,
+    }
+}
+
+/// Whether the words are the one word `decode`.
+fn is_decode(words: &[String]) -> bool
+    ensures { result ≡ is_decode (map string_bytes words.now) }
+{
+    match words {
+        [word] => word.as_str() == "decode",
         _ => false,
     }
 }
@@ -90,23 +134,27 @@ pub struct Transcript {
     pub octets: Bytes,
 }
 
-/// Does what the words ask for over a script in memory. Neither a read nor a write fails.
-pub fn run_in_memory(alloc: Global, words: &[String], script: &[u8]) -> Result<Transcript, NoMemory>
+/// Does what the words ask for over a script or a capture in memory. Neither a read nor a write fails.
+pub fn run_in_memory(alloc: Global, words: &[String], input: &[u8]) -> Result<Transcript, NoMemory>
     ensures no_read_fault { IfOk result (λ made. made.status ≢ Status.ReadFault) }
     ensures no_write_fault { IfOk result (λ made. made.status ≢ Status.WriteFault) }
     // What the script asks for comes, unless memory runs out.
     ensures exact { is_run (map string_bytes words.now) ≡ true
-        → (text : List ℕ) (asked : Status) → AsksFor bench_meaning first_bench script.now text asked
+        → (text : List ℕ) (asked : Status) → AsksFor bench_meaning first_bench input.now text asked
         → IfOk result (λ made. ((made.status ≡ asked) × (made.octets ≡ text)) ⊎ (made.status ≡ Status.NoMemory)) }
     // Of a front of the script, what was written is told as the status says.
     ensures run { is_run (map string_bytes words.now) ≡ true
-        → IfOk result (λ made. (read rest : List ℕ) × (script.now ≡ read ++ rest) × IsTranscript (rest ≡ []) read made.octets made.status) }
+        → IfOk result (λ made. (read rest : List ℕ) × (input.now ≡ read ++ rest) × IsTranscript (rest ≡ []) read made.octets made.status) }
+    // What a capture asks for comes, unless memory runs out.
+    ensures decode { is_decode (map string_bytes words.now) ≡ true
+        → (text : List ℕ) (asked : Status) → CaptureAsksFor capture_course input.now text asked
+        → IfOk result (λ made. ((made.status ≡ asked) × (made.octets ≡ text)) ⊎ (made.status ≡ Status.NoMemory)) }
     // Other words: the usage line, or a front of it where memory runs out.
-    ensures words { is_run (map string_bytes words.now) ≡ false
+    ensures words { is_run (map string_bytes words.now) ≡ false → is_decode (map string_bytes words.now) ≡ false
         → IfOk result (λ made. ((made.status ≡ Status.RefusedWords) × (made.octets ≡ usage_line))
         ⊎ ((made.status ≡ Status.NoMemory) × IsPrefix made.octets usage_line)) }
 {
-    let mut source = PlainSource::new(alloc, script)?;
+    let mut source = PlainSource::new(alloc, input)?;
     let mut sink = PlainSink::new(alloc);
     let status = osi(alloc, words, &mut source, &mut sink);
     let octets = Bytes::of(sink.into_written());

@@ -1,0 +1,4 @@
+pub mod Closing
+pub mod Driving
+pub mod Exact
+pub mod Written

@@ -1,0 +1,5 @@
+pub mod Course
+pub mod Limits
+pub mod Outcome
+pub mod Writing
+pub mod steps

@@ -1,0 +1,5 @@
+pub mod Exclusion
+pub mod OneAnswer
+pub mod Parts
+pub mod Taking
+pub mod Totality

@@ -1,0 +1,5 @@
+pub mod Capture
+pub mod Course
+pub mod Faults
+pub mod Show
+pub mod steps

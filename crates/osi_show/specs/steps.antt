@@ -1,0 +1,3 @@
+-- What only carries the proof of written lines.
+pub mod Units
+pub mod Written

@@ -1,0 +1,174 @@
+//! The fields of a line, and how they are written.
+
+ghost use Rattle.std.specs.Prelude.{◌≡◌, ◌≤◌, ◌*◌, ◌++◌, ◌∷◌, [], map, length, OnOk};
+ghost use Rattle.std.specs.Fmt.{decimal};
+ghost use Rattle.hex.specs.Hex.{encode_lower};
+ghost use Rattle.osi_show.specs.Pdus.{flags_text, segment_text};
+ghost use Rattle.osi_show.specs.Texts.{line, octets_text, title_text};
+ghost use Rattle.osi_show.specs.steps.Written.{field_text, tail};
+
+use crate::address::show_nsap;
+use crate::listed::{push_addresses, push_known, push_options, push_parameters};
+use clnp_header::SegmentPart;
+use clnp_options::OptionsRef;
+use itoa::Buffer;
+use nsap::Nsap;
+use osi_base::NoMemory;
+use tpdu::Kind;
+
+/// A field of a line.
+#[derive(Clone, Copy)]
+pub enum Field<'a> {
+    Word(&'static str),
+    Number(usize),
+    /// An octet in hexadecimal.
+    Octet(u8),
+    /// Octets in hexadecimal, at least one.
+    Digits(&'a [u8]),
+    Address(&'a Nsap),
+    Title(&'a Option<Nsap>),
+    /// So many addresses behind their lengths.
+    Addresses(u8, &'a [u8]),
+    /// The segmentation part, and whether an error report is wanted.
+    Flags(Option<SegmentPart>, bool),
+    Segment(Option<SegmentPart>),
+    Options(OptionsRef<'a>),
+    /// All parameters of the octets.
+    Parameters(&'a [u8]),
+    /// The parameters of the octets that a TPDU of this kind knows.
+    Known(Kind, &'a [u8]),
+}
+
+/// Appends a line.
+pub fn write(fields: &[Field<'_>], out: &mut Vec<u8>) -> Result<(), NoMemory>
+    ensures { OnOk result (out.new.items ≡ out.old.items ++ line (map field_text fields.now)) }
+{
+    let Some((first, others)) = fields.split_first() else {
+        return push(b"\n", out);
+    };
+    push_field(*first, out)?;
+    write_others(others, out)
+}
+
+/// Appends the fields behind the first of a line, each behind a blank, and a line feed.
+fn write_others(fields: &[Field<'_>], out: &mut Vec<u8>) -> Result<(), NoMemory>
+    ensures { OnOk result (out.new.items ≡ out.old.items ++ tail (map field_text fields.now)) }
+{
+    for field in fields {
+        push(b" ", out)?;
+        push_field(*field, out)?;
+    }
+    push(b"\n", out)
+}
+
+/// Appends a field.
+fn push_field(field: Field<'_>, out: &mut Vec<u8>) -> Result<(), NoMemory>
+    ensures { OnOk result (out.new.items ≡ out.old.items ++ field_text field.entry) }
+{
+    match field {
+        Field::Word(text) => push(text.as_bytes(), out),
+        Field::Number(number) => push_number(number, out),
+        Field::Octet(octet) => push_hex(&[octet], out),
+        Field::Digits(octets) => push_hex(octets, out),
+        Field::Address(address) => show_nsap(address, out),
+        Field::Title(title) => push_title(title, out),
+        Field::Addresses(count, octets) => push_addresses(count, octets, out),
+        Field::Flags(segment, report) => push_flags(segment, report, out),
+        Field::Segment(segment) => push_segment(segment, out),
+        Field::Options(options) => push_options(&options, out),
+        Field::Parameters(octets) => push_parameters(octets, out),
+        Field::Known(kind, octets) => push_known(kind, octets, out),
+    }
+}
+
+/// Appends a title, `-` for none.
+fn push_title(title: &Option<Nsap>, out: &mut Vec<u8>) -> Result<(), NoMemory>
+    ensures { OnOk result (out.new.items ≡ out.old.items ++ title_text title.now) }
+{
+    match title {
+        Some(title) => show_nsap(title, out),
+        None => push(b"-", out),
+    }
+}
+
+/// Appends the letters of the flags, `-` for none.
+fn push_flags(segment: Option<SegmentPart>, report: bool, out: &mut Vec<u8>) -> Result<(), NoMemory>
+    ensures { OnOk result (out.new.items ≡ out.old.items ++ flags_text segment report) }
+{
+    let letters = match (segment, report) {
+        (None, false) => "-",
+        (None, true) => "e",
+        (Some(part), false) => if part.more { "sm" } else { "s" },
+        (Some(part), true) => if part.more { "sme" } else { "se" },
+    };
+    push(letters.as_bytes(), out)
+}
+
+/// Appends identifier, offset and total length of a segmentation part, `-` for none.
+fn push_segment(segment: Option<SegmentPart>, out: &mut Vec<u8>) -> Result<(), NoMemory>
+    ensures { OnOk result (out.new.items ≡ out.old.items ++ segment_text segment) }
+{
+    let Some(part) = segment else {
+        return push(b"-", out);
+    };
+    push_number(usize::from(part.id), out)?;
+    push(b"/", out)?;
+    push_number(usize::from(part.offset), out)?;
+    push(b"/", out)?;
+    push_number(usize::from(part.total), out)
+}
+
+/// Appends octets in hexadecimal, in lower case, `-` for none.
+pub fn push_octets(octets: &[u8], out: &mut Vec<u8>) -> Result<(), NoMemory>
+    ensures { OnOk result (out.new.items ≡ out.old.items ++ octets_text octets.now) }
+{
+    if octets.is_empty() {
+        push(b"-", out)
+    } else {
+        push_hex(octets, out)
+    }
+}
+
+/// Appends octets in hexadecimal, in lower case.
+pub fn push_hex(octets: &[u8], out: &mut Vec<u8>) -> Result<(), NoMemory>
+    ensures { OnOk result (out.new.items ≡ out.old.items ++ encode_lower octets.now) }
+{
+    let before = out.len();
+    let Some(after) = octets
+        .len()
+        .checked_mul(2)
+        .and_then(|more| before.checked_add(more))
+    else {
+        return Err(NoMemory);
+    };
+    out.resize(after, 0)?;
+    fill_hex(octets, &mut out.as_mut_slice()[before..]);
+    Ok(())
+}
+
+/// Writes octets in hexadecimal over a place of just that room.
+fn fill_hex(octets: &[u8], place: &mut [u8])
+    requires { length place.old ≡ 2 * length octets.now }
+    ensures { place.new ≡ encode_lower octets.now }
+{
+    match hex::encode_to_slice(octets, place) {
+        Ok(()) => {}
+        Err(_) => unreachable!(),
+    }
+}
+
+/// Appends a number in decimal.
+pub fn push_number(number: usize, out: &mut Vec<u8>) -> Result<(), NoMemory>
+    ensures { OnOk result (out.new.items ≡ out.old.items ++ decimal number) }
+{
+    let mut digits = Buffer::new();
+    push(digits.format(number).as_bytes(), out)
+}
+
+/// Appends a text as it is.
+pub fn push(text: &[u8], out: &mut Vec<u8>) -> Result<(), NoMemory>
+    ensures { OnOk result (out.new.items ≡ out.old.items ++ text.now) }
+{
+    out.extend_from_slice(text)?;
+    Ok(())
+}

@@ -1,0 +1,119 @@
+//! The lines of PDUs of the connectionless network protocol (X.233, structure of PDUs).
+
+ghost use Rattle.std.specs.Prelude.{◌≡◌, ◌++◌, OnOk, Some};
+ghost use Rattle.clnp_header.specs.Values.{value_of};
+ghost use Rattle.osi_show.specs.Pdus.{dt_line, er_line, bad_pdu_line, discard_in, discard_of, is_transport, is_whole};
+ghost use Rattle.osi_show.specs.steps.Written.{discard_view};
+
+use crate::field::{Field, write};
+use clnp_header::{Fault, PduRef, SegmentPart};
+use clnp_options::{REASON, get};
+use osi_base::NoMemory;
+
+/// The selector of transport.
+const TRANSPORT: u8 = 0x01;
+
+/// Appends the line of a DT PDU.
+pub fn write_dt(pdu: &PduRef<'_>, out: &mut Vec<u8>) -> Result<(), NoMemory>
+    ensures { OnOk result (out.new.items ≡ out.old.items ++ dt_line (value_of pdu.now)) }
+{
+    write(
+        &[
+            Field::Word("dt"),
+            Field::Address(&pdu.destination),
+            Field::Address(&pdu.source),
+            Field::Number(usize::from(pdu.lifetime)),
+            Field::Flags(pdu.segment, pdu.report),
+            Field::Segment(pdu.segment),
+            Field::Options(pdu.options),
+            Field::Number(pdu.body.len()),
+        ],
+        out,
+    )
+}
+
+/// Appends the line of an ER PDU.
+pub fn write_er(pdu: &PduRef<'_>, out: &mut Vec<u8>) -> Result<(), NoMemory>
+    ensures { OnOk result (out.new.items ≡ out.old.items ++ er_line (value_of pdu.now)) }
+{
+    let discard = discard_of(pdu);
+    write(
+        &[
+            Field::Word("er"),
+            Field::Address(&pdu.destination),
+            Field::Address(&pdu.source),
+            Field::Number(usize::from(pdu.lifetime)),
+            Field::Octet(discard.reason),
+            Field::Number(usize::from(discard.place)),
+            Field::Number(pdu.body.len()),
+        ],
+        out,
+    )
+}
+
+/// Appends the line of octets that are no PDU.
+pub fn write_bad(fault: &Fault, out: &mut Vec<u8>) -> Result<(), NoMemory>
+    ensures { OnOk result (out.new.items ≡ out.old.items ++ bad_pdu_line fault.now) }
+{
+    write(
+        &[
+            Field::Word("badclnp"),
+            Field::Octet(fault.reason.code()),
+            Field::Number(usize::from(fault.place)),
+        ],
+        out,
+    )
+}
+
+/// The reason for a discard, and the place in the header that it tells of.
+#[derive(Clone, Copy)]
+pub struct Discard {
+    pub reason: u8,
+    pub place: u8,
+}
+
+/// What the option of an error report tells.
+fn discard_of(pdu: &PduRef<'_>) -> Discard
+    ensures { discard_view result ≡ discard_of (value_of pdu.now) }
+{
+    match get(&pdu.options, REASON) {
+        Some(value) => discard_in(value),
+        None => Discard {
+            reason: 0,
+            place: 0,
+        },
+    }
+}
+
+/// The reason and the place in the two octets of the option.
+fn discard_in(value: &[u8]) -> Discard
+    ensures { discard_view result ≡ discard_in (Some value.now) }
+{
+    match value {
+        [reason, place] => Discard {
+            reason: *reason,
+            place: *place,
+        },
+        _ => Discard {
+            reason: 0,
+            place: 0,
+        },
+    }
+}
+
+/// Whether the data is a unit of transport.
+pub fn is_transport(pdu: &PduRef<'_>) -> bool
+    ensures { result ≡ is_transport (value_of pdu.now) }
+{
+    pdu.destination.selector() == TRANSPORT && is_whole(&pdu.segment)
+}
+
+/// Whether the data is that of a whole initial PDU.
+fn is_whole(segment: &Option<SegmentPart>) -> bool
+    ensures { result ≡ is_whole segment.now }
+{
+    match segment {
+        None => true,
+        Some(part) => part.offset == 0 && !part.more,
+    }
+}
