@@ -1,0 +1,240 @@
+-- A tick does something exactly where a DT or the ED is due, or where the number rule lets the next one go.
+use Rattle.std.proofs.Common.{◌≡◌, ℕ, zero, suc, ◌+◌, ◌-◌, ◌<◌, ◌≤◌, ◌⊎◌, ◌↔◌, Bool, true, false, ◌||◌, ◌==◌, nat_lt, nat_le, if◌then◌else◌, List, [], ◌∷◌, ◌++◌, length, Option, Some, None, refl, sym, ◌∙◌, ap, subst, arith, inl, inr}
+use Rattle.std.specs.Prelude.{not, is_some}
+use Rattle.std.specs.List.{list_any}
+use Rattle.std.proofs.lemmas.Bool.{lt-leb, lt-ltb, and_left, or_from, false≢true, false_from_ne_true, cases_lt, leb-true, ltb-true, not-false, or_right}
+use Rattle.tp4_flow.specs.declared.rules.Life.{Life}
+use Rattle.tp4_flow.specs.declared.rules.Life.TheVariants.{Goes, Exhausted}
+use Rattle.tp4_flow.specs.declared.step.HeldKind.TheVariants.{Ed}
+use Rattle.tp4_number.specs.declared.blocks.Blocks.{Blocks}
+use Rattle.tp4_number.specs.Sender.{opens_at}
+use Rattle.tp4_sending.specs.declared.tries.Tries.{Tries}
+use Rattle.tp4_sending.specs.FlowSender.{FlowSender, Sendings, nothing, at, block_in, rule_allows, is_noted, holds, is_urgent, has_next, eds, all_dts, marked_all, normals, all_normals, normals_where, sent_urgent, held_urgent, one_urgent, resends, resends_urgent, resends_urgent_as, retried_urgent, new_sends, then_sends, ticked, ticked_as, life_of, is_urgent_spent, urgent_last, urgent_opens, normal_opens, due_of}
+use Rattle.tp4_sending.specs.Pieces.{end_of, again, is_due, is_spent, resent, due_from, least_due, sooner}
+use Rattle.tp4_sending.specs.Settled.{IsDue, IsHeld, IsSettled, Acts, waits_urgent, waits_normal}
+use Rattle.tp4_sending.proofs.Goings.{stop}
+use Rattle.tp4_sending.proofs.Weights.{weight, by_tests, resends_more, urgent_more, one_urgent_more, where_more, where_goes}
+
+-- the earlier of two is due exactly where one of them is
+either_due : (a b : Option ℕ) (now : ℕ) → IsDue (sooner a b) now → IsDue a now ⊎ IsDue b now
+either_due None b now h = inr h
+either_due (Some n) None now h = inl h
+either_due (Some n) (Some m) now h = elim (cases_lt m n) [ inl less ↦ inr (omega (arith, h, less)) | inr more ↦ inl (omega (arith, h, more)) ]
+
+first_due : (a b : Option ℕ) (now : ℕ) → IsDue a now → IsDue (sooner a b) now
+first_due None b now h = absurd h
+first_due (Some n) None now h = h
+first_due (Some n) (Some m) now h = omega (arith, h)
+
+second_due : (a b : Option ℕ) (now : ℕ) → IsDue b now → IsDue (sooner a b) now
+second_due None b now h = h
+second_due (Some n) None now h = absurd h
+second_due (Some n) (Some m) now h = omega (arith, h)
+
+-- it is due or it is not
+or_not : (a : Option ℕ) (now : ℕ) → IsDue a now ⊎ (IsDue a now → ⊥)
+or_not None now = inr (λ h. h)
+or_not (Some n) now = elim (cases_lt now n) [ inl less ↦ inr (λ h. absurd (omega (arith, h, less))) | inr more ↦ inl more ]
+
+-- no DT of the window is due
+record Quiet (t1 most now n : ℕ) (window : List Tries) : Type 0 where
+  spent : list_any (is_spent t1 most now) window ≡ false
+  due : due_from t1 now n window ≡ []
+  same : resent t1 now window ≡ window
+
+quiet : (t1 most now n : ℕ) (window : List Tries) → (IsDue (least_due t1 window) now → ⊥) → Quiet t1 most now n window
+quiet t1 most now n [] h = record { spent = refl; due = refl; same = refl }
+quiet t1 most now n (x ∷ window) h =
+    let here : is_due t1 now x ≡ false = lt-leb _ _ (above (x.last + t1) (λ k. h (first_due (Some (x.last + t1)) (least_due t1 window) now k))) in
+    let rest = quiet t1 most now (n + 1) window (λ k. h (second_due (Some (x.last + t1)) (least_due t1 window) now k)) in
+    record {
+      spent = or_from _ _ (and_left (is_due t1 now x) (nat_le most x.count) here) rest.spent;
+      due = ap (λ (b : Bool). if b then n ∷ due_from t1 now (n + 1) window else due_from t1 now (n + 1) window) here ∙ rest.due;
+      same = ap (λ (b : Bool). (if b then again now x else x) ∷ resent t1 now window) here ∙ ap (λ (l : List Tries). x ∷ l) rest.same;
+    }
+  where
+    above : (m : ℕ) → (m ≤ now → ⊥) → now < m
+    above m k = elim (cases_lt now m) [ inl less ↦ less | inr more ↦ absurd (k more) ]
+
+no_resends : (s : FlowSender) → (IsDue (least_due s.rules.t1 s.window) s.clock → ⊥) → resends s ≡ nothing s
+no_resends s h =
+    let q = quiet s.rules.t1 s.rules.sendings s.clock s.numbers.base s.window h in
+    λ i. record {
+      sender = record s { numbers = record s.numbers { blocks = marked_all (block_in s) s.clock s.numbers.blocks (q.due i) }; window = q.same i };
+      events = [];
+      tpdus = all_dts s (q.due i);
+    }
+
+no_urgent_again : (s : FlowSender) (out : Option Tries) → (IsDue (urgent_last s out) s.clock → ⊥) → (resends_urgent_as out s ≡ nothing s) × (is_urgent_spent s out ≡ false)
+no_urgent_again s None h = (refl, refl)
+no_urgent_again s (Some tries) h =
+    let late : is_due s.rules.t1 s.clock tries ≡ false = false_from_ne_true _ (λ e. h (leb-true _ _ e)) in (
+      ap (λ (b : Bool). if b then record { sender = retried_urgent s tries; events = []; tpdus = eds s (s.urgent.next - 1) s.urgent.units } else nothing s) late,
+      and_left (is_due s.rules.t1 s.clock tries) (nat_le s.rules.sendings tries.count) late,
+    )
+
+-- what the rule lets go at its tick and not before
+opened_at : (s : FlowSender) (blocks : Blocks) (n : ℕ) → is_some (opens_at (block_in s) s.rules.limit blocks n) ≡ true
+    → (IsDue (opens_at (block_in s) s.rules.limit blocks n) s.clock → rule_allows s blocks n ≡ true) × ((IsDue (opens_at (block_in s) s.rules.limit blocks n) s.clock → ⊥) → rule_allows s blocks n ≡ false)
+opened_at s blocks n there = by (nat_lt n (blocks.first + block_in s) || nat_le blocks.first (block_in s)) there
+  where
+    by : (b : Bool) → is_some (if b then None else Some (blocks.third + s.rules.limit + 1)) ≡ true
+        → (IsDue (if b then None else Some (blocks.third + s.rules.limit + 1)) s.clock → (b || nat_lt (blocks.third + s.rules.limit) s.clock) ≡ true)
+        × ((IsDue (if b then None else Some (blocks.third + s.rules.limit + 1)) s.clock → ⊥) → (b || nat_lt (blocks.third + s.rules.limit) s.clock) ≡ false)
+    by true e = absurd (false≢true e)
+    by false e = (λ h. lt-ltb _ _ (omega (arith, h)), λ h. false_from_ne_true _ (λ t. h (let past : blocks.third + s.rules.limit < s.clock = ltb-true _ _ t in omega (arith, past))))
+
+abbrev tests : FlowSender → Bool → Bool → Sendings
+tests s allowed noted =
+    if allowed then record { sender = sent_urgent s; events = []; tpdus = eds s s.urgent.next s.urgent.units }
+    else if noted then nothing s
+    else record { sender = record s { urgent = record s.urgent { noted = Some s.urgent.next } }; events = holds s Ed s.urgent.next ∷ []; tpdus = [] }
+
+no_one_urgent : (s : FlowSender) → (waits_urgent s ≡ true → IsHeld (block_in s) s.rules.limit s.urgent.blocks s.urgent.next s.urgent.noted) → (IsDue (urgent_opens s) s.clock → ⊥) → one_urgent s ≡ nothing s
+no_one_urgent s held h = by (is_some s.urgent.out || length s.urgent.units == 0) held h
+  where
+    by : (b : Bool) → (not b ≡ true → IsHeld (block_in s) s.rules.limit s.urgent.blocks s.urgent.next s.urgent.noted)
+        → (IsDue (if b then None else opens_at (block_in s) s.rules.limit s.urgent.blocks s.urgent.next) s.clock → ⊥)
+        → (if b then nothing s else tests s (rule_allows s s.urgent.blocks s.urgent.next) (is_noted s.urgent.noted s.urgent.next)) ≡ nothing s
+    by true k d = refl
+    by false k d =
+        let is_held = k refl in
+        ap (λ (a : Bool). tests s a (is_noted s.urgent.noted s.urgent.next)) ((opened_at s s.urgent.blocks s.urgent.next is_held.rule).1 d) ∙ ap (tests s false) is_held.told
+
+normals_held : (fuel : ℕ) (s : FlowSender) → has_next s ≡ true → rule_allows s s.numbers.blocks s.numbers.next ≡ false → is_noted s.noted s.numbers.next ≡ true → normals fuel s ≡ nothing s
+normals_held zero s more rule told = refl
+normals_held (suc fuel) s more rule told =
+    ap (λ (b : Bool). by_tests fuel s b (rule_allows s s.numbers.blocks s.numbers.next) (is_noted s.noted s.numbers.next)) more
+    ∙ ap (λ (b : Bool). by_tests fuel s true b (is_noted s.noted s.numbers.next)) rule
+    ∙ ap (λ (b : Bool). by_tests fuel s true false b) told
+
+no_normals : (s : FlowSender) → (waits_normal s ≡ true → IsHeld (block_in s) s.rules.limit s.numbers.blocks s.numbers.next s.noted) → (IsDue (normal_opens s) s.clock → ⊥) → normals_where s ≡ nothing s
+no_normals s held h = by (is_urgent s) (has_next s) refl held h
+  where
+    by : (urgent more : Bool) → has_next s ≡ more → (not (urgent || not more) ≡ true → IsHeld (block_in s) s.rules.limit s.numbers.blocks s.numbers.next s.noted)
+        → (IsDue (if urgent || not more then None else opens_at (block_in s) s.rules.limit s.numbers.blocks s.numbers.next) s.clock → ⊥)
+        → (if urgent then nothing s else all_normals s) ≡ nothing s
+    by true more e k d = refl
+    by false false e k d = stop (end_of s.rules.piece s.queue - s.numbers.next) s e
+    by false true e k d =
+        let is_held = k refl in
+        normals_held (end_of s.rules.piece s.queue - s.numbers.next) s e ((opened_at s s.numbers.blocks s.numbers.next is_held.rule).1 d) is_held.told
+
+no_new : (s : FlowSender) → s.is_open ≡ true → one_urgent s ≡ nothing s → normals_where s ≡ nothing s → new_sends s ≡ nothing s
+no_new s o u n =
+    ap (λ (b : Bool). if b then then_sends (one_urgent s) normals_where else nothing s) o
+    ∙ ap (λ (x : Sendings). then_sends x normals_where) u
+    ∙ ap (λ (y : Sendings). record { sender = y.sender; events = [] ++ y.events; tpdus = [] ++ y.tpdus }) n
+
+then_nothing : (s : FlowSender) (x : Sendings) (next : FlowSender → Sendings) → x ≡ nothing s → next s ≡ nothing s → then_sends x next ≡ nothing s
+then_nothing s x next e n =
+    ap (λ (y : Sendings). then_sends y next) e ∙ ap (λ (y : Sendings). record { sender = y.sender; events = [] ++ y.events; tpdus = [] ++ y.tpdus }) n
+
+abbrev urgent_part : FlowSender → Option ℕ
+urgent_part s = sooner (urgent_last s s.urgent.out) (sooner (urgent_opens s) (normal_opens s))
+
+abbrev all_parts : FlowSender → Option ℕ
+all_parts s = sooner (least_due s.rules.t1 s.window) (urgent_part s)
+
+-- nothing is due: the tick does nothing
+calm : (s : FlowSender) → s.is_open ≡ true → IsSettled s → (IsDue (all_parts s) s.clock → ⊥) → (life_of s ≡ Goes) × (ticked s ≡ nothing s)
+calm s o held h =
+    let window : IsDue (least_due s.rules.t1 s.window) s.clock → ⊥ = λ k. h (first_due (least_due s.rules.t1 s.window) (urgent_part s) s.clock k) in
+    let rest : IsDue (urgent_part s) s.clock → ⊥ = λ k. h (second_due (least_due s.rules.t1 s.window) (urgent_part s) s.clock k) in
+    let last : IsDue (urgent_last s s.urgent.out) s.clock → ⊥ = λ k. rest (first_due (urgent_last s s.urgent.out) (sooner (urgent_opens s) (normal_opens s)) s.clock k) in
+    let opens : IsDue (sooner (urgent_opens s) (normal_opens s)) s.clock → ⊥ = λ k. rest (second_due (urgent_last s s.urgent.out) (sooner (urgent_opens s) (normal_opens s)) s.clock k) in
+    let again = no_urgent_again s s.urgent.out last in
+    let goes : life_of s ≡ Goes = ap (λ (b : Bool). if b then Exhausted else Goes) (or_from _ _ (quiet s.rules.t1 s.rules.sendings s.clock 0 s.window window).spent again.1) in
+    let one = no_one_urgent s held.urgent (λ k. opens (first_due (urgent_opens s) (normal_opens s) s.clock k)) in
+    let normals_none = no_normals s held.normal (λ k. opens (second_due (urgent_opens s) (normal_opens s) s.clock k)) in (
+      goes,
+      ap (λ (l : Life). ticked_as l s) goes
+          ∙ then_nothing s (then_sends (resends s) resends_urgent) new_sends (then_nothing s (resends s) resends_urgent (no_resends s window) again.0) (no_new s o one normals_none),
+    )
+
+-- a tick that goes on weighs no less
+new_more : (s : FlowSender) → weight s ≤ weight (new_sends s).sender
+new_more s = by s.is_open
+  where
+    by : (b : Bool) → weight s ≤ weight (if b then then_sends (one_urgent s) normals_where else nothing s).sender
+    by true = omega (arith, (one_urgent_more s).0, where_more (one_urgent s).sender)
+    by false = omega arith
+
+new_goes : (s : FlowSender) → s.is_open ≡ true → weight s < weight (normals_where (one_urgent s).sender).sender → weight s < weight (new_sends s).sender
+new_goes s o less = subst (λ (b : Bool). weight s < weight (if b then then_sends (one_urgent s) normals_where else nothing s).sender) (sym o) less
+
+-- something is due: the tick gives up or weighs more
+stirs : (s : FlowSender) → s.is_open ≡ true → IsSettled s → IsDue (all_parts s) s.clock → weight s < weight (ticked_as Goes s).sender
+stirs s o held h = elim (or_not (least_due s.rules.t1 s.window) s.clock) [
+  | inl window ↦ omega (arith, (resends_more s).1 window, (urgent_more (resends s).sender (resends s).sender.urgent.out refl).0, new_more (resends_urgent (resends s).sender).sender)
+  | inr no_window ↦
+      let same : (resends s).sender ≡ s = ap (λ (x : Sendings). x.sender) (no_resends s no_window) in
+      subst (λ (m : FlowSender). weight s < weight (new_sends (resends_urgent m).sender).sender) (sym same)
+      (after_window (elim (either_due (least_due s.rules.t1 s.window) (urgent_part s) s.clock h) [ inl k ↦ absurd (no_window k) | inr k ↦ k ]))
+]
+  where
+    last_goes : (out : Option Tries) → s.urgent.out ≡ out → IsDue (urgent_last s out) s.clock → weight s < weight (resends_urgent_as out s).sender
+    last_goes None e k = absurd k
+    last_goes (Some tries) e k = (urgent_more s (Some tries) e).1 tries refl k
+
+    urgent_goes : (b : Bool) → (is_some s.urgent.out || length s.urgent.units == 0) ≡ b → IsDue (if b then None else opens_at (block_in s) s.rules.limit s.urgent.blocks s.urgent.next) s.clock
+        → weight s < weight (new_sends s).sender
+    urgent_goes true e k = absurd k
+    urgent_goes false e k =
+        let waits : waits_urgent s ≡ true = ap not e in
+        let less : weight s < weight (one_urgent s).sender = (one_urgent_more s).1 waits ((opened_at s s.urgent.blocks s.urgent.next (held.urgent waits).rule).0 k) in
+        new_goes s o (omega (arith, less, where_more (one_urgent s).sender))
+
+    normal_goes : (urgent more : Bool) → is_urgent s ≡ urgent → has_next s ≡ more
+        → IsDue (if urgent || not more then None else opens_at (block_in s) s.rules.limit s.numbers.blocks s.numbers.next) s.clock → weight s < weight (new_sends s).sender
+    normal_goes true more u e k = absurd k
+    normal_goes false false u e k = absurd k
+    normal_goes false true u e k =
+        let waits : waits_normal s ≡ true = ap (λ (b : Bool). not (b || not (has_next s))) u ∙ ap (λ (b : Bool). not (not b)) e in
+        let empty : (length s.urgent.units == 0) ≡ true = not-false _ u in
+        let none : one_urgent s ≡ nothing s = ap (λ (b : Bool). if b then nothing s else if rule_allows s s.urgent.blocks s.urgent.next then record { sender = sent_urgent s; events = []; tpdus = eds s s.urgent.next s.urgent.units } else held_urgent s) (or_right _ _ empty) in
+        let less : weight s < weight (normals_where s).sender = where_goes s u e ((opened_at s s.numbers.blocks s.numbers.next (held.normal waits).rule).0 k) in
+        new_goes s o (subst (λ (x : Sendings). weight s < weight (normals_where x.sender).sender) (sym none) less)
+
+    after_urgent : (IsDue (urgent_last s s.urgent.out) s.clock → ⊥) → IsDue (sooner (urgent_opens s) (normal_opens s)) s.clock → weight s < weight (new_sends (resends_urgent s).sender).sender
+    after_urgent no_last k =
+        let same : (resends_urgent s).sender ≡ s = ap (λ (x : Sendings). x.sender) (no_urgent_again s s.urgent.out no_last).0 in
+        subst (λ (m : FlowSender). weight s < weight (new_sends m).sender) (sym same) (elim (either_due (urgent_opens s) (normal_opens s) s.clock k) [
+          | inl one ↦ urgent_goes (is_some s.urgent.out || length s.urgent.units == 0) refl one
+          | inr other ↦ normal_goes (is_urgent s) (has_next s) refl refl other
+        ])
+
+    after_window : IsDue (urgent_part s) s.clock → weight s < weight (new_sends (resends_urgent s).sender).sender
+    after_window k = elim (or_not (urgent_last s s.urgent.out) s.clock) [
+      | inl last ↦ omega (arith, last_goes s.urgent.out refl last, new_more (resends_urgent s).sender)
+      | inr no_last ↦ after_urgent no_last (elim (either_due (urgent_last s s.urgent.out) (sooner (urgent_opens s) (normal_opens s)) s.clock k) [ inl l ↦ absurd (no_last l) | inr l ↦ l ])
+    ]
+
+due_is : (s : FlowSender) → s.is_open ≡ true → due_of s ≡ all_parts s
+due_is s o = ap (λ (b : Bool). if b then all_parts s else None) o
+
+no_act : (s : FlowSender) → (life_of s ≡ Goes) × (ticked s ≡ nothing s) → Acts s → ⊥
+no_act s c (inl gone) = absurd (cc (sym gone ∙ c.0))
+no_act s c (inr other) = other c.1
+
+acts : (s : FlowSender) → s.is_open ≡ true → IsSettled s → IsDue (all_parts s) s.clock → (life : Life) → life_of s ≡ life → Acts s
+acts s o held h Exhausted e = inl e
+acts s o held h Goes e = inr (λ same.
+    let less : weight s < weight (ticked_as Goes s).sender = stirs s o held h in
+    let whole : ticked_as Goes s ≡ nothing s = ap (λ (l : Life). ticked_as l s) (sym e) ∙ same in
+    absurd (omega (arith, less, ap (λ (x : Sendings). weight x.sender) whole)))
+
+pub later : (s : FlowSender) (now : ℕ) → IsSettled s → IsSettled (at now s)
+later s now h = record { urgent = h.urgent; normal = h.normal }
+
+pub least : (s : FlowSender) (now : ℕ) → s.is_open ≡ true → IsSettled s → Acts (at now s) ↔ IsDue (due_of s) now
+least s now o h = (forth, back)
+  where
+    forth : Acts (at now s) → IsDue (due_of s) now
+    forth a = subst (λ (d : Option ℕ). IsDue d now) (sym (due_is s o)) (elim (or_not (all_parts s) now) [
+      | inl due ↦ due
+      | inr not_due ↦ absurd (no_act (at now s) (calm (at now s) o (later s now h) not_due) a)
+    ])
+
+    back : IsDue (due_of s) now → Acts (at now s)
+    back due = acts (at now s) o (later s now h) (subst (λ (d : Option ℕ). IsDue d now) (due_is s o) due) (life_of (at now s)) refl

@@ -1,0 +1,13 @@
+pub mod Advances
+pub mod Counts
+pub mod Cuts
+pub mod Dues
+pub mod Frees
+pub mod Goings
+pub mod Joins
+pub mod Leasts
+pub mod Queues
+pub mod Resendings
+pub mod Settles
+pub mod Thens
+pub mod Weights

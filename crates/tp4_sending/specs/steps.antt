@@ -1,0 +1,3 @@
+-- What only carries proofs: values of private types, one step of a loop.
+pub mod Again
+pub mod Lent

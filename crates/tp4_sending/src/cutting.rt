@@ -1,0 +1,80 @@
+//! The pieces of units (X.224, segmentation and reassembling).
+
+ghost use Rattle.std.specs.Prelude.{◌≡◌, ◌<◌, ◌≤◌, ℕ, Option, Some, None};
+ghost use Rattle.tp4_sending.specs.Pieces.{count_in, cut_at, cut_of, freed};
+ghost use Rattle.tp4_sending.specs.steps.Lent.{piece_of};
+
+use osi_base::Bytes;
+use std::collections::VecDeque;
+
+/// A piece of a unit that is lent.
+#[derive(Clone, Copy, Debug)]
+pub struct PieceRef<'a> {
+    /// The unit ends with it.
+    pub last: bool,
+    pub octets: &'a [u8],
+}
+
+/// The piece of that number, counted from the first of these units.
+#[tactic(auto, using(crate::proofs::Cuts::cut_here, crate::proofs::Cuts::cut_past))]
+pub(crate) fn piece_at(units: &VecDeque<Bytes>, size: u16, number: u64) -> Option<PieceRef<'_>>
+    requires { 0 < size }
+    ensures { piece_of result ≡ cut_at size units.now.items number }
+{
+    let mut left = number;
+    for at in 0..units.len() {
+        let octets = units.get(at)?.as_slice();
+        let count = count_in(octets, size);
+        if left < count {
+            return Some(cut(octets, size, left));
+        }
+        left -= count;
+    }
+    None
+}
+
+/// How many pieces a unit has.
+pub(crate) fn count_in(octets: &[u8], size: u16) -> u64
+    requires { 0 < size }
+    ensures { result ≡ count_in size octets.now }
+{
+    (octets.len() as u64).div_ceil(u64::from(size))
+}
+
+/// A piece of a unit.
+fn cut(octets: &[u8], size: u16, number: u64) -> PieceRef<'_>
+    requires some { 0 < size }
+    requires within { number < count_in size octets.now }
+    ensures { piece_of (Some result) ≡ Some (cut_of size octets.now number) }
+{
+    let from = number as usize * usize::from(size);
+    let rest = &octets[from..];
+    if rest.len() <= usize::from(size) {
+        PieceRef {
+            last: true,
+            octets: rest,
+        }
+    } else {
+        PieceRef {
+            last: false,
+            octets: &rest[..usize::from(size)],
+        }
+    }
+}
+
+/// The units all of whose pieces are below a number go; `first` is the number of the first piece of the first.
+#[tactic(auto, using(crate::proofs::Frees::freed_on, crate::proofs::Frees::freed_here))]
+pub(crate) fn free(units: &mut VecDeque<Bytes>, first: &mut u64, size: u16, n: u64)
+    requires some { 0 < size }
+    requires low { first.old ≤ n }
+    ensures { record { units = units.new.items; first = first.new } ≡ freed size n (record { units = units.old.items; first = first.old }) }
+{
+    while let Some(unit) = units.front() {
+        let count = count_in(unit.as_slice(), size);
+        if n - *first < count {
+            return;
+        }
+        let _ = units.pop_front();
+        *first += count;
+    }
+}

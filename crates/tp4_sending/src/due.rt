@@ -1,0 +1,64 @@
+//! When a sending half is to act again (X.224, retransmission on time-out; sequence numbering).
+
+ghost use Rattle.std.specs.Prelude.{◌≡◌};
+ghost use Rattle.tp4_sending.specs.FlowSender.{urgent_opens, normal_opens, urgent_last};
+ghost use Rattle.tp4_sending.specs.Pieces.{sooner, least_due};
+
+use crate::sending::Sending;
+use osi_base::Tick;
+
+impl Sending {
+    /// The first tick at which a DT of the window is to be sent again.
+    #[tactic(auto, using(crate::proofs::Leasts::least_on, crate::proofs::Leasts::least_all))]
+    pub(crate) fn window_due(&self) -> Option<Tick>
+        ensures { result ≡ least_due self.now.rules.t1 self.now.window }
+    {
+        let mut due = None;
+        for at in 0..self.window.len() {
+            due = sooner(due, Some(self.tries_at(at).last + self.rules.t1));
+        }
+        due
+    }
+
+    /// The tick at which the ED is to be sent again.
+    pub(crate) fn urgent_due(&self) -> Option<Tick>
+        ensures { result ≡ urgent_last self.now self.now.urgent.out }
+    {
+        let tries = self.urgent.out?;
+        Some(tries.last + self.rules.t1)
+    }
+
+    /// The tick at which the number rule lets the next ED go, where it alone is in the way.
+    pub(crate) fn urgent_opens(&self) -> Option<Tick>
+        ensures { result ≡ urgent_opens self.now }
+    {
+        if self.urgent.out.is_some() || self.urgent.units.is_empty() {
+            return None;
+        }
+        self.urgent
+            .blocks
+            .opens_at(self.rules.format, self.rules.limit, self.urgent.next)
+    }
+
+    /// The tick at which the number rule lets the next DT go, where it alone is in the way.
+    pub(crate) fn normal_opens(&self) -> Option<Tick>
+        ensures { result ≡ normal_opens self.now }
+    {
+        if !self.urgent.units.is_empty() || !self.has_next() {
+            return None;
+        }
+        self.blocks
+            .opens_at(self.rules.format, self.rules.limit, self.next)
+    }
+}
+
+/// The earlier of two ticks that may be there.
+pub(crate) fn sooner(one: Option<Tick>, other: Option<Tick>) -> Option<Tick>
+    ensures { result ≡ sooner one other }
+{
+    match (one, other) {
+        (Some(one), Some(other)) => Some(one.min(other)),
+        (Some(one), None) => Some(one),
+        (None, other) => other,
+    }
+}

@@ -1,0 +1,348 @@
+//! The sending half of an end: its calls (X.224, class 4: flow control, retention until acknowledgement,
+//! retransmission on time-out, expedited data).
+
+ghost use Rattle.std.specs.Prelude.{◌≡◌, ◌≢◌, ◌<◌, ◌≤◌, ◌*◌, [], ◌∷◌, ◌++◌, ℕ, true, false, Some, None, IfOk, IfErr, OnOk, Err, length};
+ghost use Rattle.tp4_number.specs.Formats.{block_of};
+ghost use Rattle.tp4_number.specs.Number.{near};
+ghost use Rattle.tp4_number.specs.Sender.{may_send};
+ghost use Rattle.tp4_flow.specs.declared.rules.SubmitRefusal.{SubmitRefusal};
+ghost use Rattle.tp4_flow.specs.declared.rules.SubmitRefusal.TheVariants.{NoMemory as OutOfMemory};
+ghost use Rattle.tp4_sending.specs.FlowSender.{fresh, at, opened, submitted, urged, is_taken, acknowledged, is_outstanding, urgent_done, life_of, ticked, due_of, refusal, urgent_refusal, Sends, Keeps, Stays};
+ghost use Rattle.tp4_sending.specs.Kept.{IsRules, most_granted};
+
+use crate::due::sooner;
+use crate::refusal::octets_in;
+use crate::tries::Tries;
+use crate::urgent::UrgentSending;
+use circular_buffer::HeapCircularBuffer;
+use osi_base::{Bytes, NoMemory, Tick};
+use std::alloc::Global;
+use std::collections::VecDeque;
+use std::marker::Model;
+use tp4_flow::{FlowRules, Life, Step, SubmitRefusal};
+use tp4_number::Blocks;
+
+/// The sending half of an end: its numbers, what was sent and is not acknowledged, and the units.
+#[derive(Drop)]
+pub struct Sending {
+    pub(crate) alloc: Global,
+    pub(crate) rules: FlowRules,
+    pub(crate) clock: Tick,
+    pub(crate) is_open: bool,
+    pub(crate) base: u64,
+    pub(crate) credit: u16,
+    pub(crate) subsequence: u16,
+    pub(crate) next: u64,
+    pub(crate) blocks: Blocks,
+    pub(crate) window: HeapCircularBuffer<Tries>,
+    pub(crate) units: VecDeque<Bytes>,
+    pub(crate) first: u64,
+    pub(crate) noted: Option<u64>,
+    pub(crate) urgent: UrgentSending,
+}
+
+// Numbers stand in order and grow no faster than ticks, and the window has those from base on up to next.
+impl Model for Sending {
+    ghost use Rattle.tp4_sending.specs.FlowSender.{FlowSender};
+    ghost use Rattle.tp4_sending.specs.Kept.{IsSending};
+
+    ghost Value = { FlowSender };
+
+    ghost view = { λ a. record {
+      rules = a.rules;
+      clock = a.clock;
+      is_open = a.is_open;
+      numbers = record { base = a.base; credit = a.credit; subsequence = a.subsequence; next = a.next; blocks = a.blocks };
+      window = a.window.items;
+      queue = record { units = a.units.items; first = a.first };
+      noted = a.noted;
+      urgent = record { next = a.urgent.next; blocks = a.urgent.blocks; units = a.urgent.units.items; out = a.urgent.out; noted = a.urgent.noted };
+    } };
+
+    ghost invariant = { λ a. IsSending (record {
+      rules = a.rules;
+      clock = a.clock;
+      is_open = a.is_open;
+      numbers = record { base = a.base; credit = a.credit; subsequence = a.subsequence; next = a.next; blocks = a.blocks };
+      window = a.window.items;
+      queue = record { units = a.units.items; first = a.first };
+      noted = a.noted;
+      urgent = record { next = a.urgent.next; blocks = a.urgent.blocks; units = a.urgent.units.items; out = a.urgent.out; noted = a.urgent.noted };
+    }) };
+}
+
+/// The most units that wait, normal or expedited.
+const MOST_UNITS: usize = 64;
+
+impl Sending {
+    /// Nothing is submitted yet.
+    pub fn new(alloc: Global, rules: FlowRules, credit: u16) -> Result<Sending, NoMemory>
+        requires rules { IsRules rules }
+        requires credit { credit ≤ most_granted rules.format }
+        ensures { IfOk result (λ half. half ≡ fresh rules credit) }
+    {
+        Ok(Sending {
+            alloc,
+            rules,
+            clock: 0,
+            is_open: false,
+            base: 0,
+            credit,
+            subsequence: 0,
+            next: 0,
+            blocks: Blocks::none(),
+            window: HeapCircularBuffer::with_capacity(alloc, 16)?,
+            units: VecDeque::new(alloc),
+            first: 0,
+            noted: None,
+            urgent: UrgentSending::none(alloc),
+        })
+    }
+
+    /// Whether the number rule lets the next new DT go.
+    pub fn may_send(&self, now: Tick) -> bool
+        ensures { result ≡ may_send (block_of self.now.rules.format) self.now.rules.limit self.now.numbers.blocks self.now.numbers.next now }
+    {
+        self.blocks
+            .may_send(self.rules.format, self.rules.limit, self.next, now)
+    }
+
+    /// The connection is open: what may go now goes.
+    pub fn open(&mut self, now: Tick, out: &mut Step) -> Result<(), NoMemory>
+        requires closed { self.old.is_open ≡ false }
+        requires clock { self.old.clock ≤ now }
+        requires low { now ≤ 4000000000 }
+        ensures step { OnOk result (Sends (opened (at now self.old)) self.new out.old out.new) }
+        ensures rules { self.new.rules ≡ self.old.rules }
+        ensures is_open { self.new.is_open ≡ true }
+        ensures clock { self.new.clock ≡ now }
+    {
+        self.set_clock(now);
+        self.set_open();
+        self.new_sends(out)
+    }
+
+    /// A unit of the user. Refused exactly where it is empty, above 16,384 octets, or where 64 units wait or
+    /// their octets would pass 131,072; then nothing changes.
+    pub fn submit(&mut self, now: Tick, unit: Vec<u8>, out: &mut Step) -> Result<(), SubmitRefusal>
+        requires clock { self.old.clock ≤ now }
+        requires low { now ≤ 4000000000 }
+        ensures step { OnOk result (Sends (submitted (at now self.old) unit.items) self.new out.old out.new) }
+        ensures kept { OnOk result (Keeps self.old self.new now) }
+        ensures stays { Stays self.old self.new now }
+        ensures refused { (why : SubmitRefusal) → refusal self.old (length unit.items) ≡ Some why → result ≡ Err why }
+        ensures only { IfErr result (λ why. why ≢ OutOfMemory → refusal self.old (length unit.items) ≡ Some why) }
+        ensures unchanged { IfErr result (λ why. why ≢ OutOfMemory → (self.new ≡ self.old) × (out.new ≡ out.old)) }
+    {
+        if let Some(why) = self.refusal(unit.len()) {
+            return Err(why);
+        }
+        match self.take(now, unit, out) {
+            Ok(()) => Ok(()),
+            Err(NoMemory) => Err(SubmitRefusal::NoMemory),
+        }
+    }
+
+    /// An expedited unit of the user. Refused exactly where it is empty, above 16 octets, or where 64 units
+    /// wait; then nothing changes.
+    pub fn submit_expedited(
+        &mut self,
+        now: Tick,
+        unit: Vec<u8>,
+        out: &mut Step,
+    ) -> Result<(), SubmitRefusal>
+        requires clock { self.old.clock ≤ now }
+        requires low { now ≤ 4000000000 }
+        ensures step { OnOk result (Sends (urged (at now self.old) unit.items) self.new out.old out.new) }
+        ensures kept { OnOk result (Keeps self.old self.new now) }
+        ensures stays { Stays self.old self.new now }
+        ensures refused { (why : SubmitRefusal) → urgent_refusal self.old (length unit.items) ≡ Some why → result ≡ Err why }
+        ensures only { IfErr result (λ why. why ≢ OutOfMemory → urgent_refusal self.old (length unit.items) ≡ Some why) }
+        ensures unchanged { IfErr result (λ why. why ≢ OutOfMemory → (self.new ≡ self.old) × (out.new ≡ out.old)) }
+    {
+        if let Some(why) = self.urgent_refusal(unit.len()) {
+            return Err(why);
+        }
+        match self.take_urgent(now, unit, out) {
+            Ok(()) => Ok(()),
+            Err(NoMemory) => Err(SubmitRefusal::NoMemory),
+        }
+    }
+
+    /// An AK with this wire number came. True exactly where it is newer than the one that was taken last;
+    /// else nothing changes but the clock.
+    pub fn on_ak(
+        &mut self,
+        now: Tick,
+        wire: u32,
+        credit: u16,
+        subsequence: u16,
+        out: &mut Step,
+    ) -> Result<bool, NoMemory>
+        requires clock { self.old.clock ≤ now }
+        requires low { now ≤ 4000000000 }
+        requires open { self.old.is_open ≡ true }
+        requires wire { wire < 4 * block_of self.old.rules.format }
+        requires credit { credit ≤ most_granted self.old.rules.format }
+        ensures newer { IfOk result (λ newer. newer ≡ is_taken self.old (near (block_of self.old.rules.format) self.old.numbers.base wire) credit subsequence) }
+        ensures step { OnOk result (Sends (acknowledged (at now self.old) wire credit subsequence) self.new out.old out.new) }
+        ensures kept { Keeps self.old self.new now }
+    {
+        self.set_clock(now);
+        let n = self.near(wire);
+        if !self.is_newer(n, credit, subsequence) {
+            return Ok(false);
+        }
+        self.advance(n, credit, subsequence);
+        self.new_sends(out)?;
+        Ok(true)
+    }
+
+    /// An EA with this wire number came. True exactly where its ED is outstanding; else nothing changes but
+    /// the clock.
+    pub fn on_ea(&mut self, now: Tick, wire: u32, out: &mut Step) -> Result<bool, NoMemory>
+        requires clock { self.old.clock ≤ now }
+        requires low { now ≤ 4000000000 }
+        requires open { self.old.is_open ≡ true }
+        requires wire { wire < 4 * block_of self.old.rules.format }
+        ensures outstanding { IfOk result (λ is. is ≡ is_outstanding self.old wire) }
+        ensures step { OnOk result (Sends (urgent_done (at now self.old) wire) self.new out.old out.new) }
+        ensures kept { Keeps self.old self.new now }
+    {
+        self.set_clock(now);
+        if !self.is_outstanding(wire) {
+            return Ok(false);
+        }
+        let _ = self.urgent.units.pop_front();
+        self.urgent.out = None;
+        self.new_sends(out)?;
+        Ok(true)
+    }
+
+    /// A tick of the clock: where no TPDU was sent as often as it may be in vain, those whose time has passed
+    /// are sent again, and then what may go goes.
+    pub fn tick(&mut self, now: Tick, out: &mut Step) -> Result<Life, NoMemory>
+        requires clock { self.old.clock ≤ now }
+        requires low { now ≤ 4000000000 }
+        requires open { self.old.is_open ≡ true }
+        ensures life { IfOk result (λ life. life ≡ life_of (at now self.old)) }
+        ensures step { OnOk result (Sends (ticked (at now self.old)) self.new out.old out.new) }
+        ensures kept { Keeps self.old self.new now }
+    {
+        self.set_clock(now);
+        if self.is_exhausted() {
+            return Ok(Life::Exhausted);
+        }
+        self.resend(out)?;
+        self.resend_urgent(out)?;
+        self.new_sends(out)?;
+        Ok(Life::Goes)
+    }
+
+    /// The least tick at which `tick` changes more than the clock, sends something or answers Exhausted.
+    pub fn next_due(&self) -> Option<Tick>
+        ensures { result ≡ due_of self.now }
+    {
+        if !self.is_open {
+            return None;
+        }
+        let opens = sooner(self.urgent_opens(), self.normal_opens());
+        sooner(self.window_due(), sooner(self.urgent_due(), opens))
+    }
+
+    /// The tick is now.
+    fn set_clock(&mut self, now: Tick)
+        requires clock { self.old.clock ≤ now }
+        requires low { now ≤ 4000000000 }
+        ensures { self.new ≡ at now self.old }
+    {
+        self.clock = now;
+    }
+
+    /// The connection is open.
+    fn set_open(&mut self)
+        ensures { self.new ≡ record self.old { is_open = true } }
+    {
+        self.is_open = true;
+    }
+
+    /// A unit that is not refused joins its queue, and what may go goes.
+    fn take(&mut self, now: Tick, unit: Vec<u8>, out: &mut Step) -> Result<(), NoMemory>
+        requires clock { self.old.clock ≤ now }
+        requires low { now ≤ 4000000000 }
+        requires fits { refusal self.old (length unit.items) ≡ None }
+        ensures step { OnOk result (Sends (submitted (at now self.old) unit.items) self.new out.old out.new) }
+        ensures kept { Keeps self.old self.new now }
+    {
+        self.set_clock(now);
+        self.queue(unit)?;
+        self.new_sends(out)
+    }
+
+    /// A unit joins its queue.
+    #[tactic(auto, using(crate::proofs::Queues::queued))]
+    fn queue(&mut self, unit: Vec<u8>) -> Result<(), NoMemory>
+        requires { refusal self.old (length unit.items) ≡ None }
+        ensures ok { OnOk result (self.new ≡ record self.old { queue = record self.old.queue { units = self.old.queue.units ++ unit.items ∷ [] } }) }
+        ensures kept { Keeps self.old self.new self.old.clock }
+    {
+        self.units.push_back(Bytes::of(unit))?;
+        Ok(())
+    }
+
+    /// An expedited unit that is not refused joins its queue, and what may go goes.
+    fn take_urgent(&mut self, now: Tick, unit: Vec<u8>, out: &mut Step) -> Result<(), NoMemory>
+        requires clock { self.old.clock ≤ now }
+        requires low { now ≤ 4000000000 }
+        requires fits { urgent_refusal self.old (length unit.items) ≡ None }
+        ensures step { OnOk result (Sends (urged (at now self.old) unit.items) self.new out.old out.new) }
+        ensures kept { Keeps self.old self.new now }
+    {
+        self.set_clock(now);
+        self.queue_urgent(unit)?;
+        self.new_sends(out)
+    }
+
+    /// An expedited unit joins its queue.
+    #[tactic(auto, using(crate::proofs::Queues::queued_urgent))]
+    fn queue_urgent(&mut self, unit: Vec<u8>) -> Result<(), NoMemory>
+        requires { urgent_refusal self.old (length unit.items) ≡ None }
+        ensures ok { OnOk result (self.new ≡ record self.old { urgent = record self.old.urgent { units = self.old.urgent.units ++ unit.items ∷ [] } }) }
+        ensures kept { Keeps self.old self.new self.old.clock }
+    {
+        self.urgent.units.push_back(Bytes::of(unit))?;
+        Ok(())
+    }
+
+    /// Why `submit` takes no unit of so many octets, and None where it takes one.
+    pub fn refusal(&self, octets: usize) -> Option<SubmitRefusal>
+        ensures { result ≡ refusal self.now octets }
+    {
+        if octets == 0 {
+            return Some(SubmitRefusal::EmptyUnit);
+        }
+        if 16_384 < octets {
+            return Some(SubmitRefusal::TooLong);
+        }
+        if MOST_UNITS <= self.units.len() || 131_072 < octets_in(&self.units) + octets as u64 {
+            return Some(SubmitRefusal::QueueFull);
+        }
+        None
+    }
+
+    /// Why `submit_expedited` takes no unit of so many octets, and None where it takes one.
+    pub fn urgent_refusal(&self, octets: usize) -> Option<SubmitRefusal>
+        ensures { result ≡ urgent_refusal self.now octets }
+    {
+        if octets == 0 {
+            return Some(SubmitRefusal::EmptyUnit);
+        }
+        if 16 < octets {
+            return Some(SubmitRefusal::TooLong);
+        }
+        if MOST_UNITS <= self.urgent.units.len() {
+            return Some(SubmitRefusal::QueueFull);
+        }
+        None
+    }
+}
