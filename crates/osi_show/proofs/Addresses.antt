@@ -1,8 +1,8 @@
 -- The addresses of an ESH stand behind their count, the tenth octet.
-use Rattle.std.proofs.Common.{◌≡◌, ℕ, ◌+◌, ◌≤◌, List, [], ◌∷◌, ◌++◌, length, drop, refl, sym, ◌∙◌, ap, subst, append_assoc, arith, length-append}
+use Rattle.std.proofs.Common.{◌≡◌, ℕ, ◌≤◌, List, ◌++◌, length, drop, ◌∙◌, ap, append_assoc, arith, length-append}
 use Rattle.std.specs.Prelude.{slice_index}
-use Rattle.std.specs.List.{flat_map, AllByRecursion}
-use Rattle.pdu_parts.specs.Field.{IsAddress, field}
+use Rattle.std.specs.List.{flat_map}
+use Rattle.pdu_parts.specs.Field.{field}
 use Rattle.pdu_parts.specs.Front.{BeginsWith}
 use Rattle.esis_pdu.specs.Addresses.{addresses_in}
 use Rattle.esis_pdu.specs.declared.hello.Hello.TheVariants.{Esh}

@@ -1,6 +1,6 @@
 -- What is appended for a frame, from what is appended for the lines of its PDU.
-use Rattle.std.proofs.Common.{◌≡◌, ℕ, ◌+◌, ◌-◌, ◌≤◌, true, List, [], ◌∷◌, ◌++◌, length, take, drop, Option, Some, None, Result, Ok, Err, refl, sym, ◌∙◌, ap, subst, append_assoc, arith, length-drop}
-use Rattle.std.proofs.lemmas.List.{append-nil, take_all}
+use Rattle.std.proofs.Common.{◌≡◌, ℕ, ◌-◌, true, List, [], ◌∷◌, ◌++◌, length, take, drop, Option, Some, Result, Ok, Err, refl, sym, ◌∙◌, ap, append_assoc, arith, length-drop}
+use Rattle.std.proofs.lemmas.List.{take_all}
 use Rattle.std.specs.Fmt.{decimal}
 use Rattle.std.specs.Prelude.{map, slice_index, codes, OnOk}
 use Rattle.osi_base.specs.declared.refusal.NoMemory.{NoMemory}
@@ -9,7 +9,6 @@ use Rattle.pdu_parts.specs.Parameter.{Parameter, parameters_in, spelled}
 use Rattle.clnp_options.specs.declared.reason.Fault.{Fault}
 use Rattle.clnp_options.specs.declared.reason.PduKind.TheVariants.{Dt, Er}
 use Rattle.clnp_options.specs.Options.{listed, value_of}
-use Rattle.clnp_header.specs.declared.pdu.OwnOpt.{OwnOpt}
 use Rattle.clnp_header.specs.declared.pdu.Pdu.{Pdu}
 use Rattle.clnp_header.specs.declared.pdu.PduRef.{PduRef}
 use Rattle.clnp_header.specs.Faults.{IsPduFault}
@@ -24,7 +23,7 @@ use Rattle.tpdu.proofs.Splits.{parameters-spelled}
 use Rattle.osi_show.specs.declared.ends.End.{End}
 use Rattle.osi_show.specs.Hellos.{hello_line, bad_hello_line}
 use Rattle.osi_show.specs.Pdus.{dt_line, er_line, bad_pdu_line, discard_in, flags_text, is_transport, segment_text}
-use Rattle.osi_show.specs.Shown.{Appends, BadHello, BadPdu, Carries, Clnp, EsIs, OfDt, OfEr, OfHello, ShowsCarried, ShowsPdu, ShowsHello, lines_text}
+use Rattle.osi_show.specs.Shown.{Appends, BadHello, BadPdu, Clnp, EsIs, OfDt, OfEr, OfHello, lines_text}
 use Rattle.osi_show.specs.Texts.{line, address_text, addresses_text, parameters_text}
 use Rattle.osi_show.specs.steps.Units.{WritesDt, WritesUnit}
 use Rattle.osi_show.proofs.Addresses.{addresses_stand}

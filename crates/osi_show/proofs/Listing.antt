@@ -1,7 +1,7 @@
 -- A list that is written one member after another: what stands, with the texts that are left, is the whole.
-use Rattle.std.proofs.Common.{◌≡◌, ℕ, zero, suc, ◌-◌, ◌+◌, ◌<◌, ◌≤◌, if◌then◌else◌, Bool, true, false, List, [], ◌∷◌, ◌++◌, Option, Some, None, refl, sym, ◌∙◌, ap, append_assoc, arith}
+use Rattle.std.proofs.Common.{◌≡◌, ℕ, suc, ◌-◌, ◌+◌, ◌<◌, ◌≤◌, if◌then◌else◌, Bool, true, false, List, [], ◌∷◌, ◌++◌, Some, None, refl, sym, ◌∙◌, ap, append_assoc, arith}
 use Rattle.std.proofs.lemmas.List.{append-nil}
-use Rattle.std.specs.Prelude.{map, filter, is_some}
+use Rattle.std.specs.Prelude.{map, is_some}
 use Rattle.pdu_parts.specs.Field.{address_at}
 use Rattle.pdu_parts.specs.Parameter.{Parameter, front_parameter, parameters_in}
 use Rattle.pdu_parts.proofs.Parameters.{in_front_some, in_front_none}
@@ -9,7 +9,7 @@ use Rattle.esis_pdu.specs.Addresses.{addresses_in}
 use Rattle.esis_pdu.proofs.Addresses.{in_some, in_none}
 use Rattle.tpdu.specs.declared.kind.Kind.{Kind}
 use Rattle.tpdu.specs.Parameters.{lengths_of}
-use Rattle.osi_show.specs.Texts.{joined, listed_text, address_text, addresses_text, parameter_text, parameters_text}
+use Rattle.osi_show.specs.Texts.{joined, address_text, parameter_text}
 use Rattle.osi_show.specs.Tpdus.{known}
 use Rattle.osi_show.specs.steps.Written.{commas, going_on}
 

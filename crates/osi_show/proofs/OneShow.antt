@@ -1,21 +1,15 @@
 -- One text is shown of a frame: each grammar has one front, and a fault excludes it.
-use Rattle.std.proofs.Common.{◌≡◌, ◌⊎◌, ℕ, ◌<◌, ◌+◌, ◌||◌, Bool, true, false, not, List, [], ◌∷◌, ◌++◌, length, drop, Option, Some, None, inl, inr, refl, sym, ◌∙◌, ap, subst, append_assoc, arith, length-append}
-use Rattle.std.proofs.lemmas.List.{append-nil}
-use Rattle.std.specs.Prelude.{slice_index, ◌==◌, nat_eq}
-use Rattle.pdu_parts.specs.Front.{BeginsWith}
+use Rattle.std.proofs.Common.{◌≡◌, ◌⊎◌, ℕ, Bool, true, false, List, [], ◌∷◌, ◌++◌, length, drop, Option, Some, inl, inr, refl, sym, ◌∙◌, ap, subst, arith, length-append}
+use Rattle.std.specs.Prelude.{slice_index}
 use Rattle.pdu_parts.specs.Parameter.{Parameter, parameters_in, spelled}
-use Rattle.clnp_options.specs.declared.reason.Fault.{Fault}
 use Rattle.clnp_options.specs.declared.reason.PduKind.{PduKind}
 use Rattle.clnp_options.specs.declared.reason.PduKind.TheVariants.{Dt, Er}
 use Rattle.clnp_header.specs.declared.pdu.Pdu.{Pdu}
-use Rattle.clnp_header.specs.Grammar.{IsPdu}
 use Rattle.clnp_header.proofs.Answered.{one_front as one_pdu, apart as pdu_apart}
-use Rattle.esis_pdu.specs.declared.fault.EsisFault.{EsisFault}
-use Rattle.esis_pdu.specs.Hellos.{Esis, IsEsis}
+use Rattle.esis_pdu.specs.Hellos.{Esis}
 use Rattle.esis_pdu.proofs.Grammar.{one_front as one_hello, apart as hello_apart}
-use Rattle.tpdu.specs.declared.fault.TpduFault.{TpduFault}
 use Rattle.tpdu.specs.declared.tpdu.Tpdu.{Tpdu}
-use Rattle.tpdu.specs.Faults.{reference, IsTpduFault}
+use Rattle.tpdu.specs.Faults.{reference}
 use Rattle.tpdu.specs.Grammar.{BeginsWithTpdu}
 use Rattle.tpdu.specs.Values.{TpduAndSum, format_for}
 use Rattle.tpdu.specs.Writing.{kind_for}
@@ -25,7 +19,7 @@ use Rattle.osi_show.specs.declared.ends.End.{End}
 use Rattle.osi_show.specs.Ends.{references_of, learned}
 use Rattle.osi_show.specs.Hellos.{hello_line, bad_hello_line}
 use Rattle.osi_show.specs.Pdus.{dt_line, er_line, bad_pdu_line, is_transport}
-use Rattle.osi_show.specs.Shown.{Alien, BadHello, BadPdu, Carries, Clnp, EsIs, OfDt, OfEr, OfHello, ShowsCarried, ShowsData, ShowsFault, ShowsHello, ShowsPdu, ShowsTpdu, ShowsUnit, is_other, lines_text}
+use Rattle.osi_show.specs.Shown.{Alien, BadHello, BadPdu, Carries, Clnp, EsIs, OfDt, OfEr, OfHello, ShowsCarried, ShowsData, ShowsHello, ShowsPdu, ShowsTpdu, ShowsUnit, is_other, lines_text}
 use Rattle.osi_show.specs.Tpdus.{tpdu_line, bad_tpdu_line}
 use Rattle.osi_show.proofs.Tpdus.{are_there}
 

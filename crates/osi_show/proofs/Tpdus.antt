@@ -1,5 +1,5 @@
 -- How a TPDU is found: its format by the ends that were named, and its parameters behind its fixed part.
-use Rattle.std.proofs.Common.{◌≡◌, ◌⊎◌, ℕ, zero, suc, ◌+◌, ◌<◌, ◌≤◌, if◌then◌else◌, Bool, true, false, ◌&&◌, ◌||◌, List, [], ◌∷◌, ◌++◌, length, take, drop, Option, Some, None, Result, Ok, Err, inl, inr, refl, sym, ◌∙◌, ◌≢◌, ap, append_assoc, add-one, eq-eqb, arith, length-append, length-drop, length-take}
+use Rattle.std.proofs.Common.{◌≡◌, ◌⊎◌, ℕ, suc, ◌+◌, ◌<◌, ◌≤◌, if◌then◌else◌, Bool, true, false, ◌&&◌, ◌||◌, List, [], ◌∷◌, ◌++◌, length, take, drop, Option, Some, None, Result, Ok, Err, inl, inr, refl, sym, ◌∙◌, ◌≢◌, ap, append_assoc, add-one, eq-eqb, arith, length-append, length-drop, length-take}
 use Rattle.std.proofs.Math.Seq.{drop-append_seam}
 use Rattle.std.specs.Prelude.{filter, map, slice_index, nat_eq, IfOk, IfErr, unwrap_or, ◌==◌}
 use Rattle.std.specs.List.{list_any}
@@ -11,16 +11,15 @@ use Rattle.tpdu.specs.declared.kind.Kind.{Kind}
 use Rattle.tpdu.specs.declared.kind.Kind.TheVariants.{Cr}
 use Rattle.tpdu.specs.declared.tpdu.Format.{Format}
 use Rattle.tpdu.specs.declared.tpdu.Format.TheVariants.{Normal, Extended}
-use Rattle.tpdu.specs.declared.tpdu.TpduRef.{TpduRef}
 use Rattle.tpdu.specs.Faults.{IsTpduFault, header, reference, format_at}
-use Rattle.tpdu.specs.Grammar.{BeginsWithTpdu, Spells, header_of}
+use Rattle.tpdu.specs.Grammar.{BeginsWithTpdu}
 use Rattle.tpdu.specs.Kinds.{fixed_count}
-use Rattle.tpdu.specs.Values.{TpduAndSum, Parts, destination_of, format_for, seen}
+use Rattle.tpdu.specs.Values.{TpduAndSum, Parts, destination_of, format_for}
 use Rattle.tpdu.specs.Writing.{kind_for}
-use Rattle.tpdu.specs.steps.Reading.{Found, Head, Sections, head_at, sections_by, sections_at, checked, close_at, parts_of, read_at}
+use Rattle.tpdu.specs.steps.Reading.{Head, head_at, sections_by, sections_at, read_at}
 use Rattle.tpdu.proofs.FaultOrder.{fault_of, fault-read}
 use Rattle.tpdu.proofs.Formats.{kind-value}
-use Rattle.tpdu.proofs.Heads.{Fronted, HeadIs, head_ok, Refront, refront}
+use Rattle.tpdu.proofs.Heads.{Fronted, head_ok, Refront, refront}
 use Rattle.tpdu.proofs.ReadLaws.{shown, destination-value, fixed_count-bounds, read_sound, read_complete}
 use Rattle.tpdu.proofs.Splits.{parameters-spelled}
 use Rattle.osi_show.specs.declared.ends.End.{End}

@@ -4,7 +4,7 @@ use Rattle.std.proofs.lemmas.List.{append-nil}
 use Rattle.std.specs.Prelude.{option_map, ◌==◌}
 use Rattle.tpdu.proofs.Parts.{some_left}
 use Rattle.osi_show.specs.declared.ends.End.{End}
-use Rattle.osi_show.specs.Shown.{ShowsTpdu, ShowsFault, ShowsUnit, lines_text}
+use Rattle.osi_show.specs.Shown.{ShowsUnit, lines_text}
 use Rattle.osi_show.specs.steps.Units.{WritesNext, WritesTpdu, WritesFault, WritesUnit, Writing}
 
 lines_last : (lines : List (List ℕ)) (line : List ℕ) → lines_text (lines ++ line ∷ []) ≡ lines_text lines ++ line

@@ -1,5 +1,5 @@
 -- What is shown of a frame: its line, and a line for each TPDU that it carries.
-use Rattle.std.specs.Prelude.{◌≡◌, ◌⊎◌, ℕ, ◌<◌, ◌==◌, ◌||◌, not, Bool, true, false, List, [], ◌∷◌, ◌++◌, length, slice_index, flat_map, option_map, Option, Some, None, codes, Result, OnOk}
+use Rattle.std.specs.Prelude.{◌≡◌, ◌⊎◌, ℕ, ◌<◌, ◌==◌, ◌||◌, not, Bool, true, false, List, [], ◌∷◌, ◌++◌, length, slice_index, flat_map, option_map, Option, Some, None, codes}
 use Rattle.lan_frame.specs.Frame.{frame_in}
 use Rattle.pdu_parts.specs.Front.{BeginsWith}
 use Rattle.pdu_parts.specs.Parameter.{Parameter, spelled}
@@ -15,7 +15,6 @@ use Rattle.tpdu.specs.declared.fault.TpduFault.{TpduFault}
 use Rattle.tpdu.specs.Faults.{IsTpduFault}
 use Rattle.tpdu.specs.Grammar.{BeginsWithTpdu}
 use Rattle.tpdu.specs.Values.{TpduAndSum}
-use Rattle.osi_base.specs.declared.refusal.NoMemory.{NoMemory}
 use Rattle.osi_show.specs.declared.ends.End.{End}
 use Rattle.osi_show.specs.Ends.{references_of, learned}
 use Rattle.osi_show.specs.Hellos.{hello_line, bad_hello_line}

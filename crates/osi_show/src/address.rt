@@ -48,7 +48,8 @@ fn push_local(octets: &[u8], out: &mut Vec<u8>) -> Result<(), NoMemory>
 /// Identifier, two octets, middle and selector.
 fn push_coded(octets: &[u8], out: &mut Vec<u8>) -> Result<(), NoMemory>
     requires { 5 ≤ length octets.now }
-    ensures { OnOk result (out.new.items ≡ out.old.items ++ joined 46 (map encode_lower (cut (1 ∷ 2 ∷ (length octets.now - 4) ∷ 1 ∷ []) octets.now))) }
+    ensures { OnOk result (out.new.items ≡ out.old.items
+        ++ joined 46 (map encode_lower (cut (1 ∷ 2 ∷ (length octets.now - 4) ∷ 1 ∷ []) octets.now))) }
 {
     push_hex(&octets[..1], out)?;
     push(b".", out)?;

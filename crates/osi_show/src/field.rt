@@ -5,16 +5,14 @@ ghost use Rattle.std.specs.Fmt.{decimal};
 ghost use Rattle.hex.specs.Hex.{encode_lower};
 ghost use Rattle.osi_show.specs.Pdus.{flags_text, segment_text};
 ghost use Rattle.osi_show.specs.Texts.{line, octets_text, title_text};
-ghost use Rattle.osi_show.specs.steps.Written.{field_text, tail};
+ghost use Rattle.osi_show.specs.steps.Written.{before, field_text, tail};
 
 use crate::address::show_nsap;
-use crate::listed::{push_addresses, push_known, push_options, push_parameters};
+use crate::listed::{push_addresses, push_parameters};
 use clnp_header::SegmentPart;
-use clnp_options::OptionsRef;
 use itoa::Buffer;
 use nsap::Nsap;
 use osi_base::NoMemory;
-use tpdu::Kind;
 
 /// A field of a line.
 #[derive(Clone, Copy)]
@@ -29,14 +27,8 @@ pub enum Field<'a> {
     Title(&'a Option<Nsap>),
     /// So many addresses behind their lengths.
     Addresses(u8, &'a [u8]),
-    /// The segmentation part, and whether an error report is wanted.
-    Flags(Option<SegmentPart>, bool),
-    Segment(Option<SegmentPart>),
-    Options(OptionsRef<'a>),
     /// All parameters of the octets.
     Parameters(&'a [u8]),
-    /// The parameters of the octets that a TPDU of this kind knows.
-    Known(Kind, &'a [u8]),
 }
 
 /// Appends a line.
@@ -46,7 +38,7 @@ pub fn write(fields: &[Field<'_>], out: &mut Vec<u8>) -> Result<(), NoMemory>
     let Some((first, others)) = fields.split_first() else {
         return push(b"\n", out);
     };
-    push_field(*first, out)?;
+    push_field(first, out)?;
     write_others(others, out)
 }
 
@@ -56,29 +48,46 @@ fn write_others(fields: &[Field<'_>], out: &mut Vec<u8>) -> Result<(), NoMemory>
 {
     for field in fields {
         push(b" ", out)?;
-        push_field(*field, out)?;
+        push_field(field, out)?;
     }
     push(b"\n", out)
 }
 
 /// Appends a field.
-fn push_field(field: Field<'_>, out: &mut Vec<u8>) -> Result<(), NoMemory>
-    ensures { OnOk result (out.new.items ≡ out.old.items ++ field_text field.entry) }
+fn push_field(field: &Field<'_>, out: &mut Vec<u8>) -> Result<(), NoMemory>
+    ensures { OnOk result (out.new.items ≡ out.old.items ++ field_text field.now) }
 {
     match field {
         Field::Word(text) => push(text.as_bytes(), out),
-        Field::Number(number) => push_number(number, out),
-        Field::Octet(octet) => push_hex(&[octet], out),
+        Field::Number(number) => push_number(*number, out),
+        Field::Octet(octet) => push_hex(&[*octet], out),
         Field::Digits(octets) => push_hex(octets, out),
         Field::Address(address) => show_nsap(address, out),
         Field::Title(title) => push_title(title, out),
-        Field::Addresses(count, octets) => push_addresses(count, octets, out),
-        Field::Flags(segment, report) => push_flags(segment, report, out),
-        Field::Segment(segment) => push_segment(segment, out),
-        Field::Options(options) => push_options(&options, out),
+        Field::Addresses(count, octets) => push_addresses(*count, octets, out),
         Field::Parameters(octets) => push_parameters(octets, out),
-        Field::Known(kind, octets) => push_known(kind, octets, out),
     }
+}
+
+/// Appends a word, and numbers in decimal, each with a blank behind it.
+pub fn push_numbers(word: &str, numbers: &[usize], out: &mut Vec<u8>) -> Result<(), NoMemory>
+    ensures { OnOk result (out.new.items ≡ out.old.items ++ (word.now ++ before (map decimal numbers.now))) }
+{
+    push(word.as_bytes(), out)?;
+    for number in numbers {
+        push_number(*number, out)?;
+        push(b" ", out)?;
+    }
+    Ok(())
+}
+
+/// Appends the last field of a line, the octets of the data.
+pub fn push_end(count: usize, out: &mut Vec<u8>) -> Result<(), NoMemory>
+    ensures { OnOk result (out.new.items ≡ out.old.items ++ 32 ∷ (decimal count ++ 10 ∷ [])) }
+{
+    push(b" ", out)?;
+    push_number(count, out)?;
+    push(b"\n", out)
 }
 
 /// Appends a title, `-` for none.
@@ -92,7 +101,11 @@ fn push_title(title: &Option<Nsap>, out: &mut Vec<u8>) -> Result<(), NoMemory>
 }
 
 /// Appends the letters of the flags, `-` for none.
-fn push_flags(segment: Option<SegmentPart>, report: bool, out: &mut Vec<u8>) -> Result<(), NoMemory>
+pub fn push_flags(
+    segment: Option<SegmentPart>,
+    report: bool,
+    out: &mut Vec<u8>,
+) -> Result<(), NoMemory>
     ensures { OnOk result (out.new.items ≡ out.old.items ++ flags_text segment report) }
 {
     let letters = match (segment, report) {
@@ -105,7 +118,7 @@ fn push_flags(segment: Option<SegmentPart>, report: bool, out: &mut Vec<u8>) -> 
 }
 
 /// Appends identifier, offset and total length of a segmentation part, `-` for none.
-fn push_segment(segment: Option<SegmentPart>, out: &mut Vec<u8>) -> Result<(), NoMemory>
+pub fn push_segment(segment: Option<SegmentPart>, out: &mut Vec<u8>) -> Result<(), NoMemory>
     ensures { OnOk result (out.new.items ≡ out.old.items ++ segment_text segment) }
 {
     let Some(part) = segment else {

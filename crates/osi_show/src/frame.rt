@@ -8,7 +8,7 @@ ghost use Rattle.osi_show.specs.Shown.{Appends, alien_line, pdu_in};
 
 use crate::ends::ExtendedEnds;
 use crate::field::{Field, write};
-use crate::tpdu::write_unit;
+use crate::unit::write_unit;
 use crate::{hello, pdu};
 use clnp_header::{PduKind, PduRef, read_pdu};
 use esis_pdu::read_esis;

@@ -10,7 +10,7 @@ mod hello;
 mod laws;
 mod listed;
 mod pdu;
-mod tpdu;
+mod unit;
 
 pub use address::show_nsap;
 pub use ends::{End, ExtendedEnds};

@@ -17,6 +17,39 @@ use osi_base::NoMemory;
 use pdu_parts::{ParameterRef, address_at, split_parameter};
 use tpdu::Kind;
 
+/// Calling transport selector; in an ER the header of the rejected TPDU.
+const CALLING: u8 = 0xc1;
+
+/// Called transport selector.
+const CALLED: u8 = 0xc2;
+
+/// TPDU size.
+const SIZE: u8 = 0xc0;
+
+/// Version number.
+const VERSION: u8 = 0xc4;
+
+/// Additional option selection.
+const EXTRA: u8 = 0xc6;
+
+/// Checksum.
+const CHECKSUM: u8 = 0xc3;
+
+/// Alternative protocol classes.
+const CLASSES: u8 = 0xc7;
+
+/// Acknowledgement time.
+const ACK_TIME: u8 = 0x85;
+
+/// Subsequence number.
+const SUBSEQUENCE: u8 = 0x8a;
+
+/// Flow control confirmation.
+const CONFIRMATION: u8 = 0x8c;
+
+/// Additional information on a release.
+const INFO: u8 = 0xe0;
+
 /// Appends so many addresses that stand behind their lengths.
 pub fn push_addresses(count: u8, octets: &[u8], out: &mut Vec<u8>) -> Result<(), NoMemory>
     ensures { OnOk result (out.new.items ≡ out.old.items ++ addresses_text (addresses_in count octets.now)) }
@@ -87,12 +120,12 @@ fn knows(kind: Kind, code: u8) -> bool
     match kind {
         Kind::Cr | Kind::Cc => matches!(
             code,
-            0xc0 | 0xc1 | 0xc2 | 0xc3 | 0xc4 | 0xc6 | 0xc7 | 0x85
+            CALLING | CALLED | SIZE | VERSION | EXTRA | CHECKSUM | CLASSES | ACK_TIME
         ),
-        Kind::Dr => matches!(code, 0xe0 | 0xc3),
-        Kind::Ak => matches!(code, 0x8a | 0x8c | 0xc3),
-        Kind::Er => matches!(code, 0xc1 | 0xc3),
-        Kind::Dc | Kind::Dt | Kind::Ed | Kind::Ea => code == 0xc3,
+        Kind::Dr => matches!(code, INFO | CHECKSUM),
+        Kind::Ak => matches!(code, SUBSEQUENCE | CONFIRMATION | CHECKSUM),
+        Kind::Er => matches!(code, CALLING | CHECKSUM),
+        Kind::Dc | Kind::Dt | Kind::Ed | Kind::Ea => code == CHECKSUM,
     }
 }
 

@@ -1,11 +1,15 @@
 //! The lines of PDUs of the connectionless network protocol (X.233, structure of PDUs).
 
-ghost use Rattle.std.specs.Prelude.{◌≡◌, ◌++◌, OnOk, Some};
+ghost use Rattle.std.specs.Prelude.{◌≡◌, ◌∷◌, [], ◌++◌, OnOk, Some};
+ghost use Rattle.std.specs.Fmt.{decimal};
 ghost use Rattle.clnp_header.specs.Values.{value_of};
 ghost use Rattle.osi_show.specs.Pdus.{dt_line, er_line, bad_pdu_line, discard_in, discard_of, is_transport, is_whole};
-ghost use Rattle.osi_show.specs.steps.Written.{discard_view};
+ghost use Rattle.osi_show.specs.Texts.{address_text};
+ghost use Rattle.osi_show.specs.steps.Written.{before, discard_view};
 
-use crate::field::{Field, write};
+use crate::address::show_nsap;
+use crate::field::{Field, push, push_end, push_flags, push_numbers, push_segment, write};
+use crate::listed::push_options;
 use clnp_header::{Fault, PduRef, SegmentPart};
 use clnp_options::{REASON, get};
 use osi_base::NoMemory;
@@ -17,19 +21,25 @@ const TRANSPORT: u8 = 0x01;
 pub fn write_dt(pdu: &PduRef<'_>, out: &mut Vec<u8>) -> Result<(), NoMemory>
     ensures { OnOk result (out.new.items ≡ out.old.items ++ dt_line (value_of pdu.now)) }
 {
-    write(
-        &[
-            Field::Word("dt"),
-            Field::Address(&pdu.destination),
-            Field::Address(&pdu.source),
-            Field::Number(usize::from(pdu.lifetime)),
-            Field::Flags(pdu.segment, pdu.report),
-            Field::Segment(pdu.segment),
-            Field::Options(pdu.options),
-            Field::Number(pdu.body.len()),
-        ],
-        out,
-    )
+    push_ways("dt ", pdu, out)?;
+    push_flags(pdu.segment, pdu.report, out)?;
+    push(b" ", out)?;
+    push_segment(pdu.segment, out)?;
+    push(b" ", out)?;
+    push_options(&pdu.options, out)?;
+    push_end(pdu.body.len(), out)
+}
+
+/// Appends a word, the addresses of a PDU and its lifetime, the last three with a blank behind each.
+fn push_ways(word: &str, pdu: &PduRef<'_>, out: &mut Vec<u8>) -> Result<(), NoMemory>
+    ensures { OnOk result (out.new.items ≡ out.old.items ++ (word.now
+        ++ before (address_text pdu.now.destination ∷ address_text pdu.now.source ∷ decimal pdu.now.lifetime ∷ []))) }
+{
+    push(word.as_bytes(), out)?;
+    show_nsap(&pdu.destination, out)?;
+    push(b" ", out)?;
+    show_nsap(&pdu.source, out)?;
+    push_numbers(" ", &[usize::from(pdu.lifetime)], out)
 }
 
 /// Appends the line of an ER PDU.

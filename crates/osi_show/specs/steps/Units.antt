@@ -1,5 +1,5 @@
 -- A unit line by line, as it is written.
-use Rattle.std.specs.Prelude.{◌≡◌, ◌⊎◌, ℕ, List, [], ◌++◌, Option, Some, None}
+use Rattle.std.specs.Prelude.{◌≡◌, ℕ, List, ◌++◌, Option, Some, None}
 use Rattle.osi_show.specs.declared.ends.End.{End}
 use Rattle.clnp_header.specs.declared.pdu.Pdu.{Pdu}
 use Rattle.osi_show.specs.Pdus.{dt_line, is_transport}

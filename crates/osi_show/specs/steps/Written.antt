@@ -1,16 +1,13 @@
 -- The fields of a line as the code lends them, and lists that are written one member after another.
-use Rattle.std.specs.Prelude.{ℕ, Bool, true, false, List, [], ◌∷◌, ◌++◌, map, flat_map}
+use Rattle.std.specs.Prelude.{ℕ, Bool, true, false, List, [], ◌∷◌, ◌++◌, flat_map}
 use Rattle.std.specs.Fmt.{decimal}
 use Rattle.hex.specs.Hex.{encode_lower}
 use Rattle.pdu_parts.specs.Parameter.{parameters_in}
-use Rattle.clnp_options.specs.Options.{listed}
 use Rattle.esis_pdu.specs.Addresses.{addresses_in}
 use Rattle.osi_show.specs.declared.field.Field.{Field}
 use Rattle.osi_show.specs.declared.pdu.Discard.{Discard}
 use Rattle.osi_show.specs.declared.field.Field.TheVariants as fields
-use Rattle.osi_show.specs.Pdus.{flags_text, segment_text}
 use Rattle.osi_show.specs.Texts.{address_text, addresses_text, listed_text, title_text, parameters_text}
-use Rattle.osi_show.specs.Tpdus.{known}
 
 abbrev pub field_text : Field → List ℕ
 field_text (fields.Word text) = text.now
@@ -20,11 +17,7 @@ field_text (fields.Digits octets) = encode_lower octets.now
 field_text (fields.Address address) = address_text address.now
 field_text (fields.Title title) = title_text title.now
 field_text (fields.Addresses count octets) = addresses_text (addresses_in count octets.now)
-field_text (fields.Flags segment report) = flags_text segment report
-field_text (fields.Segment segment) = segment_text segment
-field_text (fields.Options options) = parameters_text (listed options)
 field_text (fields.Parameters octets) = parameters_text (parameters_in octets.now)
-field_text (fields.Known kind octets) = parameters_text (known kind (parameters_in octets.now))
 
 -- the fields behind the first, each behind a blank, and a line feed
 abbrev pub tail : List (List ℕ) → List ℕ
@@ -43,3 +36,8 @@ going_on true texts = commas texts
 -- what an option tells of a discard
 abbrev pub discard_view : Discard → ℕ × ℕ
 discard_view discard = (discard.reason, discard.place)
+
+-- texts with a blank behind each
+abbrev pub before : List (List ℕ) → List ℕ
+before [] = []
+before (text ∷ texts) = text ++ 32 ∷ before texts

@@ -1,11 +1,8 @@
-use Rattle.std.proofs.Common.{List, ap, ◌++◌, ◌∙◌, sym}
-use Rattle.std.specs.Prelude.{map}
+use Rattle.std.proofs.Common.{List, ap, ◌++◌, ◌∙◌}
 use Rattle.pdu_parts.specs.Lent.{parameter_of}
 use Rattle.pdu_parts.specs.Parameter.{Parameter}
 use Rattle.clnp_options.specs.Options.{left}
-use Rattle.clnp_options.specs.declared.option.Options.{Options}
-use Rattle.osi_show.specs.Texts.{parameter_text, parameters_text}
-use Rattle.osi_show.specs.steps.Written.{going_on}
+use Rattle.osi_show.specs.Texts.{parameters_text}
 use Rattle.osi_show.proofs.Frames.{appended}
 use Rattle.osi_show.proofs.Listing.{options_go_on, options_end}
 use Rattle.osi_show.proofs.listed.push_options.Goals as goal

@@ -1,18 +1,20 @@
 //! The lines of TPDUs (X.224, structure and encoding of TPDUs; concatenation and separation).
 
-ghost use Rattle.std.specs.Prelude.{◌≡◌, ◌<◌, ◌≤◌, ◌+◌, ◌-◌, ◌++◌, List, ℕ, length, drop, take, slice_index, option_map, OnOk, IfOk, IfErr, IfSome};
+ghost use Rattle.std.specs.Prelude.{◌≡◌, ◌<◌, ◌≤◌, ◌+◌, ◌-◌, ◌∷◌, ◌++◌, codes, List, ℕ, length, drop, take, slice_index, option_map, OnOk, IfOk, IfErr, IfSome};
 ghost use Rattle.pdu_parts.specs.Parameter.{parameters_in};
 ghost use Rattle.tpdu.specs.Faults.{IsTpduFault, reference};
 ghost use Rattle.tpdu.specs.Grammar.{BeginsWithTpdu};
 ghost use Rattle.tpdu.specs.Kinds.{fixed_count};
 ghost use Rattle.tpdu.specs.Values.{format_for, seen, tpdu_of};
-ghost use Rattle.tpdu.specs.Writing.{kind_for};
+ghost use Rattle.tpdu.specs.Writing.{body_for, kind_for};
 ghost use Rattle.osi_show.specs.Ends.{learned, references_of};
-ghost use Rattle.osi_show.specs.Tpdus.{bad_tpdu_line, bit, cause_text, format_bit, tpdu_line};
+ghost use Rattle.osi_show.specs.Tpdus.{bad_tpdu_line, bit, cause_text, fixed_texts, format_bit, tpdu_line};
 ghost use Rattle.osi_show.specs.steps.Units.{WritesNext, WritesUnit};
+ghost use Rattle.osi_show.specs.steps.Written.{before};
 
 use crate::ends::{End, ExtendedEnds};
-use crate::field::{Field, write};
+use crate::field::{Field, push_end, push_numbers, write};
+use crate::listed::push_known;
 use clnp_header::PduRef;
 use nsap::Nsap;
 use osi_base::NoMemory;
@@ -24,7 +26,8 @@ pub fn write_unit(
     ends: &mut ExtendedEnds,
     out: &mut Vec<u8>,
 ) -> Result<(), NoMemory>
-    ensures { OnOk result (WritesUnit pdu.now.destination pdu.now.source ends.old pdu.now.body.now out.old.items ends.new out.new.items) }
+    ensures { OnOk result (WritesUnit pdu.now.destination pdu.now.source ends.old pdu.now.body.now out.old.items
+        ends.new out.new.items) }
 {
     let mut left = pdu.body;
     while !left.is_empty() {
@@ -44,7 +47,8 @@ fn write_next<'a>(
     out: &mut Vec<u8>,
 ) -> Result<Option<&'a [u8]>, NoMemory>
     requires { 0 < length octets.now }
-    ensures writes { IfOk result (λ rest. WritesNext pdu.now.destination pdu.now.source ends.old octets.now out.old.items (option_map (λ r. r.now) rest) ends.new out.new.items) }
+    ensures writes { IfOk result (λ rest. WritesNext pdu.now.destination pdu.now.source ends.old octets.now out.old.items
+        (option_map (λ r. r.now) rest) ends.new out.new.items) }
     ensures shorter { IfOk result (λ rest. IfSome rest (λ r. length r.now < length octets.now)) }
 {
     let format = format_of(octets, &pdu.destination, ends);
@@ -163,23 +167,41 @@ fn learn(tpdu: &TpduRef<'_>, pdu: &PduRef<'_>, ends: &mut ExtendedEnds) -> Resul
 fn write_tpdu(tpdu: &TpduRef<'_>, parameters: &[u8], out: &mut Vec<u8>) -> Result<(), NoMemory>
     ensures { OnOk result (out.new.items ≡ out.old.items ++ tpdu_line (tpdu_of tpdu.now) (parameters_in parameters.now)) }
 {
-    let known = Field::Known(kind_of(tpdu), parameters);
+    push_fixed(tpdu, out)?;
+    push_known(kind_of(tpdu), parameters, out)?;
+    push_end(count_of(tpdu), out)
+}
+
+/// The octets of the data.
+fn count_of(tpdu: &TpduRef<'_>) -> usize
+    ensures { result ≡ length (body_for (tpdu_of tpdu.now)) }
+{
+    match tpdu {
+        TpduRef::Cr { octets, .. }
+        | TpduRef::Cc { octets, .. }
+        | TpduRef::Dr { octets, .. }
+        | TpduRef::Dt { octets, .. }
+        | TpduRef::Ed { octets, .. } => octets.len(),
+        TpduRef::Dc { .. } | TpduRef::Ak { .. } | TpduRef::Ea { .. } | TpduRef::Er { .. } => 0,
+    }
+}
+
+/// Appends the kind of a TPDU, and what its code and its fixed part hold, with a blank behind each.
+fn push_fixed(tpdu: &TpduRef<'_>, out: &mut Vec<u8>) -> Result<(), NoMemory>
+    ensures { OnOk result (out.new.items ≡ out.old.items ++ before (codes " tpdu" ∷ fixed_texts (tpdu_of tpdu.now))) }
+{
     match tpdu {
         TpduRef::Cr {
             credit,
             source,
             format,
-            octets,
             ..
-        } => write(
+        } => push_numbers(
+            " tpdu cr ",
             &[
-                Field::Word(" tpdu"),
-                Field::Word("cr"),
-                Field::Number(usize::from(*credit)),
-                Field::Number(usize::from(*source)),
-                Field::Number(format_bit(*format)),
-                known,
-                Field::Number(octets.len()),
+                usize::from(*credit),
+                usize::from(*source),
+                format_bit(*format),
             ],
             out,
         ),
@@ -188,18 +210,14 @@ fn write_tpdu(tpdu: &TpduRef<'_>, parameters: &[u8], out: &mut Vec<u8>) -> Resul
             destination,
             source,
             format,
-            octets,
             ..
-        } => write(
+        } => push_numbers(
+            " tpdu cc ",
             &[
-                Field::Word(" tpdu"),
-                Field::Word("cc"),
-                Field::Number(usize::from(*credit)),
-                Field::Number(usize::from(*destination)),
-                Field::Number(usize::from(*source)),
-                Field::Number(format_bit(*format)),
-                known,
-                Field::Number(octets.len()),
+                usize::from(*credit),
+                usize::from(*destination),
+                usize::from(*source),
+                format_bit(*format),
             ],
             out,
         ),
@@ -207,17 +225,13 @@ fn write_tpdu(tpdu: &TpduRef<'_>, parameters: &[u8], out: &mut Vec<u8>) -> Resul
             destination,
             source,
             reason,
-            octets,
             ..
-        } => write(
+        } => push_numbers(
+            " tpdu dr ",
             &[
-                Field::Word(" tpdu"),
-                Field::Word("dr"),
-                Field::Number(usize::from(*destination)),
-                Field::Number(usize::from(*source)),
-                Field::Number(usize::from(*reason)),
-                known,
-                Field::Number(octets.len()),
+                usize::from(*destination),
+                usize::from(*source),
+                usize::from(*reason),
             ],
             out,
         ),
@@ -225,51 +239,29 @@ fn write_tpdu(tpdu: &TpduRef<'_>, parameters: &[u8], out: &mut Vec<u8>) -> Resul
             destination,
             source,
             ..
-        } => write(
-            &[
-                Field::Word(" tpdu"),
-                Field::Word("dc"),
-                Field::Number(usize::from(*destination)),
-                Field::Number(usize::from(*source)),
-                known,
-                Field::Number(0),
-            ],
+        } => push_numbers(
+            " tpdu dc ",
+            &[usize::from(*destination), usize::from(*source)],
             out,
         ),
         TpduRef::Dt {
             destination,
             last,
             number,
-            octets,
             ..
-        } => write(
-            &[
-                Field::Word(" tpdu"),
-                Field::Word("dt"),
-                Field::Number(usize::from(*destination)),
-                Field::Number(bit(*last)),
-                Field::Number(*number as usize),
-                known,
-                Field::Number(octets.len()),
-            ],
+        } => push_numbers(
+            " tpdu dt ",
+            &[usize::from(*destination), bit(*last), *number as usize],
             out,
         ),
         TpduRef::Ed {
             destination,
             last,
             number,
-            octets,
             ..
-        } => write(
-            &[
-                Field::Word(" tpdu"),
-                Field::Word("ed"),
-                Field::Number(usize::from(*destination)),
-                Field::Number(bit(*last)),
-                Field::Number(*number as usize),
-                known,
-                Field::Number(octets.len()),
-            ],
+        } => push_numbers(
+            " tpdu ed ",
+            &[usize::from(*destination), bit(*last), *number as usize],
             out,
         ),
         TpduRef::Ak {
@@ -277,15 +269,12 @@ fn write_tpdu(tpdu: &TpduRef<'_>, parameters: &[u8], out: &mut Vec<u8>) -> Resul
             number,
             credit,
             ..
-        } => write(
+        } => push_numbers(
+            " tpdu ak ",
             &[
-                Field::Word(" tpdu"),
-                Field::Word("ak"),
-                Field::Number(usize::from(*destination)),
-                Field::Number(*number as usize),
-                Field::Number(usize::from(*credit)),
-                known,
-                Field::Number(0),
+                usize::from(*destination),
+                *number as usize,
+                usize::from(*credit),
             ],
             out,
         ),
@@ -293,30 +282,18 @@ fn write_tpdu(tpdu: &TpduRef<'_>, parameters: &[u8], out: &mut Vec<u8>) -> Resul
             destination,
             number,
             ..
-        } => write(
-            &[
-                Field::Word(" tpdu"),
-                Field::Word("ea"),
-                Field::Number(usize::from(*destination)),
-                Field::Number(*number as usize),
-                known,
-                Field::Number(0),
-            ],
+        } => push_numbers(
+            " tpdu ea ",
+            &[usize::from(*destination), *number as usize],
             out,
         ),
         TpduRef::Er {
             destination,
             cause,
             ..
-        } => write(
-            &[
-                Field::Word(" tpdu"),
-                Field::Word("er"),
-                Field::Number(usize::from(*destination)),
-                Field::Number(usize::from(*cause)),
-                known,
-                Field::Number(0),
-            ],
+        } => push_numbers(
+            " tpdu er ",
+            &[usize::from(*destination), usize::from(*cause)],
             out,
         ),
     }

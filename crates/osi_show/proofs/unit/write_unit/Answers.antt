@@ -1,5 +1,5 @@
 use Rattle.osi_show.proofs.Units.{goes_on, ends_well, fails, nothing_left}
-use Rattle.osi_show.proofs.tpdu.write_unit.Goals as goal
+use Rattle.osi_show.proofs.unit.write_unit.Goals as goal
 
 pub returns-in_default : goal.returns-in_default
 returns-in_default c =

@@ -1,6 +1,6 @@
 use Rattle.std.proofs.Common.{length}
 use Rattle.osi_show.specs.steps.Units.{Writing}
-use Rattle.osi_show.proofs.tpdu.write_unit.Given as goal
+use Rattle.osi_show.proofs.unit.write_unit.Given as goal
 
 abbrev pub invariant-loop-left : goal.invariant-loop-left
 invariant-loop-left l =

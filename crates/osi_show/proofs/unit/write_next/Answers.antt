@@ -4,7 +4,7 @@ use Rattle.tpdu.specs.Values.{seen, tpdu_of}
 use Rattle.osi_show.specs.Ends.{references_of}
 use Rattle.osi_show.specs.Tpdus.{tpdu_line}
 use Rattle.osi_show.proofs.Tpdus.{are_there}
-use Rattle.osi_show.proofs.tpdu.write_next.Goals as goal
+use Rattle.osi_show.proofs.unit.write_next.Goals as goal
 
 pub parameters_of-parameters-requires-clause-least : goal.parameters_of-parameters-requires-clause-least
 parameters_of-parameters-requires-clause-least c =

@@ -3,7 +3,7 @@ use Rattle.std.specs.Prelude.{unwrap_or}
 use Rattle.tpdu.specs.Values.{seen}
 use Rattle.tpdu.specs.declared.tpdu.Format.TheVariants.{Normal, Extended}
 use Rattle.osi_show.proofs.Tpdus.{read_ok, read_fault}
-use Rattle.osi_show.proofs.tpdu.read_in.Goals as goal
+use Rattle.osi_show.proofs.unit.read_in.Goals as goal
 
 pub returns-in-Normal-clause-ok : goal.returns-in-Normal-clause-ok
 returns-in-Normal-clause-ok c = λ extended e.
