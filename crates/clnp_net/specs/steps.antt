@@ -1,3 +1,4 @@
 -- What only carries the proof.
 pub mod Indexed
 pub mod Telling
+pub mod Tested

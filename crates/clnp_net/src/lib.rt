@@ -8,3 +8,6 @@ mod net;
 mod systems;
 
 pub use net::ClnpNet;
+
+#[cfg(test)]
+mod tests;
