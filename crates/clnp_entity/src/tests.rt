@@ -125,6 +125,21 @@ fn new_system(alloc: Global, words: &[&str]) -> Result<NetEntity, Fail> {
     Ok(NetEntity::new(alloc, setup)?)
 }
 
+/// A segment of a 33rd unit finds no room: PDU discarded due to congestion.
+#[test]
+fn at_most_32_units_are_held(rt: HostRuntime) -> Result<(), Fail> {
+    let alloc = rt.alloc();
+    let mut system = NetEntity::new(alloc, setup(alloc, true, 0)?)?;
+    for id in 0..33 {
+        let call = format!(in alloc; "pdu 0 0c fc 09 490b02 {id:04x}00000027 8")?;
+        let words: Vec<&str> = call.split(' ').collect(alloc)?;
+        let got = answer(&rt, alloc, &mut system, &words)?;
+        let want = if id == 32 { "03 0 > 0.0a 44" } else { "" };
+        assert_eq!(rt; got.trim(), want, "{id}");
+    }
+    Ok(())
+}
+
 /// What comes of a call.
 fn answer(
     rt: &impl Abort,
