@@ -1,0 +1,223 @@
+-- By cases on the state: before the due tick each test of the tick's row fails; after the row each tick kept is now, or
+-- was found to be later.
+use Rattle.std.proofs.Common.{◌≡◌, ◌≢◌, ◌≤◌, ◌<◌, ℕ, ◌+◌, ◌*◌, ◌∙◌, min, Bool, true, false, nat_lt, nat_le, List, [], ◌∷◌, ◌++◌, length, Option, Some, None, refl, ap, arith, if◌then◌else◌}
+use Rattle.std.proofs.Math.Nat.{mul-le-mul_right}
+use Rattle.std.proofs.lemmas.Bool.{ltb-true, ltb-false, leb-false, lt-leb, lt-ltb}
+use Rattle.std.proofs.lemmas.Option.{none-some, same_Some}
+use Rattle.tp4_flow.specs.declared.rules.Life.{Life as Ends}
+use Rattle.tp4_flow.specs.declared.rules.Life.TheVariants.{Goes, Exhausted}
+use Rattle.tp4_flow.specs.declared.step.EndEvent.{EndEvent}
+use Rattle.tp4_flow.specs.declared.step.Sent.{Sent}
+use Rattle.tp4_sending.specs.FlowSender.{FlowSender, Sendings, at, nothing, life_of, ticked, due_of}
+use Rattle.tp4_sending.specs.Pieces.{again, sooner}
+use Rattle.tp4_conn.specs.declared.base.Base.{Base}
+use Rattle.tp4_conn.specs.declared.stage.Answering.{Answering}
+use Rattle.tp4_conn.specs.declared.stage.Open.{Open}
+use Rattle.tp4_conn.specs.declared.stage.Stage.{Stage}
+use Rattle.tp4_conn.specs.declared.stage.Stage.TheVariants.{CrWait, WaitBeforeClose, UserWait, AkWait, Opened, Closing, Frozen}
+use Rattle.tp4_conn.specs.declared.timers.Timers.{Timers}
+use Rattle.tp4_conn.specs.AkWait.{ak_wait_tick}
+use Rattle.tp4_conn.specs.Closing.{closing_tick}
+use Rattle.tp4_conn.specs.CrWait.{cr_wait_tick}
+use Rattle.tp4_conn.specs.Dues.{IsBefore, IsPunctual, ArePunctual, clocked}
+use Rattle.tp4_conn.specs.End.{Moved, IsTimed, stays, frozen, span, frozen_for}
+use Rattle.tp4_conn.specs.Frozen.{frozen_due}
+use Rattle.tp4_conn.specs.Opened.{opened_tick, opened_as, opened_goes, sending}
+use Rattle.tp4_conn.specs.Table.{on_tick, due}
+use Rattle.tp4_conn.specs.UserWait.{user_wait_tick}
+use Rattle.tp4_conn.specs.WaitBeforeClose.{wait_before_close_tick}
+use Rattle.tp4_conn.proofs.Timely.{if_kept}
+
+if_true : {A : Type 0} (b : Bool) (x y : A) → b ≡ true → (if b then x else y) ≡ x
+if_true true x y h = refl
+if_true false x y h = ap (λ (c : Bool). if c then x else y) h
+
+if_false : {A : Type 0} (b : Bool) (x y : A) → b ≡ false → (if b then x else y) ≡ y
+if_false false x y h = refl
+if_false true x y h = ap (λ (c : Bool). if c then x else y) h
+
+pub record AllBefore (x y : ℕ) (z : Option ℕ) (now : ℕ) : Type 0 where
+  pub first : now < x
+  pub second : now < y
+  pub third : IsBefore z now
+
+all_before : (x y : ℕ) (z : Option ℕ) (now : ℕ) → IsBefore (sooner (sooner (Some x) (Some y)) z) now → AllBefore x y z now
+all_before x y None now h = record { first = omega arith; second = omega arith; third = tt }
+all_before x y (Some z) now h = record { first = omega arith; second = omega arith; third = omega arith }
+
+before_all : (x y : ℕ) (z : Option ℕ) (now : ℕ) → now < x → now < y → IsBefore z now → IsBefore (sooner (sooner (Some x) (Some y)) z) now
+before_all x y None now first second third = omega arith
+before_all x y (Some z) now first second third = omega arith
+
+-- before it is due
+opened_before : (b : Base) (o : Open) → IsPunctual o.halves.sending b.clock
+    → AllBefore (o.took + b.timers.inactive) (o.acked + b.timers.window) (due_of o.halves.sending) b.clock
+    → opened_tick b o ≡ stays b (clocked b.clock (Opened o))
+unfolding opened_tick
+opened_before b o settled a =
+    if_false (nat_le (o.took + b.timers.inactive) b.clock) _ _ (lt-leb _ _ a.first)
+    ∙ ap (λ (life : Ends). opened_as life b o) (settled.goes a.third)
+    ∙ ap (λ (s : Sendings). opened_goes b o s) (settled.before a.third)
+    ∙ if_false (nat_le (o.acked + b.timers.window) b.clock) _ _ (lt-leb _ _ a.second)
+
+pub tick_before : (b : Base) (stage : Stage) → ArePunctual stage b.clock → IsBefore (due b stage) b.clock → on_tick b stage ≡ stays b (clocked b.clock stage)
+unfolding cr_wait_tick wait_before_close_tick user_wait_tick ak_wait_tick closing_tick
+tick_before b (CrWait w) s h = if_true (nat_lt b.clock (w.tries.last + b.timers.t1)) _ _ (lt-ltb _ _ h)
+tick_before b (WaitBeforeClose w) s h = if_true (nat_lt b.clock (w.request.tries.last + b.timers.t1)) _ _ (lt-ltb _ _ h)
+tick_before b (UserWait since) s h = if_true (nat_lt b.clock (since + b.timers.inactive)) _ _ (lt-ltb _ _ h)
+tick_before b (AkWait w) s h = if_true (nat_lt b.clock (w.tries.last + b.timers.t1)) _ _ (lt-ltb _ _ h)
+tick_before b (Opened o) s h = opened_before b o s (all_before _ _ (due_of o.halves.sending) _ h)
+tick_before b (Closing c) s h =
+    if_false (nat_le (c.from + span b.timers) b.clock) _ _ (lt-leb _ _ (omega arith))
+    ∙ if_true (nat_lt b.clock (c.last + b.timers.t1)) _ _ (lt-ltb _ _ (omega arith))
+tick_before b (Frozen when) s h = refl
+
+-- after a tick
+abbrev pub Later : ℕ → Moved → Type 0
+Later now m = IsBefore (due m.base m.stage) now
+
+frozen_later : (b : Base) (when : ℕ) → IsBefore (frozen_due b when) b.clock
+frozen_later b when =
+    if_kept (λ (d : Option ℕ). IsBefore d b.clock) (nat_lt (when + frozen_for b.timers) b.clock) _ _
+    (λ _. tt)
+    (λ f. let low : b.clock ≤ when + frozen_for b.timers = ltb-false _ _ f in omega arith)
+
+span_some : (t : Timers) → IsTimed t → 0 < span t
+span_some t timed = let some : 1 * t.t1 ≤ t.sendings * t.t1 = mul-le-mul_right t.t1 (omega (arith, timed.sendings_least)) in
+    let least : 1 ≤ t.t1 = timed.t1_least in omega arith
+
+opened_life : (life : Ends) (b : Base) (o : Open) → IsTimed b.timers → b.clock < o.took + b.timers.inactive
+    → (life ≡ Goes → IsBefore (due_of (ticked (at b.clock o.halves.sending)).sender) b.clock) → Later b.clock (opened_as life b o)
+opened_life Exhausted b o timed low settled =
+    let some : 0 < span b.timers = span_some b.timers timed in let least : 1 ≤ b.timers.t1 = timed.t1_least in omega arith
+opened_life Goes b o timed low settled =
+    if_kept (Later b.clock) (nat_le (o.acked + b.timers.window) b.clock) _ _
+    (λ _. before_all _ (b.clock + b.timers.window) (due_of (ticked (at b.clock o.halves.sending)).sender) _ low (omega (arith, timed.window_least)) (settled refl))
+    (λ f. before_all _ (o.acked + b.timers.window) (due_of (ticked (at b.clock o.halves.sending)).sender) _ low (leb-false _ _ f) (settled refl))
+
+pub tick_after : (b : Base) (stage : Stage) → IsTimed b.timers → ArePunctual stage b.clock → Later b.clock (on_tick b stage)
+unfolding cr_wait_tick wait_before_close_tick user_wait_tick ak_wait_tick opened_tick closing_tick
+tick_after b (CrWait w) timed s =
+    if_kept (Later b.clock) (nat_lt b.clock (w.tries.last + b.timers.t1)) _ _
+    (λ t. ltb-true _ _ t)
+    (λ _. if_kept (Later b.clock) (nat_lt w.tries.count b.timers.sendings) _ _ (λ _. omega (arith, timed.t1_least)) (λ _. frozen_later b b.clock))
+tick_after b (WaitBeforeClose w) timed s =
+    if_kept (Later b.clock) (nat_lt b.clock (w.request.tries.last + b.timers.t1)) _ _
+    (λ t. ltb-true _ _ t)
+    (λ _. if_kept (Later b.clock) (nat_lt w.request.tries.count b.timers.sendings) _ _ (λ _. omega (arith, timed.t1_least)) (λ _. frozen_later b b.clock))
+tick_after b (UserWait since) timed s =
+    if_kept (Later b.clock) (nat_lt b.clock (since + b.timers.inactive)) _ _ (λ t. ltb-true _ _ t) (λ _. frozen_later b b.clock)
+tick_after b (AkWait w) timed s =
+    if_kept (Later b.clock) (nat_lt b.clock (w.tries.last + b.timers.t1)) _ _
+    (λ t. ltb-true _ _ t)
+    (λ _. if_kept (Later b.clock) (nat_lt w.tries.count b.timers.sendings) _ _ (λ _. omega (arith, timed.t1_least)) (λ _. frozen_later b b.clock))
+tick_after b (Opened o) timed s =
+    if_kept (Later b.clock) (nat_le (o.took + b.timers.inactive) b.clock) _ _
+    (λ _. let some : 0 < span b.timers = span_some b.timers timed in omega (arith, timed.t1_least))
+    (λ f. opened_life (life_of (at b.clock o.halves.sending)) b o timed (leb-false _ _ f) s.after)
+tick_after b (Closing c) timed s =
+    if_kept (Later b.clock) (nat_le (c.from + span b.timers) b.clock) _ _
+    (λ _. frozen_later b b.clock)
+    (λ f. let low : b.clock < c.from + span b.timers = leb-false _ _ f in
+    if_kept (Later b.clock) (nat_lt b.clock (c.last + b.timers.t1)) _ _
+    (λ t. let soon : b.clock < c.last + b.timers.t1 = ltb-true _ _ t in omega arith)
+    (λ _. omega (arith, timed.t1_least)))
+tick_after b (Frozen when) timed s = frozen_later b when
+
+-- when it is due: a TPDU is sent, or the end is frozen, or counts one more sending
+abbrev Moves : Base → Stage → Moved → Type 0
+Moves b old m = m ≢ stays b old
+
+sends_some : (b : Base) (old stage : Stage) (events : List EndEvent) (sent : Sent) (tpdus : List Sent)
+    → Moves b old (record { base = b; stage = stage; events = events; tpdus = sent ∷ tpdus })
+sends_some b old stage events sent tpdus e = let none : length (sent ∷ tpdus) ≡ 0 = ap (λ (m : Moved). length m.tpdus) e in absurd (omega (arith, none))
+
+is_frozen : Stage → Bool
+is_frozen (Frozen when) = true
+is_frozen stage = false
+
+freezes : (b : Base) (old : Stage) (events : List EndEvent) (tpdus : List Sent) → is_frozen old ≡ false → Moves b old (frozen b events tpdus)
+unfolding is_frozen
+freezes b old events tpdus live e = let is : true ≡ is_frozen old = ap (λ (m : Moved). is_frozen m.stage) e in absurd (cc (is, live))
+
+count_of : Stage → ℕ
+count_of (AkWait w) = w.tries.count
+count_of stage = 0
+
+sends_again : (b : Base) (w : Answering) (tpdus : List Sent)
+    → Moves b (AkWait w) (record { base = b; stage = AkWait (record w { tries = again b.clock w.tries }); events = []; tpdus = tpdus })
+unfolding count_of
+sends_again b w tpdus e = let more : w.tries.count + 1 ≡ w.tries.count = ap (λ (m : Moved). count_of m.stage) e in absurd (omega (arith, more))
+
+-- a sending half that is due, where nothing else is
+third : (x y now : ℕ) (z : Option ℕ) → sooner (sooner (Some x) (Some y)) z ≡ Some now → now < x → now < y → z ≡ Some now
+third x y now None e first second = let least : min x y ≡ now = same_Some _ _ e in absurd (omega arith)
+third x y now (Some z) e first second = let least : min (min x y) z ≡ now = same_Some _ _ e in let is : z ≡ now = omega arith in ap (λ (n : ℕ). Some n) is
+
+sender_in : FlowSender → Stage → FlowSender
+sender_in none (Opened o) = o.halves.sending
+sender_in none stage = none
+
+sending_moves : (b : Base) (o : Open) (x : Sendings) → x ≢ nothing (at b.clock o.halves.sending) → Moves b (clocked b.clock (Opened o)) (sending b o x)
+unfolding sender_in
+sending_moves b o x some e = some (λ i. record {
+  sender = ap (λ (m : Moved). sender_in x.sender m.stage) e i;
+  events = ap (λ (m : Moved). m.events) e i;
+  tpdus = ap (λ (m : Moved). m.tpdus) e i;
+})
+
+led_some : (b : Base) (old stage : Stage) (events : List EndEvent) (tpdus : List Sent) (sent : Sent)
+    → Moves b old (record { base = b; stage = stage; events = events; tpdus = tpdus ++ sent ∷ [] })
+led_some b old stage events [] sent e = let none : length (sent ∷ []) ≡ 0 = ap (λ (m : Moved). length m.tpdus) e in absurd (omega (arith, none))
+led_some b old stage events (first ∷ tpdus) sent e =
+    let none : length (first ∷ (tpdus ++ sent ∷ [])) ≡ 0 = ap (λ (m : Moved). length m.tpdus) e in absurd (omega (arith, none))
+
+opened_moves : (life : Ends) (b : Base) (o : Open) → life_of (at b.clock o.halves.sending) ≡ life → IsPunctual o.halves.sending b.clock
+    → due b (Opened o) ≡ Some b.clock → b.clock < o.took + b.timers.inactive → Moves b (clocked b.clock (Opened o)) (opened_as life b o)
+opened_moves Exhausted b o life settled e early = sends_some b _ _ _ _ []
+opened_moves Goes b o life settled e early =
+    if_kept (Moves b (clocked b.clock (Opened o))) (nat_le (o.acked + b.timers.window) b.clock) _ _
+    (λ _. led_some b _ _ _ (ticked (at b.clock o.halves.sending)).tpdus _)
+    (λ f. sending_moves b o _ (settled.there (third _ (o.acked + b.timers.window) _ (due_of o.halves.sending) e early (leb-false _ _ f)) life))
+
+frozen_past : (b : Base) (when : ℕ) → frozen_due b when ≡ Some b.clock → ⊥
+frozen_past b when =
+    if_kept (λ (d : Option ℕ). d ≡ Some b.clock → ⊥) (nat_lt (when + frozen_for b.timers) b.clock) _ _
+    (λ _ e. none-some _ e)
+    (λ f e. let low : b.clock ≤ when + frozen_for b.timers = ltb-false _ _ f in let is : when + frozen_for b.timers + 1 ≡ b.clock = same_Some _ _ e in absurd (omega arith))
+
+pub tick_there : (b : Base) (stage : Stage) → ArePunctual stage b.clock → due b stage ≡ Some b.clock → Moves b (clocked b.clock stage) (on_tick b stage)
+unfolding cr_wait_tick wait_before_close_tick user_wait_tick ak_wait_tick opened_tick closing_tick is_frozen
+tick_there b (CrWait w) s e =
+    let now : w.tries.last + b.timers.t1 ≡ b.clock = same_Some _ _ e in
+    if_kept (Moves b (CrWait w)) (nat_lt b.clock (w.tries.last + b.timers.t1)) _ _
+    (λ t. let low : b.clock < w.tries.last + b.timers.t1 = ltb-true _ _ t in absurd (omega arith))
+    (λ _. if_kept (Moves b (CrWait w)) (nat_lt w.tries.count b.timers.sendings) _ _ (λ _. sends_some b _ _ _ _ []) (λ _. freezes b _ _ _ refl))
+tick_there b (WaitBeforeClose w) s e =
+    let now : w.request.tries.last + b.timers.t1 ≡ b.clock = same_Some _ _ e in
+    if_kept (Moves b (WaitBeforeClose w)) (nat_lt b.clock (w.request.tries.last + b.timers.t1)) _ _
+    (λ t. let low : b.clock < w.request.tries.last + b.timers.t1 = ltb-true _ _ t in absurd (omega arith))
+    (λ _. if_kept (Moves b (WaitBeforeClose w)) (nat_lt w.request.tries.count b.timers.sendings) _ _ (λ _. sends_some b _ _ _ _ []) (λ _. freezes b _ _ _ refl))
+tick_there b (UserWait since) s e =
+    let now : since + b.timers.inactive ≡ b.clock = same_Some _ _ e in
+    if_kept (Moves b (UserWait since)) (nat_lt b.clock (since + b.timers.inactive)) _ _
+    (λ t. let low : b.clock < since + b.timers.inactive = ltb-true _ _ t in absurd (omega arith))
+    (λ _. freezes b _ _ _ refl)
+tick_there b (AkWait w) s e =
+    let now : w.tries.last + b.timers.t1 ≡ b.clock = same_Some _ _ e in
+    if_kept (Moves b (AkWait w)) (nat_lt b.clock (w.tries.last + b.timers.t1)) _ _
+    (λ t. let low : b.clock < w.tries.last + b.timers.t1 = ltb-true _ _ t in absurd (omega arith))
+    (λ _. if_kept (Moves b (AkWait w)) (nat_lt w.tries.count b.timers.sendings) _ _ (λ _. sends_again b w _) (λ _. freezes b _ _ _ refl))
+tick_there b (Opened o) s e =
+    if_kept (Moves b (clocked b.clock (Opened o))) (nat_le (o.took + b.timers.inactive) b.clock) _ _
+    (λ _. sends_some b _ _ _ _ [])
+    (λ f. opened_moves _ b o refl s e (leb-false _ _ f))
+tick_there b (Closing c) s e =
+    let least : min (c.from + span b.timers) (c.last + b.timers.t1) ≡ b.clock = same_Some _ _ e in
+    if_kept (Moves b (Closing c)) (nat_le (c.from + span b.timers) b.clock) _ _
+    (λ _. freezes b _ _ _ refl)
+    (λ f. let low : b.clock < c.from + span b.timers = leb-false _ _ f in
+    if_kept (Moves b (Closing c)) (nat_lt b.clock (c.last + b.timers.t1)) _ _
+    (λ t. let soon : b.clock < c.last + b.timers.t1 = ltb-true _ _ t in absurd (omega arith))
+    (λ _. sends_some b _ _ _ _ []))
+tick_there b (Frozen when) s e = absurd (frozen_past b when e)

@@ -1,0 +1,30 @@
+-- What the sends of a half tell comes before what the TPDU tells.
+use Rattle.std.proofs.Common.{ℕ, List, ◌++◌}
+use Rattle.std.proofs.lemmas.List.{append_assoc}
+use Rattle.tpdu.specs.declared.tpdu.Tpdu.{Tpdu}
+use Rattle.tp4_flow.specs.Told.{Told, Grows}
+use Rattle.tp4_flow.specs.declared.step.EndEvent.{EndEvent}
+use Rattle.tp4_flow.specs.declared.step.Sent.{Sent}
+use Rattle.tp4_sending.specs.FlowSender.{FlowSender, Sendings, Sends}
+use Rattle.tp4_conn.specs.declared.base.Base.{Base}
+use Rattle.tp4_conn.specs.declared.halves.Halves.{Halves}
+use Rattle.tp4_conn.specs.declared.stage.Stage.{Stage}
+use Rattle.tp4_conn.specs.AkWait.{opening_with}
+use Rattle.tp4_conn.specs.End.{Moved, Does, led_by}
+use Rattle.tp4_conn.specs.Opened.{opened_tpdu}
+
+grown_twice : (was mid new : Told) (e f : List EndEvent) (s t : List Sent) → Grows was e s mid → Grows mid f t new → Grows was (e ++ f) (s ++ t) new
+grown_twice was mid new e f s t first second = simp append_assoc at (rw first at second)
+
+-- what is told first, and then a row
+led : (m : Moved) (b : Base) (stage : Stage) (e : List EndEvent) (s : List Sent) (was mid new : Told) → Grows was e s mid → Does m b stage mid new
+    → Does (led_by e s m) b stage was new
+led m b stage e s was mid new first h = record { base_is = h.base_is; stage_is = h.stage_is; told = grown_twice was mid new e m.events s m.tpdus first h.told }
+
+-- opened, with its new sends; then the TPDU as there
+pub opened_first : (wrap : ℕ → ℕ → ℕ) (b : Base) (h : Halves) (s : Sendings) (half : FlowSender) (tpdu : Tpdu) (stage : Stage) (was mid new : Told)
+    → Sends s half was mid
+    → Does (opened_tpdu wrap b (record { took = b.clock; acked = b.clock; halves = record h { sending = half } }) tpdu) b stage mid new
+    → Does (opening_with wrap b h s tpdu) b stage was new
+opened_first wrap b h s half tpdu stage was mid new sends does =
+    led _ b stage s.events s.tpdus was mid new sends.told (rw sends.sender_is at does)

@@ -1,0 +1,37 @@
+-- What holds of an end between calls, and what no row changes.
+use Rattle.std.specs.Prelude.{◌≡◌, ◌≤◌, true, false}
+use Rattle.tp4_conn.specs.declared.base.Base.{Base}
+use Rattle.tp4_conn.specs.declared.halves.Halves.{Halves}
+use Rattle.tp4_conn.specs.declared.stage.Stage.{Stage}
+use Rattle.tp4_conn.specs.declared.stage.Stage.TheVariants.{CrWait, WaitBeforeClose, UserWait, AkWait, Opened, Closing, Frozen}
+use Rattle.tp4_conn.specs.End.{IsSame, IsTimed, IsSize, agreed_format}
+
+-- the halves go by what is agreed, and their clock is not ahead
+pub record IsJoined (b : Base) (h : Halves) : Type 0 where
+  pub sending : h.sending.rules.format ≡ agreed_format b.agreed
+  pub receiving : h.receiving.rules.format ≡ agreed_format b.agreed
+  pub clock : h.sending.clock ≤ b.clock
+
+-- no tick of the state is ahead of the clock
+abbrev pub IsSound : Base → Stage → Type 0
+IsSound b (CrWait w) = w.tries.last ≤ b.clock
+IsSound b (WaitBeforeClose w) = w.request.tries.last ≤ b.clock
+IsSound b (UserWait since) = since ≤ b.clock
+IsSound b (AkWait w) = (w.first ≤ b.clock) × (w.tries.last ≤ b.clock) × IsJoined b w.halves × (w.halves.sending.is_open ≡ false)
+IsSound b (Opened o) = (o.took ≤ b.clock) × (o.acked ≤ b.clock) × IsJoined b o.halves × (o.halves.sending.is_open ≡ true)
+IsSound b (Closing c) = (c.from ≤ b.clock) × (c.last ≤ b.clock)
+IsSound b (Frozen when) = when ≤ b.clock
+
+-- what is true of every end
+pub record IsEnd (b : Base) (stage : Stage) : Type 0 where
+  pub timers : IsTimed b.timers
+  pub clock : b.clock ≤ 4000000000
+  pub size : IsSize b.proposed.size
+  pub credit : b.credit ≤ 15
+  pub sound : IsSound b stage
+
+-- what no row changes
+pub record IsKept (old new : Base) : Type 0 where
+  pub same : IsSame old new
+  pub clock : new.clock ≡ old.clock
+  pub credit : old.credit ≤ 15 → new.credit ≤ 15

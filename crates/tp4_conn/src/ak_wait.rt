@@ -1,0 +1,127 @@
+//! AkWait: a CC was sent (X.224, class 4 state tables).
+
+ghost use Rattle.std.specs.Prelude.{◌≡◌, IfOk};
+ghost use Rattle.tpdu.specs.Values.{tpdu_of};
+ghost use Rattle.tpdu.specs.Writing.{IsAllowed};
+ghost use Rattle.tp4_number.specs.Number;
+ghost use Rattle.tp4_conn.specs.declared.stage.Stage.TheVariants.{AkWait};
+ghost use Rattle.tp4_conn.specs.AkWait.{ak_wait_tpdu, ak_wait_tick, opening};
+ghost use Rattle.tp4_conn.specs.End.{Does, agreed_format};
+ghost use Rattle.tp4_conn.specs.Table.{on_call};
+ghost use Rattle.tp4_conn.specs.steps.Kept.{IsEnd, IsSound};
+
+use crate::base::{Base, copied};
+use crate::timers::is_past;
+use crate::{Answering, Open, Stage, UserCall, opened};
+use osi_base::NoMemory;
+use std::alloc::Global;
+use tp4_flow::{GoneCause, Step};
+use tpdu::TpduRef;
+
+/// A TPDU came.
+#[tactic(auto, unfolding(crate::specs::AkWait::ak_wait_tpdu))]
+pub(crate) fn on_tpdu(
+    alloc: Global,
+    base: &Base,
+    wait: Answering,
+    tpdu: &TpduRef<'_>,
+    out: &mut Step,
+) -> Result<Stage, NoMemory>
+    requires end { IsEnd base.now (AkWait wait) }
+    requires allowed { IsAllowed (agreed_format base.now.agreed) (tpdu_of tpdu.now) }
+    ensures step { IfOk result (λ stage. Does (ak_wait_tpdu Number.wire base.now wait (tpdu_of tpdu.now)) base.now stage out.old out.new) }
+    ensures sound { IfOk result (λ stage. IsSound base.now stage) }
+{
+    match *tpdu {
+        TpduRef::Ak { .. } | TpduRef::Dt { .. } | TpduRef::Ed { .. } | TpduRef::Ea { .. } => {
+            open(alloc, base, wait, tpdu, out)
+        }
+        TpduRef::Dr {
+            source,
+            reason,
+            octets,
+            ..
+        } => base.part(source, reason, copied(alloc, octets)?, out),
+        TpduRef::Er { .. } => base.fail(alloc, GoneCause::Protocol, 133, wait.first, out),
+        TpduRef::Cr { .. } => Ok(Stage::AkWait(wait)),
+        TpduRef::Cc { .. } => Ok(Stage::AkWait(wait)),
+        TpduRef::Dc { .. } => Ok(Stage::AkWait(wait)),
+    }
+}
+
+/// Opened, and then the TPDU as there.
+fn open(
+    alloc: Global,
+    base: &Base,
+    wait: Answering,
+    tpdu: &TpduRef<'_>,
+    out: &mut Step,
+) -> Result<Stage, NoMemory>
+    requires end { IsEnd base.now (AkWait wait) }
+    requires allowed { IsAllowed (agreed_format base.now.agreed) (tpdu_of tpdu.now) }
+    ensures step { IfOk result (λ stage. Does (opening Number.wire base.now wait.halves (tpdu_of tpdu.now)) base.now stage out.old out.new) }
+    ensures sound { IfOk result (λ stage. IsSound base.now stage) }
+{
+    let mut halves = wait.halves;
+    halves.sending.open(base.clock, out)?;
+    let open = Open {
+        took: base.clock,
+        acked: base.clock,
+        halves,
+    };
+    opened::on_tpdu(alloc, base, open, tpdu, out)
+}
+
+/// A tick of the clock.
+#[tactic(auto, unfolding(crate::specs::AkWait::ak_wait_tick))]
+pub(crate) fn on_tick(
+    alloc: Global,
+    base: &Base,
+    mut wait: Answering,
+    out: &mut Step,
+) -> Result<Stage, NoMemory>
+    requires end { IsEnd base.now (AkWait wait) }
+    ensures step { IfOk result (λ stage. Does (ak_wait_tick base.now wait) base.now stage out.old out.new) }
+    ensures sound { IfOk result (λ stage. IsSound base.now stage) }
+{
+    if !is_past(wait.tries.last, base.timers.t1, base.clock) {
+        return Ok(Stage::AkWait(wait));
+    }
+    if wait.tries.count < base.timers.sendings {
+        if let Some(options) = base.agreed {
+            base.send_confirm(alloc, options, wait.octets.as_slice(), out)?;
+        }
+        wait.tries = wait.tries.again(base.clock);
+        return Ok(Stage::AkWait(wait));
+    }
+    base.gone(alloc, GoneCause::Exhausted, out)?;
+    Ok(Stage::Frozen { at: base.clock })
+}
+
+/// A call of the user.
+pub(crate) fn on_call(
+    alloc: Global,
+    base: &Base,
+    mut wait: Answering,
+    call: UserCall,
+    out: &mut Step,
+) -> Result<Stage, NoMemory>
+    requires end { IsEnd base.now (AkWait wait) }
+    ensures step { IfOk result (λ stage. Does (on_call base.now (AkWait wait) call) base.now stage out.old out.new) }
+    ensures sound { IfOk result (λ stage. IsSound base.now stage) }
+{
+    match call {
+        UserCall::Normal(unit) => {
+            wait.halves.submit(base.clock, unit, out)?;
+            Ok(Stage::AkWait(wait))
+        }
+        UserCall::Urgent(unit) => {
+            wait.halves.urge(base.clock, unit, out)?;
+            Ok(Stage::AkWait(wait))
+        }
+        UserCall::Disconnect(octets) => base.disconnect(alloc, octets, wait.first, out),
+        UserCall::Accept(..) => Ok(Stage::AkWait(wait)),
+        UserCall::Refuse(_) => Ok(Stage::AkWait(wait)),
+        UserCall::Window(_) => Ok(Stage::AkWait(wait)),
+    }
+}

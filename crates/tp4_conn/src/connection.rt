@@ -1,0 +1,269 @@
+//! One end of a connection (X.224, class 4 procedures and state tables).
+
+ghost use Rattle.std.specs.Prelude.{◌≡◌, ◌≢◌, ◌≤◌, Some, None, Err, IfOk, IfErr, OnOk};
+ghost use Rattle.tpdu.specs.declared.tpdu.Format.TheVariants.{Normal};
+ghost use Rattle.tpdu.specs.Values.{tpdu_of, sum_of};
+ghost use Rattle.tpdu.specs.declared.kind.Kind.TheVariants.{Cr};
+ghost use Rattle.tpdu.specs.Writing.{IsAllowed, kind_for};
+ghost use Rattle.tp4_number.specs.Number.{wire};
+ghost use Rattle.tp4_sending.specs.Pieces.{sooner};
+ghost use Rattle.tp4_conn.specs.declared.call.CallRefusal.{CallRefusal};
+ghost use Rattle.tp4_conn.specs.declared.call.CallRefusal.TheVariants.{NoMemory as OutOfMemory};
+ghost use Rattle.tp4_conn.specs.Calls.{IsCall, call_refusal, state_of};
+ghost use Rattle.tp4_conn.specs.End.{Does, IsSame, IsSize, IsTimed, Moved, agreed_format};
+ghost use Rattle.tp4_conn.specs.Making.{connected, on_cr};
+ghost use Rattle.tp4_conn.specs.Matching.{is_called_by, is_match};
+ghost use Rattle.tp4_conn.specs.Table.{Called, Took, Ticked, stepped, due};
+
+use crate::base::{Base, copied, options_in};
+use crate::matching::{fits, has_sum, wants_sum};
+use crate::refusal::refusal;
+use crate::{CallRefusal, ConnectCall, Requesting, Stage, State, Timers, UserCall, rows};
+use nsap::Nsap;
+use osi_base::{NoMemory, Tick};
+use std::alloc::Global;
+use std::marker::Model;
+use std::mem;
+use tp4_flow::{EndEvent, Step, What};
+use tp4_sending::Tries;
+use tpdu::{Format, TpduCause, TpduRef};
+
+/// One end of a connection.
+#[derive(Drop)]
+pub struct Connection {
+    alloc: Global,
+    base: Base,
+    stage: Stage,
+}
+
+// The timers are in their ranges, and no tick is ahead of the clock.
+impl Model for Connection {
+    ghost use Rattle.tp4_conn.specs.End.{End};
+    ghost use Rattle.tp4_conn.specs.steps.Kept.{IsEnd};
+
+    ghost Value = { End };
+
+    ghost view = { λ a. record { base = a.base; stage = a.stage } };
+
+    ghost invariant = { λ a. IsEnd a.base a.stage };
+}
+
+impl Connection {
+    /// An end that calls: its CR is sent for the first time.
+    pub fn connect(
+        alloc: Global,
+        now: Tick,
+        call: ConnectCall,
+        out: &mut Step,
+    ) -> Result<Connection, NoMemory>
+        requires now { now ≤ 4000000000 }
+        requires timers { IsTimed call.rules }
+        requires size { IsSize call.options.size }
+        ensures { IfOk result (λ made. Does (connected now call) made.base made.stage out.old out.new) }
+    {
+        let base = Base {
+            own: call.own,
+            to: call.to,
+            is_called: false,
+            calling: call.from_selector,
+            called: call.to_selector,
+            proposed: call.options,
+            timers: call.rules,
+            partner: 0,
+            credit: 0,
+            agreed: None,
+            clock: now,
+        };
+        base.send_request(alloc, call.octets.as_slice(), out)?;
+        let stage = Stage::CrWait(Requesting {
+            octets: call.octets,
+            tries: Tries::once(now),
+        });
+        Ok(Connection { alloc, base, stage })
+    }
+
+    /// An end that a CR calls: the connect indication.
+    pub fn incoming(
+        alloc: Global,
+        now: Tick,
+        own: u16,
+        from: Nsap,
+        cr: &TpduRef<'_>,
+        rules: Timers,
+        out: &mut Step,
+    ) -> Result<Connection, NoMemory>
+        requires now { now ≤ 4000000000 }
+        requires timers { IsTimed rules }
+        requires cr { kind_for (tpdu_of cr.now) ≡ Cr }
+        requires allowed { IsAllowed Normal (tpdu_of cr.now) }
+        ensures { IfOk result (λ made. (m : Moved) → on_cr now own from rules (tpdu_of cr.now) ≡ Some m → Does m made.base made.stage out.old out.new) }
+    {
+        let TpduRef::Cr {
+            credit,
+            source,
+            format,
+            calling,
+            called,
+            size,
+            extra,
+            octets,
+            ..
+        } = *cr
+        else {
+            return Err(NoMemory);
+        };
+        let base = Base {
+            own,
+            to: from,
+            is_called: true,
+            calling: copied(alloc, calling)?,
+            called: copied(alloc, called)?,
+            proposed: options_in(format, size, extra),
+            timers: rules,
+            partner: source,
+            credit: u16::from(credit),
+            agreed: None,
+            clock: now,
+        };
+        base.indicate(alloc, octets, out)?;
+        let stage = Stage::UserWait { since: now };
+        Ok(Connection { alloc, base, stage })
+    }
+
+    /// Its state.
+    pub fn state(&self) -> State
+        ensures { result ≡ state_of self.now.stage }
+    {
+        self.stage.state()
+    }
+
+    /// The agreed format, which stays in Closing and Frozen; normal where nothing was agreed.
+    pub fn format(&self) -> Format
+        ensures { result ≡ agreed_format self.now.base.agreed }
+    {
+        self.base.format()
+    }
+
+    /// Whether a TPDU that is no CR, with this end's reference as destination, matches it.
+    pub fn matches(&self, from: &Nsap, tpdu: &TpduRef<'_>) -> bool
+        ensures { result ≡ is_match self.now.base self.now.stage from.now (tpdu_of tpdu.now) }
+    {
+        self.base.to == *from && fits(&self.base, &self.stage, tpdu)
+    }
+
+    /// Whether it is a called end of that calling address and reference.
+    pub fn is_called_by(&self, from: &Nsap, reference: u16) -> bool
+        ensures { result ≡ is_called_by self.now.base from.now reference }
+    {
+        self.base.is_called && self.base.to == *from && self.base.partner == reference
+    }
+
+    /// The least tick at which `tick` changes more than the clock, or sends something.
+    pub fn next_due(&self) -> Option<Tick>
+        ensures { result ≡ due self.now.base self.now.stage }
+    {
+        let timers = self.base.timers;
+        match &self.stage {
+            Stage::CrWait(wait) => Some(wait.tries.last + timers.t1),
+            Stage::WaitBeforeClose(wait) => Some(wait.request.tries.last + timers.t1),
+            Stage::UserWait { since } => Some(*since + timers.inactive),
+            Stage::AkWait(wait) => Some(wait.tries.last + timers.t1),
+            Stage::Opened(flow) => sooner(
+                sooner(
+                    Some(flow.took + timers.inactive),
+                    Some(flow.acked + timers.window),
+                ),
+                flow.halves.sending.next_due(),
+            ),
+            Stage::Closing(close) => sooner(
+                Some(close.from + timers.span()),
+                Some(close.last + timers.t1),
+            ),
+            Stage::Frozen { at } => {
+                let last = *at + timers.frozen();
+                if last < self.base.clock {
+                    None
+                } else {
+                    Some(last + 1)
+                }
+            }
+        }
+    }
+
+    /// A call of the user.
+    ///
+    /// A refused call changes nothing, but where memory ran out: the end is then Frozen.
+    pub fn user(&mut self, now: Tick, call: UserCall, out: &mut Step) -> Result<(), CallRefusal>
+        requires clock { self.old.base.clock ≤ now }
+        requires now { now ≤ 4000000000 }
+        requires call { IsCall call }
+        ensures allowed { OnOk result (call_refusal self.old.base self.old.stage call ≡ None) }
+        ensures step { OnOk result (Does (stepped wire now self.old (Called call)) self.new.base self.new.stage out.old out.new) }
+        ensures refused { (why : CallRefusal) → call_refusal self.old.base self.old.stage call ≡ Some why → result ≡ Err why }
+        ensures why { IfErr result (λ why. why ≢ OutOfMemory → call_refusal self.old.base self.old.stage call ≡ Some why) }
+        ensures same { IfErr result (λ why. why ≢ OutOfMemory → (self.new ≡ self.old) × (out.new ≡ out.old)) }
+        ensures kept { IsSame self.old.base self.new.base }
+        ensures clock { self.new.base.clock ≤ now }
+    {
+        if let Some(why) = refusal(&self.base, &self.stage, &call) {
+            return Err(why);
+        }
+        self.base.clock = now;
+        let stage = mem::replace(&mut self.stage, Stage::Frozen { at: now });
+        match rows::ask(self.alloc, &mut self.base, stage, call, out) {
+            Ok(stage) => {
+                self.stage = stage;
+                Ok(())
+            }
+            Err(_) => Err(CallRefusal::NoMemory),
+        }
+    }
+
+    /// A matching TPDU came.
+    ///
+    /// One that lacks an agreed checksum is told, and changes nothing.
+    pub fn on_tpdu(&mut self, now: Tick, tpdu: &TpduRef<'_>, out: &mut Step) -> Result<(), NoMemory>
+        requires clock { self.old.base.clock ≤ now }
+        requires now { now ≤ 4000000000 }
+        requires allowed { IsAllowed (agreed_format self.old.base.agreed) (tpdu_of tpdu.now) }
+        ensures step { OnOk result (Does (stepped wire now self.old (Took (tpdu_of tpdu.now) (sum_of tpdu.now))) self.new.base self.new.stage out.old out.new) }
+        ensures kept { IsSame self.old.base self.new.base }
+        ensures clock { self.new.base.clock ≤ now }
+    {
+        if wants_sum(&self.base, &self.stage, tpdu) && !has_sum(tpdu) {
+            return out.event(EndEvent {
+                reference: 0,
+                what: What::BadTpdu(TpduCause::Checksum, 0),
+            });
+        }
+        self.base.clock = now;
+        let stage = mem::replace(&mut self.stage, Stage::Frozen { at: now });
+        self.stage = rows::take(self.alloc, &mut self.base, stage, tpdu, out)?;
+        Ok(())
+    }
+
+    /// A tick of the clock.
+    pub fn tick(&mut self, now: Tick, out: &mut Step) -> Result<(), NoMemory>
+        requires clock { self.old.base.clock ≤ now }
+        requires now { now ≤ 4000000000 }
+        ensures step { OnOk result (Does (stepped wire now self.old Ticked) self.new.base self.new.stage out.old out.new) }
+        ensures kept { IsSame self.old.base self.new.base }
+        ensures clock { self.new.base.clock ≤ now }
+    {
+        self.base.clock = now;
+        let stage = mem::replace(&mut self.stage, Stage::Frozen { at: now });
+        self.stage = rows::pass(self.alloc, &self.base, stage, out)?;
+        Ok(())
+    }
+}
+
+/// The earlier of two ticks that may be there.
+fn sooner(one: Option<Tick>, other: Option<Tick>) -> Option<Tick>
+    ensures { result ≡ sooner one other }
+{
+    match (one, other) {
+        (None, other) => other,
+        (one, None) => one,
+        (Some(one), Some(other)) => Some(one.min(other)),
+    }
+}

@@ -1,0 +1,130 @@
+//! CrWait: a CR was sent (X.224, class 4 state tables).
+
+ghost use Rattle.std.specs.Prelude.{◌≡◌, ◌≤◌, IfOk, Some};
+ghost use Rattle.tpdu.specs.Values.{tpdu_of};
+ghost use Rattle.tpdu.specs.Writing.{IsAllowed};
+ghost use Rattle.tp4_conn.specs.declared.stage.Stage.TheVariants.{CrWait};
+ghost use Rattle.tp4_conn.specs.Agreeing.{is_within};
+ghost use Rattle.tp4_conn.specs.CrWait.{cr_wait_tpdu, cr_wait_tick, confirmed};
+ghost use Rattle.tp4_conn.specs.End.{Does, IsSize, IsTimed, agreed_format};
+ghost use Rattle.tp4_conn.specs.steps.Kept.{IsEnd, IsKept, IsSound};
+
+use crate::base::{Base, copied, options_in};
+use crate::timers::is_past;
+use crate::{Open, Options, Requesting, Stage};
+use osi_base::NoMemory;
+use std::alloc::Global;
+use tp4_flow::{GoneCause, Step, What};
+use tpdu::{Format, TpduRef};
+
+/// Whether a CC is within what was proposed.
+fn is_within(proposed: Options, options: Options) -> bool
+    ensures { result ≡ is_within proposed options }
+{
+    (options.format == Format::Normal || proposed.format == Format::Extended)
+        && (!options.expedited || proposed.expedited)
+        && (options.sum || !proposed.sum)
+        && options.size <= proposed.size
+}
+
+/// A TPDU came.
+#[tactic(auto, unfolding(crate::specs::CrWait::cr_wait_tpdu))]
+pub(crate) fn on_tpdu(
+    alloc: Global,
+    base: &mut Base,
+    wait: Requesting,
+    tpdu: &TpduRef<'_>,
+    out: &mut Step,
+) -> Result<Stage, NoMemory>
+    requires end { IsEnd base.old (CrWait wait) }
+    requires allowed { IsAllowed (agreed_format base.old.agreed) (tpdu_of tpdu.now) }
+    ensures step { IfOk result (λ stage. Does (cr_wait_tpdu base.old wait (tpdu_of tpdu.now)) base.new stage out.old out.new) }
+    ensures sound { IfOk result (λ stage. IsSound base.new stage) }
+    ensures kept { IsKept base.old base.new }
+{
+    match *tpdu {
+        TpduRef::Cc {
+            credit,
+            source,
+            format,
+            size,
+            extra,
+            octets,
+            ..
+        } => {
+            base.partner = source;
+            let options = options_in(format, size, extra);
+            if !is_within(base.proposed, options) {
+                return base.fail(alloc, GoneCause::Protocol, 133, base.clock, out);
+            }
+            base.credit = u16::from(credit);
+            base.agreed = Some(options);
+            open(alloc, base, options, octets, out)
+        }
+        TpduRef::Dr {
+            source,
+            reason,
+            octets,
+            ..
+        } => base.part(source, reason, copied(alloc, octets)?, out),
+        TpduRef::Cr { .. }
+        | TpduRef::Dc { .. }
+        | TpduRef::Dt { .. }
+        | TpduRef::Ed { .. }
+        | TpduRef::Ak { .. }
+        | TpduRef::Ea { .. }
+        | TpduRef::Er { .. } => Ok(Stage::CrWait(wait)),
+    }
+}
+
+/// Confirm; AK; Opened.
+fn open(
+    alloc: Global,
+    base: &Base,
+    options: Options,
+    octets: &[u8],
+    out: &mut Step,
+) -> Result<Stage, NoMemory>
+    requires timers { IsTimed base.now.timers }
+    requires size { IsSize options.size }
+    requires credit { base.now.credit ≤ 15 }
+    requires low { base.now.clock ≤ 4000000000 }
+    requires agreed { base.now.agreed ≡ Some options }
+    ensures step { IfOk result (λ stage. Does (confirmed base.now options octets.now) base.now stage out.old out.new) }
+    ensures sound { IfOk result (λ stage. IsSound base.now stage) }
+{
+    let mut halves = base.halves(alloc, options)?;
+    let octets = copied(alloc, octets)?;
+    base.tell(What::Confirm { options, octets }, out)?;
+    halves.sending.open(base.clock, out)?;
+    halves.receiving.acknowledge(out)?;
+    Ok(Stage::Opened(Open {
+        took: base.clock,
+        acked: base.clock,
+        halves,
+    }))
+}
+
+/// A tick of the clock.
+#[tactic(auto, unfolding(crate::specs::CrWait::cr_wait_tick))]
+pub(crate) fn on_tick(
+    alloc: Global,
+    base: &Base,
+    mut wait: Requesting,
+    out: &mut Step,
+) -> Result<Stage, NoMemory>
+    requires end { IsEnd base.now (CrWait wait) }
+    ensures step { IfOk result (λ stage. Does (cr_wait_tick base.now wait) base.now stage out.old out.new) }
+    ensures sound { IfOk result (λ stage. IsSound base.now stage) }
+{
+    if !is_past(wait.tries.last, base.timers.t1, base.clock) {
+        return Ok(Stage::CrWait(wait));
+    }
+    if wait.tries.count < base.timers.sendings {
+        base.send_request(alloc, wait.octets.as_slice(), out)?;
+        wait.tries = wait.tries.again(base.clock);
+        return Ok(Stage::CrWait(wait));
+    }
+    base.gone(alloc, GoneCause::Exhausted, out)?;
+    Ok(Stage::Frozen { at: base.clock })
+}

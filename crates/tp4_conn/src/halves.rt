@@ -1,0 +1,90 @@
+//! The two halves of the flow of an end that has agreed (X.224, class 4: flow control, expedited data).
+
+ghost use Rattle.std.specs.Prelude.{◌≡◌, ◌≤◌, IfOk, OnOk};
+ghost use Rattle.tp4_sending.specs.FlowSender.{Keeps, Sends, at, submitted, urged};
+ghost use Rattle.tp4_conn.specs.Agreeing.{flow_rules, halves_of};
+ghost use Rattle.tp4_conn.specs.End.{IsTimed, IsSize};
+
+use crate::{Base, Options};
+use osi_base::{Bytes, NoMemory, Tick};
+use std::alloc::Global;
+use tp4_flow::{FlowRules, Receiving, Step};
+use tp4_sending::Sending;
+use tpdu::Format;
+
+/// What an end sends, and what it receives.
+#[derive(Drop)]
+pub struct Halves {
+    pub sending: Sending,
+    pub receiving: Receiving,
+}
+
+impl Base {
+    /// The halves of an end that has agreed.
+    #[tactic(auto, using(crate::proofs::Credits::granted_low))]
+    pub(crate) fn halves(&self, alloc: Global, options: Options) -> Result<Halves, NoMemory>
+        requires timers { IsTimed self.now.timers }
+        requires size { IsSize options.size }
+        requires credit { self.now.credit ≤ 15 }
+        ensures { IfOk result (λ halves. halves ≡ halves_of self.now options) }
+    {
+        let rules = self.rules(options);
+        Ok(Halves {
+            sending: Sending::new(alloc, rules, self.credit)?,
+            receiving: Receiving::new(alloc, rules, self.timers.credit)?,
+        })
+    }
+
+    /// How the halves work.
+    fn rules(&self, options: Options) -> FlowRules
+        requires timers { IsTimed self.now.timers }
+        requires size { IsSize options.size }
+        ensures { result ≡ flow_rules self.now options }
+    {
+        let header = match options.format {
+            Format::Normal => 5,
+            Format::Extended => 8,
+        };
+        FlowRules {
+            own: self.own,
+            partner: self.partner,
+            to: self.to,
+            format: options.format,
+            sum: options.sum,
+            piece: options.size - (header + if options.sum { 4 } else { 0 }),
+            t1: self.timers.t1,
+            sendings: self.timers.sendings,
+            limit: self.timers.in_use(),
+        }
+    }
+}
+
+impl Halves {
+    /// A normal unit of the user is queued, and goes where it may. It was asked that it is not refused.
+    pub(crate) fn submit(&mut self, now: Tick, unit: Bytes, out: &mut Step) -> Result<(), NoMemory>
+        requires clock { self.old.sending.clock ≤ now }
+        requires low { now ≤ 4000000000 }
+        ensures step { OnOk result (Sends (submitted (at now self.old.sending) unit) self.new.sending out.old out.new) }
+        ensures kept { OnOk result (Keeps self.old.sending self.new.sending now) }
+        ensures receiving { self.new.receiving ≡ self.old.receiving }
+    {
+        let Ok(()) = self.sending.submit(now, unit.into_vec(), out) else {
+            return Err(NoMemory);
+        };
+        Ok(())
+    }
+
+    /// An expedited unit of the user is queued, and goes where it may. It was asked that it is not refused.
+    pub(crate) fn urge(&mut self, now: Tick, unit: Bytes, out: &mut Step) -> Result<(), NoMemory>
+        requires clock { self.old.sending.clock ≤ now }
+        requires low { now ≤ 4000000000 }
+        ensures step { OnOk result (Sends (urged (at now self.old.sending) unit) self.new.sending out.old out.new) }
+        ensures kept { OnOk result (Keeps self.old.sending self.new.sending now) }
+        ensures receiving { self.new.receiving ≡ self.old.receiving }
+    {
+        let Ok(()) = self.sending.submit_expedited(now, unit.into_vec(), out) else {
+            return Err(NoMemory);
+        };
+        Ok(())
+    }
+}

@@ -1,0 +1,59 @@
+//! Laws of one end (X.224, class 4 state tables; frozen references).
+
+ghost use Rattle.std.specs.Prelude.{◌≡◌, ◌≤◌, ◌+◌, ℕ, List, []};
+ghost use Rattle.tp4_flow.specs.declared.step.EndEvent.{EndEvent};
+ghost use Rattle.tp4_flow.specs.declared.step.Sent.{Sent};
+ghost use Rattle.tp4_number.specs.Number.{whole, wire};
+ghost use Rattle.tp4_conn.specs.declared.base.Base.{Base};
+ghost use Rattle.tp4_conn.specs.declared.call.ConnectCall.{ConnectCall};
+ghost use Rattle.tp4_conn.specs.declared.stage.Stage.{Stage};
+ghost use Rattle.tp4_conn.specs.declared.stage.Stage.TheVariants.{Frozen};
+ghost use Rattle.tp4_conn.specs.Dues.{ArePunctual, IsDue};
+ghost use Rattle.tp4_conn.specs.End.{End, IsTimed, end_of, span};
+ghost use Rattle.tp4_conn.specs.Living.{Life, Leads, IsOverBy, sent_by};
+ghost use Rattle.tp4_conn.specs.Making.{connected, indicated};
+ghost use Rattle.tp4_conn.specs.Table.{Event, EndStep};
+ghost use Rattle.tp4_conn.specs.Wire.{end_on_wire};
+ghost use Rattle.tp4_conn.specs.Worked.{Refused, Unanswered, Beyond, Waited, Late_user, Parted, Answered, Reduced, Expedited_first, Quiet, Wide, Dropped};
+
+/// A frozen end stays as it is and sends nothing. An end that was made, or took its last matching TPDU, at u at the
+/// latest is Frozen at most I and N times T1 later: it is, or it is due by then.
+pub fn over_lives()
+    ensures still { (wrap : ℕ → ℕ → ℕ) (base : Base) (when clock took : ℕ) (events : List (ℕ × Event)) (last : Life)
+        → Leads wrap (record { end = record { base = base; stage = Frozen when }; clock = clock; took = took }) events last
+        → (last.end.stage ≡ Frozen when) × (sent_by wrap (record { end = record { base = base; stage = Frozen when }; clock = clock; took = took }) events ≡ []) }
+    ensures calling { (wrap : ℕ → ℕ → ℕ) (made u : ℕ) (call : ConnectCall) (events : List (ℕ × Event)) (last : Life) → IsTimed call.rules
+        → Leads wrap (record { end = end_of (connected made call); clock = made; took = made }) events last
+        → last.took ≤ u → IsOverBy last.end (u + call.rules.inactive + span call.rules) }
+    ensures called { (wrap : ℕ → ℕ → ℕ) (u : ℕ) (base : Base) (text : List ℕ) (events : List (ℕ × Event)) (last : Life) → IsTimed base.timers
+        → Leads wrap (record { end = end_of (indicated base text); clock = base.clock; took = base.clock }) events last
+        → last.took ≤ u → IsOverBy last.end (u + base.timers.inactive + span base.timers) }
+{}
+
+/// Before its due tick a tick changes the clock alone, and at it more; after a tick an end is due later, or no more.
+pub fn over_dues()
+    ensures { (base : Base) (stage : Stage) → IsTimed base.timers → ArePunctual stage base.clock → IsDue base stage }
+{}
+
+/// An end whose receiving half keeps wire numbers stands for every end with these wire numbers: it tells and sends what
+/// that end does, and stands for it afterwards.
+pub fn over_wires()
+    ensures { (old : End) (event : Event) (now : ℕ) (new : End) (events : List EndEvent) (tpdus : List Sent) → EndStep whole old event now new events tpdus
+        → EndStep wire (end_on_wire old) event now (end_on_wire new) events tpdus }
+{}
+
+/// Worked rows that one end shows.
+pub fn worked_rows()
+    ensures refused { Refused }
+    ensures unanswered { Unanswered }
+    ensures beyond { Beyond }
+    ensures waited { Waited }
+    ensures late_user { Late_user }
+    ensures parted { Parted }
+    ensures answered { Answered }
+    ensures reduced { Reduced }
+    ensures expedited_first { Expedited_first }
+    ensures quiet { Quiet }
+    ensures wide { Wide }
+    ensures dropped { Dropped }
+{}

@@ -1,0 +1,28 @@
+//! One end of a class 4 connection (X.224, class 4 procedures and state tables).
+#![tactic(auto)]
+
+mod ak_wait;
+mod base;
+mod call;
+mod closing;
+mod connection;
+mod cr_wait;
+mod halves;
+mod laws;
+mod matching;
+mod opened;
+mod refusal;
+mod rows;
+mod stage;
+mod timers;
+mod user_wait;
+mod wait_before_close;
+
+pub use base::Base;
+pub use call::{CallRefusal, ConnectCall, UserCall};
+pub use connection::Connection;
+pub use halves::Halves;
+pub use laws::{over_dues, over_lives, over_wires, worked_rows};
+pub use stage::{Answering, Open, Parting, Releasing, Requesting, Stage, State};
+pub use timers::Timers;
+pub use tp4_flow::Options;

@@ -1,0 +1,161 @@
+//! Opened: data flow both ways (X.224, class 4 state tables; flow control; inactivity control).
+
+ghost use Rattle.std.specs.Prelude.{◌≡◌, ◌<◌, ◌≤◌, ◌*◌, IfOk};
+ghost use Rattle.tpdu.specs.Values.{tpdu_of};
+ghost use Rattle.tpdu.specs.Writing.{IsAllowed};
+ghost use Rattle.tp4_number.specs.Formats.{block_of};
+ghost use Rattle.tp4_number.specs.Number;
+ghost use Rattle.tp4_conn.specs.declared.stage.Stage.TheVariants.{Opened};
+ghost use Rattle.tp4_conn.specs.End.{Does, agreed_format};
+ghost use Rattle.tp4_conn.specs.Calls.{IsCall};
+ghost use Rattle.tp4_conn.specs.Opened.{opened_tpdu, opened_tick, opened_window, on_dt};
+ghost use Rattle.tp4_conn.specs.Table.{on_call};
+ghost use Rattle.tp4_conn.specs.steps.Kept.{IsEnd, IsSound};
+
+use crate::base::{Base, copied};
+use crate::timers::is_past;
+use crate::{Open, Stage, UserCall};
+use osi_base::NoMemory;
+use std::alloc::Global;
+use tp4_flow::{GoneCause, Life, Step, What};
+use tp4_number::Got;
+use tpdu::TpduRef;
+
+/// A TPDU came, which counts as taken now.
+#[tactic(auto, using(crate::proofs::Credits::granted_any), unfolding(crate::specs::Opened::opened_tpdu))]
+pub(crate) fn on_tpdu(
+    alloc: Global,
+    base: &Base,
+    mut flow: Open,
+    tpdu: &TpduRef<'_>,
+    out: &mut Step,
+) -> Result<Stage, NoMemory>
+    requires end { IsEnd base.now (Opened flow) }
+    requires allowed { IsAllowed (agreed_format base.now.agreed) (tpdu_of tpdu.now) }
+    ensures step { IfOk result (λ stage. Does (opened_tpdu Number.wire base.now flow (tpdu_of tpdu.now)) base.now stage out.old out.new) }
+    ensures sound { IfOk result (λ stage. IsSound base.now stage) }
+{
+    match *tpdu {
+        TpduRef::Cc { .. } => {
+            flow.halves.receiving.acknowledge(out)?;
+            flow.acked = base.clock;
+            Ok(Stage::Opened(flow))
+        }
+        TpduRef::Dr {
+            source,
+            reason,
+            octets,
+            ..
+        } => base.part(source, reason, copied(alloc, octets)?, out),
+        TpduRef::Er { .. } => base.fail(alloc, GoneCause::Protocol, 133, base.clock, out),
+        TpduRef::Dt {
+            last,
+            number,
+            octets,
+            ..
+        } => match flow.halves.receiving.on_dt(number, last, octets, out)? {
+            Got::TooLarge => base.fail(alloc, GoneCause::Protocol, 133, base.clock, out),
+            Got::Kept | Got::Old | Got::Outside => {
+                flow.acked = base.clock;
+                Ok(Stage::Opened(flow))
+            }
+        },
+        TpduRef::Ed { number, octets, .. } => {
+            if !base.is_expedited() {
+                return base.fail(alloc, GoneCause::Protocol, 133, base.clock, out);
+            }
+            flow.halves.receiving.on_ed(number, octets, out)?;
+            Ok(Stage::Opened(flow))
+        }
+        TpduRef::Ak {
+            number,
+            credit,
+            subsequence,
+            ..
+        } => {
+            flow.halves
+                .sending
+                .on_ak(base.clock, number, credit, subsequence, out)?;
+            Ok(Stage::Opened(flow))
+        }
+        TpduRef::Ea { number, .. } => {
+            flow.halves.sending.on_ea(base.clock, number, out)?;
+            Ok(Stage::Opened(flow))
+        }
+        TpduRef::Cr { .. } => Ok(Stage::Opened(flow)),
+        TpduRef::Dc { .. } => Ok(Stage::Opened(flow)),
+    }
+}
+
+/// A tick of the clock.
+#[tactic(auto, unfolding(crate::specs::Opened::opened_tick))]
+pub(crate) fn on_tick(
+    alloc: Global,
+    base: &Base,
+    mut flow: Open,
+    out: &mut Step,
+) -> Result<Stage, NoMemory>
+    requires end { IsEnd base.now (Opened flow) }
+    ensures step { IfOk result (λ stage. Does (opened_tick base.now flow) base.now stage out.old out.new) }
+    ensures sound { IfOk result (λ stage. IsSound base.now stage) }
+{
+    if is_past(flow.took, base.timers.inactive, base.clock) {
+        return base.fail(alloc, GoneCause::Inactive, 128, base.clock, out);
+    }
+    match flow.halves.sending.tick(base.clock, out)? {
+        Life::Exhausted => return base.fail(alloc, GoneCause::Exhausted, 128, base.clock, out),
+        Life::Goes => {}
+    }
+    if !is_past(flow.acked, base.timers.window, base.clock) {
+        return Ok(Stage::Opened(flow));
+    }
+    flow.halves.receiving.acknowledge(out)?;
+    flow.acked = base.clock;
+    Ok(Stage::Opened(flow))
+}
+
+/// A call of the user.
+pub(crate) fn on_call(
+    alloc: Global,
+    base: &Base,
+    mut flow: Open,
+    call: UserCall,
+    out: &mut Step,
+) -> Result<Stage, NoMemory>
+    requires end { IsEnd base.now (Opened flow) }
+    requires call { IsCall call }
+    ensures step { IfOk result (λ stage. Does (on_call base.now (Opened flow) call) base.now stage out.old out.new) }
+    ensures sound { IfOk result (λ stage. IsSound base.now stage) }
+{
+    match call {
+        UserCall::Normal(unit) => {
+            flow.halves.submit(base.clock, unit, out)?;
+            Ok(Stage::Opened(flow))
+        }
+        UserCall::Urgent(unit) => {
+            flow.halves.urge(base.clock, unit, out)?;
+            Ok(Stage::Opened(flow))
+        }
+        UserCall::Window(credit) => grant(base, flow, credit, out),
+        UserCall::Disconnect(octets) => base.disconnect(alloc, octets, base.clock, out),
+        UserCall::Accept(..) => Ok(Stage::Opened(flow)),
+        UserCall::Refuse(_) => Ok(Stage::Opened(flow)),
+    }
+}
+
+/// The user wants this credit.
+fn grant(base: &Base, mut flow: Open, credit: u16, out: &mut Step) -> Result<Stage, NoMemory>
+    requires end { IsEnd base.now (Opened flow) }
+    requires credit { credit ≤ 255 }
+    ensures step { IfOk result (λ stage. Does (opened_window base.now flow credit) base.now stage out.old out.new) }
+    ensures sound { IfOk result (λ stage. IsSound base.now stage) }
+{
+    let before = flow.halves.receiving.credit();
+    let after = flow.halves.receiving.grant(credit);
+    base.tell(What::Window(after), out)?;
+    if after != before {
+        flow.halves.receiving.acknowledge(out)?;
+        flow.acked = base.clock;
+    }
+    Ok(Stage::Opened(flow))
+}

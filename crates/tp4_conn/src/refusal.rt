@@ -1,0 +1,109 @@
+//! Why a call of the user is refused (X.224, class 4 state tables).
+
+ghost use Rattle.std.specs.Prelude.{◌≡◌, length, option_copied};
+ghost use Rattle.tp4_conn.specs.Calls.{call_refusal, is_listed, sending_of, too_long, unit_refusal, urgent_unit_refusal};
+
+use crate::{Base, CallRefusal, Stage, UserCall};
+use osi_base::Bytes;
+use tp4_flow::SubmitRefusal;
+use tp4_sending::Sending;
+
+/// Why a call is refused, the first that applies.
+pub(crate) fn refusal(base: &Base, stage: &Stage, call: &UserCall) -> Option<CallRefusal>
+    ensures { result ≡ call_refusal base.now stage.now call.now }
+{
+    if !is_listed(stage, call) {
+        return Some(CallRefusal::WrongState(stage.state()));
+    }
+    match call {
+        UserCall::Accept(_, octets) => too_long(32, octets),
+        UserCall::Refuse(octets) => too_long(64, octets),
+        UserCall::Disconnect(octets) => too_long(64, octets),
+        UserCall::Normal(unit) => {
+            let sending = sending_of(stage)?;
+            unit_refusal(sending.refusal(unit.as_slice().len()))
+        }
+        UserCall::Urgent(unit) => {
+            let sending = sending_of(stage)?;
+            urgent_unit_refusal(
+                base.is_expedited(),
+                sending.urgent_refusal(unit.as_slice().len()),
+            )
+        }
+        UserCall::Window(_) => None,
+    }
+}
+
+/// Whether the state has a row for the call.
+fn is_listed(stage: &Stage, call: &UserCall) -> bool
+    ensures { result ≡ is_listed stage.now call.now }
+{
+    match stage {
+        Stage::CrWait(_) => matches!(call, UserCall::Disconnect(_)),
+        Stage::UserWait { .. } => matches!(call, UserCall::Accept(..) | UserCall::Refuse(_)),
+        Stage::AkWait(_) => matches!(
+            call,
+            UserCall::Normal(_) | UserCall::Urgent(_) | UserCall::Disconnect(_)
+        ),
+        Stage::Opened(_) => matches!(
+            call,
+            UserCall::Normal(_)
+                | UserCall::Urgent(_)
+                | UserCall::Window(_)
+                | UserCall::Disconnect(_)
+        ),
+        Stage::WaitBeforeClose(_) | Stage::Closing(_) | Stage::Frozen { .. } => false,
+    }
+}
+
+/// The sending half of a state that has one.
+fn sending_of(stage: &Stage) -> Option<&Sending>
+    ensures { option_copied result ≡ sending_of stage.now }
+{
+    match stage {
+        Stage::AkWait(wait) => Some(&wait.halves.sending),
+        Stage::Opened(flow) => Some(&flow.halves.sending),
+        Stage::CrWait(_)
+        | Stage::WaitBeforeClose(_)
+        | Stage::UserWait { .. }
+        | Stage::Closing(_)
+        | Stage::Frozen { .. } => None,
+    }
+}
+
+/// More octets than these are too long.
+fn too_long(most: usize, octets: &Bytes) -> Option<CallRefusal>
+    ensures { result ≡ too_long most octets.now }
+{
+    if most < octets.as_slice().len() {
+        Some(CallRefusal::TooLong)
+    } else {
+        None
+    }
+}
+
+/// The refusal of a unit.
+fn unit_refusal(why: Option<SubmitRefusal>) -> Option<CallRefusal>
+    ensures { result ≡ unit_refusal why }
+{
+    match why? {
+        SubmitRefusal::EmptyUnit => Some(CallRefusal::EmptyUnit),
+        SubmitRefusal::TooLong => Some(CallRefusal::TooLong),
+        SubmitRefusal::QueueFull => Some(CallRefusal::QueueFull),
+        SubmitRefusal::NoMemory => Some(CallRefusal::NoMemory),
+    }
+}
+
+/// The refusal of an expedited unit.
+fn urgent_unit_refusal(is_agreed: bool, why: Option<SubmitRefusal>) -> Option<CallRefusal>
+    ensures { result ≡ urgent_unit_refusal is_agreed why }
+{
+    match why {
+        Some(SubmitRefusal::EmptyUnit) => Some(CallRefusal::EmptyUnit),
+        Some(SubmitRefusal::TooLong) => Some(CallRefusal::TooLong),
+        Some(SubmitRefusal::NoMemory) => Some(CallRefusal::NoMemory),
+        Some(SubmitRefusal::QueueFull) if is_agreed => Some(CallRefusal::QueueFull),
+        None if is_agreed => None,
+        Some(SubmitRefusal::QueueFull) | None => Some(CallRefusal::NoExpedited),
+    }
+}
