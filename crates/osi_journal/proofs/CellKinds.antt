@@ -129,8 +129,8 @@ decimal_first n fits =
 pub shaped : (tags : Tags) (event : Event) → AreNames tags.systems → AreTold tags (cells_of event) → shape_of (texts_of tags event) ≡ map kind (cells_of event)
 unfolding shape_of by_shape shapes these gone_shape drop_shape inject_shape words_shape agreed
 shaped tags (events.Tick now) names told = refl
-shaped tags (events.Connect end system reference calling calling_selector called called_selector octets) names told = refl
-shaped tags (events.Incoming end system reference calling partner calling_selector called called_selector options octets) names told = refl
+shaped tags (events.Connect asked) names told = refl
+shaped tags (events.Incoming heard) names told = refl
 shaped tags (events.Accept end options octets) names told = refl
 shaped tags (events.Confirm end options octets) names told = refl
 shaped tags (events.Data end octets) names told = refl

@@ -140,12 +140,23 @@ agreed_of make (Number n ∷ Word extended ∷ Number size ∷ Word expedited �
 agreed_of make cells = None
 
 connect_of : List Cell → Option Event
-connect_of (Number n ∷ System s ∷ Number r ∷ Digits a ∷ Octets b ∷ Digits c ∷ Octets d ∷ Octets o ∷ []) = Some (events.Connect n s r a b c d o)
+connect_of (Number n ∷ System s ∷ Number r ∷ Digits a ∷ Octets b ∷ Digits c ∷ Octets d ∷ Octets o ∷ []) = Some (events.Connect (record { end = n; system = s; reference = r; calling = a; calling_selector = b; called = c; called_selector = d; octets = o }))
 connect_of cells = None
 
 incoming_of : List Cell → Option Event
 incoming_of (Number n ∷ System s ∷ Number r ∷ Digits a ∷ Number p ∷ Octets b ∷ Digits c ∷ Octets d ∷ Word extended ∷ Number size ∷ Word expedited ∷ Word sum ∷ Octets o ∷ []) =
-    Some (events.Incoming n s r a p b c d (options_of extended size expedited sum) o)
+    Some (events.Incoming (record {
+      end = n;
+      system = s;
+      reference = r;
+      calling = a;
+      partner = p;
+      calling_selector = b;
+      called = c;
+      called_selector = d;
+      options = options_of extended size expedited sum;
+      octets = o;
+    }))
 incoming_of cells = None
 
 gone_line_of : List Cell → Option Event
@@ -264,16 +275,20 @@ sum_back : (b : Bool) → is_word (codes "sum") (if b then codes "sum" else code
 sum_back true = refl
 sum_back false = refl
 
+options_back : (o : Options)
+    → options_of (if o.extended then codes "extended" else codes "normal") o.size (if o.expedited then codes "exp" else codes "noexp") (if o.sum then codes "sum" else codes "nosum") ≡ o
+unfolding options_of
+options_back o = λ i. record { extended = extended_back o.extended i; size = o.size; expedited = expedited_back o.expedited i; sum = sum_back o.sum i }
+
 -- the cells of an event make it
 pub told_back : (event : Event) → event_of (cells_of event) ≡ Some event
 unfolding event_of by_row rows number_of system_of answer_of octets_of raw_of agreed_of options_of connect_of incoming_of gone_line_of gone_of told_gone window_of held_of refused_of
     standing_of frame_of drop_of drop_cause_of inject_of discard_of told_of hello_cause_of hello_line_of hello_of redirect_of badtpdu_of tpdu_cause_of tpdu_of
 told_back (events.Tick now) = refl
-told_back (events.Connect end system reference calling calling_selector called called_selector octets) = refl
-told_back (events.Incoming end system reference calling partner calling_selector called called_selector options octets) = λ i.
-    Some (events.Incoming end system reference calling partner calling_selector called called_selector (record { extended = extended_back options.extended i; size = options.size; expedited = expedited_back options.expedited i; sum = sum_back options.sum i }) octets)
-told_back (events.Accept end options octets) = λ i. Some (events.Accept end (record { extended = extended_back options.extended i; size = options.size; expedited = expedited_back options.expedited i; sum = sum_back options.sum i }) octets)
-told_back (events.Confirm end options octets) = λ i. Some (events.Confirm end (record { extended = extended_back options.extended i; size = options.size; expedited = expedited_back options.expedited i; sum = sum_back options.sum i }) octets)
+told_back (events.Connect asked) = refl
+told_back (events.Incoming heard) = λ i. Some (events.Incoming (record heard { options = options_back heard.options i }))
+told_back (events.Accept end options octets) = λ i. Some (events.Accept end (options_back options i) octets)
+told_back (events.Confirm end options octets) = λ i. Some (events.Confirm end (options_back options i) octets)
 told_back (events.Data end octets) = refl
 told_back (events.Got end octets) = refl
 told_back (events.Expedite end octets) = refl

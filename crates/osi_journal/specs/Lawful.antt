@@ -1,56 +1,24 @@
 -- What a journal may tell (X.214, model of the transport service: two queues for each connection).
 use Rattle.std.specs.Prelude.{◌≡◌, ℕ, ◌+◌, ◌<◌, ◌≤◌, ◌==◌, true, if◌then◌else◌, List, [], ◌∷◌, ◌++◌, length, get_or, slice_get, Some}
 use Rattle.nsap.specs.Address.{is_same_system}
-use Rattle.osi_script.specs.declared.line.Options.{Options}
 use Rattle.osi_journal.specs.declared.event.Event.{Event}
 use Rattle.osi_journal.specs.declared.event.Event.TheVariants as events
+use Rattle.osi_journal.specs.declared.event.Indication.{Indication}
+use Rattle.osi_journal.specs.declared.event.Request.{Request}
 
 -- ---- partners
 
--- what a connect request says
-pub record Request : Type 0 where
-  pub end : ℕ
-  pub system : ℕ
-  pub reference : ℕ
-  pub calling : List ℕ
-  pub calling_selector : List ℕ
-  pub called : List ℕ
-  pub called_selector : List ℕ
-  pub octets : List ℕ
-
--- what a connect indication says; `partner` is the reference of the partner end
-pub record Indication : Type 0 where
-  pub end : ℕ
-  pub system : ℕ
-  pub reference : ℕ
-  pub calling : List ℕ
-  pub partner : ℕ
-  pub calling_selector : List ℕ
-  pub called : List ℕ
-  pub called_selector : List ℕ
-  pub options : Options
-  pub octets : List ℕ
-
-abbrev pub request : Request → Event
-request asked =
-    events.Connect asked.end asked.system asked.reference asked.calling asked.calling_selector asked.called asked.called_selector asked.octets
-
-abbrev pub indication : Indication → Event
-indication heard =
-    events.Incoming heard.end heard.system heard.reference heard.calling heard.partner heard.calling_selector heard.called heard.called_selector
-    heard.options heard.octets
-
 -- at the place q stands the latest connect request before p that has this address and reference
 pub record IsLatest (journal : List Event) (p q : ℕ) (calling : List ℕ) (reference : ℕ) (asked : Request) : Type 0 where
-  pub is : slice_get journal q ≡ Some (request asked)
+  pub is : slice_get journal q ≡ Some (events.Connect asked)
   pub before : q < p
   pub from : asked.calling ≡ calling
   pub by : asked.reference ≡ reference
-  pub last : (r : ℕ) (other : Request) → q < r → r < p → slice_get journal r ≡ Some (request other) → other.calling ≡ calling → other.reference ≡ reference → ⊥
+  pub last : (r : ℕ) (other : Request) → q < r → r < p → slice_get journal r ≡ Some (events.Connect other) → other.calling ≡ calling → other.reference ≡ reference → ⊥
 
 -- the request at the place q is the partner of the indication at p
 pub record Partner (journal : List Event) (p q : ℕ) (heard : Indication) (asked : Request) : Type 0 where
-  pub is : slice_get journal p ≡ Some (indication heard)
+  pub is : slice_get journal p ≡ Some (events.Incoming heard)
   pub latest : IsLatest journal p q heard.calling heard.partner asked
 
 -- the two ends of a connection: the one asked for it, and the other was asked
@@ -134,7 +102,7 @@ pub record IsLawful (titles : List (List ℕ)) (journal : List Event) : Type 0 w
   -- no request is the partner of two indications
   pub one : (p other q : ℕ) (heard again : Indication) (asked : Request) → Partner journal p q heard asked → Partner journal other q again asked → p ≡ other
   -- each indication has a partner
-  pub some : (p : ℕ) (heard : Indication) → slice_get journal p ≡ Some (indication heard) → HasPartner titles journal p heard
+  pub some : (p : ℕ) (heard : Indication) → slice_get journal p ≡ Some (events.Incoming heard) → HasPartner titles journal p heard
   -- each way of a connection is a queue
   pub there : (calling called : ℕ) → AreEnds journal calling called → IsQueue (submitted calling journal) (shown called journal)
   pub back : (calling called : ℕ) → AreEnds journal calling called → IsQueue (submitted called journal) (shown calling journal)

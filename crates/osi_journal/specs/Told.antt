@@ -131,12 +131,13 @@ option_cells options cells =
 -- the line of each event
 abbrev pub cells_of : Event → List Cell
 cells_of (events.Tick now) = Word (codes "tick") ∷ Number now ∷ []
-cells_of (events.Connect end system reference calling calling_selector called called_selector octets) =
-    Word (codes "connect") ∷ Number end ∷ System system ∷ Number reference
-    ∷ Digits calling ∷ Octets calling_selector ∷ Digits called ∷ Octets called_selector ∷ Octets octets ∷ []
-cells_of (events.Incoming end system reference calling partner calling_selector called called_selector options octets) =
-    Word (codes "incoming") ∷ Number end ∷ System system ∷ Number reference
-    ∷ Digits calling ∷ Number partner ∷ Octets calling_selector ∷ Digits called ∷ Octets called_selector ∷ option_cells options (Octets octets ∷ [])
+cells_of (events.Connect asked) =
+    Word (codes "connect") ∷ Number asked.end ∷ System asked.system ∷ Number asked.reference
+    ∷ Digits asked.calling ∷ Octets asked.calling_selector ∷ Digits asked.called ∷ Octets asked.called_selector ∷ Octets asked.octets ∷ []
+cells_of (events.Incoming heard) =
+    Word (codes "incoming") ∷ Number heard.end ∷ System heard.system ∷ Number heard.reference
+    ∷ Digits heard.calling ∷ Number heard.partner ∷ Octets heard.calling_selector
+    ∷ Digits heard.called ∷ Octets heard.called_selector ∷ option_cells heard.options (Octets heard.octets ∷ [])
 cells_of (events.Accept end options octets) = Word (codes "accept") ∷ Number end ∷ option_cells options (Octets octets ∷ [])
 cells_of (events.Confirm end options octets) = Word (codes "confirm") ∷ Number end ∷ option_cells options (Octets octets ∷ [])
 cells_of (events.Data end octets) = Word (codes "data") ∷ Number end ∷ Octets octets ∷ []

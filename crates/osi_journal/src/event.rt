@@ -1,8 +1,48 @@
 //! What happens in a run: one event for each line of the transcript.
 
+use crate::boxed::Boxed;
 use crate::cause::{GoneCause, Refused, Settled, TpduCause, TpduKind};
 use osi_base::{Address, Bytes, DropCause, HelloCause, HelloKind, Tick};
 use osi_script::Options;
+
+/// What a connect request says (X.214, T-CONNECT request).
+#[derive(Drop)]
+pub struct Request {
+    /// The end that it makes, and its system.
+    pub end: u32,
+    pub system: u8,
+    /// The reference of the end.
+    pub reference: u16,
+    /// The address and the selector that it comes from.
+    pub calling: Address,
+    pub calling_selector: Bytes,
+    /// The address and the selector that it is for.
+    pub called: Address,
+    pub called_selector: Bytes,
+    /// The octets that go with it.
+    pub octets: Bytes,
+}
+
+/// What a connect indication says (X.214, T-CONNECT indication).
+#[derive(Drop)]
+pub struct Indication {
+    /// The end that it makes, and its system.
+    pub end: u32,
+    pub system: u8,
+    /// The reference of the end.
+    pub reference: u16,
+    /// The address that it comes from, and the reference of the partner end there.
+    pub calling: Address,
+    pub partner: u16,
+    pub calling_selector: Bytes,
+    /// The address and the selector that it is for.
+    pub called: Address,
+    pub called_selector: Bytes,
+    /// What is proposed.
+    pub options: Options,
+    /// The octets that go with it.
+    pub octets: Bytes,
+}
 
 /// One line of the transcript. Systems and LANs go by their numbers, from 0 in the order of
 /// declaration, ends by theirs, from 1 in the order in which they are made.
@@ -13,29 +53,9 @@ pub enum Event {
         now: Tick,
     },
     /// A connect request, which makes an end.
-    Connect {
-        end: u32,
-        system: u8,
-        reference: u16,
-        calling: Address,
-        calling_selector: Bytes,
-        called: Address,
-        called_selector: Bytes,
-        octets: Bytes,
-    },
+    Connect(Boxed<Request>),
     /// A connect indication, which makes an end.
-    Incoming {
-        end: u32,
-        system: u8,
-        reference: u16,
-        calling: Address,
-        partner: u16,
-        calling_selector: Bytes,
-        called: Address,
-        called_selector: Bytes,
-        options: Options,
-        octets: Bytes,
-    },
+    Incoming(Boxed<Indication>),
     /// A connect response, with what is agreed.
     Accept {
         end: u32,

@@ -1,17 +1,21 @@
 //! The journal of a run: its events, the transcript's line of each, and what a lawful one is.
 #![tactic(auto)]
 
+mod boxed;
 mod cause;
+mod ends;
 mod event;
 mod journal;
 mod laws;
+mod networks;
 mod pieces;
 mod shapes;
 mod text;
 mod words;
 
+pub use boxed::Boxed;
 pub use cause::{GoneCause, Refused, Settled, Standing, TpduCause, TpduKind};
-pub use event::Event;
+pub use event::{Event, Indication, Request};
 pub use journal::{Journal, JournalRefusal};
 pub use laws::{fronts_are_lawful, text_is_injective};
 pub use text::write_event;

@@ -1,17 +1,15 @@
 //! The fields of a transcript line, and how they are written.
 
-ghost use Rattle.std.specs.Prelude.{◌≡◌, ◌≤◌, ◌*◌, ◌++◌, map, drop, length, if◌then◌else◌, OnOk};
+ghost use Rattle.std.specs.Prelude.{◌≡◌, ◌*◌, ◌++◌, length, OnOk};
 ghost use Rattle.std.specs.Fmt.{decimal};
 ghost use Rattle.hex.specs.Hex.{encode_lower};
 ghost use Rattle.osi_script.specs.Tags.{tags_of};
 ghost use Rattle.osi_journal.specs.Told.{line};
 ghost use Rattle.osi_journal.specs.steps.Written.{piece_text, pieces_text, tail};
 
+use itoa::Buffer;
 use osi_base::NoMemory;
 use osi_script::Names;
-
-/// The most digits of a number.
-const MOST_DIGITS: usize = 20;
 
 /// A field of a transcript line.
 #[derive(Clone, Copy)]
@@ -106,25 +104,8 @@ fn fill_hex(octets: &[u8], place: &mut [u8])
 fn push_number(number: u64, out: &mut Vec<u8>) -> Result<(), NoMemory>
     ensures { OnOk result (out.new.items ≡ out.old.items ++ decimal number) }
 {
-    let mut digits = [0u8; MOST_DIGITS];
-    let start = fill_number(number, &mut digits);
-    push(&digits[start..], out)
-}
-
-/// Writes a number in decimal at the end of the digits, and answers where it starts.
-fn fill_number(number: u64, digits: &mut [u8; MOST_DIGITS]) -> usize
-    ensures within { result ≤ 20 }
-    ensures written { drop result digits.new ≡ decimal number }
-{
-    let mut left = number;
-    let mut start = MOST_DIGITS - 1;
-    while left >= 10 {
-        digits[start] = b'0' + (left % 10) as u8;
-        left /= 10;
-        start -= 1;
-    }
-    digits[start] = b'0' + left as u8;
-    start
+    let mut digits = Buffer::new();
+    push(digits.format(number).as_bytes(), out)
 }
 
 /// Appends a text as it is.

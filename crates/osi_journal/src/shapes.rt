@@ -1,15 +1,14 @@
-//! Lines of the same shape.
+//! Lines of the same shape, for several events each.
 
-ghost use Rattle.std.specs.Prelude.{◌≡◌, ◌∷◌, [], map, codes};
-ghost use Rattle.osi_script.specs.Tags.{Tags, tags_of};
-ghost use Rattle.osi_journal.specs.Told.{cell_text, option_cells, refused_cells, Word, Number, System, Octets, Digits};
-ghost use Rattle.osi_journal.specs.steps.Written.{piece_text, pieces_text, Appends};
+ghost use Rattle.std.specs.Prelude.{◌∷◌, []};
+ghost use Rattle.osi_script.specs.Tags.{tags_of};
+ghost use Rattle.osi_journal.specs.Told.{Word, Number, System, Octets, Digits};
+ghost use Rattle.osi_journal.specs.steps.Written.{piece_text, Appends};
 
-use crate::cause::Refused;
 use crate::pieces::{Piece, write};
-use crate::words::{choice, number, standing_piece};
+use crate::words::number;
 use osi_base::{Address, Bytes, NoMemory};
-use osi_script::{Names, Options};
+use osi_script::Names;
 
 /// A word and a number.
 #[inline(always)]
@@ -93,71 +92,64 @@ pub fn write_octets(
 }
 
 /// A word, a system, an address and octets.
-pub fn raw<'a>(
+pub fn write_raw<'a>(
     word: &'static str,
     system: u8,
     address: &'a Address,
     octets: &'a Bytes,
-) -> [Piece<'a>; 4]
-    ensures { (tags : Tags) → pieces_text tags result ≡ map (cell_text tags) (Word word.now ∷ System system ∷ Digits address.now ∷ Octets octets.now ∷ []) }
+    names: &Names,
+    out: &mut Vec<u8>,
+) -> Result<(), NoMemory>
+    ensures { Appends names.now (Word word.now ∷ System system ∷ Digits address.now ∷ Octets octets.now ∷ []) out.old.items out.new.items result }
 {
-    [
-        Piece::Word(word),
-        Piece::System(system),
-        Piece::Digits(address.as_slice()),
-        Piece::Octets(octets.as_slice()),
-    ]
+    write(
+        &[
+            Piece::Word(word),
+            Piece::System(system),
+            Piece::Digits(address.as_slice()),
+            Piece::Octets(octets.as_slice()),
+        ],
+        names,
+        out,
+    )
 }
 
-/// A word, an end, what is agreed, and octets.
-pub fn agreed<'a>(
+/// Two words and a system.
+pub fn write_marked(
     word: &'static str,
-    end: u32,
-    options: Options,
-    octets: &'a Bytes,
-) -> [Piece<'a>; 7]
-    ensures { (tags : Tags) → pieces_text tags result ≡ map (cell_text tags) (Word word.now ∷ Number end ∷ option_cells options (Octets octets.now ∷ [])) }
+    mark: &'static str,
+    system: u8,
+    names: &Names,
+    out: &mut Vec<u8>,
+) -> Result<(), NoMemory>
+    ensures { Appends names.now (Word word.now ∷ Word mark.now ∷ System system ∷ []) out.old.items out.new.items result }
 {
-    [
-        Piece::Word(word),
-        number(end),
-        choice(options.extended, "extended", "normal"),
-        Piece::Number(u64::from(options.size)),
-        choice(options.expedited, "exp", "noexp"),
-        choice(options.sum, "sum", "nosum"),
-        Piece::Octets(octets.as_slice()),
-    ]
+    write(
+        &[Piece::Word(word), Piece::Word(mark), Piece::System(system)],
+        names,
+        out,
+    )
 }
 
-/// Why a call is refused.
-pub fn write_refused(cause: Refused, names: &Names, out: &mut Vec<u8>) -> Result<(), NoMemory>
-    ensures { Appends names.now (Word (codes "no") ∷ refused_cells cause) out.old.items out.new.items result }
+/// A word, a system, the octet of a reason and a place.
+pub fn write_place(
+    word: &'static str,
+    system: u8,
+    reason: u8,
+    place: u8,
+    names: &Names,
+    out: &mut Vec<u8>,
+) -> Result<(), NoMemory>
+    ensures { Appends names.now (Word word.now ∷ System system ∷ Digits (reason ∷ []) ∷ Number place ∷ []) out.old.items out.new.items result }
 {
-    match cause {
-        Refused::WrongState(standing) => write(
-            &[
-                Piece::Word("no"),
-                Piece::Word("wrongstate"),
-                standing_piece(standing),
-            ],
-            names,
-            out,
-        ),
-        Refused::NoSuchEnd => write_no("nosuchend", names, out),
-        Refused::EmptyUnit => write_no("emptyunit", names, out),
-        Refused::TooLong => write_no("toolong", names, out),
-        Refused::NoExpedited => write_no("noexpedited", names, out),
-        Refused::QueueFull => write_no("queuefull", names, out),
-        Refused::RefsSpent => write_no("refsspent", names, out),
-        Refused::NoRoute => write_no("noroute", names, out),
-        Refused::Full => write_no("full", names, out),
-        Refused::IdsSpent => write_no("idsspent", names, out),
-    }
-}
-
-/// `no` and a word.
-fn write_no(word: &'static str, names: &Names, out: &mut Vec<u8>) -> Result<(), NoMemory>
-    ensures { Appends names.now (Word (codes "no") ∷ Word word.now ∷ []) out.old.items out.new.items result }
-{
-    write(&[Piece::Word("no"), Piece::Word(word)], names, out)
+    write(
+        &[
+            Piece::Word(word),
+            Piece::System(system),
+            Piece::Digits(&[reason]),
+            Piece::Number(u64::from(place)),
+        ],
+        names,
+        out,
+    )
 }

@@ -4,7 +4,8 @@ mod lines;
 
 use self::lines::{CALLS, ENDS, NETWORK_CAUSES, NETWORKS, TPDUS};
 use crate::{
-    Event, GoneCause, Journal, Refused, Settled, Standing, TpduCause, TpduKind, write_event,
+    Boxed, Event, GoneCause, Indication, Journal, Refused, Request, Settled, Standing, TpduCause,
+    TpduKind, write_event,
 };
 use osi_base::{Address, Bytes, DropCause, HelloCause, HelloKind};
 use osi_script::{Names, Options, WHOLE};
@@ -44,6 +45,10 @@ fn told(alloc: Global, events: &[Event]) -> Result<Vec<u8>, Fail> {
 
 fn bytes(alloc: Global, octets: &[u8]) -> Result<Bytes, Fail> {
     Ok(Bytes::of(octets.to_vec(alloc)?))
+}
+
+fn boxed<T: Drop>(alloc: Global, value: T) -> Result<Boxed<T>, Fail> {
+    Ok(Boxed::new(alloc, value).ok().ok_or("no memory")?)
 }
 
 fn address(last: u8) -> Address {
@@ -116,7 +121,7 @@ fn an_event_of_a_network_has_its_line(rt: HostRuntime) -> Result<(), Fail> {
 /// The events of a connection that is made, with octets or without.
 fn connecting(alloc: Global) -> Result<Vec<Event>, Fail> {
     let mut events = Vec::new(alloc);
-    events.push(Event::Connect {
+    let request = Request {
         end: 1,
         system: 0,
         reference: 9,
@@ -125,8 +130,9 @@ fn connecting(alloc: Global) -> Result<Vec<Event>, Fail> {
         called: address(0x0b),
         called_selector: bytes(alloc, &[0xbb])?,
         octets: bytes(alloc, &[])?,
-    })?;
-    events.push(Event::Incoming {
+    };
+    events.push(Event::Connect(boxed(alloc, request)?))?;
+    let indication = Indication {
         end: 2,
         system: 1,
         reference: 3,
@@ -137,7 +143,8 @@ fn connecting(alloc: Global) -> Result<Vec<Event>, Fail> {
         called_selector: bytes(alloc, &[])?,
         options: NORMAL,
         octets: bytes(alloc, &[0, 0xff])?,
-    })?;
+    };
+    events.push(Event::Incoming(boxed(alloc, indication)?))?;
     for (options, first) in [(NORMAL, 5), (EXTENDED, 7)] {
         let (end, octets) = (2, bytes(alloc, &[first])?);
         events.push(Event::Accept {

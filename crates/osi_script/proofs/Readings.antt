@@ -1,6 +1,6 @@
 -- A reading that is put into its place is put there by the definition too.
 use Rattle.std.proofs.Common.{ap}
-use Rattle.std.specs.Prelude.{Result, Ok, Err}
+use Rattle.std.specs.Prelude.{Option, Some, Result, Ok, Err}
 use Rattle.osi_script.specs.declared.fault.LineCause.{LineCause}
 use Rattle.osi_script.specs.declared.fault.FieldRefusal.{FieldRefusal}
 use Rattle.osi_script.specs.declared.fault.FieldRefusal.TheVariants as fields
@@ -10,3 +10,9 @@ pub gives_into : {A B U : Type 0} (read : Result A LineCause) (place : A → B) 
 gives_into read place (Ok done) now g = ap (λ (r : Result _ LineCause). into r place) g
 gives_into read place (Err (fields.Cause cause)) now g = ap (λ (r : Result _ LineCause). into r place) g
 gives_into read place (Err fields.NoMemory) now g = tt
+
+-- the same of a place that may be empty
+pub gives_some : {A B U : Type 0} (read : Result A LineCause) (place : Option A → B) (result : Result U FieldRefusal) (now : Option A)
+    → Gives (into read (λ value. Some value)) result now → Gives (into read (λ value. place (Some value))) result (place now)
+gives_some (Ok value) place result now g = gives_into (Ok (Some value)) place result now g
+gives_some (Err cause) place result now g = gives_into (Err cause) place result now g

@@ -20,7 +20,7 @@ use Rattle.osi_script.specs.declared.parts.Parts.{Parts}
 use Rattle.osi_script.specs.declared.settings.Key.TheVariants as keys
 use Rattle.osi_script.specs.Settings.{setting_or, with_setting}
 use Rattle.osi_script.specs.Field.{fields_of, is_printable}
-use Rattle.osi_script.specs.Known.{Declared, KnownSystem, with, no_parts, is_end, ports_of, routes_of, changed}
+use Rattle.osi_script.specs.Known.{Declared, KnownSystem, with, no_parts, given_title, given_station, given_prefix, is_end, ports_of, routes_of, changed}
 use Rattle.osi_script.specs.Table.{row_of, word_of}
 use Rattle.osi_script.specs.Reading.{field_read}
 
@@ -91,10 +91,10 @@ next_number names effect = 0
 abbrev pub line_for : ℕ → Word → Parts → Line
 line_for number words.Set parts = lines.Set parts.key parts.number
 line_for number words.Lan parts = lines.Lan number parts.number parts.amount
-line_for number words.Es parts = lines.Es number parts.title
-line_for number words.Is parts = lines.Is number parts.title
-line_for number words.Port parts = lines.Port parts.system parts.lan parts.station
-line_for number words.Route parts = lines.Route parts.system parts.prefix parts.other parts.lan
+line_for number words.Es parts = lines.Es number (given_title parts)
+line_for number words.Is parts = lines.Is number (given_title parts)
+line_for number words.Port parts = lines.Port parts.system parts.lan (given_station parts)
+line_for number words.Route parts = lines.Route parts.system (given_prefix parts) parts.other parts.lan
 line_for number words.Path parts = lines.Path number parts.kind parts.hops
 line_for number words.Tsap parts = lines.Tsap parts.system parts.selector
 line_for number words.Start parts = lines.Start
@@ -112,10 +112,10 @@ line_for number words.Deliver parts = lines.Deliver parts.number parts.system
 line_for number words.Inject parts = lines.Inject parts.lan parts.system parts.octets
 
 abbrev pub new_system : Bool → Parts → KnownSystem
-new_system is_end parts = record { name = parts.name; is_end = is_end; title = parts.title; ports = []; routes = []; selectors = [] }
+new_system is_end parts = record { name = parts.name; is_end = is_end; title = given_title parts; ports = []; routes = []; selectors = [] }
 
 abbrev pub new_port : Parts → Port
-new_port parts = record { lan = parts.lan; snpa = parts.station }
+new_port parts = record { lan = parts.lan; snpa = given_station parts }
 
 -- what is declared after a line
 abbrev pub declared_by : Declared → Effect → Parts → Declared
@@ -126,7 +126,7 @@ declared_by names effects.IntermediateSystem parts = record names { systems = na
 declared_by names effects.Port parts =
     record names { systems = changed names.systems parts.system (λ system. record system { ports = system.ports ++ new_port parts ∷ [] }) }
 declared_by names effects.Route parts =
-    record names { systems = changed names.systems parts.system (λ system. record system { routes = system.routes ++ parts.prefix ∷ [] }) }
+    record names { systems = changed names.systems parts.system (λ system. record system { routes = system.routes ++ given_prefix parts ∷ [] }) }
 declared_by names effects.Path parts = record names { paths = names.paths ++ parts.name ∷ [] }
 declared_by names effects.Selector parts =
     record names { systems = changed names.systems parts.system (λ system. record system { selectors = with system.selectors parts.selector }) }

@@ -1,6 +1,7 @@
 -- What the lines so far declare, and what the fields of a line give.
 use Rattle.std.specs.Prelude.{ℕ, ◌==◌, Bool, false, nat_eq, List, [], ◌∷◌, Option, Some, None, slice_get, slice_set, position}
 use Rattle.std.specs.List.{list_any}
+use Rattle.std.specs.Option.{unwrap_or}
 use Rattle.std.specs.BTreeSet.{insert_key}
 use Rattle.std.specs.Cmp.Lexicographic.{pointwise, slice_cmp}
 use Rattle.std.specs.Ordering.{nat_cmp}
@@ -65,9 +66,9 @@ no_parts = record {
   system = 0;
   other = 0;
   lan = 0;
-  title = 0 ∷ [];
-  station = 0 ∷ 0 ∷ 0 ∷ 0 ∷ 0 ∷ 0 ∷ [];
-  prefix = [];
+  title = None;
+  station = None;
+  prefix = None;
   kind = kinds.Partial;
   hops = [];
   selector = [];
@@ -76,6 +77,16 @@ no_parts = record {
   wish = record { cut = false; report = false; trace = false; path = 0 };
   octets = [];
 }
+
+-- the addresses that the fields gave; no line reads one that no field gave
+abbrev pub given_title : Parts → List ℕ
+given_title parts = unwrap_or parts.title (0 ∷ [])
+
+abbrev pub given_station : Parts → List ℕ
+given_station parts = unwrap_or parts.station (0 ∷ 0 ∷ 0 ∷ 0 ∷ 0 ∷ 0 ∷ [])
+
+abbrev pub given_prefix : Parts → List ℕ
+given_prefix parts = unwrap_or parts.prefix []
 
 -- the number of the first with this name
 abbrev pub system_at : List KnownSystem → List ℕ → Option ℕ

@@ -115,11 +115,11 @@ impl Names {
             Effect::Port => {
                 let port = Port {
                     lan: parts.lan,
-                    snpa: parts.station,
+                    snpa: parts.given_station(),
                 };
                 add_port(&mut self.systems, parts.system, port)?;
             }
-            Effect::Route => add_route(&mut self.systems, parts.system, parts.prefix)?,
+            Effect::Route => add_route(&mut self.systems, parts.system, parts.given_prefix())?,
             Effect::Path => self.paths.push(copied(self.alloc, &parts.name)?)?,
             Effect::Selector => {
                 let selector = parts.selector.as_slice().to_vec(self.alloc)?;
@@ -183,7 +183,7 @@ fn system_row(alloc: Global, is_end: bool, parts: &Parts) -> Result<SystemRow, N
     ensures { IfOk result (λ row. row ≡ new_system is_end parts.now) }
 {
     let name = copied(alloc, &parts.name)?;
-    Ok(SystemRow::new(alloc, name, is_end, parts.title))
+    Ok(SystemRow::new(alloc, name, is_end, parts.given_title()))
 }
 
 fn add_port(systems: &mut [SystemRow], number: u8, port: Port) -> Result<(), NoMemory>

@@ -1,11 +1,11 @@
 //! Why a line is refused.
 
-ghost use Rattle.std.specs.Prelude.{◌≡◌, Result};
+ghost use Rattle.std.specs.Prelude.{◌≡◌, Result, Some};
 ghost use Rattle.osi_script.specs.Causes.{cause_text};
-ghost use Rattle.osi_script.specs.Gives.{Gives, Found};
+ghost use Rattle.osi_script.specs.Gives.{Gives, Found, into};
 
 /// What is wrong with a line, in the order in which it is looked for.
-#[derive(Clone, Copy, Debug, PartialEq, Eq)]
+#[derive(Clone, Copy)]
 pub enum LineCause {
     /// More than 40,000 octets.
     Long,
@@ -53,7 +53,7 @@ impl LineCause {
 }
 
 /// The first fault of a line, with its column from 1.
-#[derive(Clone, Copy, Debug, PartialEq, Eq)]
+#[derive(Clone, Copy)]
 pub struct LineFault {
     /// What is wrong.
     pub cause: LineCause,
@@ -62,7 +62,7 @@ pub struct LineFault {
 }
 
 /// Why no line was read.
-#[derive(Clone, Copy, Debug, PartialEq, Eq)]
+#[derive(Clone, Copy)]
 pub enum LineRefusal {
     /// The line is refused.
     Fault(LineFault),
@@ -71,7 +71,7 @@ pub enum LineRefusal {
 }
 
 /// Why no field was read.
-#[derive(Clone, Copy, Debug)]
+#[derive(Clone, Copy)]
 pub enum FieldRefusal {
     /// The field is refused.
     Cause(LineCause),
@@ -86,6 +86,22 @@ pub fn put<T: Drop>(slot: &mut T, read: Result<T, LineCause>) -> Result<(), Fiel
     match read {
         Ok(value) => {
             *slot = value;
+            Ok(())
+        }
+        Err(cause) => Err(FieldRefusal::Cause(cause)),
+    }
+}
+
+/// Puts what was read into its place, which may be empty.
+pub fn put_some<T: Drop>(
+    slot: &mut Option<T>,
+    read: Result<T, LineCause>,
+) -> Result<(), FieldRefusal>
+    ensures { Gives (into read (λ value. Some value)) result slot.new }
+{
+    match read {
+        Ok(value) => {
+            *slot = Some(value);
             Ok(())
         }
         Err(cause) => Err(FieldRefusal::Cause(cause)),

@@ -185,20 +185,20 @@ fn line_for(number: u8, word: Word, parts: Parts) -> Line
         },
         Word::Es => Line::Es {
             name: number,
-            title: parts.title,
+            title: parts.given_title(),
         },
         Word::Is => Line::Is {
             name: number,
-            title: parts.title,
+            title: parts.given_title(),
         },
         Word::Port => Line::Port {
             system: parts.system,
             lan: parts.lan,
-            snpa: parts.station,
+            snpa: parts.given_station(),
         },
         Word::Route => Line::Route {
             system: parts.system,
-            prefix: parts.prefix,
+            prefix: parts.given_prefix(),
             next: parts.other,
             lan: parts.lan,
         },

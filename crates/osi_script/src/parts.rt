@@ -1,7 +1,7 @@
 //! What the fields of a line gave.
 
 ghost use Rattle.std.specs.Prelude.{◌≡◌, ◌∷◌, []};
-ghost use Rattle.osi_script.specs.Known.{no_parts};
+ghost use Rattle.osi_script.specs.Known.{no_parts, given_title, given_station, given_prefix};
 
 use crate::line::{Options, PathKind};
 use crate::settings::Key;
@@ -21,9 +21,9 @@ pub struct Parts {
     pub system: u8,
     pub other: u8,
     pub lan: u8,
-    pub title: Nsap,
-    pub station: Snpa,
-    pub prefix: Prefix,
+    pub title: Option<Nsap>,
+    pub station: Option<Snpa>,
+    pub prefix: Option<Prefix>,
     pub kind: PathKind,
     pub hops: Items<u8>,
     pub selector: Bytes,
@@ -47,9 +47,9 @@ impl Parts {
             system: 0,
             other: 0,
             lan: 0,
-            title: no_title(),
-            station: Snpa::of([0; 6]),
-            prefix: no_prefix(),
+            title: None,
+            station: None,
+            prefix: None,
             kind: PathKind::Partial,
             hops: Items::of(Vec::new(alloc)),
             selector: Bytes::of(Vec::new(alloc)),
@@ -67,6 +67,36 @@ impl Parts {
                 path: 0,
             },
             octets: Bytes::of(Vec::new(alloc)),
+        }
+    }
+
+    /// The title that a field gave.
+    pub fn given_title(&self) -> Nsap
+        ensures { result ≡ given_title self.now }
+    {
+        match self.title {
+            Some(title) => title,
+            None => no_title(),
+        }
+    }
+
+    /// The SNPA that a field gave.
+    pub fn given_station(&self) -> Snpa
+        ensures { result ≡ given_station self.now }
+    {
+        match self.station {
+            Some(station) => station,
+            None => Snpa::of([0; 6]),
+        }
+    }
+
+    /// The prefix that a field gave.
+    pub fn given_prefix(&self) -> Prefix
+        ensures { result ≡ given_prefix self.now }
+    {
+        match self.prefix {
+            Some(prefix) => prefix,
+            None => no_prefix(),
         }
     }
 }

@@ -2,7 +2,7 @@
 
 ghost use Rattle.std.specs.Prelude.{◌≡◌};
 
-use crate::fault::{FieldRefusal, LineCause, put, put_found};
+use crate::fault::{FieldRefusal, LineCause, put, put_found, put_some};
 use crate::field;
 use crate::fields::{Listed, are_many, are_names};
 use crate::form::{Form, Named, Plain};
@@ -268,7 +268,7 @@ impl Names {
     }
 
     /// What a field gives, after the parts that the fields before it gave.
-    #[tactic(auto, using(crate::proofs::Readings::gives_into))]
+    #[tactic(auto, using(crate::proofs::Readings::gives_into, crate::proofs::Readings::gives_some))]
     pub fn read_field(&self, form: Form, field: &str, parts: &mut Parts) -> Result<(), FieldRefusal>
         ensures { Gives (field_read self.now parts.old form field.now) result parts.new }
     {
@@ -281,9 +281,9 @@ impl Names {
                 self.new_name(self.system_at(field), field),
             ),
             Form::NewPath => put_found(&mut parts.name, self.new_name(self.path_at(field), field)),
-            Form::Title => put(&mut parts.title, self.new_title(field)),
-            Form::Station => put(&mut parts.station, self.new_station(field)),
-            Form::Prefix => put(&mut parts.prefix, self.new_prefix(parts.system, field)),
+            Form::Title => put_some(&mut parts.title, self.new_title(field)),
+            Form::Station => put_some(&mut parts.station, self.new_station(field)),
+            Form::Prefix => put_some(&mut parts.prefix, self.new_prefix(parts.system, field)),
             Form::Hops => put_found(&mut parts.hops, self.hops_of(field)),
             Form::NewSelector => put_found(
                 &mut parts.selector,

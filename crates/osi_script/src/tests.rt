@@ -2,7 +2,9 @@
 
 mod rows;
 
-use self::rows::{AFTER_START, BEFORE_START, BUILT, FAULTS, FULL, LATE, LIFE, LINES, ROUTES};
+use self::rows::{
+    AFTER_START, BEFORE_START, BUILT, FAULTS, FULL, LATE, LIFE, LINES, ROUTES, SHORT_LIFE,
+};
 use crate::{Built, Line, LineRefusal, Names, Options, WHOLE, Word};
 use osi_base::Wish;
 use std::alloc::Global;
@@ -158,7 +160,7 @@ fn check(rt: &impl Abort, alloc: Global, names: &mut Names, rows: &str) -> Resul
 
 #[test]
 fn a_line_has_its_answer(rt: HostRuntime) -> Result<(), Fail> {
-    for rows in [LINES, FULL, LIFE, LATE] {
+    for rows in [LINES, FULL, LIFE, SHORT_LIFE, LATE] {
         let mut names = Names::new(rt.alloc(), WHOLE);
         check(&rt, rt.alloc(), &mut names, rows)?;
     }

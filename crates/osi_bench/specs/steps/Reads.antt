@@ -25,7 +25,7 @@ use Rattle.osi_script.specs.declared.line.Line.TheVariants as lines
 use Rattle.osi_script.specs.declared.parts.Parts.{Parts}
 use Rattle.osi_script.specs.Field.{fields_of, title_of, as_title, is_word}
 use Rattle.osi_script.specs.Gives.{into, then_read}
-use Rattle.osi_script.specs.Known.{Declared, KnownSystem, Lines, no_parts, system_at, changed, with_changed}
+use Rattle.osi_script.specs.Known.{Declared, KnownSystem, Lines, no_parts, given_title, system_at, changed, with_changed}
 use Rattle.osi_script.specs.Names.{NamesDeclared}
 use Rattle.osi_script.specs.Reading.{passing, new_name, new_title}
 use Rattle.osi_script.specs.Table.{row_of, word_of}
@@ -200,22 +200,22 @@ new_title_fits names field octets is = fresh_title names field octets (title_of 
 abbrev ok_parts : Parts → Result Parts LineFault
 ok_parts parts = Ok parts
 
-same_title : (first second : Parts) → ok_parts first ≡ ok_parts second → first.title ≡ second.title
-same_title first second is = let same : first ≡ second = cc in ap (λ (p : Parts). p.title) same
+same_title : (first second : Parts) → ok_parts first ≡ ok_parts second → given_title first ≡ given_title second
+same_title first second is = let same : first ≡ second = cc in ap given_title same
 
 titled : (names : Declared) (column : ℕ) (field : List ℕ) (old parts : Parts) (read : Result (List ℕ) LineCause) → new_title names field ≡ read
-    → at_column column (into read (λ title. record old { title = title })) (λ more. Ok more) ≡ Ok parts → IsAddress (raw_address parts.title)
+    → at_column column (into read (λ title. record old { title = Some title })) (λ more. Ok more) ≡ Ok parts → IsAddress (raw_address (given_title parts))
 titled names column field old parts (Err cause) is i = absurd (cc)
 titled names column field old parts (Ok title) is i =
-    subst (λ (t : List ℕ). IsAddress (raw_address t)) (same_title (record old { title = title }) parts i) (new_title_fits names field title is)
+    subst (λ (t : List ℕ). IsAddress (raw_address t)) (same_title (record old { title = Some title }) parts i) (new_title_fits names field title is)
 
 named : (names : Declared) (column : ℕ) (first second : List ℕ) (parts : Parts) (read : Result (List ℕ) LineCause)
-    → at_column column (into read (λ name. record no_parts { name = name })) (λ more. fields_read names more (next_column column first) (forms.Title ∷ []) (second ∷ [])) ≡ Ok parts → IsAddress (raw_address parts.title)
+    → at_column column (into read (λ name. record no_parts { name = name })) (λ more. fields_read names more (next_column column first) (forms.Title ∷ []) (second ∷ [])) ≡ Ok parts → IsAddress (raw_address (given_title parts))
 named names column first second parts (Err cause) i = absurd (cc)
 named names column first second parts (Ok name) i = titled names (next_column column first) second (record no_parts { name = name }) parts (new_title names second) refl i
 
 es_title : (names : Declared) (past column : ℕ) (fields : List (List ℕ)) (parts : Parts) → count_fault past column (row_of words.Es).fields fields ≡ None
-    → fields_read names no_parts column (row_of words.Es).fields fields ≡ Ok parts → IsAddress (raw_address parts.title)
+    → fields_read names no_parts column (row_of words.Es).fields fields ≡ Ok parts → IsAddress (raw_address (given_title parts))
 es_title names past column [] parts count i = absurd (cc)
 es_title names past column (first ∷ []) parts count i = absurd (cc)
 es_title names past column (first ∷ second ∷ []) parts count i = named names column first second parts (new_name (system_at names.systems first) first) i

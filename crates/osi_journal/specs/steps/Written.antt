@@ -5,8 +5,6 @@ use Rattle.hex.specs.Hex.{encode_lower}
 use Rattle.osi_base.specs.declared.refusal.NoMemory.{NoMemory}
 use Rattle.osi_script.specs.Known.{Declared}
 use Rattle.osi_script.specs.Tags.{Tags, name_at, tags_of}
-use Rattle.osi_journal.specs.declared.event.Event.{Event}
-use Rattle.osi_journal.specs.declared.event.Event.TheVariants as events
 use Rattle.osi_journal.specs.declared.pieces.Piece.{Piece}
 use Rattle.osi_journal.specs.declared.pieces.Piece.TheVariants as pieces
 use Rattle.osi_journal.specs.Told.{Cell, cell_text, line, octets_text}
@@ -30,30 +28,3 @@ tail (field ∷ fields) = 32 ∷ (field ++ tail fields)
 -- the line of the cells is appended
 abbrev pub Appends : Declared → List Cell → List ℕ → List ℕ → Result Unit NoMemory → Type 0
 Appends names cells old new result = OnOk result (new ≡ old ++ line (map (cell_text (tags_of names)) cells))
-
--- the events whose lines are written together
-abbrev pub IsSent : Event → Type 0
-IsSent (events.Sent system to octets) = Unit {0}
-IsSent (events.Unit system from octets) = Unit {0}
-IsSent (events.Frame number lan system snpa length) = Unit {0}
-IsSent event = ⊥
-
-abbrev pub IsOfEnd : Event → Type 0
-IsOfEnd (events.Connect end system reference calling calling_selector called called_selector octets) = Unit {0}
-IsOfEnd (events.Incoming end system reference calling partner calling_selector called called_selector options octets) = Unit {0}
-IsOfEnd (events.Accept end options octets) = Unit {0}
-IsOfEnd (events.Confirm end options octets) = Unit {0}
-IsOfEnd (events.Gone end cause octets) = Unit {0}
-IsOfEnd (events.Window end credit) = Unit {0}
-IsOfEnd (events.Held end expedited number) = Unit {0}
-IsOfEnd event = ⊥
-
-abbrev pub IsOfNetwork : Event → Type 0
-IsOfNetwork (events.DropFrame system) = Unit {0}
-IsOfNetwork (events.InjectNotThere system) = Unit {0}
-IsOfNetwork (events.Discard system reason place) = Unit {0}
-IsOfNetwork (events.Report system reason place) = Unit {0}
-IsOfNetwork (events.Hello system kind snpa) = Unit {0}
-IsOfNetwork (events.Redirect system address snpa) = Unit {0}
-IsOfNetwork (events.BadTpdu system cause place) = Unit {0}
-IsOfNetwork event = ⊥

@@ -1,7 +1,7 @@
 //! Lines, each with what it says, or with the column and the cause of its first fault. Columns were counted by hand.
 
-/// Each line word in its least form and in its fullest. Systems a, c47 and r have the numbers 0, 1 and 2, LANs x and
-/// lanABC12 0 and 1.
+/// Each line word in its least form and in its fullest. Systems a, c47, r and router12 have the numbers 0 to 3,
+/// LANs x and lanABC12 0 and 1.
 pub const LINES: &str = " | nothing [0, 0, 0, 0, 0, 0]
 # lan x 1 264 | nothing [0, 0, 0, 0, 0, 0]
 set ct 0 | set [7, 0, 0, 0, 0, 0]
@@ -18,7 +18,9 @@ lan x 1 264 | lan [0, 1, 264, 0, 0, 0]
 lan lanABC12 16 1497 | lan [1, 16, 1497, 0, 0, 0]
 es a 4900 | es [0, 0, 0, 0, 0, 0] 4900
 es c47 490102030405060708090A0B0C0D0E0F10111200 | es [1, 0, 0, 0, 0, 0] 490102030405060708090a0b0c0d0e0f10111200
+is r 4900 | 6 repeat
 is r 49ff00 | is [2, 0, 0, 0, 0, 0] 49ff00
+is router12 ff0102030405060708090a0b0c0d0e0f10111200 | is [3, 0, 0, 0, 0, 0] ff0102030405060708090a0b0c0d0e0f10111200
 port a x 02000000000a | port [0, 0, 0, 0, 0, 0] 02000000000a
 port c47 lanABC12 02000000000B | port [1, 1, 0, 0, 0, 0] 02000000000b
 port r lanABC12 02000000000c | port [2, 1, 0, 0, 0, 0] 02000000000c
@@ -34,22 +36,22 @@ connect c47 00 a FF extended 8192 exp sum 0aFF | connect [1, 0, 1, 8192, 1, 1] 0
 accept 0 normal 256 exp nosum - | accept [0, 0, 0, 256, 1, 0]
 accept 999999999 extended 2048 noexp sum 01 | accept [999999999, 0, 1, 2048, 0, 1] 01
 refuse 0 - | refuse [0, 0, 0, 0, 0, 0]
-refuse 12 0102 | refuse [12, 0, 0, 0, 0, 0] 0102
+refuse 999999999 0102 | refuse [999999999, 0, 0, 0, 0, 0] 0102
 disconnect 0 - | disconnect [0, 0, 0, 0, 0, 0]
-disconnect 13 03 | disconnect [13, 0, 0, 0, 0, 0] 03
+disconnect 999999999 03 | disconnect [999999999, 0, 0, 0, 0, 0] 03
 data 0 - | data [0, 0, 0, 0, 0, 0]
-data 14 04 | data [14, 0, 0, 0, 0, 0] 04
+data 999999999 04 | data [999999999, 0, 0, 0, 0, 0] 04
 expedite 0 - | expedite [0, 0, 0, 0, 0, 0]
-expedite 15 05 | expedite [15, 0, 0, 0, 0, 0] 05
+expedite 999999999 05 | expedite [999999999, 0, 0, 0, 0, 0] 05
 window 0 0 | window [0, 0, 0, 0, 0, 0]
-window 1 255 | window [1, 255, 0, 0, 0, 0]
+window 999999999 255 | window [999999999, 255, 0, 0, 0, 0]
 unit a c47 - - - | unit [0, 1, 0, 0, 0, 0]
 unit c47 a ser q 00ff | unit [1, 0, 1, 1, 1, 2] 00ff
 unit a a sr p 01 | unit [0, 0, 1, 0, 1, 1] 01
 tick | tick [0, 0, 0, 0, 0, 0]
 settle | settle [0, 0, 0, 0, 0, 0]
 deliver 0 a | deliver [0, 0, 0, 0, 0, 0]
-deliver 7 r | deliver [7, 2, 0, 0, 0, 0]
+deliver 999999999 router12 | deliver [999999999, 3, 0, 0, 0, 0]
 inject x c47 - | inject [0, 1, 0, 0, 0, 0]
 inject lanABC12 r 81 | inject [1, 2, 0, 0, 0, 0] 81";
 
@@ -122,7 +124,7 @@ port b x 0200000000 | 10 range
 route a 490000000000000000000000000000000000000000 r x | 9 range
 path q partial r,r,r,r,z | 16 range
 tsap b - | 8 range
-port c x 02000000000c | 6 unknown
+port c x 02000000000a | 6 unknown
 port a z 02000000000a | 8 unknown
 route b 49 a x | 14 unknown
 route a 49 c x | 12 unknown
@@ -235,11 +237,19 @@ port r l8 020000000908 | 1 many
 path p15 complete r | 6 repeat
 path p16 complete r | 1 many";
 
-/// A lifetime below the bound of a LAN.
+/// A lifetime below the bound of a LAN, the first or a later one.
 pub const LIFE: &str = "set life 2
-lan x 3 264
+lan x 2 264
+lan y 3 264
 start | 1 life
-start 1 | 7 fields";
+start 1 | 7 fields
+lan z 16 264
+start | 1 life";
+
+/// The least lifetime, below the bound of the only LAN.
+pub const SHORT_LIFE: &str = "set life 1
+lan x 2 1497
+start | 1 life";
 
 /// A lifetime at the bound of a LAN.
 pub const LATE: &str = "set life 3
