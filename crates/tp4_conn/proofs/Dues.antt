@@ -1,15 +1,19 @@
 -- By cases on the state: before the due tick each test of the tick's row fails; after the row each tick kept is now, or
 -- was found to be later.
-use Rattle.std.proofs.Common.{◌≡◌, ◌≢◌, ◌≤◌, ◌<◌, ℕ, ◌+◌, ◌*◌, ◌∙◌, min, Bool, true, false, nat_lt, nat_le, List, [], ◌∷◌, ◌++◌, length, Option, Some, None, refl, ap, arith, if◌then◌else◌}
+use Rattle.std.proofs.Common.{◌≡◌, ◌≢◌, ◌≤◌, ◌<◌, ℕ, ◌+◌, ◌*◌, ◌∙◌, min, Bool, true, false, nat_lt, nat_le, List, [], ◌∷◌, ◌++◌, length, Option, Some, None, refl, sym, subst, ap, arith, inl, inr, if◌then◌else◌}
 use Rattle.std.proofs.Math.Nat.{mul-le-mul_right}
-use Rattle.std.proofs.lemmas.Bool.{ltb-true, ltb-false, leb-false, lt-leb, lt-ltb}
+use Rattle.std.proofs.lemmas.Bool.{cases_lt, ltb-true, ltb-false, leb-false, lt-leb, lt-ltb}
 use Rattle.std.proofs.lemmas.Option.{none-some, same_Some}
 use Rattle.tp4_flow.specs.declared.rules.Life.{Life as Ends}
 use Rattle.tp4_flow.specs.declared.rules.Life.TheVariants.{Goes, Exhausted}
+use Rattle.tp4_flow.specs.declared.rules.Options.{Options}
 use Rattle.tp4_flow.specs.declared.step.EndEvent.{EndEvent}
 use Rattle.tp4_flow.specs.declared.step.Sent.{Sent}
 use Rattle.tp4_sending.specs.FlowSender.{FlowSender, Sendings, at, nothing, life_of, ticked, due_of}
 use Rattle.tp4_sending.specs.Pieces.{again, sooner}
+use Rattle.tp4_sending.specs.Settled.{IsSettled, IsDue}
+use Rattle.tp4_sending.proofs.Dues.{before_due, least}
+use Rattle.tp4_sending.proofs.Laters.{tick_later}
 use Rattle.tp4_conn.specs.declared.base.Base.{Base}
 use Rattle.tp4_conn.specs.declared.stage.Answering.{Answering}
 use Rattle.tp4_conn.specs.declared.stage.Open.{Open}
@@ -19,14 +23,63 @@ use Rattle.tp4_conn.specs.declared.timers.Timers.{Timers}
 use Rattle.tp4_conn.specs.AkWait.{ak_wait_tick}
 use Rattle.tp4_conn.specs.Closing.{closing_tick}
 use Rattle.tp4_conn.specs.CrWait.{cr_wait_tick}
-use Rattle.tp4_conn.specs.Dues.{IsBefore, IsPunctual, ArePunctual, clocked}
+use Rattle.tp4_conn.specs.Dues.{IsBefore, clocked}
+use Rattle.tp4_conn.specs.Dues.{IsDue as TickDue}
 use Rattle.tp4_conn.specs.End.{Moved, IsTimed, stays, frozen, span, frozen_for}
 use Rattle.tp4_conn.specs.Frozen.{frozen_due}
 use Rattle.tp4_conn.specs.Opened.{opened_tick, opened_as, opened_goes, sending}
+use Rattle.tp4_conn.specs.Proper.{IsProper, IsProperStage}
 use Rattle.tp4_conn.specs.Table.{on_tick, due}
 use Rattle.tp4_conn.specs.UserWait.{user_wait_tick}
 use Rattle.tp4_conn.specs.WaitBeforeClose.{wait_before_close_tick}
 use Rattle.tp4_conn.proofs.Timely.{if_kept}
+
+-- the same of a sending half: before it is due its tick changes its clock alone, and when it is due more; where it goes on, it is due later
+record IsPunctual (s : FlowSender) (now : ℕ) : Type 0 where
+  goes : IsBefore (due_of s) now → life_of (at now s) ≡ Goes
+  before : IsBefore (due_of s) now → ticked (at now s) ≡ nothing (at now s)
+  there : due_of s ≡ Some now → life_of (at now s) ≡ Goes → ticked (at now s) ≢ nothing (at now s)
+  after : life_of (at now s) ≡ Goes → IsBefore (due_of (ticked (at now s)).sender) now
+
+abbrev ArePunctual : Stage → ℕ → Type 0
+ArePunctual (Opened o) now = IsPunctual o.halves.sending now
+ArePunctual stage now = Unit {0}
+
+before_is : (due : Option ℕ) (now : ℕ) → (IsDue due now → ⊥) → IsBefore due now
+before_is None now h = tt
+before_is (Some tick) now h = elim (cases_lt now tick) [ inl less ↦ less | inr more ↦ absurd (h more) ]
+
+not_before : (due : Option ℕ) (now : ℕ) → IsBefore due now → IsDue due now → ⊥
+not_before None now h k = k
+not_before (Some tick) now h k = absurd (omega (arith, h, k))
+
+-- a settled half is punctual
+punctual : (s : FlowSender) (now : ℕ) → s.is_open ≡ true → 1 ≤ s.rules.t1 → IsSettled s → IsPunctual s now
+punctual s now o some h = record {
+  goes = λ b. (before_due s now o h (not_before (due_of s) now b)).0;
+  before = λ b. (before_due s now o h (not_before (due_of s) now b)).1;
+  there = λ e life same. elim ((least s now o h).1 (subst (λ (d : Option ℕ). IsDue d now) (sym e) (omega arith))) [
+    | inl gone ↦ goes-exhausted (sym life ∙ gone)
+    | inr acts ↦ acts same
+  ];
+  after = λ life. before_is (due_of (ticked (at now s)).sender) now (tick_later (at now s) o some life);
+}
+  where
+    IsGoing : Ends → Type 0
+    IsGoing Goes = Unit {0}
+    IsGoing Exhausted = ⊥
+
+    goes-exhausted : Goes ≡ Exhausted → ⊥
+    goes-exhausted e = subst (λ (l : Ends). IsGoing l) e tt
+
+stage_punctual : (agreed : Option Options) (stage : Stage) (now : ℕ) → IsProperStage agreed stage → ArePunctual stage now
+stage_punctual agreed (Opened o) now p = punctual o.halves.sending now p.is_open p.halves.t1 p.settled
+stage_punctual agreed (CrWait w) now p = tt
+stage_punctual agreed (WaitBeforeClose w) now p = tt
+stage_punctual agreed (UserWait since) now p = tt
+stage_punctual agreed (AkWait w) now p = tt
+stage_punctual agreed (Closing c) now p = tt
+stage_punctual agreed (Frozen when) now p = tt
 
 if_true : {A : Type 0} (b : Bool) (x y : A) → b ≡ true → (if b then x else y) ≡ x
 if_true true x y h = refl
@@ -60,7 +113,7 @@ opened_before b o settled a =
     ∙ ap (λ (s : Sendings). opened_goes b o s) (settled.before a.third)
     ∙ if_false (nat_le (o.acked + b.timers.window) b.clock) _ _ (lt-leb _ _ a.second)
 
-pub tick_before : (b : Base) (stage : Stage) → ArePunctual stage b.clock → IsBefore (due b stage) b.clock → on_tick b stage ≡ stays b (clocked b.clock stage)
+tick_before : (b : Base) (stage : Stage) → ArePunctual stage b.clock → IsBefore (due b stage) b.clock → on_tick b stage ≡ stays b (clocked b.clock stage)
 unfolding cr_wait_tick wait_before_close_tick user_wait_tick ak_wait_tick closing_tick
 tick_before b (CrWait w) s h = if_true (nat_lt b.clock (w.tries.last + b.timers.t1)) _ _ (lt-ltb _ _ h)
 tick_before b (WaitBeforeClose w) s h = if_true (nat_lt b.clock (w.request.tries.last + b.timers.t1)) _ _ (lt-ltb _ _ h)
@@ -95,7 +148,7 @@ opened_life Goes b o timed low settled =
     (λ _. before_all _ (b.clock + b.timers.window) (due_of (ticked (at b.clock o.halves.sending)).sender) _ low (omega (arith, timed.window_least)) (settled refl))
     (λ f. before_all _ (o.acked + b.timers.window) (due_of (ticked (at b.clock o.halves.sending)).sender) _ low (leb-false _ _ f) (settled refl))
 
-pub tick_after : (b : Base) (stage : Stage) → IsTimed b.timers → ArePunctual stage b.clock → Later b.clock (on_tick b stage)
+tick_after : (b : Base) (stage : Stage) → IsTimed b.timers → ArePunctual stage b.clock → Later b.clock (on_tick b stage)
 unfolding cr_wait_tick wait_before_close_tick user_wait_tick ak_wait_tick opened_tick closing_tick
 tick_after b (CrWait w) timed s =
     if_kept (Later b.clock) (nat_lt b.clock (w.tries.last + b.timers.t1)) _ _
@@ -186,7 +239,7 @@ frozen_past b when =
     (λ _ e. none-some _ e)
     (λ f e. let low : b.clock ≤ when + frozen_for b.timers = ltb-false _ _ f in let is : when + frozen_for b.timers + 1 ≡ b.clock = same_Some _ _ e in absurd (omega arith))
 
-pub tick_there : (b : Base) (stage : Stage) → ArePunctual stage b.clock → due b stage ≡ Some b.clock → Moves b (clocked b.clock stage) (on_tick b stage)
+tick_there : (b : Base) (stage : Stage) → ArePunctual stage b.clock → due b stage ≡ Some b.clock → Moves b (clocked b.clock stage) (on_tick b stage)
 unfolding cr_wait_tick wait_before_close_tick user_wait_tick ak_wait_tick opened_tick closing_tick is_frozen
 tick_there b (CrWait w) s e =
     let now : w.tries.last + b.timers.t1 ≡ b.clock = same_Some _ _ e in
@@ -221,3 +274,8 @@ tick_there b (Closing c) s e =
     (λ t. let soon : b.clock < c.last + b.timers.t1 = ltb-true _ _ t in absurd (omega arith))
     (λ _. sends_some b _ _ _ _ []))
 tick_there b (Frozen when) s e = absurd (frozen_past b when e)
+
+pub proper_due : (b : Base) (stage : Stage) → IsProper b stage → TickDue b stage
+proper_due b stage p =
+    let s = stage_punctual b.agreed stage b.clock p.state in
+    record { before = tick_before b stage s; there = tick_there b stage s; after = tick_after b stage p.timers s }

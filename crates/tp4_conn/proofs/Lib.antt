@@ -1,6 +1,10 @@
 pub mod Credits
 pub mod Dues
 pub mod Lives
+pub mod Makings
 pub mod Openings
+pub mod Propers
+pub mod Sendables
+pub mod Sizes
 pub mod Timely
 pub mod Wires

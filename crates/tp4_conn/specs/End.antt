@@ -1,5 +1,7 @@
 -- One end of a connection, and what a row of its state table does (X.224, class 4 state tables).
-use Rattle.std.specs.Prelude.{◌≡◌, ◌≤◌, ℕ, ◌+◌, ◌-◌, ◌*◌, Bool, true, ◌==◌, List, [], ◌∷◌, ◌++◌, Option, Some, None, if◌then◌else◌}
+use Rattle.std.specs.Prelude.{◌≡◌, ◌≤◌, ℕ, ◌+◌, ◌-◌, ◌*◌, Bool, true, ◌==◌, List, [], ◌∷◌, ◌++◌, Option, Some, None, IsSome, if◌then◌else◌}
+use Rattle.tpdu.specs.Parameters.{sizes}
+use Rattle.tpdu.specs.Writing.{code_in}
 use Rattle.tpdu.specs.declared.tpdu.Format.{Format}
 use Rattle.tpdu.specs.declared.tpdu.Format.TheVariants.{Normal}
 use Rattle.tpdu.specs.declared.tpdu.Tpdu.{Tpdu}
@@ -121,7 +123,6 @@ pub record IsTimed (t : Timers) : Type 0 where
   pub inactive : t.inactive ≤ 255
   pub credit : t.credit ≤ 15
 
--- the size of TPDUs is in its range
-pub record IsSize (size : ℕ) : Type 0 where
-  pub least : 128 ≤ size
-  pub most : size ≤ 8192
+-- the most octets of a TPDU are one of the sizes that have a code: 128, 256, 512, 1024, 2048, 4096, 8192
+unfoldable pub IsSize : ℕ → Type 0
+IsSize size = IsSome (code_in sizes size)

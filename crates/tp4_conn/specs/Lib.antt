@@ -10,6 +10,7 @@ pub mod Living
 pub mod Making
 pub mod Matching
 pub mod Opened
+pub mod Proper
 pub mod Table
 pub mod UserWait
 pub mod WaitBeforeClose

@@ -83,6 +83,7 @@ impl Connection {
     }
 
     /// An end that a CR calls: the connect indication.
+    #[tactic(auto, using(crate::proofs::Sizes::size_known))]
     pub fn incoming(
         alloc: Global,
         now: Tick,

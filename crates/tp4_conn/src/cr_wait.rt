@@ -28,7 +28,7 @@ fn is_within(proposed: Options, options: Options) -> bool
 }
 
 /// A TPDU came.
-#[tactic(auto, unfolding(crate::specs::CrWait::cr_wait_tpdu))]
+#[tactic(auto, using(crate::proofs::Sizes::size_known), unfolding(crate::specs::CrWait::cr_wait_tpdu))]
 pub(crate) fn on_tpdu(
     alloc: Global,
     base: &mut Base,

@@ -21,7 +21,7 @@ pub struct Halves {
 
 impl Base {
     /// The halves of an end that has agreed.
-    #[tactic(auto, using(crate::proofs::Credits::granted_low))]
+    #[tactic(auto, using(crate::proofs::Credits::granted_low, crate::proofs::Sizes::size_least, crate::proofs::Sizes::size_most))]
     pub(crate) fn halves(&self, alloc: Global, options: Options) -> Result<Halves, NoMemory>
         requires timers { IsTimed self.now.timers }
         requires size { IsSize options.size }
@@ -36,6 +36,7 @@ impl Base {
     }
 
     /// How the halves work.
+    #[tactic(auto, using(crate::proofs::Sizes::size_least, crate::proofs::Sizes::size_most))]
     fn rules(&self, options: Options) -> FlowRules
         requires timers { IsTimed self.now.timers }
         requires size { IsSize options.size }

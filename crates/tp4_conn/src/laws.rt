@@ -1,6 +1,9 @@
 //! Laws of one end (X.224, class 4 state tables; frozen references).
 
-ghost use Rattle.std.specs.Prelude.{◌≡◌, ◌≤◌, ◌+◌, ℕ, List, []};
+ghost use Rattle.std.specs.Prelude.{◌≡◌, ◌≤◌, ◌+◌, ℕ, List, [], Some};
+ghost use Rattle.tpdu.specs.declared.tpdu.Format.TheVariants.{Normal};
+ghost use Rattle.tpdu.specs.declared.tpdu.Tpdu.{Tpdu};
+ghost use Rattle.tpdu.specs.Writing.{IsAllowed};
 ghost use Rattle.tp4_flow.specs.declared.step.EndEvent.{EndEvent};
 ghost use Rattle.tp4_flow.specs.declared.step.Sent.{Sent};
 ghost use Rattle.tp4_number.specs.Number.{whole, wire};
@@ -8,11 +11,13 @@ ghost use Rattle.tp4_conn.specs.declared.base.Base.{Base};
 ghost use Rattle.tp4_conn.specs.declared.call.ConnectCall.{ConnectCall};
 ghost use Rattle.tp4_conn.specs.declared.stage.Stage.{Stage};
 ghost use Rattle.tp4_conn.specs.declared.stage.Stage.TheVariants.{Frozen};
-ghost use Rattle.tp4_conn.specs.Dues.{ArePunctual, IsDue};
-ghost use Rattle.tp4_conn.specs.End.{End, IsTimed, end_of, span};
+ghost use Rattle.tp4_conn.specs.declared.timers.Timers.{Timers};
+ghost use Rattle.tp4_conn.specs.Dues.{IsDue};
+ghost use Rattle.tp4_conn.specs.End.{End, IsTimed, Moved, end_of, span};
 ghost use Rattle.tp4_conn.specs.Living.{Life, Leads, IsOverBy, sent_by};
-ghost use Rattle.tp4_conn.specs.Making.{connected, indicated};
-ghost use Rattle.tp4_conn.specs.Table.{Event, EndStep};
+ghost use Rattle.tp4_conn.specs.Making.{connected, indicated, on_cr};
+ghost use Rattle.tp4_conn.specs.Proper.{AreProper, AreSendable, IsProper, IsProperCall, IsProperEvent, IsProperRow};
+ghost use Rattle.tp4_conn.specs.Table.{Event, EndStep, stepped};
 ghost use Rattle.tp4_conn.specs.Wire.{end_on_wire};
 ghost use Rattle.tp4_conn.specs.Worked.{Refused, Unanswered, Beyond, Waited, Late_user, Parted, Answered, Reduced, Expedited_first, Quiet, Wide, Dropped};
 
@@ -32,7 +37,19 @@ pub fn over_lives()
 
 /// Before its due tick a tick changes the clock alone, and at it more; after a tick an end is due later, or no more.
 pub fn over_dues()
-    ensures { (base : Base) (stage : Stage) → IsTimed base.timers → ArePunctual stage base.clock → IsDue base stage }
+    ensures { (base : Base) (stage : Stage) → IsProper base stage → IsDue base stage }
+{}
+
+/// An end that a proper call or a CR made is proper, and stays so through each proper event; and each TPDU that it sends
+/// has octets in its format.
+pub fn over_sendings()
+    ensures calling { (made : ℕ) (call : ConnectCall) → IsProperCall call → IsProperRow (connected made call) }
+    ensures called { (made own : ℕ) (from : List ℕ) (rules : Timers) (cr : Tpdu) (m : Moved) → IsTimed rules → IsAllowed Normal cr
+        → on_cr made own from rules cr ≡ Some m → IsProperRow m }
+    ensures step { (wrap : ℕ → ℕ → ℕ) (now : ℕ) (old : End) (event : Event) → IsProper old.base old.stage → IsProperEvent old event
+        → IsProperRow (stepped wrap now old event) }
+    ensures events { (wrap : ℕ → ℕ → ℕ) (old : Life) (events : List (ℕ × Event)) (last : Life) → IsProper old.end.base old.end.stage
+        → AreProper wrap old events → Leads wrap old events last → IsProper last.end.base last.end.stage × AreSendable (sent_by wrap old events) }
 {}
 
 /// An end whose receiving half keeps wire numbers stands for every end with these wire numbers: it tells and sends what

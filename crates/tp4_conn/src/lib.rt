@@ -22,7 +22,10 @@ pub use base::Base;
 pub use call::{CallRefusal, ConnectCall, UserCall};
 pub use connection::Connection;
 pub use halves::Halves;
-pub use laws::{over_dues, over_lives, over_wires, worked_rows};
+pub use laws::{over_dues, over_lives, over_sendings, over_wires, worked_rows};
 pub use stage::{Answering, Open, Parting, Releasing, Requesting, Stage, State};
 pub use timers::Timers;
 pub use tp4_flow::Options;
+
+#[cfg(test)]
+mod tests;

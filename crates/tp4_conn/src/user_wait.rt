@@ -32,7 +32,7 @@ fn agreed_by(proposed: Options, asked: Options) -> Options
 }
 
 /// The user accepts.
-#[tactic(auto, unfolding(crate::specs::UserWait::user_wait_accept))]
+#[tactic(auto, using(crate::proofs::Sizes::size_lesser), unfolding(crate::specs::UserWait::user_wait_accept))]
 pub(crate) fn accept(
     alloc: Global,
     base: &mut Base,

@@ -16,17 +16,17 @@ use Rattle.tp4_sending.proofs.Goings.{stop}
 use Rattle.tp4_sending.proofs.Weights.{weight, by_tests, resends_more, urgent_more, one_urgent_more, where_more, where_goes}
 
 -- the earlier of two is due exactly where one of them is
-either_due : (a b : Option ℕ) (now : ℕ) → IsDue (sooner a b) now → IsDue a now ⊎ IsDue b now
+pub either_due : (a b : Option ℕ) (now : ℕ) → IsDue (sooner a b) now → IsDue a now ⊎ IsDue b now
 either_due None b now h = inr h
 either_due (Some n) None now h = inl h
 either_due (Some n) (Some m) now h = elim (cases_lt m n) [ inl less ↦ inr (omega (arith, h, less)) | inr more ↦ inl (omega (arith, h, more)) ]
 
-first_due : (a b : Option ℕ) (now : ℕ) → IsDue a now → IsDue (sooner a b) now
+pub first_due : (a b : Option ℕ) (now : ℕ) → IsDue a now → IsDue (sooner a b) now
 first_due None b now h = absurd h
 first_due (Some n) None now h = h
 first_due (Some n) (Some m) now h = omega (arith, h)
 
-second_due : (a b : Option ℕ) (now : ℕ) → IsDue b now → IsDue (sooner a b) now
+pub second_due : (a b : Option ℕ) (now : ℕ) → IsDue b now → IsDue (sooner a b) now
 second_due None b now h = h
 second_due (Some n) None now h = absurd h
 second_due (Some n) (Some m) now h = omega (arith, h)
@@ -130,10 +130,10 @@ then_nothing : (s : FlowSender) (x : Sendings) (next : FlowSender → Sendings) 
 then_nothing s x next e n =
     ap (λ (y : Sendings). then_sends y next) e ∙ ap (λ (y : Sendings). record { sender = y.sender; events = [] ++ y.events; tpdus = [] ++ y.tpdus }) n
 
-abbrev urgent_part : FlowSender → Option ℕ
+abbrev pub urgent_part : FlowSender → Option ℕ
 urgent_part s = sooner (urgent_last s s.urgent.out) (sooner (urgent_opens s) (normal_opens s))
 
-abbrev all_parts : FlowSender → Option ℕ
+abbrev pub all_parts : FlowSender → Option ℕ
 all_parts s = sooner (least_due s.rules.t1 s.window) (urgent_part s)
 
 -- nothing is due: the tick does nothing
@@ -210,7 +210,7 @@ stirs s o held h = elim (or_not (least_due s.rules.t1 s.window) s.clock) [
       | inr no_last ↦ after_urgent no_last (elim (either_due (urgent_last s s.urgent.out) (sooner (urgent_opens s) (normal_opens s)) s.clock k) [ inl l ↦ absurd (no_last l) | inr l ↦ l ])
     ]
 
-due_is : (s : FlowSender) → s.is_open ≡ true → due_of s ≡ all_parts s
+pub due_is : (s : FlowSender) → s.is_open ≡ true → due_of s ≡ all_parts s
 due_is s o = ap (λ (b : Bool). if b then all_parts s else None) o
 
 no_act : (s : FlowSender) → (life_of s ≡ Goes) × (ticked s ≡ nothing s) → Acts s → ⊥
@@ -238,3 +238,7 @@ least s now o h = (forth, back)
 
     back : IsDue (due_of s) now → Acts (at now s)
     back due = acts (at now s) o (later s now h) (subst (λ (d : Option ℕ). IsDue d now) (due_is s o) due) (life_of (at now s)) refl
+
+-- before it is due a tick goes on and does nothing
+pub before_due : (s : FlowSender) (now : ℕ) → s.is_open ≡ true → IsSettled s → (IsDue (due_of s) now → ⊥) → (life_of (at now s) ≡ Goes) × (ticked (at now s) ≡ nothing (at now s))
+before_due s now o h early = calm (at now s) o (later s now h) (λ due. early (subst (λ (d : Option ℕ). IsDue d now) (sym (due_is s o)) due))

@@ -5,6 +5,7 @@ pub mod Dues
 pub mod Frees
 pub mod Goings
 pub mod Joins
+pub mod Laters
 pub mod Leasts
 pub mod Queues
 pub mod Resendings

@@ -3,9 +3,10 @@
 
 ghost use Rattle.std.specs.Prelude.{◌≡◌, ◌↔◌, ◌<◌, ◌≤◌, ℕ, List, [], length, All, true, false};
 ghost use Rattle.std.specs.List.{sum_by};
+ghost use Rattle.tp4_flow.specs.declared.rules.Life.TheVariants.{Goes};
 ghost use Rattle.tp4_number.specs.Window.{joined};
 ghost use Rattle.tp4_sending.specs.Cutting.{cuts};
-ghost use Rattle.tp4_sending.specs.FlowSender.{FlowSender, at, opened, submitted, urged, acknowledged, urgent_done, ticked, due_of, rule_allows};
+ghost use Rattle.tp4_sending.specs.FlowSender.{FlowSender, at, nothing, life_of, opened, submitted, urged, acknowledged, urgent_done, ticked, due_of, rule_allows};
 ghost use Rattle.tp4_sending.specs.Kept.{IsSending, IsUpTo};
 ghost use Rattle.tp4_sending.specs.Pieces.{count_in};
 ghost use Rattle.tp4_sending.specs.Settled.{IsSettled, IsDue, Acts};
@@ -13,6 +14,13 @@ ghost use Rattle.tp4_sending.specs.Settled.{IsSettled, IsDue, Acts};
 /// A tick does more than move the clock on exactly from the one on that `next_due` tells.
 pub fn due_is_least()
     ensures { (s : FlowSender) (now : ℕ) → s.is_open ≡ true → IsSettled s → Acts (at now s) ↔ IsDue (due_of s) now }
+{}
+
+/// Before it is due a tick goes on and does nothing. After a tick that goes on a half is due later, or no more.
+pub fn waits_until_due()
+    ensures before { (s : FlowSender) (now : ℕ) → s.is_open ≡ true → IsSettled s → (IsDue (due_of s) now → ⊥)
+        → (life_of (at now s) ≡ Goes) × (ticked (at now s) ≡ nothing (at now s)) }
+    ensures after { (s : FlowSender) → s.is_open ≡ true → 0 < s.rules.t1 → life_of s ≡ Goes → IsDue (due_of (ticked s).sender) s.clock → ⊥ }
 {}
 
 /// An open half is settled after each of its calls.

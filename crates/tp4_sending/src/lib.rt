@@ -14,7 +14,9 @@ mod tpdus;
 mod tries;
 mod urgent;
 
-pub use laws::{due_is_least, held_numbers_rise, joins_what_was_cut, stays_settled};
+pub use laws::{
+    due_is_least, held_numbers_rise, joins_what_was_cut, stays_settled, waits_until_due,
+};
 pub use sending::Sending;
 pub use tries::Tries;
 

@@ -1,3 +1,4 @@
+pub mod Allowed
 pub mod Answer
 pub mod Checks
 pub mod FaultOrder

@@ -5,7 +5,7 @@ ghost use Rattle.pdu_parts.specs.Front.{OneValue};
 ghost use Rattle.tpdu.specs.Faults.{IsTpduFault};
 ghost use Rattle.tpdu.specs.Grammar.{IsTpdu, IsListedTpdu, BeginsWithTpdu, IsBundle};
 ghost use Rattle.tpdu.specs.Kinds.{has_number};
-ghost use Rattle.tpdu.specs.Values.{TpduAndSum, destination_of, reaches_end};
+ghost use Rattle.tpdu.specs.Values.{TpduAndSum, destination_of, format_for, reaches_end};
 ghost use Rattle.tpdu.specs.Writing.{kind_for, IsAllowed, IsWritten, header_count};
 ghost use Rattle.tpdu.specs.declared.fault.TpduFault.{TpduFault};
 ghost use Rattle.tpdu.specs.declared.tpdu.Format.{Format};
@@ -63,4 +63,11 @@ pub fn same_target()
 /// The header of what a format allows is never too long.
 pub fn allowed_fits()
     ensures { (format : Format) (sum : Bool) (tpdu : Tpdu) → IsAllowed format tpdu → header_count format sum tpdu ≤ 254 }
+{}
+
+/// What is read is allowed in the format that it is read in.
+pub fn read_is_allowed()
+    ensures spelled { (format : Format) (octets : List ℕ) (tpdu : TpduAndSum) → IsTpdu format octets tpdu → IsAllowed format tpdu.0 }
+    ensures first { (extended octets rest : List ℕ) (tpdu : TpduAndSum) → BeginsWithTpdu extended octets tpdu rest
+        → IsAllowed (format_for extended (destination_of tpdu.0)) tpdu.0 }
 {}

@@ -17,7 +17,7 @@ pub use fault::{TpduCause, TpduFault};
 pub use kind::Kind;
 pub use laws::{
     allowed_fits, either_format, front_or_fault, one_bundle, one_front, one_value, one_writing,
-    same_target, spelling_is_first,
+    read_is_allowed, same_target, spelling_is_first,
 };
 pub use reading::read_first;
 pub use tpdu::{Format, Tpdu, TpduRef};

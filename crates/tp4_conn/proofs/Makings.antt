@@ -1,0 +1,25 @@
+-- The clock of an end that a CR made.
+use Rattle.std.proofs.Common.{◌≡◌, ℕ, List, Some, refl, ap}
+use Rattle.tpdu.specs.declared.kind.Kind.TheVariants as kinds
+use Rattle.tpdu.specs.declared.tpdu.Tpdu.{Tpdu}
+use Rattle.tpdu.specs.declared.tpdu.Tpdu.TheVariants.{Cr, Cc, Dr, Dc, Dt, Ed, Ak, Ea, Er}
+use Rattle.tpdu.specs.Writing.{kind_for}
+use Rattle.tp4_flow.specs.Told.{Told}
+use Rattle.tp4_conn.specs.declared.base.Base.{Base}
+use Rattle.tp4_conn.specs.declared.stage.Stage.{Stage}
+use Rattle.tp4_conn.specs.declared.timers.Timers.{Timers}
+use Rattle.tp4_conn.specs.End.{Moved, Does}
+use Rattle.tp4_conn.specs.Making.{on_cr}
+
+pub called_now : (now own : ℕ) (from : List ℕ) (rules : Timers) (tpdu : Tpdu) (b : Base) (stage : Stage) (was new : Told) → kind_for tpdu ≡ kinds.Cr
+    → ((m : Moved) → on_cr now own from rules tpdu ≡ Some m → Does m b stage was new) → b.clock ≡ now
+called_now now own from rules (Cr credit source width calling called size extra version classes ack_time text) b stage was new kind h =
+    ap (λ (c : Base). c.clock) (h _ refl).base_is
+called_now now own from rules (Cc _ _ _ _ _ _ _ _ _ _ _ _) b stage was new kind h = absurd cc
+called_now now own from rules (Dr _ _ _ _ _) b stage was new kind h = absurd cc
+called_now now own from rules (Dc _ _) b stage was new kind h = absurd cc
+called_now now own from rules (Dt _ _ _ _) b stage was new kind h = absurd cc
+called_now now own from rules (Ed _ _ _ _) b stage was new kind h = absurd cc
+called_now now own from rules (Ak _ _ _ _ _) b stage was new kind h = absurd cc
+called_now now own from rules (Ea _ _) b stage was new kind h = absurd cc
+called_now now own from rules (Er _ _ _) b stage was new kind h = absurd cc
