@@ -1,0 +1,12 @@
+pub mod Discarding
+pub mod Faults
+pub mod Fitting
+pub mod Greeting
+pub mod Hops
+pub mod Octets
+pub mod Onward
+pub mod Pieces
+pub mod Reading
+pub mod Seals
+pub mod Ways
+pub mod Writes

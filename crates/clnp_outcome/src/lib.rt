@@ -1,0 +1,6 @@
+//! What a network of systems over LANs answers: never two ways, and always (X.233, connectionless-mode network service).
+#![tactic(auto)]
+
+mod laws;
+
+pub use laws::{always_answers, begins_standing, one_answer, one_lan_answer, one_network};
