@@ -1,0 +1,8 @@
+pub mod Journals
+pub mod OneRun
+pub mod Runs
+pub mod Shown
+pub mod SomeRun
+pub mod Standing
+pub mod Taking
+pub mod Units

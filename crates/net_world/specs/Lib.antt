@@ -1,0 +1,5 @@
+pub mod Laws
+pub mod Run
+pub mod Told
+pub mod Total
+pub mod steps

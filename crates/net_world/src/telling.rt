@@ -1,0 +1,140 @@
+//! What a transcript tells of what a network hands up (X.213, connectionless-mode network service).
+
+ghost use Rattle.std.specs.Prelude.{◌≡◌, ◌++◌, ◌∷◌, [], OnOk};
+ghost use Rattle.net_world.specs.Told.{note_event, picked_event, refusal, sent_event, shown_at, up_events};
+
+use nsap::Nsap;
+use osi_base::{Address, Arrival, Bytes, DropCause, NoMemory, Note, Offered, Picked, Up};
+use osi_journal::{Event, Refused};
+
+/// The selector of raw units.
+pub const RAW: u8 = 2;
+
+/// Tells what came up: a note, or a raw unit. Units for other selectors are not shown.
+pub fn tell(up: Up<Nsap>, events: &mut Vec<Event>) -> Result<(), NoMemory>
+    ensures { OnOk result (events.new.items ≡ events.old.items ++ up_events up) }
+{
+    match up {
+        Up::Unit(arrival) => show(arrival, events),
+        Up::Note(note) => {
+            events.push(note_event(note))?;
+            Ok(())
+        }
+    }
+}
+
+/// Shows a raw unit that came to a system.
+fn show(arrival: Arrival<Nsap>, events: &mut Vec<Event>) -> Result<(), NoMemory>
+    ensures { OnOk result (events.new.items ≡ events.old.items ++ shown_at arrival.system arrival.unit) }
+{
+    let unit = arrival.unit;
+    if unit.to.selector() != RAW {
+        return Ok(());
+    }
+    events.push(Event::Unit {
+        system: arrival.system,
+        from: address(&unit.from),
+        octets: unit.octets,
+    })?;
+    Ok(())
+}
+
+fn note_event(note: Note) -> Event
+    ensures { result ≡ note_event note }
+{
+    match note {
+        Note::Frame {
+            number,
+            lan,
+            system,
+            snpa,
+            length,
+        } => Event::Frame {
+            number,
+            lan,
+            system,
+            snpa,
+            length,
+        },
+        Note::DropFrame { system } => Event::DropFrame { system },
+        Note::Discard {
+            system,
+            reason,
+            place,
+        } => Event::Discard {
+            system,
+            reason,
+            place,
+        },
+        Note::Report {
+            system,
+            reason,
+            place,
+        } => Event::Report {
+            system,
+            reason,
+            place,
+        },
+        Note::Alien { system } => Event::Alien { system },
+        Note::BadHello { system, cause } => Event::BadHello { system, cause },
+        Note::HelloFull { system } => Event::HelloFull { system },
+        Note::Hello { system, kind, snpa } => Event::Hello { system, kind, snpa },
+        Note::Redirect {
+            system,
+            address,
+            snpa,
+        } => Event::Redirect {
+            system,
+            address,
+            snpa,
+        },
+    }
+}
+
+/// The line of a raw unit that a system sent to an address, by the network's answer.
+pub fn sent_event(system: u8, to: &Nsap, octets: Vec<u8>, answer: Offered) -> Event
+    ensures { result ≡ sent_event system to.now octets.items answer }
+{
+    match answer {
+        Offered::Taken => Event::Sent {
+            system,
+            to: address(to),
+            octets: Bytes::of(octets),
+        },
+        Offered::Dropped(cause) => Event::No {
+            cause: refusal(cause),
+        },
+    }
+}
+
+/// Why a raw unit is refused.
+fn refusal(cause: DropCause) -> Refused
+    ensures { result ≡ refusal cause }
+{
+    match cause {
+        DropCause::TooLong => Refused::TooLong,
+        DropCause::NoRoute => Refused::NoRoute,
+        DropCause::Full => Refused::Full,
+        DropCause::IdsSpent => Refused::IdsSpent,
+    }
+}
+
+/// The line of a delivery.
+pub fn picked_event(number: u32, system: u8, answer: Picked) -> Event
+    ensures { result ≡ picked_event number system answer }
+{
+    match answer {
+        Picked::Taken => Event::Deliver { number, system },
+        Picked::NoSuch => Event::NoSuch { number, system },
+        Picked::Late => Event::Late { number, system },
+        Picked::NotThere => Event::NotThere { number, system },
+        Picked::NotOurs => Event::NotOurs { number, system },
+    }
+}
+
+/// An address, as events have it.
+fn address(nsap: &Nsap) -> Address
+    ensures { result ≡ nsap.now }
+{
+    Address::of(nsap.octets())
+}
