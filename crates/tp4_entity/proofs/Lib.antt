@@ -1,0 +1,7 @@
+pub mod Answered
+pub mod Formats
+pub mod Hearings
+pub mod PlaceLaws
+pub mod Standings
+pub mod Units
+pub mod Wires

@@ -1,0 +1,107 @@
+//! The steps of an entity at one of its places.
+
+ghost use Rattle.std.specs.Prelude.{◌≡◌, ◌≤◌, ◌<◌, ◌+◌, Some, length, option_copied, [], ◌∷◌, ◌++◌, IfOk, OnErr, OnOk};
+ghost use Rattle.std.specs.List.{list_any};
+ghost use Rattle.tp4_number.specs.Number.{wire};
+ghost use Rattle.tp4_conn.specs.End.{IsSize};
+ghost use Rattle.tp4_entity.specs.Association.{is_registered};
+ghost use Rattle.tp4_entity.specs.Entity.{at, end_at, with_end};
+ghost use Rattle.tp4_entity.specs.Step.{DoesSo, connecting, ticking_at};
+ghost use Rattle.tp4_entity.specs.steps.Places.{IsOwn};
+
+use crate::TpEntity;
+use crate::places::tick_place;
+use nsap::Nsap;
+use osi_base::{Bytes, NoMemory, Tick};
+use tp4_conn::{ConnectCall, Connection};
+use tp4_flow::Step;
+
+impl TpEntity {
+    /// The end that stands at a reference.
+    pub(crate) fn end_at(&self, reference: u16) -> Option<&Connection>
+        ensures { option_copied result ≡ end_at self.now reference }
+    {
+        if reference == 0 {
+            return None;
+        }
+        self.ends.get(usize::from(reference) - 1)?.as_ref()
+    }
+
+    /// Whether connections are taken at a selector.
+    pub(crate) fn is_registered(&self, selector: &[u8]) -> bool
+        ensures { result ≡ is_registered self.now.selectors selector.now }
+    {
+        self.selectors
+            .iter()
+            .any(|other| other.as_slice() == selector)
+    }
+
+    /// One selector more.
+    pub(crate) fn add_selector(&mut self, selector: &[u8]) -> Result<(), NoMemory>
+        ensures ok { OnOk result (self.new ≡ record self.old { selectors = self.old.selectors ++ selector.now ∷ [] }) }
+        ensures same { OnErr result (self.new ≡ self.old) }
+    {
+        let octets = selector.to_vec(self.alloc)?;
+        self.selectors.push(Bytes::of(octets))?;
+        Ok(())
+    }
+
+    /// It is now this tick.
+    pub(crate) fn wake(&mut self, now: Tick)
+        requires { self.old.clock ≤ now }
+        ensures { self.new ≡ at now self.old }
+    {
+        self.clock = now;
+    }
+
+    /// An end comes to a place.
+    pub(crate) fn put(&mut self, place: usize, end: Connection)
+        requires within { place < length self.old.ends }
+        requires own { IsOwn self.old.timers self.old.clock (place + 1) end }
+        ensures { self.new ≡ with_end self.old (place + 1) (Some end) }
+    {
+        self.ends[place] = Some(end);
+    }
+
+    /// A new end calls at a free place.
+    pub(crate) fn call_from(
+        &mut self,
+        place: usize,
+        now: Tick,
+        call: ConnectCall,
+        out: &mut Step,
+    ) -> Result<u16, NoMemory>
+        requires within { place < length self.old.ends }
+        requires clock { self.old.clock ≤ now }
+        requires now { now ≤ 4000000000 }
+        requires size { IsSize call.options.size }
+        ensures reference { IfOk result (λ reference. reference ≡ place + 1) }
+        ensures step { OnOk result (DoesSo (connecting now self.old (place + 1) call) self.new out.old out.new) }
+        ensures clock { self.new.clock ≤ now }
+    {
+        let from: Nsap = self.own;
+        let own = place as u16 + 1;
+        let call = ConnectCall {
+            own,
+            from,
+            rules: self.timers,
+            ..call
+        };
+        let end = Connection::connect(self.alloc, now, call, out)?;
+        self.wake(now);
+        self.put(place, end);
+        Ok(own)
+    }
+
+    /// The end at a place ticks.
+    pub(crate) fn tick_at(&mut self, place: usize, out: &mut Step) -> Result<(), NoMemory>
+        requires now { self.old.clock ≤ 4000000000 }
+        ensures step { OnOk result (DoesSo (ticking_at wire self.old.clock self.old (Some (place + 1))) self.new out.old out.new) }
+        ensures clock { self.new.clock ≡ self.old.clock }
+    {
+        let Some(slot) = self.ends.get_mut(place) else {
+            return Ok(());
+        };
+        tick_place(slot, self.clock, out)
+    }
+}
