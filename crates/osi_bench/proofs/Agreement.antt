@@ -1,96 +1,120 @@
--- After a line the names and the network agree again.
-use Rattle.std.proofs.Common.{◌≡◌, ℕ, ◌+◌, ◌≤◌, true, List, [], ◌∷◌, length, Some, None, Result, Ok, Err, refl, sym, ◌∙◌, ap, subst, arith, length-append}
-use Rattle.std.proofs.Math.ListN.{length-set}
+-- The names and the network agree before a line, so the network has the line that is read; and they agree after it.
+use Rattle.std.proofs.Common.{◌≡◌, ◌⊎◌, ℕ, ◌+◌, ◌<◌, ◌≤◌, Bool, true, false, List, length, map, Ok, inl, inr, refl, sym, ◌∙◌, ap, subst, arith}
+use Rattle.std.proofs.lemmas.Bool.{false≢true}
+use Rattle.std.proofs.lemmas.List.{length-map}
 use Rattle.osi_journal.specs.declared.event.Event.{Event}
-use Rattle.osi_journal.specs.declared.cause.Refused.{Refused}
+use Rattle.osi_script.specs.declared.form.Word.{Word}
+use Rattle.osi_script.specs.declared.form.Word.TheVariants as words
 use Rattle.osi_script.specs.declared.line.Line.{Line}
 use Rattle.osi_script.specs.declared.line.Line.TheVariants as lines
-use Rattle.nsap.specs.declared.port.Port.{Port}
-use Rattle.osi_bench.specs.steps.Agreeing.{Agrees}
-use Rattle.osi_bench.specs.steps.Known.{CanRun, systems_of}
-use Rattle.osi_bench.specs.steps.Reads.{Kept, line_kept}
-use Rattle.osi_script.specs.Grammar.{line_read}
-use Rattle.osi_script.specs.Known.{Declared}
-use Rattle.osi_bench.specs.LineSteps.{WorldStep, Sends, with_system}
-use Rattle.osi_bench.specs.World.{System, World, sending}
-use Rattle.osi_journal.specs.RawLawful.{raw_address}
+use Rattle.osi_script.specs.declared.parts.Parts.{Parts}
+use Rattle.osi_script.specs.Grammar.{Reading, declared_by, line_read}
+use Rattle.osi_script.specs.Known.{Declared, KnownSystem}
+use Rattle.osi_script.specs.Table.{row_of}
+use Rattle.osi_script.specs.Tags.{Tags, tags_of}
+use Rattle.osi_bench.specs.SetUp.{System, SetUp, set_up, titles_of as titles_said}
+use Rattle.osi_bench.specs.World.{Net, NetDoes, SetsUp, StartsUp, WorldStep, is_start, link_of_net}
+use Rattle.osi_bench.specs.declared.world.World.{World}
+use Rattle.osi_bench.specs.declared.world.World.TheVariants.{SettingUp, Running}
+use Rattle.osi_bench.specs.steps.Agreeing.{Agrees, AreOne}
+use Rattle.osi_bench.specs.steps.Came.{Came, Idle, Worded, came}
+use Rattle.osi_bench.specs.steps.Fitting.{IsWell}
+use Rattle.osi_bench.specs.steps.Known.{CanRun, RunsAt, started_after}
+use Rattle.osi_bench.specs.steps.Moves.{Moves, line_moves, start_only, starts_not}
+use Rattle.osi_bench.proofs.Begun.{begins_first, line_near, start_near}
+use Rattle.osi_bench.proofs.Fitted.{as_many}
+use Rattle.osi_bench.proofs.Kept.{Kept, line_kept, line_runs}
+use Rattle.osi_bench.proofs.Wellness.{well_after}
 
--- what is the same of a network, or has grown by one at most
-record Grows (old : World) (new : World) : Type 0 where
-  pub systems : length new.systems ≡ length old.systems
-  pub clock : new.clock ≤ old.clock + 1
-  pub frames : length new.frames ≤ length old.frames + 1
+-- ---- the network has the line
 
-grows_by : (old new other : World) → new ≡ other → Grows old other → Grows old new
-grows_by old new other is g = subst (λ (n : World). Grows old n) (sym is) g
+pub read_runs : (names declared : Declared) (world : World) (count : ℕ) (octets : List ℕ) (line : Line) → Agrees names world count → count < 4000000000
+    → line_read names octets ≡ Ok (record { line = line; names = declared }) → CanRun world line
+read_runs names declared (SettingUp setup) count octets line a low is = (line_kept names setup octets line declared a.built a.one.1 a.one.2 a.one.0 is).fits
+read_runs names declared (Running titles net) count octets line a low is =
+    let clock = a.one.2 in
+    subst (λ (n : ℕ). RunsAt n (link_of_net net).clock line) (sym a.one.1) (line_runs names (link_of_net net).clock octets line declared a.built a.one.0 (omega arith) is)
 
-system_grows : (world : World) (system : ℕ) (end : System) → Grows world (with_system world system end)
-system_grows world system end = record { systems = length-set world.systems system end; clock = omega arith; frames = omega arith }
+-- ---- what does not change
 
-sends_grow : (old : World) (system : ℕ) (sender : System) (destination octets : List ℕ) (answer : Result Port Refused) (made : List Event) (new : World)
-    → Sends old system sender destination octets answer made new → Grows old new
-sends_grow old system sender destination octets (Err cause) made new h = grows_by old new old h.1 (record { systems = refl; clock = omega arith; frames = omega arith })
-sends_grow old system sender destination octets (Ok hop) made new h =
-    grows_by old new _ h.3 (record { systems = refl; clock = omega arith; frames = omega (arith, length-append old.frames (record { tick = old.clock; lan = hop.lan; system = system; to = hop.snpa; octets = h.0 } ∷ [])) })
+word_built : (names : Declared) (word : Word) (parts : Parts) → (declared_by names (row_of word).effect parts).built ≡ names.built
+word_built names words.Set parts = refl
+word_built names words.Lan parts = refl
+word_built names words.Es parts = refl
+word_built names words.Is parts = refl
+word_built names words.Port parts = refl
+word_built names words.Route parts = refl
+word_built names words.Path parts = refl
+word_built names words.Tsap parts = refl
+word_built names words.Start parts = refl
+word_built names words.Connect parts = refl
+word_built names words.Accept parts = refl
+word_built names words.Refuse parts = refl
+word_built names words.Disconnect parts = refl
+word_built names words.Data parts = refl
+word_built names words.Expedite parts = refl
+word_built names words.Window parts = refl
+word_built names words.Unit parts = refl
+word_built names words.Tick parts = refl
+word_built names words.Settle parts = refl
+word_built names words.Deliver parts = refl
+word_built names words.Inject parts = refl
 
-same_size : (world new : World) → new ≡ world → Grows world new
-same_size world new is = grows_by world new world is (record { systems = refl; clock = omega arith; frames = omega arith })
+came_built : (names : Declared) (reading : Reading) → Came names reading → reading.names.built ≡ names.built
+came_built names reading (Idle is) = ap (λ (r : Reading). r.names.built) is
+came_built names reading (Worded word h) = ap (λ (r : Reading). r.names.built) h.is ∙ word_built names word h.parts
 
--- what is the same of a network after a line, or has grown
-record After (world : World) (line : Line) (new : World) : Type 0 where
-  systems : length new.systems ≡ length world.systems + systems_of line
-  clock : new.clock ≤ world.clock + 1
-  frames : length new.frames ≤ length world.frames + 1
+line_built : (names : Declared) (octets : List ℕ) (line : Line) (new : Declared) → line_read names octets ≡ Ok (record { line = line; names = new }) → new.built ≡ names.built
+line_built names octets line new is = came_built names (record { line = line; names = new }) (came names octets (record { line = line; names = new }) is)
 
-none_joins : (line : Line) (world new : World) → systems_of line ≡ 0 → Grows world new → After world line new
-none_joins line world new none g = record { systems = let s = g.systems in omega arith; clock = g.clock; frames = g.frames }
+still_started : (started : Bool) (line : Line) → started ≡ true → started_after started line ≡ true
+still_started started line is = by (is_start line) refl
+  where
+    by : (b : Bool) → is_start line ≡ b → started_after started line ≡ true
+    by true start = ap (λ (l : Line). started_after started l) (start_only line start)
+    by false other = starts_not started line other ∙ is
 
-after : (world : World) (line : Line) (made : List Event) (new : World) → WorldStep world line made new → After world line new
-after world lines.Nothing made new h = none_joins lines.Nothing world new refl (same_size world new h.1)
-after world (lines.Lan name bound room) made new h =
-    none_joins (lines.Lan name bound room) world new refl (grows_by world new _ h.1 (record { systems = refl; clock = omega arith; frames = omega arith }))
-after world (lines.Es name title) made new h = record {
-  systems = ap (λ (n : World). length n.systems) h.1 ∙ length-append world.systems (record { title = title; port = None; rows = [] } ∷ []);
-  clock = let y : new.clock ≡ world.clock = ap (λ (n : World). n.clock) h.1 in omega arith;
-  frames = let y : length new.frames ≡ length world.frames = ap (λ (n : World). length n.frames) h.1 in omega arith;
-}
-after world (lines.Port system lan snpa) made new h = none_joins (lines.Port system lan snpa) world new refl (grows_by world new _ h.3 (system_grows world system _))
-after world (lines.Route system prefix next lan) made new h = none_joins (lines.Route system prefix next lan) world new refl (grows_by world new _ h.5 (system_grows world system _))
-after world lines.Start made new h = none_joins lines.Start world new refl (grows_by world new _ h.1 (record { systems = refl; clock = omega arith; frames = omega arith }))
-after world (lines.Unit system to wish unit) made new h =
-    none_joins (lines.Unit system to wish unit) world new refl (sends_grow world system h.0 (raw_address h.1.title) unit (sending world.lans h.0 (raw_address h.1.title) unit) made new h.4)
-after world lines.Tick made new h = none_joins lines.Tick world new refl (grows_by world new _ h.1 (record { systems = refl; clock = omega arith; frames = omega arith }))
-after world (lines.Deliver frame system) made new h = none_joins (lines.Deliver frame system) world new refl (same_size world new h.2)
-after world (lines.Set key value) made new h = absurd h
-after world (lines.Is name title) made new h = absurd h
-after world (lines.Path name kind systems) made new h = absurd h
-after world (lines.Tsap system selector) made new h = absurd h
-after world (lines.Connect system selector to called options octets) made new h = absurd h
-after world (lines.Accept end options octets) made new h = absurd h
-after world (lines.Refuse end octets) made new h = absurd h
-after world (lines.Disconnect end octets) made new h = absurd h
-after world (lines.Data end octets) made new h = absurd h
-after world (lines.Expedite end octets) made new h = absurd h
-after world (lines.Window end credit) made new h = absurd h
-after world lines.Settle made new h = absurd h
-after world (lines.Inject lan system octets) made new h = absurd h
+as_many_systems : (names new : Declared) → names.started ≡ true → (names.started ≡ false) ⊎ (tags_of new ≡ tags_of names) → length new.systems ≡ length names.systems
+as_many_systems names new begun (inl not_yet) = absurd (false≢true (sym not_yet ∙ begun))
+as_many_systems names new begun (inr same) =
+    sym (length-map new.systems (λ (s : KnownSystem). s.name)) ∙ ap (λ (t : Tags). length t.systems) same ∙ length-map names.systems (λ (s : KnownSystem). s.name)
 
-pub agrees_after : (names declared : Declared) (world : World) (count : ℕ) (line : Line) (made : List Event) (new : World)
-    → Agrees names world count → Kept names line declared → WorldStep world line made new → Agrees declared new (count + 1)
-agrees_after names declared world count line made new a k h =
-    let g = after world line made new h in
-    record {
-      built = k.built ∙ a.built;
-      systems = let x = g.systems in let y = a.systems in let z = k.systems in omega arith;
-      clock = let x = a.clock in let y = g.clock in omega arith;
-      frames = let x = a.frames in let y = g.frames in omega arith;
-    }
+-- ---- after a line
 
--- the network runs a line that is read
-pub read_runs : (names declared : Declared) (world : World) (count : ℕ) (octets : List ℕ) (line : Line) → Agrees names world count
-    → line_read names octets ≡ Ok (record { line = line; names = declared }) → CanRun (length world.systems) line
-read_runs names declared world count octets line a is = subst (λ (n : ℕ). CanRun n line) (sym a.systems) (line_kept names octets line declared a.built is).runs
+starts_agree : (declared : Declared) (setup : SetUp) (count : ℕ) (made : List Event) (new : World) → declared.started ≡ true → AreOne declared setup → StartsUp setup made new
+    → (declared.started ≡ true) × (length (titles_said setup) ≡ length declared.systems) × ((net : Net) × (new ≡ Running (titles_said setup) net) × ((link_of_net net).clock ≤ count))
+starts_agree declared setup count made new begun one h =
+    let first = begins_first setup h.0 h.2 in
+    let near = start_near h.0 h.1 made h.3 in
+    let zero_is = first.clock in
+    let same = near.clock in
+    (begun, length-map setup.systems (λ (s : System). s.title) ∙ as_many declared setup one, (h.1, h.4, omega arith))
+
+module _ (names declared : Declared) (setup : SetUp) (count : ℕ) (line : Line) (made : List Event) (new : World) (built : declared.built ≡ names.built)
+    (a : Agrees names (SettingUp setup) count) (moves : Moves names line declared) (kept : Kept setup line declared) where
+  sets_agree : (start : Bool) → is_start line ≡ start → SetsUp start setup line made new → Agrees declared new (count + 1)
+  sets_agree true is h =
+      let same : line ≡ lines.Start = start_only line is in
+      let begun : declared.started ≡ true = moves.started ∙ ap (λ (l : Line). started_after names.started l) same in
+      let one : AreOne declared setup = subst (λ (l : Line). AreOne declared (set_up setup l)) same kept.one in
+      let r = starts_agree declared setup (count + 1) made new begun one h in
+      subst (λ (w : World). Agrees declared w (count + 1)) (sym r.2.1) (record { built = built ∙ a.built; one = (r.0, r.1, r.2.2) })
+  sets_agree false is h =
+      subst (λ (w : World). Agrees declared w (count + 1)) (sym h.1)
+      (record { built = built ∙ a.built; one = (moves.started ∙ starts_not names.started line is ∙ a.one.0, kept.one, well_after setup line a.one.2 kept.fits) })
 
 pub read_agrees : (names declared : Declared) (world : World) (count : ℕ) (octets : List ℕ) (line : Line) (made : List Event) (new : World) → Agrees names world count
     → line_read names octets ≡ Ok (record { line = line; names = declared }) → WorldStep world line made new → Agrees declared new (count + 1)
-read_agrees names declared world count octets line made new a is h = agrees_after names declared world count line made new a (line_kept names octets line declared a.built is) h
+read_agrees names declared (SettingUp setup) count octets line made new a is h =
+    sets_agree names declared setup count line made new (line_built names octets line declared is) a (line_moves names octets line declared is)
+    (line_kept names setup octets line declared a.built a.one.1 a.one.2 a.one.0 is) (is_start line) refl h.1
+read_agrees names declared (Running titles net) count octets line made new a is h =
+    let moves = line_moves names octets line declared is in
+    let near = line_near titles net line made h.0 h.1 in
+    let clock = a.one.2 in
+    let now = near.clock in
+    subst (λ (w : World). Agrees declared w (count + 1)) (sym h.2)
+    (record {
+      built = line_built names octets line declared is ∙ a.built;
+      one = (moves.started ∙ still_started names.started line a.one.0, a.one.1 ∙ sym (as_many_systems names declared a.one.0 moves.tags), omega arith);
+    })

@@ -9,8 +9,8 @@ use Rattle.osi_script.specs.Tags.{tags_of}
 use Rattle.osi_journal.specs.declared.event.Event.{Event}
 use Rattle.osi_journal.specs.Told.{journal_text}
 use Rattle.osi_bench.specs.Bench.{Bench, bench_meaning, most_events}
-use Rattle.osi_bench.specs.LineSteps.{WorldStep}
-use Rattle.osi_bench.specs.World.{World}
+use Rattle.osi_bench.specs.World.{WorldStep}
+use Rattle.osi_bench.specs.declared.world.World.{World}
 
 abbrev after_line : Bench → Declared → World → ℕ → Bench
 after_line old names world told = record { names = names; world = world; lines = old.lines + 1; events = old.events + told }

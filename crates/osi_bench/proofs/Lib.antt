@@ -1,13 +1,19 @@
+pub mod Adding
 pub mod Agreement
+pub mod Begun
 pub mod Courses
 pub mod Decimals
-pub mod Deliveries
-pub mod Frames
-pub mod Journals
+pub mod Elements
+pub mod Fitted
+pub mod InOctets
 pub mod Keeping
+pub mod Kept
 pub mod Lawful
-pub mod Routes
+pub mod Octets
+pub mod Ports
 pub mod ScriptRuns
-pub mod Standing
-mod Words
-pub mod Worlds
+pub mod Starting
+pub mod Totality
+pub mod Values
+pub mod Wellness
+pub mod Words

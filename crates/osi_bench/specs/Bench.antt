@@ -1,5 +1,5 @@
 -- The bench as a machine: what a line of a script does to the names declared, to the network and to the journal.
-use Rattle.std.specs.Prelude.{◌≡◌, ℕ, ◌+◌, ◌-◌, ◌<◌, ◌≤◌, false, List, [], ◌∷◌, length, take, Ok, Err}
+use Rattle.std.specs.Prelude.{◌≡◌, ℕ, ◌+◌, ◌-◌, ◌<◌, ◌≤◌, true, false, List, [], ◌∷◌, length, take, Ok, Err}
 use Rattle.osi_script.specs.declared.fault.LineFault.{LineFault}
 use Rattle.osi_script.specs.declared.fault.LineCause.TheVariants as causes
 use Rattle.osi_script.specs.declared.form.Word.TheVariants as words
@@ -10,16 +10,16 @@ use Rattle.osi_script.specs.Tags.{tags_of}
 use Rattle.osi_journal.specs.declared.event.Event.{Event}
 use Rattle.osi_journal.specs.Told.{journal_text}
 use Rattle.line_loop.specs.Meaning.{Meaning}
-use Rattle.osi_bench.specs.LineSteps.{WorldStep}
 use Rattle.osi_bench.specs.Text.{done_line, refused_line, toomuch_line}
-use Rattle.osi_bench.specs.World.{World, empty_world}
+use Rattle.osi_bench.specs.World.{first_world, WorldStep}
+use Rattle.osi_bench.specs.declared.world.World.{World}
 
--- the lines that the network runs: those of one LAN and its end systems, with units that have no wishes
+-- the lines that the network runs: all but those of the transport layer, `settle` and `inject`
 abbrev pub bench_lines : Lines
 bench_lines = record {
-  words = words.Deliver ∷ words.Tick ∷ words.Unit ∷ words.Route ∷ words.Port ∷ words.Es ∷ words.Lan ∷ words.Start ∷ [];
-  lans = 1;
-  wishes = false;
+  words = words.Deliver ∷ words.Tick ∷ words.Unit ∷ words.Route ∷ words.Port ∷ words.Es ∷ words.Is ∷ words.Lan ∷ words.Path ∷ words.Set ∷ words.Start ∷ [];
+  lans = 16;
+  wishes = true;
 }
 
 -- the most events of a journal
@@ -34,7 +34,7 @@ pub record Bench : Type 0 where
   pub events : ℕ
 
 abbrev pub first_bench : Bench
-first_bench = record { names = nothing_declared bench_lines; world = empty_world; lines = 0; events = 0 }
+first_bench = record { names = nothing_declared bench_lines; world = first_world; lines = 0; events = 0 }
 
 -- a line of a script is read, declares its names, and takes its step, and the journal has room for its events
 pub record RunsLine (old : Bench) (octets : List ℕ) (made : List Event) (new : Bench) : Type 0 where

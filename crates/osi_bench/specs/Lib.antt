@@ -1,6 +1,5 @@
 pub mod Bench
-pub mod LineSteps
-pub mod Routes
+pub mod SetUp
 pub mod Text
 pub mod Top
 pub mod World

@@ -6,7 +6,6 @@ use Rattle.osi_base.specs.declared.status.Status.{Status}
 use Rattle.osi_base.specs.declared.status.Status.TheVariants.{Done, RefusedLine, RefusedWords, ReadFault, WriteFault, NoMemory, RefusedCapture, TooMuch}
 use Rattle.osi_journal.specs.declared.event.Event.{Event}
 use Rattle.osi_script.specs.declared.line.Line.{Line}
-use Rattle.osi_bench.specs.declared.lan.Frame.{Frame}
 use Rattle.osi_bench.specs.Bench.{Bench, bench_lines, first_bench, bench_meaning, most_events}
 use Rattle.line_loop.specs.Course.{Runs, IsRead, IsWhole, IsOver, IsTooMuch, IsTooMuchAtEnd, IsRefusedAt, IsRefusedAtEnd}
 use Rattle.line_loop.specs.Limits.{most_octets, most_read}
@@ -15,9 +14,8 @@ use Rattle.line_loop.specs.Outcome.{Asks, Outcome}
 use Rattle.osi_script.specs.declared.fault.LineFault.{LineFault}
 use Rattle.osi_script.specs.Known.{nothing_declared}
 use Rattle.osi_script.specs.Script.{Says}
-use Rattle.osi_bench.specs.World.{empty_world, titles_of, World, initial_lifetime}
+use Rattle.osi_bench.specs.World.{life_of, titles_of, WorldRun}
 use Rattle.osi_journal.specs.RawLawful.{RawLawful}
-use Rattle.osi_bench.specs.LineSteps.{WorldRuns}
 use Rattle.line_loop.specs.Writing.{IsPrefix}
 
 -- the words are the one word `run`
@@ -32,17 +30,11 @@ is_decode [] = false
 is_decode (word ∷ []) = bytes_eq word (codes "decode")
 is_decode (word ∷ other ∷ words) = false
 
--- from a network with no LAN, system or frame, its clock 0, the lines have this journal, and leave a network with these frames
-pub record WorldRun (script : List Line) (journal : List Event) (frames : List Frame) : Type 0 where
-  pub last : World
-  pub runs : WorldRuns empty_world script journal last
-  pub frames_are : frames ≡ last.frames
-
--- the texts are the lines of a script, and they have this journal by the run of the network
+-- the texts are the lines of a script, and by the run of the network they have this journal and leave that network
 pub record IsScriptRun (texts : List (List ℕ)) (journal : List Event) (last : Bench) : Type 0 where
   pub script : List Line
   pub lines : Says (nothing_declared bench_lines) texts script last.names
-  pub run : WorldRun script journal last.world.frames
+  pub run : WorldRun script journal last.world
 
 -- what runs on the bench is a script, line by line, and the run of the network for its lines
 abbrev pub RunsScripts : Type 0
@@ -58,7 +50,7 @@ pub record IsJournal (octets : List ℕ) (journal : List Event) (last : Bench) :
 
 -- whatever part of the octets was run, each raw unit that is shown was sent
 abbrev pub ShowsSent : List ℕ → Type 0
-ShowsSent octets = (journal : List Event) (last : Bench) → IsJournal octets journal last → RawLawful initial_lifetime (titles_of last.world) journal
+ShowsSent octets = (journal : List Event) (last : Bench) → IsJournal octets journal last → RawLawful (life_of last.world) (titles_of last.world) journal
 
 -- the lines that have their line feed, without their ends
 abbrev pub texts_in : List ℕ → List (List ℕ)

@@ -1,110 +1,82 @@
--- The network that a script runs: its clock, its LANs, its systems with their routes, and the frames that were sent.
-use Rattle.std.specs.Prelude.{◌==◌, ℕ, ◌+◌, ◌-◌, Bool, true, false, ◌&&◌, ◌||◌, not, nat_lt, nat_eq, if◌then◌else◌, List, [], ◌∷◌, length, map, fold, slice_get, Option, Some, None, option_map, unwrap_or, Result, Ok, Err}
-use Rattle.std.specs.Cmp.Lexicographic.{pointwise}
-use Rattle.nsap.specs.Address.{is_same_system, covers}
-use Rattle.nsap.specs.declared.port.Port.{Port}
-use Rattle.clnp_header.specs.declared.pdu.Pdu.{Pdu}
-use Rattle.clnp_options.specs.declared.reason.PduKind.TheVariants.{Dt}
-use Rattle.osi_journal.specs.RawLawful.{raw_address}
-use Rattle.osi_journal.specs.declared.cause.Refused.{Refused}
-use Rattle.osi_journal.specs.declared.cause.Refused.TheVariants.{EmptyUnit, TooLong, NoRoute}
-use Rattle.osi_bench.specs.declared.lan.Lan.{Lan}
-use Rattle.osi_bench.specs.declared.lan.Frame.{Frame}
-use Rattle.osi_bench.specs.declared.lan.Picked.{Picked}
-use Rattle.osi_bench.specs.declared.lan.Picked.TheVariants.{Taken, NoSuch, Late, NotThere, NotOurs}
-use Rattle.osi_bench.specs.declared.system.Row.{Row}
+-- The network of a script: what was set up, and from its start on the systems over the LANs; and what each line does to it.
+use Rattle.std.specs.Prelude.{◌≡◌, ℕ, Bool, true, false, List, [], ◌∷◌, ◌++◌}
+use Rattle.esis_tables.specs.Rows.{Rows}
+use Rattle.osi_base.specs.Link.{Link}
+use Rattle.osi_base.specs.Calls.{Call}
+use Rattle.lan_bag.specs.Bag.{Bag, BagStep, link_of, new_bag}
+use Rattle.clnp_system.specs.Tables.{rows_tables}
+use Rattle.clnp_step.specs.Network.{Network, net_link}
+use Rattle.clnp_step.specs.Step.{Begins, NetStep}
+use Rattle.net_world.specs.Run.{RunsLine, Starts}
+use Rattle.osi_journal.specs.declared.event.Event.{Event}
+use Rattle.osi_script.specs.declared.line.Line.{Line}
+use Rattle.osi_script.specs.declared.line.Line.TheVariants as lines
+use Rattle.osi_bench.specs.SetUp.{SetUp, nodes_of, nothing_said, set_up, titles_of as titles_said}
+use Rattle.osi_bench.specs.declared.world.World.{World}
+use Rattle.osi_bench.specs.declared.world.World.TheVariants.{SettingUp, Running}
 
--- an end system: its title, its port, and its routes
-pub record System : Type 0 where
-  pub title : List ℕ
-  pub port : Option Port
-  pub rows : List Row
+-- the systems of a script over its LANs: what users of the network see, and what each call does
+abbrev pub Net : Type 0
+Net = Network Bag Rows
 
-pub record World : Type 0 where
-  pub clock : ℕ
-  pub lans : List Lan
-  pub systems : List System
-  pub frames : List Frame
+abbrev pub link_of_net : Net → Link (List ℕ)
+link_of_net = net_link link_of
 
--- the titles of the systems, by number
+abbrev pub NetDoes : Net → Call (List ℕ) → Net → Type 0
+NetDoes = NetStep link_of BagStep rows_tables
+
+-- nothing was said yet
+abbrev pub first_world : World
+first_world = SettingUp nothing_said
+
+-- the titles of the systems by their numbers, and the lifetime of their PDUs in ticks
 abbrev pub titles_of : World → List (List ℕ)
-titles_of world = map (λ end. end.title) world.systems
+titles_of (SettingUp setup) = titles_said setup
+titles_of (Running titles net) = titles
 
--- no LAN, system or frame, and the clock at 0
-abbrev pub empty_world : World
-empty_world = record { clock = 0; lans = []; systems = []; frames = [] }
+abbrev pub life_of : World → ℕ
+life_of (SettingUp setup) = setup.life
+life_of (Running titles net) = net.life
 
--- the initial lifetime of a unit, in ticks
-abbrev pub initial_lifetime : ℕ
-initial_lifetime = 32
+-- the lines of a set-up; the transport layer's are none of the network
+abbrev pub IsOfSetUp : Line → Type 0
+IsOfSetUp lines.Nothing = Unit {0}
+IsOfSetUp (lines.Set key value) = Unit {0}
+IsOfSetUp (lines.Lan name bound room) = Unit {0}
+IsOfSetUp (lines.Es name title) = Unit {0}
+IsOfSetUp (lines.Is name title) = Unit {0}
+IsOfSetUp (lines.Port system lan snpa) = Unit {0}
+IsOfSetUp (lines.Route system prefix next lan) = Unit {0}
+IsOfSetUp (lines.Path name kind systems) = Unit {0}
+IsOfSetUp lines.Start = Unit {0}
+IsOfSetUp line = ⊥
 
--- the row is better than the best so far: it covers the address, and its prefix is longer
-abbrev pub is_longer : Row → Option Row → Bool
-is_longer row None = true
-is_longer row (Some best) = nat_lt (length best.prefix) (length row.prefix)
+abbrev pub is_start : Line → Bool
+is_start lines.Start = true
+is_start line = false
 
-abbrev pub better_row : List ℕ → Option Row → Row → Option Row
-better_row address best row = if covers row.prefix address && is_longer row best then Some row else best
+-- the systems are made over the LANs, and send their first hellos at tick 0
+abbrev pub StartsUp : SetUp → List Event → World → Type 0
+StartsUp setup made new =
+    (net first : Net) × Begins link_of BagStep rows_tables (new_bag setup.lans setup.ports) (nodes_of setup) setup.life net
+    × Starts link_of_net NetDoes net made first × (new ≡ Running (titles_said setup) first)
 
--- the row with the longest prefix that covers the address (X.233, route PDU function)
-unfoldable pub next_row : List Row → List ℕ → Option Row
-next_row rows address = fold (better_row address) None rows
+-- `start` ends the set-up, and another line adds to it
+abbrev pub SetsUp : Bool → SetUp → Line → List Event → World → Type 0
+SetsUp true setup line made new = StartsUp setup made new
+SetsUp false setup line made new = (made ≡ []) × (new ≡ SettingUp (set_up setup line))
 
--- the DT PDU of a raw unit
-abbrev pub unit_pdu : List ℕ → List ℕ → List ℕ → Pdu
-unit_pdu source destination octets =
-    record {
-      kind = Dt;
-      destination = destination;
-      source = source;
-      lifetime = initial_lifetime;
-      checksum_used = true;
-      report = false;
-      segment = None;
-      options = [];
-      body = octets;
-    }
+-- what a line does: the network before it, the events, the network after it
+abbrev pub WorldStep : World → Line → List Event → World → Type 0
+WorldStep (SettingUp setup) line made new = IsOfSetUp line × SetsUp (is_start line) setup line made new
+WorldStep (Running titles old) line made new = (net : Net) × RunsLine link_of_net NetDoes titles old line made net × (new ≡ Running titles net)
 
--- how many octets its header has: the fixed part and the two addresses, each behind its length
-abbrev pub header_octets : List ℕ → List ℕ → ℕ
-header_octets source destination = 11 + length destination + length source
+-- the lines have these events, one after another
+abbrev pub WorldRuns : World → List Line → List Event → World → Type 0
+WorldRuns first [] journal last = (journal ≡ []) × (last ≡ first)
+WorldRuns first (line ∷ lines) journal last =
+    (mid : World) × (made rest : List Event) × WorldStep first line made mid × (journal ≡ made ++ rest) × WorldRuns mid lines rest last
 
-abbrev pub room_of : List Lan → ℕ → ℕ
-room_of lans lan = unwrap_or (option_map (λ found. found.room) (slice_get lans lan)) 0
-
--- a unit that may not be cut goes by the row of its destination, where it fits the LAN
-abbrev pub by_row : List Lan → ℕ → Option Row → Result Port Refused
-by_row lans size None = Err NoRoute
-by_row lans size (Some row) = if nat_lt (room_of lans row.hop.lan) size then Err TooLong else Ok row.hop
-
--- where a system sends a raw unit, or the first refusal that applies
-unfoldable pub sending : List Lan → System → List ℕ → List ℕ → Result Port Refused
-sending lans sender destination octets =
-    if length octets == 0 then Err EmptyUnit
-    else if nat_lt 16384 (length octets) then Err TooLong
-    else if is_same_system destination sender.title then Err NoRoute
-    else by_row lans (header_octets (raw_address sender.title) destination + length octets) (next_row sender.rows destination)
-
--- frames are numbered from 1
-abbrev pub frame_of : List Frame → ℕ → Option Frame
-frame_of frames number = if number == 0 then None else slice_get frames (number - 1)
-
-abbrev pub bound_of : List Lan → ℕ → ℕ
-bound_of lans lan = unwrap_or (option_map (λ found. found.bound) (slice_get lans lan)) 0
-
--- the SNPA of the system on the LAN
-abbrev pub snpa_on : Option Port → ℕ → Option (List ℕ)
-snpa_on None lan = None
-snpa_on (Some port) lan = if port.lan == lan then Some port.snpa else None
-
--- a frame is for the system that it is sent to, and not for its sender
-abbrev pub delivery_there : Frame → ℕ → Option (List ℕ) → Picked
-delivery_there frame system None = NotThere
-delivery_there frame system (Some snpa) = if (frame.system == system) || not (pointwise nat_eq frame.to snpa) then NotOurs else Taken
-
--- the answer to a delivery: the first that applies
-abbrev pub delivery : ℕ → List Lan → Option Port → ℕ → Option Frame → Picked
-delivery clock lans port system None = NoSuch
-delivery clock lans port system (Some frame) =
-    if nat_lt (frame.tick + bound_of lans frame.lan) clock then Late
-    else delivery_there frame system (snpa_on port frame.lan)
+-- from nothing said, the lines have this journal, and leave this network
+abbrev pub WorldRun : List Line → List Event → World → Type 0
+WorldRun script journal last = WorldRuns first_world script journal last

@@ -3,25 +3,31 @@
 ghost use Rattle.std.specs.Prelude.{◌≡◌, ◌<◌, ◌≤◌, ◌+◌, ◌-◌};
 ghost use Rattle.osi_script.specs.Known.{lines_of};
 ghost use Rattle.osi_bench.specs.Bench.{bench_lines, most_events};
+ghost use Rattle.osi_bench.specs.World.{first_world};
 
+use crate::setup::SetUp;
 use crate::text::{push_done, push_events, push_refusal, push_too_much};
-use crate::world::World;
+use crate::world::{World, step};
 use line_loop::{LineError, Machine};
 use osi_base::NoMemory;
 use osi_journal::Event;
 use osi_script::{Built, LineCause, LineFault, LineRefusal, Names, Word};
 use std::alloc::Global;
 use std::marker::Model;
+use std::mem;
 
 /// The words of the lines that the network runs, those of long scripts first.
-const WORDS: [Word; 8] = [
+const WORDS: [Word; 11] = [
     Word::Deliver,
     Word::Tick,
     Word::Unit,
     Word::Route,
     Word::Port,
     Word::Es,
+    Word::Is,
     Word::Lan,
+    Word::Path,
+    Word::Set,
     Word::Start,
 ];
 
@@ -35,6 +41,7 @@ const TOO_LONG: u32 = 40_001;
 /// line.
 #[derive(Drop)]
 pub struct Bench {
+    alloc: Global,
     names: Names,
     world: World,
     lines: u32,
@@ -43,7 +50,7 @@ pub struct Bench {
     stopped: bool,
 }
 
-// Until a run stops, the network has the systems that are declared, and counts no more ticks and frames than lines.
+// Until a run stops, the network has what is declared, and counts no more ticks than lines.
 impl Model for Bench {
     ghost use Rattle.osi_bench.specs.Bench.{Bench as BenchState, most_events};
     ghost use Rattle.std.specs.Prelude.{◌≡◌, ◌≤◌, false};
@@ -64,8 +71,9 @@ impl Bench {
         ensures { result ≡ first_bench }
     {
         Bench {
+            alloc,
             names: Names::new(alloc, network_lines()),
-            world: World::new(alloc),
+            world: first_world(alloc),
             lines: 0,
             count: 0,
             events: Vec::new(alloc),
@@ -74,14 +82,21 @@ impl Bench {
     }
 }
 
+/// A network of which nothing was said yet.
+fn first_world(alloc: Global) -> World
+    ensures { result ≡ first_world }
+{
+    World::SettingUp(SetUp::new(alloc))
+}
+
 /// The lines that the network runs.
 fn network_lines() -> Built
     ensures { lines_of result ≡ bench_lines }
 {
     Built {
         words: &WORDS,
-        lans: 1,
-        wishes: false,
+        lans: 16,
+        wishes: true,
     }
 }
 
@@ -120,9 +135,11 @@ impl Machine for Bench {
         };
         self.stopped = true;
         self.events.clear();
-        let Ok(()) = self.world.step(line, &mut self.events) else {
+        let world = mem::replace(&mut self.world, first_world(self.alloc));
+        let Ok(world) = step(self.alloc, world, line, &mut self.events) else {
             return Err(LineError::NoMemory);
         };
+        self.world = world;
         self.lines += 1;
         let made = self.events.len();
         let told = told_of(self.count, made);

@@ -7,32 +7,22 @@ ghost use Rattle.line_loop.specs.Exact.{OneCourse, AsksOne};
 ghost use Rattle.osi_bench.specs.Top.{RunsScripts};
 ghost use Rattle.osi_journal.specs.declared.event.Event.{Event};
 ghost use Rattle.osi_script.specs.declared.line.Line.{Line};
-ghost use Rattle.osi_bench.specs.World.{World, next_row, empty_world, titles_of, initial_lifetime};
-ghost use Rattle.osi_bench.specs.Routes.{IsLongest};
-ghost use Rattle.osi_bench.specs.declared.system.Row.{Row};
+ghost use Rattle.osi_bench.specs.World.{WorldRun, life_of, titles_of};
+ghost use Rattle.osi_bench.specs.declared.world.World.{World};
 ghost use Rattle.osi_journal.specs.RawLawful.{RawLawful};
-ghost use Rattle.osi_bench.specs.LineSteps.{WorldRuns};
 
 /// The lines of a script have one journal, and leave one network.
 pub fn one_journal()
     ensures { (script : List Line) (journal other : List Event) (last end : World)
-        → WorldRuns empty_world script journal last → WorldRuns empty_world script other end → (journal ≡ other) × (last ≡ end) }
-{
-    clnp_header::one_front();
-    clnp_header::one_spelling();
-    clnp_header::front_or_fault();
-}
+        → WorldRun script journal last → WorldRun script other end → (journal ≡ other) × (last ≡ end) }
+{}
 
 /// Each raw unit that is shown was sent to that system, from that address, with those octets, at
-/// most the initial lifetime before.
+/// most the lifetime before.
 pub fn raw_units_are_lawful()
-    ensures { (script : List Line) (journal : List Event) (last : World) → WorldRuns empty_world script journal last
-        → RawLawful initial_lifetime (titles_of last) journal }
-{
-    clnp_header::one_front();
-    clnp_header::one_spelling();
-    clnp_header::front_or_fault();
-}
+    ensures { (script : List Line) (journal : List Event) (last : World) → WorldRun script journal last
+        → RawLawful (life_of last) (titles_of last) journal }
+{}
 
 /// What runs on the bench is a script, line by line, and the run of the network for its lines.
 pub fn script_runs()
@@ -49,14 +39,4 @@ pub fn some_outcome()
 pub fn one_outcome()
     ensures course { OneCourse bench_meaning }
     ensures asks { AsksOne bench_meaning }
-{
-    clnp_header::one_front();
-    clnp_header::one_spelling();
-    clnp_header::front_or_fault();
-}
-
-/// A unit goes by the row with the longest prefix that covers its destination, the first of them, and
-/// is refused where no prefix does (X.233, route PDU function).
-pub fn longest_route()
-    ensures { (rows : List Row) (address : List ℕ) → IsLongest rows address (next_row rows address) }
 {}

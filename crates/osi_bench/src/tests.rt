@@ -1,11 +1,14 @@
 //! Scripts and the transcripts that they ask for, which were written by hand.
 
+ghost use Rattle.std.specs.Prelude.{◌≤◌};
+
 use super::*;
 use osi_base::{MemSink, MemSource, PlainSink, PlainSource, Source, Status};
 use std::alloc::Global;
 use std::process::Abort;
 use std::test::Fail;
 
+mod network;
 mod refused;
 
 /// Two end systems on one LAN: seven lines.
@@ -26,7 +29,7 @@ const THIRD: &str = "es c 490c00\nport c x 02000000000C\nes d 490d0000\nroute a 
 const THIRD_SHOWN: &str = "tick 0\nsent a 490b02 00\nframe 1 x a 02000000000c 35\nnotours 1 b\n\
     notthere 1 d\ndeliver 1 c\ndiscard c 80 0\nsent b 490a02 01\nframe 2 x b 02000000000a 35\n\
     sent c 490d0002 ab\nframe 3 x c 02000000000a 36\ndeliver 3 a\ndiscard a 80 0\n\
-    no noroute\nno noroute\ndone\n";
+    sent a 490c02 03\nframe 4 x a 09002b000004 35\nno noroute\ndone\n";
 
 /// Sixteen end systems, which are all that a script may have.
 const SIXTEEN: &str = "es a 0100\nes b 0200\nes c 0300\nes d 0400\nes e 0500\nes f 0600\n\
@@ -66,7 +69,8 @@ const EVENTS: [[&str; 2]; 7] = [
 ];
 
 /// Lines that are taken after the set-up and `es c 490c00`, before `start`.
-const TAKEN: &str = "\n# tsap\nes x 490d00\nes frames 490d00\nes dZ345678 4900\n\
+const TAKEN: &str =
+    "\n# tsap\nlan y 16 264\nis r 490900\nset life 1\nset t1 1\nset ct 0\nset hold 255\nes x 490d00\nes frames 490d00\nes dZ345678 4900\n\
     es d 4900000000000000000000000000000000000000\nport c x 0200000000aB\n\
     route a 490b00 b x\nroute a - a x\nroute b 490b b x";
 
@@ -136,6 +140,218 @@ fn lines_have_their_answers(rt: HostRuntime) -> Result<(), Fail> {
         )?;
     }
     Ok(())
+}
+
+#[test]
+fn networks_have_their_transcripts(rt: HostRuntime) -> Result<(), Fail> {
+    for [lans, more, events, shown] in network::RUNS {
+        expect(
+            &rt,
+            rt.alloc(),
+            &[lans, network::ROUTED, more, events],
+            &[shown],
+        )?;
+    }
+    for [script, shown] in [network::FOUND, network::ANSWERED] {
+        expect(&rt, rt.alloc(), &[script], &[shown])?;
+    }
+    Ok(())
+}
+
+/// The lines of so many ticks, from the one after that tick on.
+fn ticks(alloc: Global, after: u8, count: u8) -> Result<String, Fail> {
+    let mut shown = String::new(alloc);
+    for number in 0..count {
+        let now = u32::from(after) + u32::from(number) + 1;
+        shown.push_str(&format!(in alloc; "tick {now}\n")?)?;
+    }
+    Ok(shown)
+}
+
+#[test]
+fn a_redirect_ends_with_its_holding_time(rt: HostRuntime) -> Result<(), Fail> {
+    let passing = "tick\n".repeat(rt.alloc(), 39)?;
+    let passed = ticks(rt.alloc(), 0, 39)?;
+    expect(
+        &rt,
+        rt.alloc(),
+        &[network::DETOUR, &passing, network::DETOUR_END],
+        &[network::DETOUR_SHOWN, &passed, network::DETOUR_END_SHOWN],
+    )
+}
+
+/// The digits of 3,000 octets that are cut into unlike pieces.
+fn long_unit(alloc: Global) -> Result<String, Fail> {
+    let front = "01020304050607".repeat(alloc, 428)?;
+    Ok([front.as_str(), "01020304"].concat(alloc)?)
+}
+
+/// A unit of 3,000 octets in S is cut in three, of which the last is lost.
+#[test]
+fn a_lost_segment_is_told(rt: HostRuntime) -> Result<(), Fail> {
+    let alloc = rt.alloc();
+    let unit = long_unit(alloc)?;
+    let passing = "tick\n".repeat(alloc, 31)?;
+    let passed = ticks(alloc, 0, 31)?;
+    let sent =
+        "frame 1 x a 02000000000b 1512\nframe 2 x a 02000000000b 1512\nframe 3 x a 02000000000b 96\n";
+    expect(
+        &rt,
+        alloc,
+        &[
+            SET_UP,
+            "start\nunit a b s - ",
+            &unit,
+            "\ndeliver 1 b\ndeliver 2 b\n",
+            &passing,
+            "tick\n",
+        ],
+        &[
+            "tick 0\nsent a 490b02 ",
+            &unit,
+            "\n",
+            sent,
+            "deliver 1 b\ndeliver 2 b\n",
+            &passed,
+            "tick 32\ndiscard b a1 0\ndone\n",
+        ],
+    )
+}
+
+/// The frames of three segments that r cuts for a LAN of little room, with the delivery of each segment before them.
+fn cut_again(alloc: Global) -> Result<String, Fail> {
+    let mut shown = String::new(alloc);
+    for number in 4..19u32 {
+        if number == 4 || number == 11 || number == 18 {
+            shown.push_str(&format!(in alloc; "deliver {} r\n", (number - 4) / 7 + 1)?)?;
+        }
+        let length = match number {
+            10 | 17 => 72,
+            18 => 96,
+            _ => 280,
+        };
+        shown.push_str(&format!(in alloc; "frame {number} y r 02000000000b {length}\n")?)?;
+    }
+    Ok(shown)
+}
+
+/// The deliveries of the frames 18 to 4, backwards.
+fn backwards(alloc: Global) -> Result<String, Fail> {
+    let mut events = String::new(alloc);
+    for number in 0..15u32 {
+        events.push_str(&format!(in alloc; "deliver {} b\n", 18 - number)?)?;
+    }
+    Ok(events)
+}
+
+#[test]
+fn a_unit_is_cut_twice_and_joined_backwards(rt: HostRuntime) -> Result<(), Fail> {
+    let alloc = rt.alloc();
+    let unit = long_unit(alloc)?;
+    let (cut, back) = (cut_again(alloc)?, backwards(alloc)?);
+    let sent =
+        "frame 1 x a 020000000901 1512\nframe 2 x a 020000000901 1512\nframe 3 x a 020000000901 96\n";
+    let events = "\ndeliver 1 r\ndeliver 2 r\ndeliver 3 r\n";
+    expect(
+        &rt,
+        alloc,
+        &[
+            network::SMALL,
+            network::ROUTED,
+            network::TO_B,
+            "start\nunit a b s - ",
+            &unit,
+            events,
+            &back,
+        ],
+        &[
+            "tick 0\nsent a 490b02 ",
+            &unit,
+            "\n",
+            sent,
+            &cut,
+            &back,
+            "unit b 490a02 ",
+            &unit,
+            "\ndone\n",
+        ],
+    )
+}
+
+/// A unit that may not be cut does not fit the second LAN.
+#[test]
+fn a_lan_is_too_small(rt: HostRuntime) -> Result<(), Fail> {
+    let alloc = rt.alloc();
+    let unit = "7e".repeat(alloc, 300)?;
+    let shown =
+        "\nframe 1 x a 020000000901 334\ndeliver 1 r\ndiscard r 05 0\nframe 2 x r 02000000000a 55\n\
+        deliver 2 a\nreport a 05 0\ndone\n";
+    expect(
+        &rt,
+        alloc,
+        &[
+            network::SMALL,
+            network::ROUTED,
+            network::TO_B,
+            "start\nunit a b e - ",
+            &unit,
+            "\ndeliver 1 r\ndeliver 2 a\n",
+        ],
+        &["tick 0\nsent a 490b02 ", &unit, shown],
+    )
+}
+
+/// What is told of so many units of a to b: a frame for each, by its number from the first on, of which the LANs keep 16,384.
+fn sent(alloc: Global, first: u32, count: u32, length: u32) -> Result<String, Fail>
+    requires first { first ≤ 100000 }
+    requires count { count ≤ 100000 }
+{
+    let mut shown = String::new(alloc);
+    for number in 0..count {
+        shown.push_str("sent a 490b02 00\n")?;
+        if number < 16_384 {
+            let frame = first + number;
+            shown.push_str(&format!(in alloc; "frame {frame} x a 02000000000b {length}\n")?)?;
+        } else {
+            shown.push_str("drop frame a\n")?;
+        }
+    }
+    Ok(shown)
+}
+
+#[test]
+fn identifiers_are_spent(rt: HostRuntime) -> Result<(), Fail> {
+    let alloc = rt.alloc();
+    let first = "unit a b s - 00\n".repeat(alloc, 32_767)?;
+    let passing = "tick\n".repeat(alloc, 33)?;
+    let second = "unit a b s - 00\n".repeat(alloc, 32_770)?;
+    let (first_sent, passed) = (sent(alloc, 1, 32_767, 41)?, ticks(alloc, 0, 33)?);
+    let second_sent = sent(alloc, 16_385, 32_769, 41)?;
+    expect(
+        &rt,
+        alloc,
+        &[SET_UP, "start\n", &first, &passing, &second],
+        &[
+            "tick 0\n",
+            &first_sent,
+            &passed,
+            &second_sent,
+            "no idsspent\ndone\n",
+        ],
+    )
+}
+
+#[test]
+fn a_network_is_full(rt: HostRuntime) -> Result<(), Fail> {
+    let alloc = rt.alloc();
+    let units = "unit a b - - 00\n".repeat(alloc, 40_001)?;
+    let shown = sent(alloc, 1, 40_000, 35)?;
+    expect(
+        &rt,
+        alloc,
+        &[SET_UP, "start\n", &units],
+        &["tick 0\n", &shown, "no full\ndone\n"],
+    )
 }
 
 /// Units of so many octets that do not fit a frame of the LAN, that have no route, and that are too long for all.

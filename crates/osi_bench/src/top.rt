@@ -86,9 +86,6 @@ pub fn osi<S: Source, K: Sink>(
     ensures read_fault { result ≡ Status.ReadFault → HasRisen (S.faults source.old) (S.faults source.new) }
     ensures write_fault { result ≡ Status.WriteFault → HasRisen (K.faults sink.old) (K.faults sink.new) }
 {
-    clnp_header::one_front();
-    clnp_header::one_spelling();
-    clnp_header::front_or_fault();
     if is_run(words) {
         drive(alloc, Bench::new(alloc), source, sink)
     } else if is_decode(words) {

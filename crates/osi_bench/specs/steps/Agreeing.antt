@@ -1,12 +1,37 @@
 -- The names declared and the network agree.
-use Rattle.std.specs.Prelude.{◌≡◌, ℕ, ◌≤◌, length}
-use Rattle.osi_script.specs.Known.{Declared}
+use Rattle.std.specs.Prelude.{◌≡◌, ℕ, ◌≤◌, Bool, true, false, List, length, map, slice_get}
+use Rattle.osi_script.specs.Known.{Declared, KnownSystem, ports_of}
 use Rattle.osi_bench.specs.Bench.{bench_lines}
-use Rattle.osi_bench.specs.World.{World}
+use Rattle.osi_bench.specs.SetUp.{System, SetUp, ports_at}
+use Rattle.osi_bench.specs.World.{link_of_net}
+use Rattle.osi_bench.specs.declared.world.World.{World}
+use Rattle.osi_bench.specs.declared.world.World.TheVariants.{SettingUp, Running}
+use Rattle.osi_bench.specs.steps.Fitting.{IsWell}
 
--- the lines of the network alone are read, there are as many systems as names of systems, and no more ticks and frames than lines
+-- what the names and the set-up both know of a system
+pub record Shape : Type 0 where
+  pub end : Bool
+  pub title : List ℕ
+  pub routes : List (List ℕ)
+
+abbrev pub shape_of : System → Shape
+shape_of system = record { end = system.end; title = system.title; routes = map (λ row. row.prefix) system.rows }
+
+abbrev pub known_shape : KnownSystem → Shape
+known_shape system = record { end = system.is_end; title = system.title; routes = system.routes }
+
+-- the names and the set-up come from the same lines
+pub record AreOne (names : Declared) (setup : SetUp) : Type 0 where
+  pub lans : length setup.lans ≡ length names.lans
+  pub systems : map shape_of setup.systems ≡ map known_shape names.systems
+  pub ports : (number : ℕ) → ports_at setup.ports number ≡ ports_of (slice_get names.systems number)
+
+-- the network is set up until its start, and then runs with as many titles as systems; its clock is at most the number of lines
+abbrev pub AgreesWith : Declared → ℕ → World → Type 0
+AgreesWith names lines (SettingUp setup) = (names.started ≡ false) × AreOne names setup × IsWell setup
+AgreesWith names lines (Running titles net) = (names.started ≡ true) × (length titles ≡ length names.systems) × ((link_of_net net).clock ≤ lines)
+
+-- and the lines of the network alone are read
 pub record Agrees (names : Declared) (world : World) (lines : ℕ) : Type 0 where
   pub built : names.built ≡ bench_lines
-  pub systems : length world.systems ≡ length names.systems
-  pub clock : world.clock ≤ lines
-  pub frames : length world.frames ≤ lines
+  pub one : AgreesWith names lines world

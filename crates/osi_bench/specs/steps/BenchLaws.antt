@@ -2,8 +2,6 @@
 use Rattle.std.proofs.Common.{◌≡◌, ◌⊎◌, ℕ, ◌+◌, ◌-◌, ◌<◌, ◌≤◌, Bool, true, false, List, [], ◌++◌, length, take, Result, Ok, Err, inl, inr, refl, sym, ◌∙◌, ap, subst, arith}
 use Rattle.std.proofs.lemmas.Bool.{false≢true}
 use Rattle.std.proofs.lemmas.List.Concat.{flat_map-append}
-use Rattle.clnp_header.proofs.Answered.{one_front, apart}
-use Rattle.clnp_header.proofs.Spelled.{one_list}
 use Rattle.osi_script.specs.declared.fault.LineFault.{LineFault}
 use Rattle.osi_script.specs.declared.line.Line.{Line}
 use Rattle.osi_script.specs.declared.line.Line.TheVariants as lines
@@ -14,14 +12,14 @@ use Rattle.osi_journal.specs.declared.event.Event.{Event}
 use Rattle.osi_journal.specs.Told.{event_text, journal_text}
 use Rattle.line_loop.specs.Meaning.{Laws}
 use Rattle.osi_bench.specs.Bench.{Bench, RunsLine, FillsJournal, TellsEvents, bench_meaning, most_events}
-use Rattle.osi_bench.specs.LineSteps.{WorldStep}
-use Rattle.osi_bench.specs.World.{World}
+use Rattle.net_world.specs.Run.{RunsLine as NetRuns}
+use Rattle.osi_bench.specs.SetUp.{SetUp}
+use Rattle.osi_bench.specs.World.{Net, NetDoes, SetsUp, WorldStep, is_start, link_of_net}
+use Rattle.osi_bench.specs.declared.world.World.{World}
+use Rattle.osi_bench.specs.declared.world.World.TheVariants.{SettingUp, Running}
 use Rattle.osi_bench.specs.steps.Known.{IsPlaced, started_after}
-use Rattle.osi_bench.specs.steps.OneRun.{HeaderLaws, one_step}
-use Rattle.osi_bench.specs.steps.Reads.{Moves, line_moves}
-
-header_laws : HeaderLaws
-header_laws = record { one_front = one_front; one_spelling = one_list; apart = apart }
+use Rattle.osi_bench.specs.steps.OneRun.{one_step}
+use Rattle.osi_bench.specs.steps.Moves.{Moves, line_moves, start_only, starts_not}
 
 -- ---- one course
 
@@ -47,7 +45,7 @@ one_line old octets line second names declared made other new next first_is seco
     let same = one_reading (line_read old.names octets) (record { line = line; names = names }) (record { line = second; names = declared }) first_is second_is in
     let lines : line ≡ second = ap (λ (r : Reading). r.line) same in
     let steps : WorldStep old.world second made new = subst (λ (l : Line). WorldStep old.world l made new) lines a in
-    let one = one_step header_laws second old.world made other new next steps b in
+    let one = one_step second old.world made other new next steps b in
     record { made_is = one.0; names_are = ap (λ (r : Reading). r.names) same; world_is = one.1 }
 
 one_course : (old : Bench) (octets : List ℕ) (made other : List Event) (new next : Bench) → RunsLine old octets made new → RunsLine old octets other next → (made ≡ other) × (new ≡ next)
@@ -76,30 +74,43 @@ not_filled old octets made other new next a b =
 -- ---- what was told stays told
 
 -- while the set-up goes on nothing happens
+still : (start started : Bool) (setup : SetUp) (line : Line) (made : List Event) (new : World) → is_start line ≡ start → SetsUp start setup line made new → started_after started line ≡ false
+    → (started ≡ false) × (made ≡ [])
+still true started setup line made new is step later =
+    let same : line ≡ lines.Start = start_only line is in
+    let after : started_after started line ≡ true = ap (λ (l : Line). started_after started l) same in
+    absurd (false≢true (sym later ∙ after))
+still false started setup line made new is step later = (sym (starts_not started line is) ∙ later, step.0)
+
+running : (started : Bool) (titles : List (List ℕ)) (old net : Net) (line : Line) (made : List Event) → IsPlaced started line → NetRuns link_of_net NetDoes titles old line made net
+    → started_after started line ≡ false → (started ≡ false) × (made ≡ [])
+running started titles old net lines.Nothing made placed step later = (later, step.0)
+running started titles old net (lines.Unit system to wish octets) made placed step later = absurd (false≢true (sym later ∙ placed))
+running started titles old net lines.Tick made placed step later = absurd (false≢true (sym later ∙ placed))
+running started titles old net (lines.Deliver number system) made placed step later = absurd (false≢true (sym later ∙ placed))
+running started titles old net (lines.Set key value) made placed step later = absurd step
+running started titles old net (lines.Lan name bound room) made placed step later = absurd step
+running started titles old net (lines.Es name title) made placed step later = absurd step
+running started titles old net (lines.Is name title) made placed step later = absurd step
+running started titles old net (lines.Port system lan snpa) made placed step later = absurd step
+running started titles old net (lines.Route system prefix next lan) made placed step later = absurd step
+running started titles old net (lines.Path name kind systems) made placed step later = absurd step
+running started titles old net (lines.Tsap system selector) made placed step later = absurd step
+running started titles old net lines.Start made placed step later = absurd step
+running started titles old net (lines.Connect system selector to called options octets) made placed step later = absurd step
+running started titles old net (lines.Accept end options octets) made placed step later = absurd step
+running started titles old net (lines.Refuse end octets) made placed step later = absurd step
+running started titles old net (lines.Disconnect end octets) made placed step later = absurd step
+running started titles old net (lines.Data end octets) made placed step later = absurd step
+running started titles old net (lines.Expedite end octets) made placed step later = absurd step
+running started titles old net (lines.Window end credit) made placed step later = absurd step
+running started titles old net lines.Settle made placed step later = absurd step
+running started titles old net (lines.Inject lan system octets) made placed step later = absurd step
+
 quiet : (started : Bool) (line : Line) (old new : World) (made : List Event) → IsPlaced started line → WorldStep old line made new → started_after started line ≡ false
     → (started ≡ false) × (made ≡ [])
-quiet started lines.Nothing old new made placed step later = (later, step.0)
-quiet started (lines.Lan name bound room) old new made placed step later = (placed, step.0)
-quiet started (lines.Es name title) old new made placed step later = (placed, step.0)
-quiet started (lines.Port system lan snpa) old new made placed step later = (placed, step.2)
-quiet started (lines.Route system prefix next lan) old new made placed step later = (placed, step.4)
-quiet started lines.Start old new made placed step later = absurd (false≢true (sym later))
-quiet started (lines.Unit system to wish octets) old new made placed step later = absurd (false≢true (sym later ∙ placed))
-quiet started lines.Tick old new made placed step later = absurd (false≢true (sym later ∙ placed))
-quiet started (lines.Deliver frame system) old new made placed step later = absurd (false≢true (sym later ∙ placed))
-quiet started (lines.Set key value) old new made placed step later = absurd step
-quiet started (lines.Is name title) old new made placed step later = absurd step
-quiet started (lines.Path name kind systems) old new made placed step later = absurd step
-quiet started (lines.Tsap system selector) old new made placed step later = absurd step
-quiet started (lines.Connect system selector to called options octets) old new made placed step later = absurd step
-quiet started (lines.Accept end options octets) old new made placed step later = absurd step
-quiet started (lines.Refuse end octets) old new made placed step later = absurd step
-quiet started (lines.Disconnect end octets) old new made placed step later = absurd step
-quiet started (lines.Data end octets) old new made placed step later = absurd step
-quiet started (lines.Expedite end octets) old new made placed step later = absurd step
-quiet started (lines.Window end credit) old new made placed step later = absurd step
-quiet started lines.Settle old new made placed step later = absurd step
-quiet started (lines.Inject lan system octets) old new made placed step later = absurd step
+quiet started line (SettingUp setup) new made placed step later = still (is_start line) started setup line made new refl step.1 later
+quiet started line (Running titles net) new made placed step later = running started titles net step.0 line made placed step.1 later
 
 tells_on : (names new : Declared) (line : Line) (world next : World) (journal made : List Event) → Moves names line new → WorldStep world line made next
     → (names.started ≡ false → journal ≡ []) → new.started ≡ false → journal ++ made ≡ []

@@ -1,41 +1,24 @@
 -- What a line that was read keeps: the network runs it, the systems that it names are declared, and it stands where it may.
-use Rattle.std.specs.Prelude.{◌≡◌, ℕ, ◌<◌, ◌≤◌, Bool, true, false, [], length, None}
-use Rattle.clnp_header.specs.declared.pdu.Pdu.{Pdu}
-use Rattle.clnp_options.specs.declared.reason.PduKind.TheVariants.{Dt}
-use Rattle.pdu_parts.specs.Field.{IsAddress}
+use Rattle.std.specs.Prelude.{◌≡◌, ℕ, ◌<◌, Bool, true, false, List, length}
 use Rattle.osi_script.specs.declared.line.Line.{Line}
 use Rattle.osi_script.specs.declared.line.Line.TheVariants as lines
-use Rattle.osi_journal.specs.RawLawful.{raw_address}
-use Rattle.osi_bench.specs.LineSteps.{no_wish}
+use Rattle.osi_bench.specs.World.{Net, link_of_net}
+use Rattle.osi_bench.specs.declared.world.World.{World}
+use Rattle.osi_bench.specs.declared.world.World.TheVariants.{SettingUp, Running}
+use Rattle.osi_bench.specs.steps.Fitting.{Fits}
 
--- the network runs the line, and the systems that it names are among so many
-abbrev pub CanRun : ℕ → Line → Type 0
-CanRun count lines.Nothing = Unit {0}
-CanRun count (lines.Lan name bound room) = Unit {0}
-CanRun count (lines.Es name title) = Unit {0}
-CanRun count (lines.Port system lan snpa) = system < count
-CanRun count (lines.Route system prefix next lan) = (system < count) × (next < count)
-CanRun count lines.Start = Unit {0}
-CanRun count (lines.Unit system to wish octets) = (system < count) × (to < count) × (wish ≡ no_wish)
-CanRun count lines.Tick = Unit {0}
-CanRun count (lines.Deliver frame system) = system < count
-CanRun count line = ⊥
+-- a running network of so many systems has the line, and the systems that it names; a tick passes below the last value of the clock
+abbrev pub RunsAt : ℕ → ℕ → Line → Type 0
+RunsAt count clock lines.Nothing = Unit {0}
+RunsAt count clock (lines.Unit system to wish octets) = (system < count) × (to < count)
+RunsAt count clock lines.Tick = clock < 4000000000
+RunsAt count clock (lines.Deliver number system) = Unit {0}
+RunsAt count clock line = ⊥
 
--- a title is an address, also for raw units
-abbrev pub TitleFits : Line → Type 0
-TitleFits (lines.Es name title) = IsAddress (raw_address title)
-TitleFits line = Unit {0}
-
--- a DT PDU in one piece without options, with a unit that is not too long
-pub record IsPlainUnit (pdu : Pdu) : Type 0 where
-  pub kind : pdu.kind ≡ Dt
-  pub whole : pdu.segment ≡ None
-  pub plain : pdu.options ≡ []
-  pub short : length pdu.body ≤ 16384
-
--- no network runs to so many ticks or frames
-abbrev pub most_counted : ℕ
-most_counted = 4000000000
+-- the network has the line where it is
+abbrev pub CanRun : World → Line → Type 0
+CanRun (SettingUp setup) line = Fits setup line
+CanRun (Running titles net) line = RunsAt (length titles) (link_of_net net).clock line
 
 -- a set-up line stands before `start`, an event line after it
 abbrev pub IsPlaced : Bool → Line → Type 0
@@ -55,8 +38,3 @@ IsPlaced started line = started ≡ true
 abbrev pub started_after : Bool → Line → Bool
 started_after started lines.Start = true
 started_after started line = started
-
--- how many systems a line declares
-abbrev pub systems_of : Line → ℕ
-systems_of (lines.Es name title) = 1
-systems_of line = 0

@@ -1,8 +1,10 @@
 //! Lines that are refused, with the column and the cause of each, which were counted by hand.
 
 /// Lines that are refused after the set-up and `es c 490c00`, before `start`, with column and cause.
-pub const SET_UP: [[&str; 2]; 41] = [
-    ["lan y 1 1497", "1 word"],
+pub const SET_UP: [[&str; 2]; 51] = [
+    ["lan x 1 1497", "5 repeat"],
+    ["lan y 1 263", "9 range"],
+    ["lan y 17 1497", "7 range"],
     ["es a 490d00", "4 repeat"],
     ["es d 490b00", "6 repeat"],
     ["es d 00", "6 range"],
@@ -39,15 +41,23 @@ pub const SET_UP: [[&str; 2]; 41] = [
     ["Start", "1 word"],
     ["start x", "7 fields"],
     ["tsap b bb", "1 word"],
-    ["is r 490900", "1 word"],
-    ["set life 1", "1 word"],
+    ["is a 490900", "4 repeat"],
+    ["is r 490a00", "6 repeat"],
+    ["set life 0", "10 range"],
+    ["set lives 1", "5 syntax"],
+    ["set ct 256", "8 range"],
+    ["set w 60", "7 range"],
+    ["path p partial a", "16 unknown"],
+    ["path p wide a", "8 syntax"],
+    ["path p partial a,", "16 syntax"],
+    ["path p partial a,a,a,a,a", "16 range"],
     ["#\t", "2 ascii"],
     ["#\u{e9}", "2 ascii"],
 ];
 
 /// Lines that are refused after the set-up and `start`, with column and cause.
 pub const EVENTS: [[&str; 2]; 21] = [
-    ["unit a b s - 00", "1 word"],
+    ["unit a b es - 00", "10 syntax"],
     ["unit a b - p 00", "12 unknown"],
     ["unit a b - - 0", "14 syntax"],
     ["unit a b - - 0g", "14 syntax"],

@@ -5,17 +5,17 @@ use Rattle.osi_bench.proofs.top.osi.Goals as goal
 
 pub returns-then-is_run-clause-run : goal.returns-then-is_run-clause-run
 returns-then-is_run-clause-run g c is =
-    gives_transcript g.S.Source.left g.K.Sink.held (record { one_front = c.one_front.ensures; one_spelling = c.one_spelling.ensures; apart = c.front_or_fault.ensures.apart })
+    gives_transcript g.S.Source.left g.K.Sink.held
     c.args.source.now c.args.sink.now c.new.result c.drive.new.source c.drive.new.sink c.drive.result c.new.ensures c.drive.ensures.outcome _ (search rules)
 
 pub returns-then-is_run-clause-exact : goal.returns-then-is_run-clause-exact
 returns-then-is_run-clause-exact g c is all text asked tells asks =
-    gives_exact g.S.Source.left g.K.Sink.held (record { one_front = c.one_front.ensures; one_spelling = c.one_spelling.ensures; apart = c.front_or_fault.ensures.apart })
+    gives_exact g.S.Source.left g.K.Sink.held
     c.args.source.now c.args.sink.now c.new.result c.drive.new.source c.drive.new.sink c.drive.result c.new.ensures c.drive.ensures.outcome all text asked tells asks _ (search rules)
 
 pub returns-then-is_run-clause-complete : goal.returns-then-is_run-clause-complete
 returns-then-is_run-clause-complete g c is all tells accepted no_read no_write =
-    gives_complete g.S.Source.left g.K.Sink.held (record { one_front = c.one_front.ensures; one_spelling = c.one_spelling.ensures; apart = c.front_or_fault.ensures.apart })
+    gives_complete g.S.Source.left g.K.Sink.held
     c.args.source.now c.args.sink.now c.new.result c.drive.new.source c.drive.new.sink c.drive.result c.new.ensures c.drive.ensures.outcome all tells accepted
     (g.S.Source.faults c.args.source.now) (g.S.Source.faults c.drive.new.source) (g.K.Sink.faults c.args.sink.now) (g.K.Sink.faults c.drive.new.sink)
     c.drive.ensures.read_fault c.drive.ensures.write_fault no_read no_write _ (search rules)
