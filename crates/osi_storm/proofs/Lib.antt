@@ -1,0 +1,10 @@
+pub mod Counting
+pub mod Drawing
+pub mod EachLine
+pub mod Fields
+pub mod Numbers
+pub mod Reading
+pub mod Repeats
+pub mod Rows
+pub mod SetUp
+pub mod Told

@@ -1,0 +1,234 @@
+-- Each line of a word is read after the set-up: its fields stand apart, each has the form that the row of its word asks for,
+-- and it declares nothing.
+use Rattle.std.proofs.Common.{◌≡◌, ℕ, zero, suc, ◌+◌, ◌*◌, ◌<◌, ◌≤◌, Bool, true, false, if◌then◌else◌, List, [], ◌∷◌, ◌++◌, length, replicate, refl, ap, sym, ◌∙◌, arith, Some, None, Ok, codes, append_assoc, add-one}
+use Rattle.std.specs.Prelude.{nat_lt, not, position, slice_index}
+use Rattle.std.specs.Fmt.{decimal}
+use Rattle.std.specs.List.{list_all}
+use Rattle.std.proofs.lemmas.Bool.Decides.{nat_tests}
+use Rattle.std.proofs.lemmas.List.{length-replicate}
+use Rattle.hex.specs.Hex.{encode_lower, decode_pairs, lower_digits, IsBytes}
+use Rattle.hex.proofs.HexLemmas.{length-encode_with}
+use Rattle.osi_script.specs.declared.form.Word.{Word}
+use Rattle.osi_script.specs.declared.form.Word.TheVariants as words
+use Rattle.osi_script.specs.declared.line.Line.{Line}
+use Rattle.osi_script.specs.declared.line.Line.TheVariants as lines
+use Rattle.osi_script.specs.declared.line.Options.{Options}
+use Rattle.osi_script.specs.Field.{fields_of, is_name, number_of, octets_of, is_printable}
+use Rattle.osi_script.specs.Grammar.{Reading, line_read, text_read, worded_read, is_idle}
+use Rattle.osi_script.specs.Known.{Declared, Lines}
+use Rattle.osi_script.specs.Reading.{system_of, end_system_of, size_of, selector_of}
+use Rattle.osi_script.specs.Table.{row_of, word_of}
+use Rattle.osi_script.proofs.Printing.{all_printable}
+use Rattle.osi_storm.specs.Line.{accept_line, number_back}
+use Rattle.osi_storm.specs.Read.{RunsStorms}
+use Rattle.osi_storm.proofs.Fields.{AreVisible, joined, fields_joined, printable_joined, size_of_all, size_joined, is_visible}
+use Rattle.osi_storm.proofs.Numbers.{decimal_visible, decimal_short, number_read, credit_read, hex_visible, hex_read}
+use Rattle.osi_storm.proofs.SetUp.{set_up_names}
+
+abbrev reading : Lines → Line → Reading
+reading built line = record { line = line; names = set_up_names built }
+
+-- the line is read after the set-up, and declares nothing
+abbrev pub IsRead : Lines → List ℕ → Type 0
+IsRead built text = (line : Line) × (line_read (set_up_names built) text ≡ Ok (reading built line))
+
+text_is : (names : Declared) (text : List ℕ) (word : Word) (fields : List (List ℕ)) (read : Reading) → nat_lt 40000 (length text) ≡ false
+    → position (λ octet. not (is_printable octet)) text ≡ None → is_idle text ≡ false → fields_of text ≡ (row_of word).text ∷ fields
+    → word_of names.built.words (row_of word).text ≡ Some word → ((past column : ℕ) → worded_read names past column fields (Some word) ≡ Ok read)
+    → line_read names text ≡ Ok read
+unfolding line_read text_read
+text_is names text word fields read short printable idle parts named each = rw (short, printable, idle, parts, named) (each _ _)
+
+is_short : (count : ℕ) → count ≤ 40000 → nat_lt 40000 count ≡ false
+is_short count few = grind (arith, nat_tests)
+
+row_read : (names : Declared) (word : Word) (fields : List (List ℕ)) (read : Reading) → AreVisible ((row_of word).text ∷ fields)
+    → size_of_all ((row_of word).text ∷ fields) ≤ 40000 → is_idle (joined ((row_of word).text ∷ fields)) ≡ false
+    → word_of names.built.words (row_of word).text ≡ Some word → ((past column : ℕ) → worded_read names past column fields (Some word) ≡ Ok read)
+    → line_read names (joined ((row_of word).text ∷ fields)) ≡ Ok read
+row_read names word fields read visible few idle named each =
+    let size = size_joined ((row_of word).text ∷ fields) in
+    text_is names (joined ((row_of word).text ∷ fields)) word fields read
+    (is_short (length (joined ((row_of word).text ∷ fields))) (omega arith))
+    (all_printable (joined ((row_of word).text ∷ fields)) (printable_joined ((row_of word).text ∷ fields) visible))
+    idle (fields_joined (row_of word).text fields visible) named each
+
+-- ---- fields
+
+a_is_end : (built : Lines) → end_system_of (set_up_names built) (codes "a") ≡ Ok 0
+unfolding end_system_of is_name
+a_is_end built = refl
+
+b_is_end : (built : Lines) → end_system_of (set_up_names built) (codes "b") ≡ Ok 1
+unfolding end_system_of is_name
+b_is_end built = refl
+
+aa_read : selector_of (codes "aa") ≡ Ok (170 ∷ [])
+unfolding selector_of octets_of decode_pairs
+aa_read = refl
+
+bb_read : selector_of (codes "bb") ≡ Ok (187 ∷ [])
+unfolding selector_of octets_of decode_pairs
+bb_read = refl
+
+size_read : size_of (codes "128") ≡ Ok 128
+unfolding size_of number_of
+size_read = refl
+
+none_read : octets_of (codes "-") ≡ Ok []
+unfolding octets_of
+none_read = refl
+
+-- a system by its name
+pub record IsSystem (built : Lines) (name : List ℕ) (number : ℕ) : Type 0 where
+  pub visible : list_all is_visible name ≡ true
+  pub short : length name ≤ 8
+  pub found : system_of (set_up_names built) name ≡ Ok number
+
+pub a_is : (built : Lines) → IsSystem built (codes "a") 0
+unfolding is_name
+a_is built = record { visible = refl; short = omega arith; found = refl }
+
+pub b_is : (built : Lines) → IsSystem built (codes "b") 1
+unfolding is_name
+b_is built = record { visible = refl; short = omega arith; found = refl }
+
+pub r_is : (built : Lines) → IsSystem built (codes "r") 2
+unfolding is_name
+r_is built = record { visible = refl; short = omega arith; found = refl }
+
+bytes_same : (count octet i : ℕ) → octet < 256 → slice_index (replicate count octet) i < 256
+bytes_same zero octet i small = omega arith
+bytes_same (suc count) octet zero small = small
+bytes_same (suc count) octet (suc i) small = bytes_same count octet i small
+
+pub are_bytes : (octet count : ℕ) → octet < 256 → IsBytes (octet ∷ replicate count octet)
+are_bytes octet count small i = bytes_same (suc count) octet i small
+
+-- a blank that ends what stands before is one between two fields
+pub apart : (word field next : List ℕ) → word ++ field ++ codes " " ++ next ≡ word ++ (field ++ 32 ∷ next)
+apart word field next = append_assoc (word ++ field) (codes " ") next ∙ append_assoc word field (32 ∷ next)
+
+abbrev options : Bool → Options
+options extended = record { extended = extended; size = 128; expedited = true; sum = true }
+
+pub back_small : (count back : ℕ) → count < 1000000000 → number_back count back < 1000000000
+back_small count back small = grind (arith, nat_tests)
+
+-- ---- rows
+
+module _ (built : Lines) (runs : RunsStorms built) where
+  pub tick_read : IsRead built (codes "tick")
+  tick_read =
+      let named = runs.words.1.1.1.1.1.1.1.1.1.1.1.1.0 in
+      (lines.Tick, row_read (set_up_names built) words.Tick [] (reading built lines.Tick) (refl, tt) (omega arith) refl named (λ past column. refl))
+
+  pub accept_read : (end : ℕ) → end < 1000000000 → IsRead built (accept_line end)
+  accept_read end small =
+      let named = runs.words.1.1.1.1.1.1.1.1.0 in
+      let line = lines.Accept end (options true) [] in
+      let few = decimal_short end small in (
+        line,
+        row_read (set_up_names built) words.Accept (decimal end ∷ codes "extended" ∷ codes "128" ∷ codes "exp" ∷ codes "sum" ∷ codes "-" ∷ []) (reading built line)
+            (refl, (decimal_visible end small, (refl, (refl, (refl, (refl, (refl, tt))))))) (omega arith) refl named
+            (λ past column. let number = number_read end small in rw (number, size_read, none_read) refl),
+      )
+
+  connect_normal : IsRead built (codes "connect a aa b bb " ++ codes "normal" ++ codes " 128 exp sum -")
+  connect_normal =
+      let named = runs.words.1.1.1.1.1.1.1.0 in
+      let line = lines.Connect 0 (170 ∷ []) 1 (187 ∷ []) (options false) [] in (
+        line,
+        row_read (set_up_names built) words.Connect
+            (codes "a" ∷ codes "aa" ∷ codes "b" ∷ codes "bb" ∷ codes "normal" ∷ codes "128" ∷ codes "exp" ∷ codes "sum" ∷ codes "-" ∷ []) (reading built line)
+            (refl, (refl, (refl, (refl, (refl, (refl, (refl, (refl, (refl, (refl, tt)))))))))) (omega arith) refl named
+            (λ past column. rw (a_is_end built, aa_read, b_is_end built, bb_read, size_read, none_read) refl),
+      )
+
+  connect_extended : IsRead built (codes "connect a aa b bb " ++ codes "extended" ++ codes " 128 exp sum -")
+  connect_extended =
+      let named = runs.words.1.1.1.1.1.1.1.0 in
+      let line = lines.Connect 0 (170 ∷ []) 1 (187 ∷ []) (options true) [] in (
+        line,
+        row_read (set_up_names built) words.Connect
+            (codes "a" ∷ codes "aa" ∷ codes "b" ∷ codes "bb" ∷ codes "extended" ∷ codes "128" ∷ codes "exp" ∷ codes "sum" ∷ codes "-" ∷ []) (reading built line)
+            (refl, (refl, (refl, (refl, (refl, (refl, (refl, (refl, (refl, (refl, tt)))))))))) (omega arith) refl named
+            (λ past column. rw (a_is_end built, aa_read, b_is_end built, bb_read, size_read, none_read) refl),
+      )
+
+  pub connect_by : (format : Bool) → IsRead built (codes "connect a aa b bb " ++ (if format then codes "normal" else codes "extended") ++ codes " 128 exp sum -")
+  connect_by true = connect_normal
+  connect_by false = connect_extended
+
+  -- of a line with an end and octets
+  pub units_read : (octet : ℕ) (count end : ℕ) → octet < 256 → count < 300 → end < 1000000000
+      → IsRead built (codes "data " ++ decimal end ++ codes " " ++ encode_lower (octet ∷ replicate count octet))
+  units_read octet count end small few below =
+      let named = runs.words.1.1.1.1.1.1.1.1.1.0 in
+      let octets = octet ∷ replicate count octet in
+      let bytes = are_bytes octet count small in
+      let line = lines.Data end octets in
+      let short = decimal_short end below in
+      let digits : length (encode_lower octets) ≡ 2 * length octets = length-encode_with lower_digits octets in
+      let many : length octets ≡ count + 1 = ap suc (length-replicate count octet) ∙ sym (add-one count) in
+      let read = row_read (set_up_names built) words.Data (decimal end ∷ encode_lower octets ∷ []) (reading built line)
+      (refl, (decimal_visible end below, (hex_visible octets bytes, tt))) (omega arith) refl named
+      (λ past column. let number = number_read end below in let unit = hex_read octet (replicate count octet) bytes in rw (number, unit) refl) in
+      rw (apart (codes "data ") (decimal end) (encode_lower octets)) (line, read)
+
+  pub expedite_read : (octet end : ℕ) → octet < 256 → end < 1000000000 → IsRead built (codes "expedite " ++ decimal end ++ codes " " ++ encode_lower (octet ∷ []))
+  expedite_read octet end small below =
+      let named = runs.words.1.1.1.1.1.1.1.1.1.1.0 in
+      let octets = octet ∷ [] in
+      let bytes = are_bytes octet 0 small in
+      let line = lines.Expedite end octets in
+      let short = decimal_short end below in
+      let digits : length (encode_lower octets) ≡ 2 = length-encode_with lower_digits octets in
+      let read = row_read (set_up_names built) words.Expedite (decimal end ∷ encode_lower octets ∷ []) (reading built line)
+      (refl, (decimal_visible end below, (hex_visible octets bytes, tt))) (omega arith) refl named
+      (λ past column. let number = number_read end below in let unit = hex_read octet [] bytes in rw (number, unit) refl) in
+      rw (apart (codes "expedite ") (decimal end) (encode_lower octets)) (line, read)
+
+  pub disconnect_read : (end : ℕ) → end < 1000000000 → IsRead built (codes "disconnect " ++ decimal end ++ codes " -")
+  disconnect_read end small =
+      let named = runs.words.1.1.1.1.1.1.1.1.1.1.1.1.1.0 in
+      let line = lines.Disconnect end [] in
+      let few = decimal_short end small in (
+        line,
+        row_read (set_up_names built) words.Disconnect (decimal end ∷ codes "-" ∷ []) (reading built line)
+            (refl, (decimal_visible end small, (refl, tt))) (omega arith) refl named
+            (λ past column. let number = number_read end small in rw (number, none_read) refl),
+      )
+
+  pub refuse_read : (end : ℕ) → end < 1000000000 → IsRead built (codes "refuse " ++ decimal end ++ codes " -")
+  refuse_read end small =
+      let named = runs.words.1.1.1.1.1.1.1.1.1.1.1.1.1.1.0 in
+      let line = lines.Refuse end [] in
+      let few = decimal_short end small in (
+        line,
+        row_read (set_up_names built) words.Refuse (decimal end ∷ codes "-" ∷ []) (reading built line)
+            (refl, (decimal_visible end small, (refl, tt))) (omega arith) refl named
+            (λ past column. let number = number_read end small in rw (number, none_read) refl),
+      )
+
+  pub window_read : (credit end : ℕ) → credit < 256 → end < 1000000000 → IsRead built (codes "window " ++ decimal end ++ codes " " ++ decimal credit)
+  window_read credit end low small =
+      let named = runs.words.1.1.1.1.1.1.1.1.1.1.1.1.1.1.1.0 in
+      let line = lines.Window end credit in
+      let short = decimal_short end small in
+      let few = decimal_short credit (omega arith) in
+      let read = row_read (set_up_names built) words.Window (decimal end ∷ decimal credit ∷ []) (reading built line)
+      (refl, (decimal_visible end small, (decimal_visible credit (omega arith), tt))) (omega arith) refl named
+      (λ past column. let number = number_read end small in let granted = credit_read credit low in rw (number, granted) refl) in
+      rw (apart (codes "window ") (decimal end) (decimal credit)) (line, read)
+
+  pub deliver_read : (system : List ℕ) (number frame : ℕ) → IsSystem built system number → frame < 1000000000 → IsRead built (codes "deliver " ++ decimal frame ++ codes " " ++ system)
+  deliver_read system number frame is small =
+      let named = runs.words.1.1.1.1.1.1.1.1.1.1.1.0 in
+      let line = lines.Deliver frame number in
+      let short = decimal_short frame small in
+      let few = is.short in
+      let read = row_read (set_up_names built) words.Deliver (decimal frame ∷ system ∷ []) (reading built line)
+      (refl, (decimal_visible frame small, (is.visible, tt))) (omega arith) refl named
+      (λ past column. let shown = number_read frame small in let found = is.found in rw (shown, found) refl) in
+      rw (apart (codes "deliver ") (decimal frame) system) (line, read)

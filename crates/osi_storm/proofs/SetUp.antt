@@ -1,0 +1,178 @@
+-- The lines of the set-up are read: each computes to its line, once its word is known to name one.
+use Rattle.std.proofs.Common.{◌≡◌, ℕ, Bool, true, false, nat_le, List, [], ◌∷◌, Ok, refl, codes, arith}
+use Rattle.std.proofs.lemmas.Bool.Decides.{nat_tests}
+use Rattle.nsap.specs.declared.port.Port.{Port}
+use Rattle.nsap.specs.Text.{hex_octets}
+use Rattle.hex.specs.Hex.{decode_pairs}
+use Rattle.osi_script.specs.declared.line.Line.{Line}
+use Rattle.osi_script.specs.declared.line.Line.TheVariants as lines
+use Rattle.osi_script.specs.declared.system.LanRow.{LanRow}
+use Rattle.osi_script.specs.Field.{fields_of, is_name, number_of, title_of, station_of, prefix_of, octets_of}
+use Rattle.osi_script.specs.Grammar.{line_read, text_read}
+use Rattle.osi_script.specs.Known.{Declared, KnownSystem, Lines, nothing_declared}
+use Rattle.osi_script.specs.Reading.{end_system_of, port_lan_of, route_lan_of, new_title, new_station, new_prefix, selector_of, new_selector}
+use Rattle.osi_script.specs.Script.{Says}
+use Rattle.osi_storm.specs.Line.{set_up_lines}
+use Rattle.osi_storm.specs.Read.{RunsStorms}
+
+abbrev pub stage : Lines → List LanRow → List KnownSystem → Bool → Declared
+stage built lans systems started =
+    record { built = built; settings = (nothing_declared built).settings; lans = lans; systems = systems; paths = []; started = started }
+
+abbrev pub x : LanRow
+x = record { name = codes "x"; bound = 2 }
+
+abbrev pub y : LanRow
+y = record { name = codes "y"; bound = 3 }
+
+abbrev port : ℕ → List ℕ → Port
+port lan snpa = record { lan = lan; snpa = snpa }
+
+abbrev pub a : List Port → List (List ℕ) → KnownSystem
+a ports routes = record { name = codes "a"; is_end = true; title = 73 ∷ 10 ∷ 0 ∷ []; ports = ports; routes = routes; selectors = [] }
+
+abbrev pub b : List Port → List (List ℕ) → List (List ℕ) → KnownSystem
+b ports routes selectors = record { name = codes "b"; is_end = true; title = 73 ∷ 11 ∷ 0 ∷ []; ports = ports; routes = routes; selectors = selectors }
+
+abbrev pub r : List Port → List (List ℕ) → KnownSystem
+r ports routes = record { name = codes "r"; is_end = false; title = 73 ∷ 9 ∷ 0 ∷ []; ports = ports; routes = routes; selectors = [] }
+
+abbrev snpa : ℕ → ℕ → List ℕ
+snpa high low = 2 ∷ 0 ∷ 0 ∷ 0 ∷ high ∷ low ∷ []
+
+abbrev pub a_on : List Port
+a_on = port 0 (snpa 0 10) ∷ []
+
+abbrev pub b_on : List Port
+b_on = port 1 (snpa 0 11) ∷ []
+
+abbrev r_on_x : List Port
+r_on_x = port 0 (snpa 9 1) ∷ []
+
+abbrev pub r_on : List Port
+r_on = port 0 (snpa 9 1) ∷ port 1 (snpa 9 2) ∷ []
+
+abbrev all : List (List ℕ)
+all = [] ∷ []
+
+abbrev to_a : List (List ℕ)
+to_a = (73 ∷ 10 ∷ []) ∷ []
+
+abbrev pub to_both : List (List ℕ)
+to_both = (73 ∷ 10 ∷ []) ∷ (73 ∷ 11 ∷ []) ∷ []
+
+abbrev pub bb : List (List ℕ)
+bb = (187 ∷ []) ∷ []
+
+abbrev both : List LanRow
+both = x ∷ y ∷ []
+
+lan_x : (built : Lines) → RunsStorms built → line_read (stage built [] [] false) (codes "lan x 2 1497")
+    ≡ Ok (record { line = lines.Lan 0 2 1497; names = stage built (x ∷ []) [] false })
+unfolding line_read text_read fields_of is_name number_of
+lan_x built runs =
+    let named = runs.words.0 in
+    let two = runs.lans in
+    let room : nat_le built.lans 0 ≡ false = grind (arith, nat_tests) in
+    rw (named, room) refl
+
+lan_y : (built : Lines) → RunsStorms built → line_read (stage built (x ∷ []) [] false) (codes "lan y 3 264")
+    ≡ Ok (record { line = lines.Lan 1 3 264; names = stage built both [] false })
+unfolding line_read text_read fields_of is_name number_of
+lan_y built runs =
+    let named = runs.words.0 in
+    let two = runs.lans in
+    let room : nat_le built.lans 1 ≡ false = grind (arith, nat_tests) in
+    rw (named, room) refl
+
+es_a : (built : Lines) → RunsStorms built → line_read (stage built both [] false) (codes "es a 490a00")
+    ≡ Ok (record { line = lines.Es 0 (73 ∷ 10 ∷ 0 ∷ []); names = stage built both (a [] [] ∷ []) false })
+unfolding line_read text_read fields_of is_name new_title title_of hex_octets
+es_a built runs = let named = runs.words.1.0 in rw named refl
+
+es_b : (built : Lines) → RunsStorms built → line_read (stage built both (a [] [] ∷ []) false) (codes "es b 490b00")
+    ≡ Ok (record { line = lines.Es 1 (73 ∷ 11 ∷ 0 ∷ []); names = stage built both (a [] [] ∷ b [] [] [] ∷ []) false })
+unfolding line_read text_read fields_of is_name new_title title_of hex_octets
+es_b built runs = let named = runs.words.1.0 in rw named refl
+
+is_r : (built : Lines) → RunsStorms built → line_read (stage built both (a [] [] ∷ b [] [] [] ∷ []) false) (codes "is r 490900")
+    ≡ Ok (record { line = lines.Is 2 (73 ∷ 9 ∷ 0 ∷ []); names = stage built both (a [] [] ∷ b [] [] [] ∷ r [] [] ∷ []) false })
+unfolding line_read text_read fields_of is_name new_title title_of hex_octets
+is_r built runs = let named = runs.words.1.1.0 in rw named refl
+
+port_a : (built : Lines) → RunsStorms built → line_read (stage built both (a [] [] ∷ b [] [] [] ∷ r [] [] ∷ []) false) (codes "port a x 02000000000a")
+    ≡ Ok (record { line = lines.Port 0 0 (snpa 0 10); names = stage built both (a a_on [] ∷ b [] [] [] ∷ r [] [] ∷ []) false })
+unfolding line_read text_read fields_of is_name port_lan_of new_station station_of hex_octets
+port_a built runs = let named = runs.words.1.1.1.0 in rw named refl
+
+port_b : (built : Lines) → RunsStorms built → line_read (stage built both (a a_on [] ∷ b [] [] [] ∷ r [] [] ∷ []) false) (codes "port b y 02000000000b")
+    ≡ Ok (record { line = lines.Port 1 1 (snpa 0 11); names = stage built both (a a_on [] ∷ b b_on [] [] ∷ r [] [] ∷ []) false })
+unfolding line_read text_read fields_of is_name port_lan_of new_station station_of hex_octets
+port_b built runs = let named = runs.words.1.1.1.0 in rw named refl
+
+port_r_x : (built : Lines) → RunsStorms built → line_read (stage built both (a a_on [] ∷ b b_on [] [] ∷ r [] [] ∷ []) false) (codes "port r x 020000000901")
+    ≡ Ok (record { line = lines.Port 2 0 (snpa 9 1); names = stage built both (a a_on [] ∷ b b_on [] [] ∷ r r_on_x [] ∷ []) false })
+unfolding line_read text_read fields_of is_name port_lan_of new_station station_of hex_octets
+port_r_x built runs = let named = runs.words.1.1.1.0 in rw named refl
+
+port_r_y : (built : Lines) → RunsStorms built → line_read (stage built both (a a_on [] ∷ b b_on [] [] ∷ r r_on_x [] ∷ []) false) (codes "port r y 020000000902")
+    ≡ Ok (record { line = lines.Port 2 1 (snpa 9 2); names = stage built both (a a_on [] ∷ b b_on [] [] ∷ r r_on [] ∷ []) false })
+unfolding line_read text_read fields_of is_name port_lan_of new_station station_of hex_octets
+port_r_y built runs = let named = runs.words.1.1.1.0 in rw named refl
+
+route_a : (built : Lines) → RunsStorms built → line_read (stage built both (a a_on [] ∷ b b_on [] [] ∷ r r_on [] ∷ []) false) (codes "route a - r x")
+    ≡ Ok (record { line = lines.Route 0 [] 2 0; names = stage built both (a a_on all ∷ b b_on [] [] ∷ r r_on [] ∷ []) false })
+unfolding line_read text_read fields_of is_name route_lan_of new_prefix prefix_of hex_octets
+route_a built runs = let named = runs.words.1.1.1.1.0 in rw named refl
+
+route_b : (built : Lines) → RunsStorms built → line_read (stage built both (a a_on all ∷ b b_on [] [] ∷ r r_on [] ∷ []) false) (codes "route b - r y")
+    ≡ Ok (record { line = lines.Route 1 [] 2 1; names = stage built both (a a_on all ∷ b b_on all [] ∷ r r_on [] ∷ []) false })
+unfolding line_read text_read fields_of is_name route_lan_of new_prefix prefix_of hex_octets
+route_b built runs = let named = runs.words.1.1.1.1.0 in rw named refl
+
+route_r_a : (built : Lines) → RunsStorms built → line_read (stage built both (a a_on all ∷ b b_on all [] ∷ r r_on [] ∷ []) false) (codes "route r 490a a x")
+    ≡ Ok (record { line = lines.Route 2 (73 ∷ 10 ∷ []) 0 0; names = stage built both (a a_on all ∷ b b_on all [] ∷ r r_on to_a ∷ []) false })
+unfolding line_read text_read fields_of is_name route_lan_of new_prefix prefix_of hex_octets
+route_r_a built runs = let named = runs.words.1.1.1.1.0 in rw named refl
+
+route_r_b : (built : Lines) → RunsStorms built → line_read (stage built both (a a_on all ∷ b b_on all [] ∷ r r_on to_a ∷ []) false) (codes "route r 490b b y")
+    ≡ Ok (record { line = lines.Route 2 (73 ∷ 11 ∷ []) 1 1; names = stage built both (a a_on all ∷ b b_on all [] ∷ r r_on to_both ∷ []) false })
+unfolding line_read text_read fields_of is_name route_lan_of new_prefix prefix_of hex_octets
+route_r_b built runs = let named = runs.words.1.1.1.1.0 in rw named refl
+
+tsap_b : (built : Lines) → RunsStorms built → line_read (stage built both (a a_on all ∷ b b_on all [] ∷ r r_on to_both ∷ []) false) (codes "tsap b bb")
+    ≡ Ok (record { line = lines.Tsap 1 (187 ∷ []); names = stage built both (a a_on all ∷ b b_on all bb ∷ r r_on to_both ∷ []) false })
+unfolding line_read text_read fields_of is_name end_system_of new_selector selector_of octets_of decode_pairs
+tsap_b built runs = let named = runs.words.1.1.1.1.1.0 in rw named refl
+
+start : (built : Lines) → RunsStorms built → line_read (stage built both (a a_on all ∷ b b_on all bb ∷ r r_on to_both ∷ []) false) (codes "start")
+    ≡ Ok (record { line = lines.Start; names = stage built both (a a_on all ∷ b b_on all bb ∷ r r_on to_both ∷ []) true })
+unfolding line_read text_read fields_of
+start built runs = let named = runs.words.1.1.1.1.1.1.0 in rw named refl
+
+-- what is declared after the set-up
+abbrev pub set_up_names : Lines → Declared
+set_up_names built = stage built both (a a_on all ∷ b b_on all bb ∷ r r_on to_both ∷ []) true
+
+abbrev pub said : List Line
+said =
+    lines.Lan 0 2 1497
+    ∷ lines.Lan 1 3 264
+    ∷ lines.Es 0 (73 ∷ 10 ∷ 0 ∷ [])
+    ∷ lines.Es 1 (73 ∷ 11 ∷ 0 ∷ [])
+    ∷ lines.Is 2 (73 ∷ 9 ∷ 0 ∷ [])
+    ∷ lines.Port 0 0 (snpa 0 10)
+    ∷ lines.Port 1 1 (snpa 0 11)
+    ∷ lines.Port 2 0 (snpa 9 1)
+    ∷ lines.Port 2 1 (snpa 9 2)
+    ∷ lines.Route 0 [] 2 0
+    ∷ lines.Route 1 [] 2 1
+    ∷ lines.Route 2 (73 ∷ 10 ∷ []) 0 0
+    ∷ lines.Route 2 (73 ∷ 11 ∷ []) 1 1
+    ∷ lines.Tsap 1 (187 ∷ [])
+    ∷ lines.Start
+    ∷ []
+
+pub set_up_read : (built : Lines) → RunsStorms built → Says (nothing_declared built) set_up_lines said (set_up_names built)
+set_up_read built runs =
+    (_, lan_x built runs, (_, lan_y built runs, (_, es_a built runs, (_, es_b built runs, (_, is_r built runs, (_, port_a built runs, (_, port_b built runs, (_, port_r_x built runs, (_, port_r_y built runs, (_, route_a built runs, (_, route_b built runs, (_, route_r_a built runs, (_, route_r_b built runs, (_, tsap_b built runs, (_, start built runs, refl)))))))))))))))

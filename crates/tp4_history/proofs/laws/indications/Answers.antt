@@ -1,0 +1,5 @@
+use Rattle.tp4_history.proofs.Listed.{each_indicates}
+use Rattle.tp4_history.proofs.laws.indications.Goals as goal
+
+pub returns : goal.returns
+returns c = each_indicates

@@ -1,0 +1,9 @@
+pub mod Ends
+pub mod History
+pub mod Indications
+pub mod Journals
+pub mod Laws
+pub mod Line
+pub mod Tracks
+pub mod Units
+pub mod Worked

@@ -1,0 +1,10 @@
+pub mod Beginnings
+pub mod Called
+pub mod Calling
+pub mod Closes
+pub mod Halves
+pub mod Offers
+pub mod Opens
+pub mod Rows
+pub mod Sources
+pub mod Steps
