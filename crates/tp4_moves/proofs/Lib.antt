@@ -2,6 +2,21 @@ pub mod Beginnings
 pub mod Called
 pub mod Calling
 pub mod Closes
+mod FlowCalls
+mod FlowGoes
+mod FlowHeard
+mod FlowIn
+mod FlowKept
+mod FlowLines
+mod FlowOffers
+mod FlowOpened
+mod FlowOut
+mod FlowReceiving
+mod FlowResends
+mod FlowRows
+mod FlowSending
+mod FlowSends
+mod FlowUnits
 pub mod Halves
 pub mod Offers
 pub mod Opens

@@ -1,3 +1,4 @@
 pub mod Begins
+pub mod Lines
 pub mod Moves
 pub mod Seen
