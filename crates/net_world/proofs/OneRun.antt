@@ -25,12 +25,12 @@ pub record Same {C : Type 0} (made other : List Event) (new next : C) : Type 0 w
 
 module _ {C : Type 0} (link : C → Link (List ℕ)) (steps : C → Call (List ℕ) → C → Type 0) (once : OneStep steps) (gathers : OneGathering link steps) where
   -- two calls that are asked alike
-  record SamePass (call other : Call (List ℕ)) (ups others : List (Up (List ℕ))) (new next : C) : Type 0 where
-    calls : call ≡ other
-    ups_are : ups ≡ others
-    state : new ≡ next
+  pub record SamePass (call other : Call (List ℕ)) (ups others : List (Up (List ℕ))) (new next : C) : Type 0 where
+    pub calls : call ≡ other
+    pub ups_are : ups ≡ others
+    pub state : new ≡ next
 
-  one_pass : (old : C) (call other : Call (List ℕ)) (ups others : List (Up (List ℕ))) (new next : C) → asked_of call ≡ asked_of other
+  pub one_pass : (old : C) (call other : Call (List ℕ)) (ups others : List (Up (List ℕ))) (new next : C) → asked_of call ≡ asked_of other
       → Passes link steps old call ups new → Passes link steps old other others next → SamePass call other ups others new next
   one_pass old call other ups others new next asked p q =
       let same = once old call other p.called q.called asked p.steps_to q.steps_to in
@@ -38,7 +38,7 @@ module _ {C : Type 0} (link : C → Link (List ℕ)) (steps : C → Call (List �
       let up = gathers q.called ups others new next there q.gathers in
       record { calls = same.0; ups_are = up.0; state = up.1 }
 
-  one_unit : (old : C) (system : ℕ) (sender receiver : List ℕ) (wish : Wish) (octets : List ℕ) (made other : List Event) (new next : C)
+  pub one_unit : (old : C) (system : ℕ) (sender receiver : List ℕ) (wish : Wish) (octets : List ℕ) (made other : List Event) (new next : C)
       → SendsUnit link steps old system sender receiver wish octets made new → SendsUnit link steps old system sender receiver wish octets other next → Same made other new next
   one_unit old system sender receiver wish [] made other new next a b = record { events = a.0 ∙ sym b.0; state = a.1 ∙ sym b.1 }
   one_unit old system sender receiver wish (octet ∷ octets) made other new next a b =

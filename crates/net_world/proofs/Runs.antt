@@ -32,7 +32,7 @@ module _ {C : Type 0} (link : C → Link (List ℕ)) (steps : C → Call (List �
   along : (new : C) (journal made done : List Event) → made ≡ done → Standing life titles (link new) (journal ++ done) → (link new).waiting ≡ [] → Rests new (journal ++ made)
   along new journal made done is stands quiet = record { stands = subst (λ (all : List Event). Standing life titles (link new) (journal ++ all)) (sym is) stands; quiet = quiet }
 
-  unit_rests : (old new : C) (journal made : List Event) (system : ℕ) (sender receiver : List ℕ) (wish : Wish) (octets : List ℕ) → Rests old journal
+  pub unit_rests : (old new : C) (journal made : List Event) (system : ℕ) (sender receiver : List ℕ) (wish : Wish) (octets : List ℕ) → Rests old journal
       → slice_get titles system ≡ Some sender → SendsUnit link steps old system sender receiver wish octets made new → Rests new (journal ++ made)
   unit_rests old new journal made system sender receiver wish [] rests sender_is step =
       subst (λ (state : C). Rests state (journal ++ made)) (sym step.1)
@@ -90,7 +90,7 @@ module _ {C : Type 0} (link : C → Link (List ℕ)) (steps : C → Call (List �
       let after : Rests last ((journal ++ run.1) ++ run.2) = run_rests script run.0 last (journal ++ run.1) run.2 here run.5 in
       subst (λ (all : List Event). Rests last all) (append_assoc journal run.1 run.2 ∙ ap (λ (xs : List Event). journal ++ xs) (sym run.4)) after
 
-  first_rests : (made first : C) (begun : List Event) → IsFirst life titles (link made) → Starts link steps made begun first → Rests first begun
+  pub first_rests : (made first : C) (begun : List Event) → IsFirst life titles (link made) → Starts link steps made begun first → Rests first begun
   first_rests made first begun is start =
       along first [] begun (events.Tick 0 ∷ told start.0) start.2 (started life titles (link made) (link first) start.0 is (gathered made first start.0 start.1)) start.1.quiet
 

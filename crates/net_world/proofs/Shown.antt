@@ -27,7 +27,7 @@ pub record IsStill (event : Event) : Type 0 where
   pub other : IsOther event
   pub clock : (now : ℕ) → clock_after now event ≡ now
 
-note_still : (note : Note) → IsStill (note_event note)
+pub note_still : (note : Note) → IsStill (note_event note)
 note_still (notes.Frame number lan system snpa length) = record { other = tt; clock = λ now. refl }
 note_still (notes.DropFrame system) = record { other = tt; clock = λ now. refl }
 note_still (notes.Discard system reason place) = record { other = tt; clock = λ now. refl }

@@ -37,17 +37,17 @@ pub record Gathered (called : Link (List ℕ)) (ups : List (Up (List ℕ))) (new
   pub grows : NothingNew called new
 
 -- what a step has to do
-record Moves (life : ℕ) (titles : List (List ℕ)) (old new : Link (List ℕ)) (journal made : List Event) : Type 0 where
-  same : IsSameLink old new
-  honest : new.honest ≡ old.honest
-  clock : new.clock ≡ clock_from old.clock made
-  sent : AllSent titles new.floating (journal ++ made)
-  units : NewSent life titles journal made
+pub record Moves (life : ℕ) (titles : List (List ℕ)) (old new : Link (List ℕ)) (journal made : List Event) : Type 0 where
+  pub same : IsSameLink old new
+  pub honest : new.honest ≡ old.honest
+  pub clock : new.clock ≡ clock_from old.clock made
+  pub sent : AllSent titles new.floating (journal ++ made)
+  pub units : NewSent life titles journal made
 
 at_home : (titles : List (List ℕ)) (old new : Link (List ℕ)) → IsSameLink old new → IsAtHome titles old → IsAtHome titles new
 at_home titles old new same home = record { home = λ to system belongs. home.home to system (subst (λ b. IsTrue b) (same.belongs to system) belongs) }
 
-moved : (life : ℕ) (titles : List (List ℕ)) (old new : Link (List ℕ)) (journal made : List Event) → Standing life titles old journal → Moves life titles old new journal made
+pub moved : (life : ℕ) (titles : List (List ℕ)) (old new : Link (List ℕ)) (journal made : List Event) → Standing life titles old journal → Moves life titles old new journal made
     → Standing life titles new (journal ++ made)
 moved life titles old new journal made stands moves = record {
   clock_is = moves.clock ∙ ap (λ (n : ℕ). clock_from n made) stands.clock_is ∙ sym (clock_from-append 0 journal made);
@@ -59,7 +59,7 @@ moved life titles old new journal made stands moves = record {
 }
 
 -- units that floated go on to have been sent
-sent_later : (titles : List (List ℕ)) (old new : Link (List ℕ)) (journal made : List Event) → AllSent titles old.floating journal → NothingNew old new
+pub sent_later : (titles : List (List ℕ)) (old new : Link (List ℕ)) (journal made : List Event) → AllSent titles old.floating journal → NothingNew old new
     → AllSent titles new.floating (journal ++ made)
 sent_later titles old new journal made sent grows = record { each = λ entry there raw. entry_later titles journal made entry (sent.each entry (grows entry there) raw) }
 
@@ -78,7 +78,7 @@ noted life titles old called new journal event ups stands same honest clock othe
     })
 
 -- these waited after a call that added them to nothing
-these_waited : (old : Link (List ℕ)) (notes ups waiting : List (Up (List ℕ))) → old.waiting ≡ [] → waiting ≡ old.waiting ++ notes → waiting ≡ ups → notes ≡ ups
+pub these_waited : (old : Link (List ℕ)) (notes ups waiting : List (Up (List ℕ))) → old.waiting ≡ [] → waiting ≡ old.waiting ++ notes → waiting ≡ ups → notes ≡ ups
 these_waited old notes ups waiting quiet added are = sym (ap (λ (w : List (Up (List ℕ))). w ++ notes) quiet) ∙ sym added ∙ are
 
 -- a raw unit that is offered

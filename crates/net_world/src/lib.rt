@@ -7,4 +7,5 @@ mod telling;
 mod world;
 
 pub use laws::{one_run, one_start, shows_sent, some_run, some_start};
-pub use world::NetWorld;
+pub use telling::{picked_event, tell};
+pub use world::{NetWorld, send_unit, take_up};

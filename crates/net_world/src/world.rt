@@ -68,22 +68,16 @@ impl<C: Carrier<Addr = Nsap> + Drop> NetWorld<C> {
         requires none { events.old.items ≡ [] }
         ensures { OnOk result (SendsUnit C.link C.steps self.old system sender.now receiver.now wish octets events.new.items self.new) }
     {
-        if octets.as_slice().is_empty() {
-            events.push(Event::No {
-                cause: Refused::EmptyUnit,
-            })?;
-            return Ok(());
-        }
-        let to = receiver.with_selector(RAW);
-        let shown = Vec::from_slice(self.alloc, octets.as_slice())?;
-        let unit = Unit {
-            from: sender.with_selector(RAW),
-            to,
+        send_unit(
+            self.alloc,
+            &mut self.carrier,
+            system,
+            sender,
+            receiver,
+            wish,
             octets,
-        };
-        let answer = self.carrier.offer(unit, wish)?;
-        events.push(sent_event(system, &to, shown, answer))?;
-        take_up(&mut self.carrier, events)
+            events,
+        )
     }
 
     /// A delivery: what arrives is chosen, and what comes of it is told.
@@ -119,8 +113,45 @@ impl<C: Carrier<Addr = Nsap> + Drop> NetWorld<C> {
     }
 }
 
+/// A raw unit is offered to a carrier, from the one title's address for raw units to the other's; without octets it is refused
+/// before all else. What comes of it is told.
+///
+/// At NoMemory the run ends.
+pub fn send_unit<C: Carrier<Addr = Nsap>>(
+    alloc: Global,
+    carrier: &mut C,
+    system: u8,
+    sender: &Nsap,
+    receiver: &Nsap,
+    wish: Wish,
+    octets: Bytes,
+    events: &mut Vec<Event>,
+) -> Result<(), NoMemory>
+    requires none { events.old.items ≡ [] }
+    ensures { OnOk result (SendsUnit C.link C.steps carrier.old system sender.now receiver.now wish octets events.new.items carrier.new) }
+{
+    if octets.as_slice().is_empty() {
+        events.push(Event::No {
+            cause: Refused::EmptyUnit,
+        })?;
+        return Ok(());
+    }
+    let to = receiver.with_selector(RAW);
+    let shown = Vec::from_slice(alloc, octets.as_slice())?;
+    let unit = Unit {
+        from: sender.with_selector(RAW),
+        to,
+        octets,
+    };
+    let answer = carrier.offer(unit, wish)?;
+    events.push(sent_event(system, &to, shown, answer))?;
+    take_up(carrier, events)
+}
+
 /// Takes up all that waits, and tells it.
-fn take_up<C: Carrier<Addr = Nsap>>(
+///
+/// At NoMemory the run ends.
+pub fn take_up<C: Carrier<Addr = Nsap>>(
     carrier: &mut C,
     events: &mut Vec<Event>,
 ) -> Result<(), NoMemory>

@@ -8,6 +8,7 @@ pub mod FreshNames
 pub mod Keys
 pub mod LineNames
 pub mod Named
+pub mod PairSteps
 pub mod Places
 pub mod Printing
 pub mod Readings

@@ -1,7 +1,8 @@
 //! The forms that a field of a line may have by its characters alone.
 
-ghost use Rattle.std.specs.Prelude.{◌≡◌, ◌<◌, ◌≤◌, ◌^◌, length, IsTrue};
-ghost use Rattle.osi_script.specs.Field.{is_word, is_name, number_of, title_of, station_of, prefix_of, octets_of, within, choice_of, digits_cause};
+ghost use Rattle.std.specs.Prelude.{◌≡◌, ◌<◌, ◌≤◌, ◌^◌, ◌%◌, length, IsTrue};
+ghost use Rattle.hex.specs.Hex.{decode_pairs};
+ghost use Rattle.osi_script.specs.Field.{is_word, is_name, number_of, title_of, station_of, prefix_of, octets_of, as_octets, within, choice_of, digits_cause};
 ghost use Rattle.osi_script.specs.Field.{is_digit, is_letter_or_digit, is_number};
 ghost use Rattle.osi_script.specs.Reading.{flags_of, path_kind_of, size_of, selector_of, is_size};
 ghost use Rattle.osi_script.specs.Gives.{Found};
@@ -10,6 +11,7 @@ ghost use Rattle.std.specs.Str.Parse.{digits_value};
 
 use crate::fault::{FieldRefusal, LineCause};
 use crate::line::PathKind;
+use crate::pairs;
 use nsap::{Nsap, NsapFault, Prefix, Snpa};
 use osi_base::{Bytes, Wish};
 use std::alloc::Global;
@@ -142,13 +144,24 @@ pub fn octets(alloc: Global, field: &str) -> Result<Bytes, FieldRefusal>
     if field == "-" {
         return Ok(Bytes::of(Vec::new(alloc)));
     }
-    if field.is_empty() {
+    if field.is_empty() || field.len() % 2 != 0 {
         return Err(FieldRefusal::Cause(LineCause::Syntax));
     }
-    match hex::decode(alloc, field) {
-        Ok(octets) => Ok(Bytes::of(octets)),
-        Err(hex::FromHexError::OutOfMemory) => Err(FieldRefusal::NoMemory),
-        Err(_) => Err(FieldRefusal::Cause(LineCause::Syntax)),
+    octets_of_pairs(alloc, field.as_bytes())
+}
+
+/// The octets that pairs of digits stand for.
+fn octets_of_pairs(alloc: Global, text: &[u8]) -> Result<Bytes, FieldRefusal>
+    requires { length text.now % 2 ≡ 0 }
+    ensures { Found (as_octets (decode_pairs 0 text.now)) result }
+{
+    let Ok(mut octets) = vec![in alloc; 0u8; text.len() / 2] else {
+        return Err(FieldRefusal::NoMemory);
+    };
+    if pairs::write(text, octets.as_mut_slice()) {
+        Ok(Bytes::of(octets))
+    } else {
+        Err(FieldRefusal::Cause(LineCause::Syntax))
     }
 }
 

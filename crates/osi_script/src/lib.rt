@@ -13,6 +13,7 @@ mod laws;
 mod line;
 mod lines;
 mod names;
+mod pairs;
 mod parts;
 mod reading;
 mod settings;

@@ -9,6 +9,7 @@ use Rattle.tp4_flow.specs.declared.rules.Life.TheVariants.{Goes, Exhausted}
 use Rattle.tp4_flow.specs.declared.rules.Options.{Options}
 use Rattle.tp4_flow.specs.declared.step.EndEvent.{EndEvent}
 use Rattle.tp4_flow.specs.declared.step.Sent.{Sent}
+use Rattle.tp4_flow.specs.Told.{Told}
 use Rattle.tp4_sending.specs.FlowSender.{FlowSender, Sendings, at, nothing, life_of, ticked, due_of}
 use Rattle.tp4_sending.specs.Pieces.{again, sooner}
 use Rattle.tp4_sending.specs.Settled.{IsSettled, IsDue}
@@ -25,12 +26,13 @@ use Rattle.tp4_conn.specs.Closing.{closing_tick}
 use Rattle.tp4_conn.specs.CrWait.{cr_wait_tick}
 use Rattle.tp4_conn.specs.Dues.{IsBefore, clocked}
 use Rattle.tp4_conn.specs.Dues.{IsDue as TickDue}
-use Rattle.tp4_conn.specs.End.{Moved, IsTimed, stays, frozen, span, frozen_for}
+use Rattle.tp4_conn.specs.End.{Does, End, Moved, IsTimed, end_of, stays, frozen, span, frozen_for}
 use Rattle.tp4_conn.specs.Frozen.{frozen_due}
 use Rattle.tp4_conn.specs.Opened.{opened_tick, opened_as, opened_goes, sending}
 use Rattle.tp4_conn.specs.Proper.{IsProper, IsProperStage}
-use Rattle.tp4_conn.specs.Table.{on_tick, due}
+use Rattle.tp4_conn.specs.Table.{at as now_at, on_tick, due}
 use Rattle.tp4_conn.specs.UserWait.{user_wait_tick}
+use Rattle.tp4_conn.specs.steps.Kept.{IsEnd, IsSound}
 use Rattle.tp4_conn.specs.WaitBeforeClose.{wait_before_close_tick}
 use Rattle.tp4_conn.proofs.Timely.{if_kept}
 
@@ -45,6 +47,11 @@ abbrev ArePunctual : Stage → ℕ → Type 0
 ArePunctual (Opened o) now = IsPunctual o.halves.sending now
 ArePunctual stage now = Unit {0}
 
+-- where it goes on, it is due later
+abbrev ArePrompt : Stage → ℕ → Type 0
+ArePrompt (Opened o) now = life_of (at now o.halves.sending) ≡ Goes → IsBefore (due_of (ticked (at now o.halves.sending)).sender) now
+ArePrompt stage now = Unit {0}
+
 before_is : (due : Option ℕ) (now : ℕ) → (IsDue due now → ⊥) → IsBefore due now
 before_is None now h = tt
 before_is (Some tick) now h = elim (cases_lt now tick) [ inl less ↦ less | inr more ↦ absurd (h more) ]
@@ -52,6 +59,10 @@ before_is (Some tick) now h = elim (cases_lt now tick) [ inl less ↦ less | inr
 not_before : (due : Option ℕ) (now : ℕ) → IsBefore due now → IsDue due now → ⊥
 not_before None now h k = k
 not_before (Some tick) now h k = absurd (omega (arith, h, k))
+
+-- an open half is prompt
+later : (s : FlowSender) (now : ℕ) → s.is_open ≡ true → 1 ≤ s.rules.t1 → life_of (at now s) ≡ Goes → IsBefore (due_of (ticked (at now s)).sender) now
+later s now o some life = before_is (due_of (ticked (at now s)).sender) now (tick_later (at now s) o some life)
 
 -- a settled half is punctual
 punctual : (s : FlowSender) (now : ℕ) → s.is_open ≡ true → 1 ≤ s.rules.t1 → IsSettled s → IsPunctual s now
@@ -62,7 +73,7 @@ punctual s now o some h = record {
     | inl gone ↦ goes-exhausted (sym life ∙ gone)
     | inr acts ↦ acts same
   ];
-  after = λ life. before_is (due_of (ticked (at now s)).sender) now (tick_later (at now s) o some life);
+  after = later s now o some;
 }
   where
     IsGoing : Ends → Type 0
@@ -80,6 +91,15 @@ stage_punctual agreed (UserWait since) now p = tt
 stage_punctual agreed (AkWait w) now p = tt
 stage_punctual agreed (Closing c) now p = tt
 stage_punctual agreed (Frozen when) now p = tt
+
+punctual_prompt : (stage : Stage) (now : ℕ) → ArePunctual stage now → ArePrompt stage now
+punctual_prompt (Opened o) now s = s.after
+punctual_prompt (CrWait w) now s = tt
+punctual_prompt (WaitBeforeClose w) now s = tt
+punctual_prompt (UserWait since) now s = tt
+punctual_prompt (AkWait w) now s = tt
+punctual_prompt (Closing c) now s = tt
+punctual_prompt (Frozen when) now s = tt
 
 if_true : {A : Type 0} (b : Bool) (x y : A) → b ≡ true → (if b then x else y) ≡ x
 if_true true x y h = refl
@@ -148,7 +168,7 @@ opened_life Goes b o timed low settled =
     (λ _. before_all _ (b.clock + b.timers.window) (due_of (ticked (at b.clock o.halves.sending)).sender) _ low (omega (arith, timed.window_least)) (settled refl))
     (λ f. before_all _ (o.acked + b.timers.window) (due_of (ticked (at b.clock o.halves.sending)).sender) _ low (leb-false _ _ f) (settled refl))
 
-tick_after : (b : Base) (stage : Stage) → IsTimed b.timers → ArePunctual stage b.clock → Later b.clock (on_tick b stage)
+tick_after : (b : Base) (stage : Stage) → IsTimed b.timers → ArePrompt stage b.clock → Later b.clock (on_tick b stage)
 unfolding cr_wait_tick wait_before_close_tick user_wait_tick ak_wait_tick opened_tick closing_tick
 tick_after b (CrWait w) timed s =
     if_kept (Later b.clock) (nat_lt b.clock (w.tries.last + b.timers.t1)) _ _
@@ -167,7 +187,7 @@ tick_after b (AkWait w) timed s =
 tick_after b (Opened o) timed s =
     if_kept (Later b.clock) (nat_le (o.took + b.timers.inactive) b.clock) _ _
     (λ _. let some : 0 < span b.timers = span_some b.timers timed in omega (arith, timed.t1_least))
-    (λ f. opened_life (life_of (at b.clock o.halves.sending)) b o timed (leb-false _ _ f) s.after)
+    (λ f. opened_life (life_of (at b.clock o.halves.sending)) b o timed (leb-false _ _ f) s)
 tick_after b (Closing c) timed s =
     if_kept (Later b.clock) (nat_le (c.from + span b.timers) b.clock) _ _
     (λ _. frozen_later b b.clock)
@@ -278,4 +298,27 @@ tick_there b (Frozen when) s e = absurd (frozen_past b when e)
 pub proper_due : (b : Base) (stage : Stage) → IsProper b stage → TickDue b stage
 proper_due b stage p =
     let s = stage_punctual b.agreed stage b.clock p.state in
-    record { before = tick_before b stage s; there = tick_there b stage s; after = tick_after b stage p.timers s }
+    record { before = tick_before b stage s; there = tick_there b stage s; after = tick_after b stage p.timers (punctual_prompt stage b.clock s) }
+
+-- what holds of each end between calls is enough for that
+sound_prompt : (b : Base) (stage : Stage) (now : ℕ) → IsSound b stage → ArePrompt stage now
+sound_prompt b (Opened o) now sound = later o.halves.sending now sound.3 sound.2.t1
+sound_prompt b (CrWait w) now sound = tt
+sound_prompt b (WaitBeforeClose w) now sound = tt
+sound_prompt b (UserWait since) now sound = tt
+sound_prompt b (AkWait w) now sound = tt
+sound_prompt b (Closing c) now sound = tt
+sound_prompt b (Frozen when) now sound = tt
+
+-- an end that ticked is due later
+pub ticked_later : (b : Base) (stage : Stage) (now : ℕ) → IsEnd b stage → Later now (on_tick (now_at now b) stage)
+ticked_later b stage now is = tick_after (now_at now b) stage is.timers (sound_prompt b stage now is.sound)
+
+-- the same, of what a tick did
+pub ticked_so : (b : Base) (stage was after : Stage) (now : ℕ) (told new : Told) → IsEnd b stage → was ≡ stage → Does (on_tick (now_at now b) was) (now_at now b) after told new
+    → IsBefore (due (now_at now b) after) now
+ticked_so b stage was after now told new is same did =
+    let m = on_tick (now_at now b) was in
+    let end_is : record { base = now_at now b; stage = after } ≡ end_of m = λ i. record { base = did.base_is i; stage = did.stage_is i } in
+    subst (λ (e : End). IsBefore (due e.base e.stage) now) (sym end_is)
+    (ticked_later b was now (subst (λ (x : Stage). IsEnd b x) (sym same) is))

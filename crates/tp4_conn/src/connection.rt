@@ -10,6 +10,7 @@ ghost use Rattle.tp4_sending.specs.Pieces.{sooner};
 ghost use Rattle.tp4_conn.specs.declared.call.CallRefusal.{CallRefusal};
 ghost use Rattle.tp4_conn.specs.declared.call.CallRefusal.TheVariants.{NoMemory as OutOfMemory};
 ghost use Rattle.tp4_conn.specs.Calls.{IsCall, call_refusal, state_of};
+ghost use Rattle.tp4_conn.specs.Dues.{IsBefore};
 ghost use Rattle.tp4_conn.specs.End.{Does, IsSame, IsSize, IsTimed, Moved, agreed_format};
 ghost use Rattle.tp4_conn.specs.Making.{connected, on_cr};
 ghost use Rattle.tp4_conn.specs.Matching.{is_called_by, is_match};
@@ -243,11 +244,12 @@ impl Connection {
         Ok(())
     }
 
-    /// A tick of the clock.
+    /// A tick of the clock. The end is due at a later tick then, or no more.
     pub fn tick(&mut self, now: Tick, out: &mut Step) -> Result<(), NoMemory>
         requires clock { self.old.base.clock ≤ now }
         requires now { now ≤ 4000000000 }
         ensures step { OnOk result (Does (stepped wire now self.old Ticked) self.new.base self.new.stage out.old out.new) }
+        ensures later { OnOk result (IsBefore (due self.new.base self.new.stage) now) }
         ensures kept { IsSame self.old.base self.new.base }
         ensures clock { self.new.base.clock ≤ now }
     {

@@ -8,8 +8,10 @@ ghost use Rattle.tpdu.specs.declared.tpdu.Format.TheVariants.{Normal};
 ghost use Rattle.tp4_conn.specs.Calls.{IsCall};
 ghost use Rattle.tp4_conn.specs.End.{IsSize, IsTimed, agreed_format};
 
+mod rows;
 mod script;
 mod shown;
+mod table;
 
 use crate::{ConnectCall, Connection, Options, State, Timers, UserCall};
 use nsap::Nsap;
@@ -47,10 +49,7 @@ fn each_row_of_each_state(rt: HostRuntime) -> Result<(), Fail> {
 
 fn play_line(rt: &impl Abort, play: &mut Play, line: &str) -> Result<(), Fail> {
     let (call, want) = line.split_once(" = ").ok_or("a line has what comes of it")?;
-    let words: Vec<&str> = call.split(' ').collect(play.alloc)?;
-    play.out = Step::new(play.alloc);
-    let answer = play.act(&words)?;
-    let got = play.shown(&answer)?;
+    let got = play.run(call)?;
     assert_eq!(rt; got.as_str(), want, "{line}");
     Ok(())
 }
@@ -72,6 +71,14 @@ impl Play {
             out,
             now: 0,
         })
+    }
+
+    /// What comes of a call.
+    fn run(&mut self, call: &str) -> Result<String, Fail> {
+        let words: Vec<&str> = call.split(' ').collect(self.alloc)?;
+        self.out = Step::new(self.alloc);
+        let answer = self.act(&words)?;
+        self.shown(&answer)
     }
 
     /// What a line does, and its answer.
@@ -267,6 +274,7 @@ fn tpdu<'a>(
     ensures { IfOk result (λ tpdu. IsAllowed format (tpdu_of tpdu)) }
 {
     match word(words, 1) {
+        "cr" => again(format, sum, octets),
         "cc" => confirm(words, format, sum, octets),
         "dr" => release(words, format, sum, octets),
         "dc" => Ok(TpduRef::Dc {
@@ -289,6 +297,30 @@ fn tpdu<'a>(
             sum,
         }),
     }
+}
+
+/// A CR of the partner's end.
+#[tactic(auto, using(crate::proofs::Sizes::size_known))]
+fn again<'a>(format: Format, sum: bool, octets: &'a [u8]) -> Result<TpduRef<'a>, Fail>
+    ensures { IfOk result (λ tpdu. IsAllowed format (tpdu_of tpdu)) }
+{
+    if 32 < octets.len() {
+        return Err(Fail::from("a CR has 32 octets of data at most"));
+    }
+    Ok(TpduRef::Cr {
+        credit: 8,
+        source: 7,
+        format,
+        calling: b"\xaa",
+        called: b"\xbb",
+        size: 1024,
+        extra: 1,
+        version: None,
+        classes: None,
+        ack_time: None,
+        sum,
+        octets,
+    })
 }
 
 #[tactic(auto, using(crate::proofs::Sizes::known_size))]

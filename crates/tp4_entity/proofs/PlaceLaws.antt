@@ -33,7 +33,7 @@ use Rattle.tp4_entity.specs.steps.Places.{is_memory, AreBehind, ArePlaces, IsBeh
 abbrev pub Place : Type 0
 Place = Option End
 
-some_same : (x y : Place) → Some x ≡ Some y → x ≡ y
+pub some_same : (x y : Place) → Some x ≡ Some y → x ≡ y
 some_same x y e = cc e
 
 -- one place

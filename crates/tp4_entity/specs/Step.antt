@@ -1,5 +1,6 @@
 -- The steps of an entity: what its users ask, units that come, and ticks at which an end is due (X.224, class 4 procedures).
 use Rattle.std.specs.Prelude.{◌≡◌, ℕ, ◌+◌, Bool, false, nat_lt, nat_le, is_none, if◌then◌else◌, List, [], length, position, replicate, Option, Some, None, option_map}
+use Rattle.std.specs.List.{count_by}
 use Rattle.tp4_flow.specs.Told.{Told, Grows}
 use Rattle.tp4_conn.specs.declared.call.CallRefusal.{CallRefusal}
 use Rattle.tp4_conn.specs.declared.call.ConnectCall.{ConnectCall}
@@ -71,6 +72,10 @@ is_due now (Some end) = is_due_by now (due end.base end.stage)
 -- the least reference whose end is due
 abbrev pub first_due : ℕ → Entity → Option ℕ
 first_due now e = option_map (λ place. place + 1) (position (is_due now) e.ends)
+
+-- how many ends are due
+abbrev pub dues : ℕ → Entity → ℕ
+dues now e = count_by (is_due now) e.ends
 
 -- an end that is due no more is taken out: it was frozen, and its reference is free
 abbrev pub kept_end : Moved → Option ℕ → Option End

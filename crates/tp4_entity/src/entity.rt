@@ -8,7 +8,7 @@ ghost use Rattle.tp4_conn.specs.declared.call.CallRefusal.TheVariants.{NoMemory 
 ghost use Rattle.tp4_entity.specs.Association.{is_registered};
 ghost use Rattle.tp4_entity.specs.Entity.{Acted, at, end_at, with_end};
 ghost use Rattle.tp4_entity.specs.References.{is_free, least_free};
-ghost use Rattle.tp4_entity.specs.Step.{DoesSo, calling, connect_refusal, connecting, first_due, new_entity, state_at, ticking, user_refusal};
+ghost use Rattle.tp4_entity.specs.Step.{DoesSo, calling, connect_refusal, connecting, dues, first_due, new_entity, state_at, ticking, user_refusal};
 ghost use Rattle.tp4_entity.specs.Unit.{HearsUnit};
 ghost use Rattle.tp4_entity.specs.declared.refusal.ConnectRefusal.{ConnectRefusal};
 ghost use Rattle.tp4_entity.specs.declared.refusal.ConnectRefusal.TheVariants.{NoMemory as ConnectOutOfMemory};
@@ -196,12 +196,14 @@ impl TpEntity {
         }
     }
 
-    /// The due end of least reference ticks, and is taken out where it is due no more. False exactly where none is due.
+    /// The due end of least reference ticks, and is taken out where it is due no more; one end fewer is due then. False exactly where
+    /// none is due.
     pub fn tick_next(&mut self, now: Tick, out: &mut Step) -> Result<bool, NoMemory>
         requires clock { self.old.clock ≤ now }
         requires now { now ≤ 4000000000 }
         ensures due { IfOk result (λ was_due. was_due ≡ is_some (first_due now self.old)) }
         ensures step { OnOk result (DoesSo (ticking wire now self.old) self.new out.old out.new) }
+        ensures fewer { IfOk result (λ was_due. was_due ≡ true → dues now self.new + 1 ≡ dues now self.old) }
         ensures clock { self.new.clock ≤ now }
     {
         self.wake(now);

@@ -1,6 +1,6 @@
 //! The places of ends, each of one reference (X.224, class 4: frozen references).
 
-ghost use Rattle.std.specs.Prelude.{◌≡◌, ◌≢◌, ◌≤◌, ◌<◌, ℕ, length, IfSome, Some, None, Err, position, replicate, IfErr, IfOk, OnOk, if◌then◌else◌};
+ghost use Rattle.std.specs.Prelude.{◌≡◌, ◌≢◌, ◌≤◌, ◌<◌, ℕ, length, IfSome, Some, None, Err, position, replicate, IfErr, IfOk, OnOk, if◌then◌else◌, false};
 ghost use Rattle.tp4_number.specs.Number.{wire};
 ghost use Rattle.tp4_conn.specs.Calls.{IsCall};
 ghost use Rattle.tp4_conn.specs.declared.call.CallRefusal.TheVariants.{NoMemory as EndOutOfMemory};
@@ -148,7 +148,7 @@ pub(crate) fn clock_after(why: EntityRefusal, clock: Tick, now: Tick) -> Tick
     }
 }
 
-/// The end there ticks, and is taken out where it is due no more.
+/// The end there ticks, and is taken out where it is due no more. None is due there then.
 pub(crate) fn tick_place(
     place: &mut Option<Connection>,
     now: Tick,
@@ -157,6 +157,7 @@ pub(crate) fn tick_place(
     requires behind { IsBehind now place.old }
     requires now { now ≤ 4000000000 }
     ensures step { OnOk result (Places (ticks_at wire now place.old) place.new out.old out.new) }
+    ensures later { OnOk result (is_due now place.new ≡ false) }
     ensures kept { (timers : Timers) (reference : ℕ) → IsPlace timers now reference place.old → IsPlace timers now reference place.new }
 {
     if let Some(end) = place {

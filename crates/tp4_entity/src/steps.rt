@@ -1,12 +1,12 @@
 //! The steps of an entity at one of its places.
 
-ghost use Rattle.std.specs.Prelude.{◌≡◌, ◌≤◌, ◌<◌, ◌+◌, Some, length, option_copied, [], ◌∷◌, ◌++◌, IfOk, OnErr, OnOk};
+ghost use Rattle.std.specs.Prelude.{◌≡◌, ◌≤◌, ◌<◌, ◌+◌, Some, length, position, option_copied, [], ◌∷◌, ◌++◌, IfOk, OnErr, OnOk};
 ghost use Rattle.std.specs.List.{list_any};
 ghost use Rattle.tp4_number.specs.Number.{wire};
 ghost use Rattle.tp4_conn.specs.End.{IsSize};
 ghost use Rattle.tp4_entity.specs.Association.{is_registered};
 ghost use Rattle.tp4_entity.specs.Entity.{at, end_at, with_end};
-ghost use Rattle.tp4_entity.specs.Step.{DoesSo, connecting, ticking_at};
+ghost use Rattle.tp4_entity.specs.Step.{DoesSo, connecting, dues, is_due, ticking_at};
 ghost use Rattle.tp4_entity.specs.steps.Places.{IsOwn};
 
 use crate::TpEntity;
@@ -93,10 +93,11 @@ impl TpEntity {
         Ok(own)
     }
 
-    /// The end at a place ticks.
+    /// The end at a place ticks. Where it was the first that is due, one fewer is due then.
     pub(crate) fn tick_at(&mut self, place: usize, out: &mut Step) -> Result<(), NoMemory>
         requires now { self.old.clock ≤ 4000000000 }
         ensures step { OnOk result (DoesSo (ticking_at wire self.old.clock self.old (Some (place + 1))) self.new out.old out.new) }
+        ensures fewer { OnOk result (position (is_due self.old.clock) self.old.ends ≡ Some place → dues self.old.clock self.new + 1 ≡ dues self.old.clock self.old) }
         ensures clock { self.new.clock ≡ self.old.clock }
     {
         let Some(slot) = self.ends.get_mut(place) else {

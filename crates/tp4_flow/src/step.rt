@@ -125,6 +125,14 @@ impl Step {
         &self.tpdus
     }
 
+    /// The events and the TPDUs, each in order.
+    pub fn into_parts(self) -> (Vec<EndEvent>, Vec<Sent>)
+        ensures events { result.0.items ≡ self.events }
+        ensures tpdus { result.1.items ≡ self.tpdus }
+    {
+        (self.events, self.tpdus)
+    }
+
     /// One event more.
     pub fn event(&mut self, event: EndEvent) -> Result<(), NoMemory>
         ensures ok { OnOk result (self.new ≡ record self.old { events = self.old.events ++ event ∷ [] }) }

@@ -6,10 +6,11 @@ use Rattle.tp4_conn.specs.declared.stage.Stage.{Stage}
 use Rattle.tp4_conn.specs.declared.stage.Stage.TheVariants.{CrWait, WaitBeforeClose, UserWait, AkWait, Opened, Closing, Frozen}
 use Rattle.tp4_conn.specs.End.{IsSame, IsTimed, IsSize, agreed_format}
 
--- the halves go by what is agreed, and their clock is not ahead
+-- the halves go by what is agreed, T1 passes, and their clock is not ahead
 pub record IsJoined (b : Base) (h : Halves) : Type 0 where
   pub sending : h.sending.rules.format ≡ agreed_format b.agreed
   pub receiving : h.receiving.rules.format ≡ agreed_format b.agreed
+  pub t1 : 1 ≤ h.sending.rules.t1
   pub clock : h.sending.clock ≤ b.clock
 
 -- no tick of the state is ahead of the clock

@@ -2,6 +2,7 @@ use Rattle.std.proofs.Common.{◌+◌, refl, arith}
 use Rattle.std.proofs.lemmas.Option.{slice_get_past, slice_get_read}
 use Rattle.std.proofs.lemmas.Result.{on_ok_weaker}
 use Rattle.tp4_entity.proofs.PlaceLaws.{entity_at, entity_set, past_from, place_behind, tick_done, tick_none}
+use Rattle.tp4_entity.proofs.Ticks.{fewer_so, none_so}
 use Rattle.tp4_entity.proofs.entity.TpEntity.tick_at.Goals as goal
 
 pub tick_place-requires-clause-behind : goal.tick_place-requires-clause-behind
@@ -25,3 +26,13 @@ pub returns-clause-step : goal.returns-clause-step
 returns-clause-step c =
     let there = slice_get_read c.self.inside.ends.items _ c.args.place c.in-Some.slot.now c.self.inside.ends.ok.0 (c.in-Some.ensures.variant.0 refl) c.in-Some.ensures.value in
     on_ok_weaker c.tick_place.result (λ is. tick_done _ _ c.args.place c.in-Some.slot.now c.tick_place.new.place c.args.out.now c.tick_place.new.out c.self.view_is there is) c.tick_place.ensures.step
+
+pub returns-in_default-clause-fewer : goal.returns-in_default-clause-fewer
+returns-in_default-clause-fewer c =
+    let beyond = past_from _ _ c.in_default.ensures.variant.1 in
+    none_so _ _ c.args.place c.self.view_is (omega (arith, beyond, c.self.inside.ends.ok.0))
+
+pub returns-clause-fewer : goal.returns-clause-fewer
+returns-clause-fewer c =
+    let there = slice_get_read c.self.inside.ends.items _ c.args.place c.in-Some.slot.now c.self.inside.ends.ok.0 (c.in-Some.ensures.variant.0 refl) c.in-Some.ensures.value in
+    on_ok_weaker c.tick_place.result (λ later. fewer_so _ _ c.args.place c.in-Some.slot.now c.tick_place.new.place c.self.view_is there later) c.tick_place.ensures.later

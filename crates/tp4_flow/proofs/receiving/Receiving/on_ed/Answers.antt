@@ -1,4 +1,4 @@
-use Rattle.std.proofs.Common.{◌≡◌, ◌∙◌, ◌+◌, ◌*◌, ◌%◌, ◌==◌, ◌<◌, ◌∷◌, ◌++◌, [], List, sym, ap, subst, arith, true, false, ℕ}
+use Rattle.std.proofs.Common.{◌≡◌, ◌∙◌, ◌+◌, ◌*◌, ◌%◌, ◌==◌, ◌∷◌, ◌++◌, [], List, sym, ap, subst, arith, true, false, ℕ}
 use Rattle.std.proofs.lemmas.Bool.Decides.{nat_tests}
 use Rattle.tp4_number.specs.Number.{wire}
 use Rattle.tp4_flow.specs.Half.{Half, block_in, ea}

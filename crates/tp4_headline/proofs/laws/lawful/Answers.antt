@@ -1,0 +1,29 @@
+use Rattle.std.specs.Prelude.{ℕ, List}
+use Rattle.tp4_conn.specs.declared.timers.Timers.{Timers}
+use Rattle.tp4_outcome.specs.Rest.{AreInTime, AreProper}
+use Rattle.tp4_headline.specs.steps.Worlds.{Followed}
+use Rattle.tp4_headline.proofs.Acts.{acts}
+use Rattle.tp4_headline.proofs.ActsLines.{Flowing}
+use Rattle.tp4_headline.proofs.FramesNotes.{after_aside}
+use Rattle.tp4_headline.proofs.Makes.{after_connect}
+use Rattle.tp4_headline.proofs.Meets.{after_meet}
+use Rattle.tp4_headline.proofs.WorldOutcomes.{one_unit, outcomes}
+use Rattle.tp4_headline.proofs.WorldQuiet.{after_clock}
+use Rattle.tp4_headline.proofs.WorldStarts.{Histories, receives}
+use Rattle.tp4_headline.proofs.WorldSteps.{after_call, after_tick}
+use Rattle.tp4_headline.proofs.laws.lawful.Goals as goal
+
+pub returns : goal.returns
+returns g c =
+    let flow = c.flowed.ensures in
+    let flowing : Flowing = record { step = flow.step; partner = flow.partner; later = flow.later; offered = flow.offered; plain = flow.plain; noted = flow.noted } in
+    let followed : (titles : List (List ℕ)) (timers : Timers) → Followed titles timers = λ titles timers. record {
+      connects = after_connect titles timers;
+      calls = after_call titles timers (acts flowing titles timers);
+      meets = after_meet titles timers (acts flowing titles timers) flow.known;
+      ticks = after_tick titles timers (acts flowing titles timers);
+      aside = after_aside titles timers;
+      clock = after_clock flow.later titles timers;
+    } in
+    let histories : Histories = record { fit = c.times.ensures.fit; begins = c.journals_are_lawful.ensures.begins; lawful = c.journals_are_lawful.ensures.lawful } in
+    receives g.C.Carrier.link g.C.Carrier.steps g.met.C.Carrier.keeps c.whole_run.ensures.run followed one_unit AreProper AreInTime outcomes histories

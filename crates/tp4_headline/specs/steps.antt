@@ -1,0 +1,4 @@
+-- What only carries the proof: a history beside a network that runs.
+pub mod Known
+pub mod Acting
+pub mod Worlds

@@ -1,0 +1,6 @@
+//! What a receiver of a connection may see.
+#![tactic(auto)]
+
+mod laws;
+
+pub use laws::lawful;

@@ -1,0 +1,5 @@
+pub mod Calms
+pub mod Ends
+pub mod OneUnits
+pub mod Outcomes
+pub mod Rows

@@ -1,0 +1,54 @@
+//! Laws of the steps of an entity (X.224, class 4 state tables; structure and encoding of TPDUs).
+
+ghost use Rattle.std.specs.Prelude.{◌≡◌, ◌≤◌, ℕ, ◌+◌, false, List, replicate, Some, None};
+ghost use Rattle.tpdu.specs.Values.{TpduAndSum, destination_of, format_for};
+ghost use Rattle.tpdu.specs.Writing.{IsAllowed, IsWritten};
+ghost use Rattle.tp4_flow.specs.declared.step.EndEvent.{EndEvent};
+ghost use Rattle.tp4_flow.specs.declared.step.Sent.{Sent};
+ghost use Rattle.tp4_conn.specs.Calls.{IsCall};
+ghost use Rattle.tp4_conn.specs.End.{IsTimed};
+ghost use Rattle.tp4_conn.specs.Proper.{IsProperCall, IsSendable};
+ghost use Rattle.tp4_conn.specs.declared.call.ConnectCall.{ConnectCall};
+ghost use Rattle.tp4_conn.specs.declared.call.UserCall.{UserCall};
+ghost use Rattle.tp4_entity.specs.Association.{met};
+ghost use Rattle.tp4_entity.specs.Entity.{Acted, Entity, at, end_at};
+ghost use Rattle.tp4_entity.specs.References.{least_free};
+ghost use Rattle.tp4_entity.specs.Step.{call_of, calling, connecting, first_due, is_due, ticking, user_refusal};
+ghost use Rattle.tp4_entity.specs.Unit.{EndsWith, HearsUnit, Separates, extended_of};
+ghost use Rattle.tp4_outcome.specs.Rest.{AreInTime, AreProper, IsAtRest, IsProperStep, IsProperTick};
+ghost use Rattle.tp4_outcome.specs.Units.{IsOneOrBad};
+
+/// An entity without an end is at rest. Where it is at rest, and a proper call or a TPDU in the format of its end comes, it is
+/// at rest afterwards, and all that it sends has octets.
+pub fn rests()
+    ensures new { (now references : ℕ) (e : Entity) → e.ends ≡ replicate references None → IsTimed e.timers → 1 ≤ e.timers.inactive → IsAtRest now e }
+    ensures connecting { (now reference : ℕ) (e : Entity) (call : ConnectCall) → IsAtRest now e → least_free now e ≡ Some reference
+        → IsProperCall (call_of e reference call) → IsProperStep now (connecting now e reference call) }
+    ensures calling { (wrap : ℕ → ℕ → ℕ) (now reference : ℕ) (e : Entity) (call : UserCall) → IsAtRest now e → user_refusal e reference call ≡ None → IsCall call
+        → IsProperStep now (calling wrap now e reference call) }
+    ensures met { (wrap : ℕ → ℕ → ℕ) (now : ℕ) (e : Entity) (from : List ℕ) (tpdu : TpduAndSum) → IsAtRest now e
+        → IsAllowed (format_for (extended_of e) (destination_of tpdu.0)) tpdu.0 → IsProperStep now (met wrap now e from tpdu) }
+{}
+
+/// Where no end was due before a tick, each end that ticks then is due later, or no more. Where none is due any more the entity is at
+/// rest, and none is due before the next tick.
+pub fn ticks()
+    ensures ticking { (wrap : ℕ → ℕ → ℕ) (now : ℕ) (e : Entity) → AreProper e → AreInTime now e → IsProperTick now (ticking wrap now e) }
+    ensures after { (wrap : ℕ → ℕ → ℕ) (now reference : ℕ) (e : Entity) → AreProper e → first_due now e ≡ Some reference
+        → is_due now (end_at (ticking wrap now e).entity reference) ≡ false }
+    ensures waits { (now : ℕ) (e : Entity) → first_due now e ≡ None → AreInTime now e × AreInTime (now + 1) e }
+    ensures clock { (now clock : ℕ) (e : Entity) → IsAtRest now e → IsAtRest now (at clock e) }
+{}
+
+/// Octets that were written for one TPDU are that TPDU alone, and nothing else: they are read as it was sent, or no TPDU is there and
+/// a fault is told.
+pub fn one_in_unit()
+    ensures { (extended octets rest : List ℕ) (sent : Sent) (tpdus : List TpduAndSum) (told : List EndEvent) → IsSendable sent
+        → IsWritten sent.format sent.sum sent.tpdu octets → Separates extended octets tpdus rest → EndsWith extended rest told
+        → IsOneOrBad extended sent tpdus rest told }
+{}
+
+/// Each unit has an outcome.
+pub fn some_hearing()
+    ensures { (wrap : ℕ → ℕ → ℕ) (now : ℕ) (entity : Entity) (from octets : List ℕ) → (acted : Acted) × HearsUnit wrap now entity from octets acted }
+{}

@@ -1,0 +1,41 @@
+use Rattle.std.proofs.Common.{◌∙◌, [], ap, sym, slice_get, List}
+use Rattle.std.specs.List.{position}
+use Rattle.std.proofs.lemmas.List.{append-nil}
+use Rattle.tp4_number.specs.Number.{wire}
+use Rattle.tp4_world.specs.World.{is_of}
+use Rattle.tp4_world.specs.declared.place.Placed.{Placed}
+use Rattle.tp4_world.specs.steps.Parts.{world_of}
+use Rattle.tp4_world.proofs.Acting.{own_of}
+use Rattle.tp4_world.proofs.Entities.{no_entity}
+use Rattle.tp4_world.proofs.Heard.{hears_none, hears_there, hears_unfit}
+use Rattle.tp4_world.proofs.Places.{first_is_some}
+use Rattle.tp4_world.proofs.hearing.hear.Goals as goal
+
+pub returns-in_default-clause-hears : goal.returns-in_default-clause-hears
+returns-in_default-clause-hears g c = record {
+  made = [];
+  added = sym (append-nil c.args.events.now.items);
+  are = hears_none g.C.Carrier.link g.C.Carrier.steps wire (world_of c.args.carrier.now c.args.transport.now.entities.items c.args.transport.now.ends) c.args.arrival.now
+      (no_entity c.args.transport.now.entities.items c.args.arrival.now.system
+      (ap (position (is_of c.args.arrival.now.system)) (sym c.deref.ensures.value) ∙ sym c.place_of.ensures ∙ c.in_default.is));
+}
+
+pub returns-then-not-is_for-clause-hears : goal.returns-then-not-is_for-clause-hears
+returns-then-not-is_for-clause-hears g c =
+    let found = ap (position (is_of c.args.arrival.now.system)) (sym c.deref.ensures.value) ∙ sym c.place_of.ensures ∙ c.in-Some.is in
+    let there = first_is_some (is_of c.args.arrival.now.system) c.args.transport.now.entities.items c.in-Some.place found in
+    let owns = sym c.in-Some-own_at.is ∙ c.own_at.ensures there.0 (ap (λ (ps : List Placed). slice_get ps c.in-Some.place) c.deref-2.ensures.value ∙ there.1) in
+    record {
+      made = [];
+      added = sym (append-nil c.args.events.now.items);
+      are = hears_unfit g.C.Carrier.link g.C.Carrier.steps wire (world_of c.args.carrier.now c.args.transport.now.entities.items c.args.transport.now.ends) c.args.arrival.now c.in-Some.place
+          c.in-Some-own_at.own there.0 found there.1 (own_of c.in-Some-own_at.own there.0 owns) (sym c.is_for.ensures ∙ c.if-not-is_for.true);
+    }
+
+pub returns-clause-hears : goal.returns-clause-hears
+returns-clause-hears g c =
+    let found = ap (position (is_of c.args.arrival.now.system)) (sym c.deref.ensures.value) ∙ sym c.place_of.ensures ∙ c.in-Some.is in
+    hears_there g.C.Carrier.link g.C.Carrier.steps wire c.args.carrier.now c.follow.new.carrier c.args.transport.now.entities.items c.hear_at.new.entities.items c.args.transport.now.ends c.follow.new.ends
+    c.args.arrival.now c.in-Some.place c.args.now c.in-Some-own_at.own c.new-out.result c.hear_at.new.out c.args.events.now.items c.follow.new.events.items found
+    (λ one at. sym c.in-Some-own_at.is ∙ c.own_at.ensures one (ap (λ (ps : List Placed). slice_get ps c.in-Some.place) c.deref-2.ensures.value ∙ at))
+    (sym c.is_for.ensures ∙ c.if-not-is_for.false) c.requires.clock c.new-out.ensures c.in_ok-hear_at.ensures.changed c.in_ok-follow.ensures.follows

@@ -1,0 +1,26 @@
+use Rattle.std.proofs.Common.{◌≡◌, ◌∙◌, ◌≤◌, ℕ, [], drop, length, List, ap, sym, slice_get, rules, arith}
+use Rattle.std.proofs.lemmas.Grind.{common_steps}
+use Rattle.tp4_number.specs.Number.{wire}
+use Rattle.tp4_world.specs.steps.Parts.{systems_of, world_of}
+use Rattle.tp4_world.proofs.Entities.{systems_count}
+use Rattle.tp4_world.proofs.Ticked.{all_ticked, entity_more}
+use Rattle.tp4_world.proofs.ticking.tick_all.Goals as goal
+
+pub loop-place-preserved : goal.loop-place-preserved
+loop-place-preserved g c = (
+  entity_more g.C.Carrier.link g.C.Carrier.steps wire (world_of c.args.carrier.now c.args.transport.now.entities.items c.args.transport.now.ends) (systems_of c.args.transport.now.entities.items)
+      c.args.events.now.items (world_of c.loop-place.carrier c.loop-place.transport.entities.items c.loop-place.transport.ends) c.loop-place.events.items c.loop-place.place c.in-Some.system
+      (world_of c.tick_system.new.carrier c.tick_system.new.transport.entities.items c.tick_system.new.transport.ends) c.tick_system.new.events.items c.loop-place.invariant.0
+      (ap (λ (ss : List ℕ). slice_get ss c.loop-place.place) (sym c.loop-place.invariant.3) ∙ sym c.system_at.ensures ∙ c.in-Some.is) c.in_ok-tick_system.ensures.ticks,
+  c.in_ok-tick_system.ensures.clock,
+  c.in_ok-tick_system.ensures.behind,
+  c.in_ok-tick_system.ensures.systems ∙ c.loop-place.invariant.3,
+)
+
+pub returns-clause-ticks : goal.returns-clause-ticks
+returns-clause-ticks g c =
+    let count : length (systems_of c.args.transport.now.entities.items) ≡ length c.args.transport.now.entities.items = systems_count c.args.transport.now.entities.items in
+    let whole : length (systems_of c.args.transport.now.entities.items) ≤ c.loop-place.place = search rules in
+    let over : drop c.loop-place.place (systems_of c.args.transport.now.entities.items) ≡ [] = grind (arith, common_steps) in
+    all_ticked g.C.Carrier.link g.C.Carrier.steps wire (world_of c.args.carrier.now c.args.transport.now.entities.items c.args.transport.now.ends) c.args.transport.now.entities.items c.args.events.now.items
+    (world_of c.loop-place.carrier c.loop-place.transport.entities.items c.loop-place.transport.ends) c.loop-place.events.items c.loop-place.place c.loop-place.invariant.0 over

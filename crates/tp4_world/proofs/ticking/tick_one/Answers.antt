@@ -1,0 +1,36 @@
+use Rattle.std.proofs.Common.{◌∙◌, [], ap, sym, slice_get, List}
+use Rattle.std.specs.List.{position}
+use Rattle.std.proofs.lemmas.List.{append-nil}
+use Rattle.tp4_number.specs.Number.{wire}
+use Rattle.tp4_world.specs.World.{is_of}
+use Rattle.tp4_world.specs.declared.place.Placed.{Placed}
+use Rattle.tp4_world.proofs.Ticked.{changed_systems, fewer_due, once_due, once_none}
+use Rattle.tp4_world.proofs.ticking.tick_one.Goals as goal
+
+pub returns-then-not-was_due-clause-ticks : goal.returns-then-not-was_due-clause-ticks
+returns-then-not-was_due-clause-ticks g c = record {
+  made = [];
+  added = sym (append-nil c.args.events.now.items);
+  are = once_none g.C.Carrier.link g.C.Carrier.steps wire c.args.carrier.now c.args.transport.now.entities.items c.tick_at.new.entities.items c.args.transport.now.ends c.args.system c.in-Some.place c.args.now
+      c.in_ok-was_due.was_due c.new-out.result c.tick_at.new.out (ap (position (is_of c.args.system)) (sym c.deref.ensures.value) ∙ sym c.place_of.ensures ∙ c.in-Some.is) c.requires.clock
+      c.if-not-was_due.true c.in_ok-was_due.ensures.changed;
+}
+
+pub returns-then-not-was_due-clause-systems : goal.returns-then-not-was_due-clause-systems
+returns-then-not-was_due-clause-systems g c = changed_systems c.in-Some.place c.args.transport.now.entities.items c.tick_at.new.entities.items _ c.in_ok-was_due.ensures.changed
+
+pub returns-clause-ticks : goal.returns-clause-ticks
+returns-clause-ticks g c =
+    once_due g.C.Carrier.link g.C.Carrier.steps wire c.args.carrier.now c.follow.new.carrier c.args.transport.now.entities.items c.tick_at.new.entities.items c.args.transport.now.ends c.follow.new.ends
+    c.args.system c.in-Some.place c.args.now c.in-Some-own_at.own c.in_ok-was_due.was_due c.new-out.result c.tick_at.new.out c.args.events.now.items c.follow.new.events.items
+    (ap (position (is_of c.args.system)) (sym c.deref.ensures.value) ∙ sym c.place_of.ensures ∙ c.in-Some.is)
+    (λ one at. sym c.in-Some-own_at.is ∙ c.own_at.ensures one (ap (λ (ps : List Placed). slice_get ps c.in-Some.place) c.deref-2.ensures.value ∙ at))
+    c.requires.clock c.if-not-was_due.false c.new-out.ensures c.in_ok-was_due.ensures.changed c.in_ok-follow.ensures.follows
+
+pub returns-clause-systems : goal.returns-clause-systems
+returns-clause-systems g c = changed_systems c.in-Some.place c.args.transport.now.entities.items c.tick_at.new.entities.items _ c.in_ok-was_due.ensures.changed
+
+pub returns-clause-fewer : goal.returns-clause-fewer
+returns-clause-fewer g c = λ due.
+    fewer_due c.args.now c.args.transport.now.entities.items c.tick_at.new.entities.items c.args.system c.in-Some.place
+    (ap (position (is_of c.args.system)) (sym c.deref.ensures.value) ∙ sym c.place_of.ensures ∙ c.in-Some.is) (c.in_ok-was_due.ensures.fewer c.if-not-was_due.false)

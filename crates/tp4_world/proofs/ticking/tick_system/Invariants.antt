@@ -1,0 +1,17 @@
+use Rattle.std.proofs.Common.{◌≡◌, []}
+use Rattle.tp4_number.specs.Number.{wire}
+use Rattle.tp4_world.specs.steps.Parts.{AreBehind, dues_at, systems_of, world_of}
+use Rattle.tp4_world.proofs.Going.{Going}
+use Rattle.tp4_world.proofs.Ticked.{OfEntity}
+use Rattle.tp4_world.proofs.ticking.tick_system.Given as goal
+
+abbrev pub invariant-loop : goal.invariant-loop
+invariant-loop g l =
+    Going (OfEntity g.C.Carrier.link g.C.Carrier.steps wire l.system) (world_of l.initial.carrier l.initial.transport.entities.items l.initial.transport.ends) [] l.initial.events.items
+    (world_of l.carrier l.transport.entities.items l.transport.ends) l.events.items []
+    × ((g.C.Carrier.link l.carrier).clock ≡ l.now)
+    × AreBehind l.now l.transport.entities.items
+    × (systems_of l.transport.entities.items ≡ systems_of l.initial.transport.entities.items)
+
+abbrev pub decreases-loop : goal.decreases-loop
+decreases-loop g l = dues_at l.now l.transport.entities.items l.system

@@ -1,0 +1,5 @@
+pub mod Laws
+pub mod Run
+pub mod Telling
+pub mod World
+pub mod steps

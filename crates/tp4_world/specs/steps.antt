@@ -1,0 +1,2 @@
+-- What only carries the proofs: what a part of a line tells and leaves.
+pub mod Parts

@@ -1,0 +1,202 @@
+//! What users ask of the transport entities (X.214, service primitives).
+
+ghost use Rattle.std.specs.Prelude.{◌≡◌, ◌≤◌, ◌∷◌, [], Some, OnOk};
+ghost use Rattle.tp4_number.specs.Number.{wire};
+ghost use Rattle.tp4_conn.specs.Calls.{IsCall};
+ghost use Rattle.tp4_conn.specs.End.{IsSize};
+ghost use Rattle.osi_journal.specs.declared.event.Event.TheVariants.{No};
+ghost use Rattle.osi_journal.specs.declared.cause.Refused.{Refused as Cause};
+ghost use Rattle.std.specs.List.{position};
+ghost use Rattle.tp4_entity.specs.Entity.{Entity};
+ghost use Rattle.tp4_entity.specs.Step.{user_refusal};
+ghost use Rattle.tp4_world.specs.Run.{Calls, CallsBy, Connects};
+ghost use Rattle.tp4_world.specs.World.{entity_at, is_of};
+ghost use Rattle.tp4_world.specs.steps.Parts.{AreBehind, world_of};
+
+use crate::EndAt;
+use crate::sending::follow;
+use crate::telling::{call_event, request, tell_some};
+use crate::transport::{Transport, connect_at, has_ended, own_at, place_of, user_at};
+use crate::words::{told_connect, told_refusal};
+use nsap::Nsap;
+use osi_base::{Carrier, NoMemory, Tick};
+use osi_journal::{Boxed, Event, Refused, Request, Standing};
+use tp4_conn::{ConnectCall, UserCall};
+use tp4_flow::Step;
+
+/// A user of a system asks for a connection.
+pub fn begin<C: Carrier<Addr = Nsap>>(
+    carrier: &mut C,
+    transport: &mut Transport,
+    now: Tick,
+    system: u8,
+    call: ConnectCall,
+    events: &mut Vec<Event>,
+) -> Result<(), NoMemory>
+    requires low { now ≤ 4000000000 }
+    requires clock { (C.link carrier.old).clock ≡ now }
+    requires behind { AreBehind now transport.old.entities.items }
+    requires size { IsSize call.options.size }
+    requires none { events.old.items ≡ [] }
+    ensures connects { OnOk result (Connects C.link C.steps
+        (world_of carrier.old transport.old.entities.items transport.old.ends) system call events.new.items (world_of carrier.new transport.new.entities.items transport.new.ends)) }
+    ensures clock { OnOk result ((C.link carrier.new).clock ≡ now) }
+    ensures behind { OnOk result (AreBehind now transport.new.entities.items) }
+{
+    let alloc = transport.alloc;
+    let Some(place) = place_of(&transport.entities, system) else {
+        return Err(NoMemory);
+    };
+    let Some(own) = own_at(&transport.entities, place) else {
+        return Err(NoMemory);
+    };
+    let request = request(alloc, system, &own, &call)?;
+    let mut out = Step::new(alloc);
+    match connect_at(&mut transport.entities, place, now, call, &mut out) {
+        Ok(reference) => {
+            let end = transport.ends.add(EndAt { system, reference })?;
+            let request = Request {
+                end,
+                reference,
+                ..request
+            };
+            events.push(Event::Connect(Boxed::new(alloc, request)?))?;
+            follow(
+                alloc,
+                carrier,
+                &mut transport.ends,
+                system,
+                &own,
+                out,
+                events,
+            )?;
+            Ok(())
+        }
+        Err(why) => {
+            refuse(told_connect(why), events)?;
+            Ok(())
+        }
+    }
+}
+
+/// A user calls the end of a number.
+pub fn ask<C: Carrier<Addr = Nsap>>(
+    carrier: &mut C,
+    transport: &mut Transport,
+    now: Tick,
+    number: u32,
+    call: UserCall,
+    events: &mut Vec<Event>,
+) -> Result<(), NoMemory>
+    requires low { now ≤ 4000000000 }
+    requires clock { (C.link carrier.old).clock ≡ now }
+    requires behind { AreBehind now transport.old.entities.items }
+    requires call { IsCall call }
+    requires none { events.old.items ≡ [] }
+    ensures calls { OnOk result (Calls C.link C.steps wire
+        (world_of carrier.old transport.old.entities.items transport.old.ends) number call events.new.items (world_of carrier.new transport.new.entities.items transport.new.ends)) }
+    ensures clock { OnOk result ((C.link carrier.new).clock ≡ now) }
+    ensures behind { OnOk result (AreBehind now transport.new.entities.items) }
+{
+    let Some(end) = transport.ends.numbered(number) else {
+        refuse(Some(Refused::NoSuchEnd), events)?;
+        return Ok(());
+    };
+    let Some(place) = place_of(&transport.entities, end.system) else {
+        return Err(NoMemory);
+    };
+    match has_ended(transport, place, now, number, end) {
+        Some(false) => {
+            ask_at(
+                carrier,
+                transport,
+                place,
+                now,
+                Named { number, end },
+                call,
+                events,
+            )?;
+            Ok(())
+        }
+        Some(true) => {
+            refuse(Some(Refused::WrongState(Standing::Ended)), events)?;
+            Ok(())
+        }
+        None => Err(NoMemory),
+    }
+}
+
+/// An end with its number.
+#[derive(Clone, Copy)]
+struct Named {
+    number: u32,
+    end: EndAt,
+}
+
+/// A user calls an end of the entity at a place, whose reference has not been free since.
+fn ask_at<C: Carrier<Addr = Nsap>>(
+    carrier: &mut C,
+    transport: &mut Transport,
+    place: usize,
+    now: Tick,
+    named: Named,
+    call: UserCall,
+    events: &mut Vec<Event>,
+) -> Result<(), NoMemory>
+    requires low { now ≤ 4000000000 }
+    requires clock { (C.link carrier.old).clock ≡ now }
+    requires behind { AreBehind now transport.old.entities.items }
+    requires place { position (is_of named.end.system) transport.old.entities.items ≡ Some place }
+    requires call { IsCall call }
+    requires none { events.old.items ≡ [] }
+    ensures calls { OnOk result ((entity : Entity) × (entity_at transport.old.entities.items named.end.system ≡ Some entity)
+        × CallsBy C.link C.steps wire (world_of carrier.old transport.old.entities.items transport.old.ends) named.number named.end entity call
+        (user_refusal entity named.end.reference call) events.new.items (world_of carrier.new transport.new.entities.items transport.new.ends)) }
+    ensures clock { OnOk result ((C.link carrier.new).clock ≡ now) }
+    ensures behind { OnOk result (AreBehind now transport.new.entities.items) }
+{
+    let alloc = transport.alloc;
+    let Some(own) = own_at(&transport.entities, place) else {
+        return Err(NoMemory);
+    };
+    let event = call_event(alloc, named.number, &call)?;
+    let mut out = Step::new(alloc);
+    match user_at(
+        &mut transport.entities,
+        place,
+        now,
+        named.end.reference,
+        call,
+        &mut out,
+    ) {
+        Ok(()) => {
+            tell_some(event, events)?;
+            follow(
+                alloc,
+                carrier,
+                &mut transport.ends,
+                named.end.system,
+                &own,
+                out,
+                events,
+            )?;
+            Ok(())
+        }
+        Err(why) => {
+            refuse(told_refusal(why), events)?;
+            Ok(())
+        }
+    }
+}
+
+/// Tells a refusal; want of memory is none.
+fn refuse(why: Option<Refused>, events: &mut Vec<Event>) -> Result<(), NoMemory>
+    requires none { events.old.items ≡ [] }
+    ensures { OnOk result ((cause : Cause) × (why ≡ Some cause) × (events.new.items ≡ No cause ∷ [])) }
+{
+    let Some(cause) = why else {
+        return Err(NoMemory);
+    };
+    events.push(Event::No { cause })?;
+    Ok(())
+}

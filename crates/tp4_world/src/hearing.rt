@@ -1,0 +1,150 @@
+//! What the network hands up: it is told, and then each unit for transport is handed to the entity of its system (X.214, model of the
+//! transport service).
+
+ghost use Rattle.std.specs.Prelude.{◌≡◌, ◌≤◌, ◌++◌, ◌==◌, ◌&&◌, nat_eq, IfOk, OnOk};
+ghost use Rattle.std.specs.Cmp.Lexicographic.{pointwise};
+ghost use Rattle.nsap.specs.Address.{selector_of};
+ghost use Rattle.net_world.specs.Told.{told, up_events};
+ghost use Rattle.tp4_number.specs.Number.{wire};
+ghost use Rattle.tp4_world.specs.Run.{Hears};
+ghost use Rattle.tp4_world.specs.steps.Parts.{AreBehind, HearsEach, HearsWaiting, Tells, for_transport, systems_of, then_for_transport, world_of};
+
+use crate::sending::follow;
+use crate::transport::{Transport, hear_at, own_at, place_of};
+use net_world::tell;
+use nsap::Nsap;
+use osi_base::{Arrival, Carrier, NoMemory, Tick, Up, gather};
+use osi_journal::Event;
+use std::alloc::Global;
+use std::collections::VecDeque;
+use tp4_flow::Step;
+
+/// The selector of transport.
+const TRANSPORT: u8 = 1;
+
+/// Tells what waits in the carrier, and then hands each unit for transport to its entity.
+pub fn hear_waiting<C: Carrier<Addr = Nsap>>(
+    carrier: &mut C,
+    transport: &mut Transport,
+    now: Tick,
+    events: &mut Vec<Event>,
+) -> Result<(), NoMemory>
+    requires low { now ≤ 4000000000 }
+    requires clock { (C.link carrier.old).clock ≡ now }
+    requires behind { AreBehind now transport.old.entities.items }
+    ensures hears { OnOk result (Tells events.old.items events.new.items (λ made. HearsWaiting C.link C.steps wire
+        (world_of carrier.old transport.old.entities.items transport.old.ends) made (world_of carrier.new transport.new.entities.items transport.new.ends))) }
+    ensures clock { OnOk result ((C.link carrier.new).clock ≡ now) }
+    ensures behind { OnOk result (AreBehind now transport.new.entities.items) }
+{
+    let ups = gather(transport.alloc, carrier)?;
+    let units = tell_ups(transport.alloc, ups, events)?;
+    hear_all(carrier, transport, now, units, events)?;
+    Ok(())
+}
+
+/// Tells what came up, in order; the answer is the units for transport.
+fn tell_ups(
+    alloc: Global,
+    ups: VecDeque<Up<Nsap>>,
+    events: &mut Vec<Event>,
+) -> Result<VecDeque<Arrival<Nsap>>, NoMemory>
+    ensures units { IfOk result (λ units. units.items ≡ for_transport ups.items) }
+    ensures told { IfOk result (λ units. events.new.items ≡ events.old.items ++ told ups.items) }
+{
+    let mut units = VecDeque::new(alloc);
+    for up in ups {
+        sort(up, events, &mut units)?;
+    }
+    Ok(units)
+}
+
+/// Tells what came up, or puts it with the units for transport.
+fn sort(
+    up: Up<Nsap>,
+    events: &mut Vec<Event>,
+    units: &mut VecDeque<Arrival<Nsap>>,
+) -> Result<(), NoMemory>
+    ensures units { OnOk result (units.new.items ≡ then_for_transport units.old.items up) }
+    ensures told { OnOk result (events.new.items ≡ events.old.items ++ up_events up) }
+{
+    match up {
+        Up::Unit(arrival) => {
+            if arrival.unit.to.selector() == TRANSPORT {
+                units.push_back(arrival)?;
+                return Ok(());
+            }
+            tell(Up::Unit(arrival), events)
+        }
+        Up::Note(note) => tell(Up::Note(note), events),
+    }
+}
+
+/// The units are handled, one after another.
+fn hear_all<C: Carrier<Addr = Nsap>>(
+    carrier: &mut C,
+    transport: &mut Transport,
+    now: Tick,
+    mut units: VecDeque<Arrival<Nsap>>,
+    events: &mut Vec<Event>,
+) -> Result<(), NoMemory>
+    requires low { now ≤ 4000000000 }
+    requires clock { (C.link carrier.old).clock ≡ now }
+    requires behind { AreBehind now transport.old.entities.items }
+    ensures hears { OnOk result (Tells events.old.items events.new.items (λ made. HearsEach C.link C.steps wire
+        (world_of carrier.old transport.old.entities.items transport.old.ends) units.items made (world_of carrier.new transport.new.entities.items transport.new.ends))) }
+    ensures clock { OnOk result ((C.link carrier.new).clock ≡ now) }
+    ensures behind { OnOk result (AreBehind now transport.new.entities.items) }
+{
+    while let Some(arrival) = units.pop_front() {
+        hear(carrier, transport, now, &arrival, events)?;
+    }
+    Ok(())
+}
+
+/// A unit is handed to the entity of its system, where it is for the entity's address; else nothing comes of it.
+fn hear<C: Carrier<Addr = Nsap>>(
+    carrier: &mut C,
+    transport: &mut Transport,
+    now: Tick,
+    arrival: &Arrival<Nsap>,
+    events: &mut Vec<Event>,
+) -> Result<(), NoMemory>
+    requires low { now ≤ 4000000000 }
+    requires clock { (C.link carrier.old).clock ≡ now }
+    requires behind { AreBehind now transport.old.entities.items }
+    ensures hears { OnOk result (Tells events.old.items events.new.items (λ made. Hears C.link C.steps wire
+        (world_of carrier.old transport.old.entities.items transport.old.ends) arrival.now made (world_of carrier.new transport.new.entities.items transport.new.ends))) }
+    ensures clock { OnOk result ((C.link carrier.new).clock ≡ now) }
+    ensures behind { OnOk result (AreBehind now transport.new.entities.items) }
+{
+    let Some(place) = place_of(&transport.entities, arrival.system) else {
+        return Ok(());
+    };
+    let Some(own) = own_at(&transport.entities, place) else {
+        return Err(NoMemory);
+    };
+    if !is_for(&own, &arrival.unit.to) {
+        return Ok(());
+    }
+    let alloc = transport.alloc;
+    let mut out = Step::new(alloc);
+    hear_at(&mut transport.entities, place, now, &arrival.unit, &mut out)?;
+    follow(
+        alloc,
+        carrier,
+        &mut transport.ends,
+        arrival.system,
+        &own,
+        out,
+        events,
+    )?;
+    Ok(())
+}
+
+/// Whether a unit to an address is for the users of an entity.
+fn is_for(own: &Nsap, to: &Nsap) -> bool
+    ensures { result ≡ (selector_of to.now == 1 && pointwise nat_eq own.now to.now) }
+{
+    to.selector() == TRANSPORT && own == to
+}

@@ -1,0 +1,41 @@
+//! What holds of every run of a network with its transport entities.
+
+ghost use Rattle.std.specs.Prelude.{List, ℕ};
+ghost use Rattle.tp4_world.specs.Laws.{OneRun, OneStart, ShowsSent, WholeLine, WholeRun, WireLine};
+
+use nsap::Nsap;
+use osi_base::Carrier;
+
+/// A line has one list of events, and leads to one state, where the carrier answers in one way.
+pub fn one_run<C: Carrier<Addr = Nsap>>()
+    ensures { OneRun C.link C.steps }
+{
+    carrier_answers::one_gathering::<C>();
+    tpdu::one_writing();
+    tp4_entity::one_hearing();
+}
+
+/// So has the start.
+pub fn one_start<C: Carrier<Addr = Nsap>>()
+    ensures { OneStart C.link C.steps }
+{
+    carrier_answers::one_gathering::<C>();
+    tpdu::one_writing();
+}
+
+/// Where nothing is injected, each raw unit that is shown was sent to that system, from that address, with those octets, at most the
+/// lifetime before.
+pub fn shows_sent<C: Carrier<Addr = Nsap>>()
+    ensures { ShowsSent C.link C.steps }
+{}
+
+/// A line over the numbers of the wire, which the code keeps, is one over whole numbers, and the other way round; so a run that begins
+/// without ends is one over whole numbers, with the same journal.
+pub fn whole_run<C: Carrier<Addr = Nsap>>()
+    ensures whole { WholeLine C.link C.steps }
+    ensures wire { WireLine C.link C.steps }
+    ensures run { WholeRun C.link C.steps }
+{
+    tp4_entity::over_wires();
+    tp4_entity::one_hearing();
+}

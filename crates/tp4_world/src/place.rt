@@ -1,0 +1,20 @@
+//! Where entities stand, and where ends were made.
+
+use tp4_entity::TpEntity;
+
+/// The transport entity of a system.
+#[derive(Drop)]
+pub struct Placed {
+    /// The number of the system.
+    pub system: u8,
+    pub entity: TpEntity,
+}
+
+/// Where an end was made.
+#[derive(Clone, Copy)]
+pub struct EndAt {
+    /// The number of the system.
+    pub system: u8,
+    /// Its reference there.
+    pub reference: u16,
+}

@@ -1,0 +1,93 @@
+//! The TPDUs of an entity go out, each in a unit of its own (X.224, transfer of TPDUs).
+
+ghost use Rattle.std.specs.Prelude.{◌≡◌, ◌++◌, IfOk, OnOk};
+ghost use Rattle.tpdu.specs.Writing.{IsWritten};
+ghost use Rattle.tp4_world.specs.Run.{SendsTpdu, SendsTpdus};
+ghost use Rattle.tp4_world.specs.steps.Parts.{Follows, Tells};
+
+use crate::ends::Ends;
+use crate::telling::{tell_all, tell_drop};
+use net_world::take_up;
+use nsap::Nsap;
+use osi_base::{Bytes, Carrier, NoMemory, Unit, Wish};
+use osi_journal::Event;
+use std::alloc::Global;
+use tp4_flow::{Sent, Step};
+use tpdu::write_tpdu;
+
+/// A unit of transport may be cut, and asks for nothing else.
+const WISH: Wish = Wish {
+    cut: true,
+    report: false,
+    trace: false,
+    path: 0,
+};
+
+/// Tells what an entity told, and then sends its TPDUs.
+pub fn follow<C: Carrier<Addr = Nsap>>(
+    alloc: Global,
+    carrier: &mut C,
+    ends: &mut Ends,
+    system: u8,
+    own: &Nsap,
+    out: Step,
+    events: &mut Vec<Event>,
+) -> Result<(), NoMemory>
+    ensures follows { OnOk result (Tells events.old.items events.new.items (λ made. Follows C.link C.steps carrier.old ends.old system own.now out made carrier.new ends.new)) }
+    ensures clock { OnOk result ((C.link carrier.new).clock ≡ (C.link carrier.old).clock) }
+{
+    let (told, tpdus) = out.into_parts();
+    tell_all(alloc, ends, system, own, told, events)?;
+    send_all(alloc, carrier, system, own, &tpdus, events)
+}
+
+/// Sends the TPDUs of a system, in order.
+fn send_all<C: Carrier<Addr = Nsap>>(
+    alloc: Global,
+    carrier: &mut C,
+    system: u8,
+    own: &Nsap,
+    tpdus: &[Sent],
+    events: &mut Vec<Event>,
+) -> Result<(), NoMemory>
+    ensures sends { OnOk result (Tells events.old.items events.new.items (λ made. SendsTpdus C.link C.steps carrier.old system own.now tpdus.now made carrier.new)) }
+    ensures clock { OnOk result ((C.link carrier.new).clock ≡ (C.link carrier.old).clock) }
+{
+    for sent in tpdus {
+        send(alloc, carrier, system, own, sent, events)?;
+    }
+    Ok(())
+}
+
+/// Sends a TPDU, and tells what comes of it.
+fn send<C: Carrier<Addr = Nsap>>(
+    alloc: Global,
+    carrier: &mut C,
+    system: u8,
+    own: &Nsap,
+    sent: &Sent,
+    events: &mut Vec<Event>,
+) -> Result<(), NoMemory>
+    ensures sends { OnOk result (Tells events.old.items events.new.items (λ made. SendsTpdu C.link C.steps carrier.old system own.now sent.now made carrier.new)) }
+    ensures clock { OnOk result ((C.link carrier.new).clock ≡ (C.link carrier.old).clock) }
+{
+    let octets = octets_of(alloc, sent)?;
+    let unit = Unit {
+        from: *own,
+        to: sent.to,
+        octets,
+    };
+    let answer = carrier.offer(unit, WISH)?;
+    tell_drop(system, answer, events)?;
+    take_up(carrier, events)
+}
+
+/// The octets of a TPDU. What an end sends is never too long.
+fn octets_of(alloc: Global, sent: &Sent) -> Result<Bytes, NoMemory>
+    ensures { IfOk result (λ octets. IsWritten sent.now.format sent.now.sum sent.now.tpdu octets) }
+{
+    match write_tpdu(alloc, &sent.tpdu, sent.format, sent.sum) {
+        Ok(octets) => Ok(Bytes::of(octets)),
+        Err(_) => Err(NoMemory),
+    }
+}

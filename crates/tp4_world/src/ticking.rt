@@ -1,0 +1,112 @@
+//! The ends that are due at a tick, system by system (X.224, class 4 procedures).
+
+ghost use Rattle.std.specs.Prelude.{◌≡◌, ◌≤◌, ◌+◌, slice_get, true, IfOk, OnOk};
+ghost use Rattle.tp4_number.specs.Number.{wire};
+ghost use Rattle.tp4_world.specs.Run.{TicksAll, TicksEntity};
+ghost use Rattle.tp4_world.specs.steps.Parts.{AreBehind, Tells, TicksOnce, dues_at, systems_of, world_of};
+
+use crate::sending::follow;
+use crate::transport::{Transport, own_at, place_of, tick_at};
+use nsap::Nsap;
+use osi_base::{Carrier, NoMemory, Tick};
+use osi_journal::Event;
+use tp4_flow::Step;
+
+/// The due ends of each entity tick, in the order of the entities.
+pub fn tick_all<C: Carrier<Addr = Nsap>>(
+    carrier: &mut C,
+    transport: &mut Transport,
+    now: Tick,
+    events: &mut Vec<Event>,
+) -> Result<(), NoMemory>
+    requires low { now ≤ 4000000000 }
+    requires clock { (C.link carrier.old).clock ≡ now }
+    requires behind { AreBehind now transport.old.entities.items }
+    ensures ticks { OnOk result (Tells events.old.items events.new.items (λ made. TicksAll C.link C.steps wire
+        (world_of carrier.old transport.old.entities.items transport.old.ends) transport.old.entities.items made (world_of carrier.new transport.new.entities.items transport.new.ends))) }
+    ensures clock { OnOk result ((C.link carrier.new).clock ≡ now) }
+    ensures behind { OnOk result (AreBehind now transport.new.entities.items) }
+{
+    for place in 0..transport.entities.len() {
+        let Some(system) = system_at(transport, place) else {
+            return Err(NoMemory);
+        };
+        tick_system(carrier, transport, now, system, events)?;
+    }
+    Ok(())
+}
+
+/// The system of the entity at a place.
+fn system_at(transport: &Transport, place: usize) -> Option<u8>
+    ensures { result ≡ slice_get (systems_of transport.now.entities.items) place }
+{
+    match transport.entities.get(place) {
+        Some(one) => Some(one.system),
+        None => None,
+    }
+}
+
+/// The due ends of an entity tick, by rising reference, until none is due.
+///
+/// An end that ticked is due no more at that tick, so one fewer is due after it.
+fn tick_system<C: Carrier<Addr = Nsap>>(
+    carrier: &mut C,
+    transport: &mut Transport,
+    now: Tick,
+    system: u8,
+    events: &mut Vec<Event>,
+) -> Result<(), NoMemory>
+    requires low { now ≤ 4000000000 }
+    requires clock { (C.link carrier.old).clock ≡ now }
+    requires behind { AreBehind now transport.old.entities.items }
+    ensures ticks { OnOk result (Tells events.old.items events.new.items (λ made. TicksEntity C.link C.steps wire system
+        (world_of carrier.old transport.old.entities.items transport.old.ends) made (world_of carrier.new transport.new.entities.items transport.new.ends))) }
+    ensures clock { OnOk result ((C.link carrier.new).clock ≡ now) }
+    ensures behind { OnOk result (AreBehind now transport.new.entities.items) }
+    ensures systems { OnOk result (systems_of transport.new.entities.items ≡ systems_of transport.old.entities.items) }
+{
+    while tick_one(carrier, transport, now, system, events)? {}
+    Ok(())
+}
+
+/// The due end of least reference of an entity ticks; false exactly where none is due.
+fn tick_one<C: Carrier<Addr = Nsap>>(
+    carrier: &mut C,
+    transport: &mut Transport,
+    now: Tick,
+    system: u8,
+    events: &mut Vec<Event>,
+) -> Result<bool, NoMemory>
+    requires low { now ≤ 4000000000 }
+    requires clock { (C.link carrier.old).clock ≡ now }
+    requires behind { AreBehind now transport.old.entities.items }
+    ensures ticks { IfOk result (λ was_due. Tells events.old.items events.new.items (λ made. TicksOnce C.link C.steps wire system
+        (world_of carrier.old transport.old.entities.items transport.old.ends) was_due made (world_of carrier.new transport.new.entities.items transport.new.ends))) }
+    ensures fewer { IfOk result (λ was_due. was_due ≡ true → dues_at now transport.new.entities.items system + 1 ≡ dues_at now transport.old.entities.items system) }
+    ensures clock { OnOk result ((C.link carrier.new).clock ≡ now) }
+    ensures behind { OnOk result (AreBehind now transport.new.entities.items) }
+    ensures systems { OnOk result (systems_of transport.new.entities.items ≡ systems_of transport.old.entities.items) }
+{
+    let alloc = transport.alloc;
+    let Some(place) = place_of(&transport.entities, system) else {
+        return Err(NoMemory);
+    };
+    let Some(own) = own_at(&transport.entities, place) else {
+        return Err(NoMemory);
+    };
+    let mut out = Step::new(alloc);
+    let was_due = tick_at(&mut transport.entities, place, now, &mut out)?;
+    if !was_due {
+        return Ok(false);
+    }
+    follow(
+        alloc,
+        carrier,
+        &mut transport.ends,
+        system,
+        &own,
+        out,
+        events,
+    )?;
+    Ok(true)
+}

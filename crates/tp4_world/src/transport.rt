@@ -1,0 +1,158 @@
+//! The transport entities of the systems, in the order of their declaration, and the ends that were made there (X.224, class 4
+//! procedures).
+
+ghost use Rattle.std.specs.Prelude.{◌≡◌, ◌≢◌, ◌≤◌, ◌+◌, ℕ, None, Some, Err, is_some, slice_get, true, IfErr, IfOk, OnOk};
+ghost use Rattle.std.specs.List.{position};
+ghost use Rattle.tp4_number.specs.Number.{wire};
+ghost use Rattle.tp4_conn.specs.Calls.{IsCall};
+ghost use Rattle.tp4_conn.specs.End.{IsSize};
+ghost use Rattle.tp4_conn.specs.declared.call.CallRefusal.TheVariants.{NoMemory as EndOutOfMemory};
+ghost use Rattle.tp4_entity.specs.Entity.{Acted};
+ghost use Rattle.tp4_entity.specs.References.{is_free, least_free};
+ghost use Rattle.tp4_entity.specs.Step.{DoesSo, calling, connect_refusal, connecting, dues, first_due, ticking, user_refusal};
+ghost use Rattle.tp4_entity.specs.Unit.{HearsUnit};
+ghost use Rattle.tp4_entity.specs.declared.refusal.ConnectRefusal.TheVariants.{NoMemory as ConnectOutOfMemory};
+ghost use Rattle.tp4_entity.specs.declared.refusal.EntityRefusal.TheVariants.{Call};
+ghost use Rattle.tp4_world.specs.Run.{has_ended};
+ghost use Rattle.tp4_world.specs.World.{is_of};
+ghost use Rattle.tp4_world.specs.declared.place.Placed.{Placed as PlacedEntity};
+ghost use Rattle.tp4_world.specs.steps.Parts.{AreBehind, ChangesAt};
+
+use crate::ends::Ends;
+use crate::{EndAt, Placed};
+use nsap::Nsap;
+use osi_base::{NoMemory, Tick, Unit};
+use std::alloc::Global;
+use tp4_conn::{CallRefusal, ConnectCall, UserCall};
+use tp4_entity::{ConnectRefusal, EntityRefusal};
+use tp4_flow::Step;
+
+/// The entities, and their ends by number.
+#[derive(Drop)]
+pub struct Transport {
+    pub alloc: Global,
+    pub entities: Vec<Placed>,
+    pub ends: Ends,
+}
+
+/// The place of the entity of a system.
+pub fn place_of(entities: &[Placed], system: u8) -> Option<usize>
+    ensures { result ≡ position (is_of system) entities.now }
+{
+    entities.iter().position(|one| one.system == system)
+}
+
+/// The address of the entity at a place.
+pub fn own_at(entities: &[Placed], place: usize) -> Option<Nsap>
+    ensures { (one : PlacedEntity) → slice_get entities.now place ≡ Some one → result ≡ Some one.entity.own }
+{
+    let one = entities.get(place)?;
+    Some(one.entity.own())
+}
+
+/// Whether the reference of an end has been free since the end was made.
+pub fn has_ended(
+    transport: &Transport,
+    place: usize,
+    now: Tick,
+    number: u32,
+    end: EndAt,
+) -> Option<bool>
+    requires behind { AreBehind now transport.now.entities.items }
+    ensures { (one : PlacedEntity) → slice_get transport.now.entities.items place ≡ Some one → result ≡ Some (has_ended now transport.now.ends number end one.entity) }
+{
+    let one = transport.entities.get(place)?;
+    let is_latest = transport.ends.latest(end.system, end.reference) == number;
+    Some(!is_latest || one.entity.is_free(now, end.reference))
+}
+
+/// The entity at a place takes a unit.
+pub fn hear_at(
+    entities: &mut Vec<Placed>,
+    place: usize,
+    now: Tick,
+    unit: &Unit<Nsap>,
+    out: &mut Step,
+) -> Result<(), NoMemory>
+    requires low { now ≤ 4000000000 }
+    requires behind { AreBehind now entities.old.items }
+    ensures changed { OnOk result (ChangesAt place entities.old.items entities.new.items
+        (λ before after. (acted : Acted) × HearsUnit wire now before unit.now.from unit.now.octets acted × DoesSo acted after out.old out.new)) }
+    ensures behind { OnOk result (AreBehind now entities.new.items) }
+{
+    let Some(one) = entities.get_mut(place) else {
+        return Err(NoMemory);
+    };
+    one.entity
+        .on_unit(now, unit.from, unit.octets.as_slice(), out)
+}
+
+/// A user of the entity at a place asks for a connection.
+pub fn connect_at(
+    entities: &mut Vec<Placed>,
+    place: usize,
+    now: Tick,
+    call: ConnectCall,
+    out: &mut Step,
+) -> Result<u16, ConnectRefusal>
+    requires low { now ≤ 4000000000 }
+    requires behind { AreBehind now entities.old.items }
+    requires size { IsSize call.options.size }
+    ensures changed { IfOk result (λ reference. ChangesAt place entities.old.items entities.new.items
+        (λ before after. (connect_refusal now before call.octets ≡ None) × (least_free now before ≡ Some reference)
+        × DoesSo (connecting now before reference call) after out.old out.new)) }
+    ensures why { IfErr result (λ why. why ≢ ConnectOutOfMemory
+        → (one : PlacedEntity) × (slice_get entities.old.items place ≡ Some one) × (connect_refusal now one.entity call.octets ≡ Some why)) }
+    ensures same { IfErr result (λ why. why ≢ ConnectOutOfMemory → entities.new.items ≡ entities.old.items) }
+    ensures behind { AreBehind now entities.new.items }
+{
+    let Some(one) = entities.get_mut(place) else {
+        return Err(ConnectRefusal::NoMemory);
+    };
+    one.entity.connect(now, call, out)
+}
+
+/// A user calls an end of the entity at a place.
+pub fn user_at(
+    entities: &mut Vec<Placed>,
+    place: usize,
+    now: Tick,
+    reference: u16,
+    call: UserCall,
+    out: &mut Step,
+) -> Result<(), EntityRefusal>
+    requires low { now ≤ 4000000000 }
+    requires behind { AreBehind now entities.old.items }
+    requires call { IsCall call }
+    ensures changed { OnOk result (ChangesAt place entities.old.items entities.new.items
+        (λ before after. (user_refusal before reference call ≡ None) × DoesSo (calling wire now before reference call) after out.old out.new)) }
+    ensures why { IfErr result (λ why. why ≢ Call EndOutOfMemory
+        → (one : PlacedEntity) × (slice_get entities.old.items place ≡ Some one) × (user_refusal one.entity reference call ≡ Some why)) }
+    ensures same { IfErr result (λ why. why ≢ Call EndOutOfMemory → entities.new.items ≡ entities.old.items) }
+    ensures behind { AreBehind now entities.new.items }
+{
+    let Some(one) = entities.get_mut(place) else {
+        return Err(EntityRefusal::Call(CallRefusal::NoMemory));
+    };
+    one.entity.user(now, reference, call, out)
+}
+
+/// The due end of least reference of the entity at a place ticks; false exactly where none is due.
+pub fn tick_at(
+    entities: &mut Vec<Placed>,
+    place: usize,
+    now: Tick,
+    out: &mut Step,
+) -> Result<bool, NoMemory>
+    requires low { now ≤ 4000000000 }
+    requires behind { AreBehind now entities.old.items }
+    ensures changed { IfOk result (λ was_due. ChangesAt place entities.old.items entities.new.items
+        (λ before after. (was_due ≡ is_some (first_due now before)) × DoesSo (ticking wire now before) after out.old out.new)) }
+    ensures fewer { IfOk result (λ was_due. was_due ≡ true → ChangesAt place entities.old.items entities.new.items (λ before after. dues now after + 1 ≡ dues now before)) }
+    ensures behind { OnOk result (AreBehind now entities.new.items) }
+{
+    let Some(one) = entities.get_mut(place) else {
+        return Err(NoMemory);
+    };
+    one.entity.tick_next(now, out)
+}

@@ -1,0 +1,343 @@
+//! The network that a script runs, with its transport entities.
+
+ghost use Rattle.std.specs.Prelude.{◌≡◌, ◌<◌, ◌≤◌, [], length, is_some, true, IsTrue, IfOk, OnOk};
+ghost use Rattle.osi_base.specs.declared.unit.Injected.{Injected as Answer};
+ghost use Rattle.osi_base.specs.declared.unit.Picked.{Picked as Choice};
+ghost use Rattle.osi_base.specs.declared.unit.Picked.TheVariants.{Taken};
+ghost use Rattle.tp4_conn.specs.Calls.{IsCall};
+ghost use Rattle.tp4_conn.specs.End.{IsSize};
+ghost use Rattle.tp4_number.specs.Number.{wire};
+ghost use Rattle.tp4_world.specs.Run.{Calls, Connects, Delivers, Injects, SendsRaw, Settles, Starts, Ticks};
+ghost use Rattle.tp4_world.specs.World.{entity_at};
+ghost use Rattle.tp4_world.specs.steps.Parts.{AreBehind, SettlesSo, Tells, world_of};
+
+use crate::Placed;
+use crate::asking::{ask, begin};
+use crate::ends::Ends;
+use crate::hearing::hear_waiting;
+use crate::telling::inject_event;
+use crate::ticking::tick_all;
+use crate::transport::{Transport, place_of};
+use net_world::{picked_event, send_unit, take_up};
+use nsap::Nsap;
+use osi_base::{Bytes, Carrier, NoMemory, Picked, Tick, Wish};
+use osi_journal::{Event, Settled};
+use std::alloc::Global;
+use std::marker::Model;
+use tp4_conn::{ConnectCall, UserCall};
+
+/// The most deliveries of one `settle`.
+const MOST_DELIVERIES: u32 = 65_536;
+
+/// A network with transport entities that a script runs: each call adds its own event, and then those of all that comes of it.
+///
+/// Contracts see it as its carrier, the entities and the ends that were made. After want of memory each further call wants it too.
+#[derive(Drop)]
+pub struct TpWorld<C: Carrier<Addr = Nsap> + Drop> {
+    carrier: C,
+    transport: Transport,
+    stopped: bool,
+}
+
+// The clock of no entity is ahead of the carrier's, unless a call stopped for want of memory.
+impl<C: Carrier<Addr = Nsap> + Drop> Model for TpWorld<C> {
+    ghost use Rattle.std.specs.Prelude.{◌≡◌, false};
+    ghost use Rattle.tp4_world.specs.World.{World};
+    ghost use Rattle.tp4_world.specs.steps.Parts.{IsSound, world_of};
+
+    ghost Value = { World C };
+
+    ghost view = { λ w. world_of w.carrier w.transport.entities.items w.transport.ends };
+
+    ghost invariant = { λ w. w.stopped ≡ false → IsSound C.link (world_of w.carrier w.transport.entities.items w.transport.ends) };
+}
+
+impl<C: Carrier<Addr = Nsap> + Drop> TpWorld<C> {
+    /// The network starts: tick 0, and what waits is told.
+    ///
+    /// At NoMemory the run ends.
+    pub fn start(
+        alloc: Global,
+        carrier: C,
+        systems: Vec<Placed>,
+        events: &mut Vec<Event>,
+    ) -> Result<TpWorld<C>, NoMemory>
+        requires low { (C.link carrier).clock ≤ 4000000000 }
+        requires behind { AreBehind (C.link carrier).clock systems.items }
+        requires none { events.old.items ≡ [] }
+        ensures { IfOk result (λ world. Starts C.link C.steps carrier systems.items events.new.items world) }
+    {
+        let mut world = TpWorld {
+            carrier,
+            transport: Transport {
+                alloc,
+                entities: systems,
+                ends: Ends::new(alloc),
+            },
+            stopped: true,
+        };
+        events.push(Event::Tick { now: 0 })?;
+        take_up(&mut world.carrier, events)?;
+        world.stopped = false;
+        Ok(world)
+    }
+
+    /// The carrier.
+    pub fn carrier(&self) -> &C
+        ensures { result.now ≡ self.now.carrier }
+    {
+        &self.carrier
+    }
+
+    /// How many ends were made.
+    pub fn ends(&self) -> u32
+        ensures { result ≡ length self.now.ends }
+    {
+        self.transport.ends.count()
+    }
+
+    /// Whether a system has a transport entity.
+    pub fn has_entity(&self, system: u8) -> bool
+        ensures { result ≡ is_some (entity_at self.now.entities system) }
+    {
+        place_of(&self.transport.entities, system).is_some()
+    }
+
+    /// A user of a system asks for a connection. The own reference, the address and the timers of the call are set here.
+    ///
+    /// At NoMemory, and where the system has no transport entity, the run ends.
+    pub fn connect(
+        &mut self,
+        system: u8,
+        call: ConnectCall,
+        events: &mut Vec<Event>,
+    ) -> Result<(), NoMemory>
+        requires size { IsSize call.options.size }
+        requires none { events.old.items ≡ [] }
+        ensures { OnOk result (Connects C.link C.steps self.old system call events.new.items self.new) }
+    {
+        if self.stopped {
+            return Err(NoMemory);
+        }
+        self.stopped = true;
+        let now = self.carrier.now();
+        begin(
+            &mut self.carrier,
+            &mut self.transport,
+            now,
+            system,
+            call,
+            events,
+        )?;
+        self.stopped = false;
+        Ok(())
+    }
+
+    /// A user calls the end of a number.
+    ///
+    /// At NoMemory the run ends.
+    pub fn call(
+        &mut self,
+        end: u32,
+        call: UserCall,
+        events: &mut Vec<Event>,
+    ) -> Result<(), NoMemory>
+        requires call { IsCall call }
+        requires none { events.old.items ≡ [] }
+        ensures { OnOk result (Calls C.link C.steps wire self.old end call events.new.items self.new) }
+    {
+        if self.stopped {
+            return Err(NoMemory);
+        }
+        self.stopped = true;
+        let now = self.carrier.now();
+        ask(
+            &mut self.carrier,
+            &mut self.transport,
+            now,
+            end,
+            call,
+            events,
+        )?;
+        self.stopped = false;
+        Ok(())
+    }
+
+    /// A raw unit of a system, from its address for raw units, is sent to another's; without octets it is
+    /// refused before all else. The titles are those of the two systems.
+    ///
+    /// At NoMemory the run ends.
+    pub fn unit(
+        &mut self,
+        system: u8,
+        sender: &Nsap,
+        receiver: &Nsap,
+        wish: Wish,
+        octets: Bytes,
+        events: &mut Vec<Event>,
+    ) -> Result<(), NoMemory>
+        requires none { events.old.items ≡ [] }
+        ensures { OnOk result (SendsRaw C.link C.steps self.old system sender.now receiver.now wish octets events.new.items self.new) }
+    {
+        if self.stopped {
+            return Err(NoMemory);
+        }
+        self.stopped = true;
+        send_unit(
+            self.transport.alloc,
+            &mut self.carrier,
+            system,
+            sender,
+            receiver,
+            wish,
+            octets,
+            events,
+        )?;
+        self.stopped = false;
+        Ok(())
+    }
+
+    /// A delivery: what arrives is chosen, and what comes of it is told.
+    ///
+    /// At NoMemory the run ends.
+    pub fn deliver(
+        &mut self,
+        number: u32,
+        system: u8,
+        events: &mut Vec<Event>,
+    ) -> Result<(), NoMemory>
+        requires none { events.old.items ≡ [] }
+        ensures { OnOk result ((answer : Choice) × Delivers C.link C.steps wire self.old number system answer events.new.items self.new) }
+    {
+        if self.stopped {
+            return Err(NoMemory);
+        }
+        self.stopped = true;
+        let now = self.carrier.now();
+        deliver(
+            &mut self.carrier,
+            &mut self.transport,
+            now,
+            number,
+            system,
+            events,
+        )?;
+        self.stopped = false;
+        Ok(())
+    }
+
+    /// A system of a LAN gets octets that no system sent, and what comes of it is told.
+    ///
+    /// At NoMemory the run ends.
+    pub fn inject(
+        &mut self,
+        lan: u8,
+        system: u8,
+        octets: Vec<u8>,
+        events: &mut Vec<Event>,
+    ) -> Result<(), NoMemory>
+        requires none { events.old.items ≡ [] }
+        ensures { OnOk result ((answer : Answer) × Injects C.link C.steps wire self.old lan system octets.items answer events.new.items self.new) }
+    {
+        if self.stopped {
+            return Err(NoMemory);
+        }
+        self.stopped = true;
+        let now = self.carrier.now();
+        let answer = self.carrier.inject(lan, system, octets)?;
+        events.push(inject_event(system, answer))?;
+        hear_waiting(&mut self.carrier, &mut self.transport, now, events)?;
+        self.stopped = false;
+        Ok(())
+    }
+
+    /// One tick passes; what it brings up is told, and then each due end ticks.
+    ///
+    /// At NoMemory the run ends.
+    pub fn tick(&mut self, events: &mut Vec<Event>) -> Result<(), NoMemory>
+        requires low { (C.link self.old.carrier).clock < 4000000000 }
+        requires none { events.old.items ≡ [] }
+        ensures { OnOk result (Ticks C.link C.steps wire self.old events.new.items self.new) }
+    {
+        if self.stopped {
+            return Err(NoMemory);
+        }
+        self.stopped = true;
+        self.carrier.tick()?;
+        let now = self.carrier.now();
+        events.push(Event::Tick { now })?;
+        take_up(&mut self.carrier, events)?;
+        tick_all(&mut self.carrier, &mut self.transport, now, events)?;
+        self.stopped = false;
+        Ok(())
+    }
+
+    /// Delivers the least pair that was not taken, again and again, until none is left or there were as many as there may be.
+    ///
+    /// At NoMemory the run ends.
+    pub fn settle(&mut self, events: &mut Vec<Event>) -> Result<(), NoMemory>
+        requires none { events.old.items ≡ [] }
+        ensures { OnOk result (Settles C.link C.steps wire 0 self.old events.new.items self.new) }
+    {
+        if self.stopped {
+            return Err(NoMemory);
+        }
+        self.stopped = true;
+        let now = self.carrier.now();
+        let answer = settle(&mut self.carrier, &mut self.transport, now, events)?;
+        events.push(Event::Settle { answer })?;
+        self.stopped = false;
+        Ok(())
+    }
+}
+
+/// A delivery, with the carrier's answer.
+fn deliver<C: Carrier<Addr = Nsap>>(
+    carrier: &mut C,
+    transport: &mut Transport,
+    now: Tick,
+    number: u32,
+    system: u8,
+    events: &mut Vec<Event>,
+) -> Result<Picked, NoMemory>
+    requires low { now ≤ 4000000000 }
+    requires clock { (C.link carrier.old).clock ≡ now }
+    requires behind { AreBehind now transport.old.entities.items }
+    ensures delivers { IfOk result (λ answer. Tells events.old.items events.new.items (λ made. Delivers C.link C.steps wire
+        (world_of carrier.old transport.old.entities.items transport.old.ends) number system answer made (world_of carrier.new transport.new.entities.items transport.new.ends))) }
+    ensures taken { IfOk result (λ answer. IsTrue ((C.link carrier.old).takes number system) → answer ≡ Taken) }
+    ensures clock { OnOk result ((C.link carrier.new).clock ≡ now) }
+    ensures behind { OnOk result (AreBehind now transport.new.entities.items) }
+{
+    let answer = carrier.choose(number, system)?;
+    events.push(picked_event(number, system, answer))?;
+    hear_waiting(carrier, transport, now, events)?;
+    Ok(answer)
+}
+
+/// Delivers the least pair that was not taken, again and again; how that ends.
+fn settle<C: Carrier<Addr = Nsap>>(
+    carrier: &mut C,
+    transport: &mut Transport,
+    now: Tick,
+    events: &mut Vec<Event>,
+) -> Result<Settled, NoMemory>
+    requires low { now ≤ 4000000000 }
+    requires clock { (C.link carrier.old).clock ≡ now }
+    requires behind { AreBehind now transport.old.entities.items }
+    ensures settles { IfOk result (λ answer. Tells events.old.items events.new.items (λ made. SettlesSo C.link C.steps wire
+        (world_of carrier.old transport.old.entities.items transport.old.ends) made answer (world_of carrier.new transport.new.entities.items transport.new.ends))) }
+    ensures clock { OnOk result ((C.link carrier.new).clock ≡ now) }
+    ensures behind { OnOk result (AreBehind now transport.new.entities.items) }
+{
+    for count in 0..MOST_DELIVERIES {
+        let Some((number, system)) = carrier.fresh() else {
+            return Ok(Settled::Settled(count));
+        };
+        deliver(carrier, transport, now, number, system, events)?;
+    }
+    match carrier.fresh() {
+        Some(_) => Ok(Settled::Stopped(MOST_DELIVERIES)),
+        None => Ok(Settled::Settled(MOST_DELIVERIES)),
+    }
+}
