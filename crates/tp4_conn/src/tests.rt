@@ -2,7 +2,7 @@
 
 ghost use Rattle.std.specs.Prelude.{◌≡◌, ◌≤◌, IfOk};
 ghost use Rattle.tpdu.specs.Values.{tpdu_of};
-ghost use Rattle.tpdu.specs.Writing.{IsAllowed, IsCredit, IsNumber, kind_for};
+ghost use Rattle.tpdu.specs.Writing.{IsAllowed, kind_for};
 ghost use Rattle.tpdu.specs.declared.kind.Kind.TheVariants.{Cr};
 ghost use Rattle.tpdu.specs.declared.tpdu.Format.TheVariants.{Normal};
 ghost use Rattle.tp4_conn.specs.Calls.{IsCall};
@@ -12,6 +12,8 @@ mod rows;
 mod script;
 mod shown;
 mod table;
+mod tpdus;
+mod words;
 
 use crate::{ConnectCall, Connection, Options, State, Timers, UserCall};
 use nsap::Nsap;
@@ -22,7 +24,9 @@ use std::alloc::Global;
 use std::process::Abort;
 use std::test::Fail;
 use tp4_flow::Step;
-use tpdu::{Format, TpduRef};
+use tpdu::TpduRef;
+use tpdus::tpdu;
+use words::{bytes, number, options, pair, word};
 
 /// An end, what its last line told and sent, and its clock.
 #[derive(Drop)]
@@ -261,263 +265,5 @@ fn user_call(alloc: Global, words: &[&str]) -> Result<UserCall, Fail>
         "urgent" => Ok(UserCall::Urgent(bytes(alloc, word(words, 1))?)),
         "window" => Ok(UserCall::Window(pair(words, 1)?.min(255))),
         _ => Ok(UserCall::Disconnect(bytes(alloc, word(words, 1))?)),
-    }
-}
-
-/// The TPDU of a line, for the reference 1.
-fn tpdu<'a>(
-    words: &[&str],
-    format: Format,
-    sum: bool,
-    octets: &'a [u8],
-) -> Result<TpduRef<'a>, Fail>
-    ensures { IfOk result (λ tpdu. IsAllowed format (tpdu_of tpdu)) }
-{
-    match word(words, 1) {
-        "cr" => again(format, sum, octets),
-        "cc" => confirm(words, format, sum, octets),
-        "dr" => release(words, format, sum, octets),
-        "dc" => Ok(TpduRef::Dc {
-            destination: 1,
-            source: pair(words, 2)?,
-            sum,
-        }),
-        "dt" => data(words, format, sum, octets),
-        "ed" => expedited(words, format, sum, octets),
-        "ak" => acknowledgement(words, format, sum),
-        "ea" => Ok(TpduRef::Ea {
-            destination: 1,
-            number: in_format(format, number(words, 2)?),
-            sum,
-        }),
-        _ => Ok(TpduRef::Er {
-            destination: 1,
-            cause: 0,
-            rejected: None,
-            sum,
-        }),
-    }
-}
-
-/// A CR of the partner's end.
-#[tactic(auto, using(crate::proofs::Sizes::size_known))]
-fn again<'a>(format: Format, sum: bool, octets: &'a [u8]) -> Result<TpduRef<'a>, Fail>
-    ensures { IfOk result (λ tpdu. IsAllowed format (tpdu_of tpdu)) }
-{
-    if 32 < octets.len() {
-        return Err(Fail::from("a CR has 32 octets of data at most"));
-    }
-    Ok(TpduRef::Cr {
-        credit: 8,
-        source: 7,
-        format,
-        calling: b"\xaa",
-        called: b"\xbb",
-        size: 1024,
-        extra: 1,
-        version: None,
-        classes: None,
-        ack_time: None,
-        sum,
-        octets,
-    })
-}
-
-#[tactic(auto, using(crate::proofs::Sizes::known_size))]
-fn confirm<'a>(
-    words: &[&str],
-    format: Format,
-    sum: bool,
-    octets: &'a [u8],
-) -> Result<TpduRef<'a>, Fail>
-    ensures { IfOk result (λ tpdu. IsAllowed format (tpdu_of tpdu)) }
-{
-    if 32 < octets.len() {
-        return Err(Fail::from("a CC has 32 octets of data at most"));
-    }
-    Ok(TpduRef::Cc {
-        credit: octet(words, 2)? % 16,
-        destination: 1,
-        source: pair(words, 3)?,
-        format: format_of(word(words, 4)),
-        calling: b"\xaa",
-        called: b"\xbb",
-        size: size_of(word(words, 5))?,
-        extra: octet(words, 6)?,
-        version: None,
-        classes: None,
-        ack_time: None,
-        sum,
-        octets,
-    })
-}
-
-fn release<'a>(
-    words: &[&str],
-    format: Format,
-    sum: bool,
-    octets: &'a [u8],
-) -> Result<TpduRef<'a>, Fail>
-    ensures { IfOk result (λ tpdu. IsAllowed format (tpdu_of tpdu)) }
-{
-    if 64 < octets.len() {
-        return Err(Fail::from("a DR has 64 octets of data at most"));
-    }
-    Ok(TpduRef::Dr {
-        destination: 1,
-        source: pair(words, 2)?,
-        reason: octet(words, 3)?,
-        info: None,
-        sum,
-        octets,
-    })
-}
-
-fn data<'a>(
-    words: &[&str],
-    format: Format,
-    sum: bool,
-    octets: &'a [u8],
-) -> Result<TpduRef<'a>, Fail>
-    ensures { IfOk result (λ tpdu. IsAllowed format (tpdu_of tpdu)) }
-{
-    Ok(TpduRef::Dt {
-        destination: 1,
-        last: word(words, 2) == "eot",
-        number: in_format(format, number(words, 3)?),
-        sum,
-        octets,
-    })
-}
-
-fn expedited<'a>(
-    words: &[&str],
-    format: Format,
-    sum: bool,
-    octets: &'a [u8],
-) -> Result<TpduRef<'a>, Fail>
-    ensures { IfOk result (λ tpdu. IsAllowed format (tpdu_of tpdu)) }
-{
-    if octets.is_empty() || 16 < octets.len() {
-        return Err(Fail::from("an ED has 1 to 16 octets of data"));
-    }
-    Ok(TpduRef::Ed {
-        destination: 1,
-        last: true,
-        number: in_format(format, number(words, 2)?),
-        sum,
-        octets,
-    })
-}
-
-fn acknowledgement<'a>(words: &[&str], format: Format, sum: bool) -> Result<TpduRef<'a>, Fail>
-    ensures { IfOk result (λ tpdu. IsAllowed format (tpdu_of tpdu)) }
-{
-    Ok(TpduRef::Ak {
-        destination: 1,
-        number: in_format(format, number(words, 2)?),
-        credit: credit_in(format, pair(words, 3)?),
-        subsequence: pair(words, 4)?,
-        confirmation: None,
-        sum,
-    })
-}
-
-/// The number in the bits of a format.
-fn in_format(format: Format, number: u32) -> u32
-    ensures { IsNumber format result }
-{
-    match format {
-        Format::Normal => number % 128,
-        Format::Extended => number % 2_147_483_648,
-    }
-}
-
-fn credit_in(format: Format, credit: u16) -> u16
-    ensures { IsCredit format result }
-{
-    match format {
-        Format::Normal => credit % 16,
-        Format::Extended => credit,
-    }
-}
-
-/// The options behind the first word.
-fn options(words: &[&str]) -> Result<Options, Fail>
-    ensures { IfOk result (λ options. IsSize options.size) }
-{
-    Ok(Options {
-        format: format_of(word(words, 1)),
-        size: size_of(word(words, 2))?,
-        expedited: word(words, 3) == "exp",
-        sum: word(words, 4) == "sum",
-    })
-}
-
-fn format_of(word: &str) -> Format {
-    match word {
-        "extended" => Format::Extended,
-        _ => Format::Normal,
-    }
-}
-
-#[tactic(auto, using(crate::proofs::Sizes::size_known))]
-fn size_of(word: &str) -> Result<u16, Fail>
-    ensures { IfOk result IsSize }
-{
-    match word {
-        "128" => Ok(128),
-        "256" => Ok(256),
-        "512" => Ok(512),
-        "1024" => Ok(1024),
-        "2048" => Ok(2048),
-        "4096" => Ok(4096),
-        "8192" => Ok(8192),
-        _ => Err(Fail::from("a size has a code")),
-    }
-}
-
-/// The word at that place.
-fn word<'a>(words: &[&'a str], at: usize) -> &'a str {
-    match words.get(at) {
-        Some(word) => *word,
-        None => "-",
-    }
-}
-
-fn octet(words: &[&str], at: usize) -> Result<u8, Fail> {
-    Ok(word(words, at).parse()?)
-}
-
-fn pair(words: &[&str], at: usize) -> Result<u16, Fail> {
-    Ok(word(words, at).parse()?)
-}
-
-fn number(words: &[&str], at: usize) -> Result<u32, Fail> {
-    Ok(word(words, at).parse()?)
-}
-
-/// The octets of hexadecimal digits, or so many octets 07 of a number behind a star.
-fn bytes(alloc: Global, digits: &str) -> Result<Bytes, Fail> {
-    if let Some(count) = digits.strip_prefix('*') {
-        let count: u16 = count.parse()?;
-        return Ok(Bytes::of(vec![in alloc; 7; usize::from(count)]?));
-    }
-    let mut octets = Vec::new(alloc);
-    for pair in digits.as_bytes().chunks_exact(2) {
-        if let [high, low] = pair {
-            octets.push(digit(*high) * 16 + digit(*low))?;
-        }
-    }
-    Ok(Bytes::of(octets))
-}
-
-fn digit(digit: u8) -> u8
-    ensures { result ≤ 15 }
-{
-    match digit {
-        b'0'..=b'9' => digit - b'0',
-        b'a'..=b'f' => digit - b'a' + 10,
-        _ => 0,
     }
 }

@@ -148,7 +148,7 @@ pub(crate) fn clock_after(why: EntityRefusal, clock: Tick, now: Tick) -> Tick
     }
 }
 
-/// The end there ticks, and is taken out where it is due no more. None is due there then.
+/// The end there ticks, and is taken out where it is due no more. No end is due there then.
 pub(crate) fn tick_place(
     place: &mut Option<Connection>,
     now: Tick,
