@@ -36,7 +36,7 @@ use Rattle.tp4_outcome.proofs.Rows.{Rests, StepRests, before_in_time, called_res
 
 -- ---- one place changes
 
-abbrev AllEnds : (End → Type 0) → Entity → Type 0
+abbrev pub AllEnds : (End → Type 0) → Entity → Type 0
 AllEnds Q e = (reference : ℕ) (end : End) → end_at e reference ≡ Some end → Q end
 
 set_or : (places : List Place) (k j : ℕ) (place : Place) (end : End) → there (slice_get (slice_set places k place) j) ≡ Some end
@@ -52,7 +52,7 @@ set_get [] k place old h = absurd cc
 set_get (one ∷ places) zero place old h = refl
 set_get (one ∷ places) (suc k) place old h = set_get places k place old h
 
-set_ends : (Q : End → Type 0) (e : Entity) (reference : ℕ) (place : Place) → AllEnds Q e → ((end : End) → place ≡ Some end → Q end) → AllEnds Q (with_end e reference place)
+pub set_ends : (Q : End → Type 0) (e : Entity) (reference : ℕ) (place : Place) → AllEnds Q e → ((end : End) → place ≡ Some end → Q end) → AllEnds Q (with_end e reference place)
 set_ends Q e reference place all here zero end h = absurd cc
 set_ends Q e reference place all here (suc j) end h =
     elim (set_or e.ends (reference - 1) j place end (sym (end_at_of (with_end e reference place) (suc j) j (omega arith)) ∙ h)) [
@@ -60,7 +60,7 @@ set_ends Q e reference place all here (suc j) end h =
       | inr new ↦ here end new
     ]
 
-same_end : (Q : End → Type 0) (one end : End) → Q one → Some one ≡ Some end → Q end
+pub same_end : (Q : End → Type 0) (one end : End) → Q one → Some one ≡ Some end → Q end
 same_end Q one end q h = let is : one ≡ end = cc h in subst Q is q
 
 -- ---- none is due
@@ -289,7 +289,7 @@ waits now e idle = (
 )
 
 -- the end that ticked
-kept_later : (now : ℕ) (m : Moved) (next : Option ℕ) → IsBefore (due m.base m.stage) now → is_due now (kept_end m next) ≡ false
+pub kept_later : (now : ℕ) (m : Moved) (next : Option ℕ) → IsBefore (due m.base m.stage) now → is_due now (kept_end m next) ≡ false
 kept_later now m None low = refl
 kept_later now m (Some tick) low = by_later (due m.base m.stage) now low
 

@@ -1,5 +1,13 @@
 pub mod Calms
 pub mod Ends
+pub mod Fewer
+pub mod Heards
+pub mod OctetEnds
+pub mod OctetRows
+pub mod OctetSends
+pub mod Octets
 pub mod OneUnits
 pub mod Outcomes
+pub mod Readings
 pub mod Rows
+pub mod Writings

@@ -1,6 +1,10 @@
 //! Laws of the steps of an entity (X.224, class 4 state tables; structure and encoding of TPDUs).
 
-ghost use Rattle.std.specs.Prelude.{◌≡◌, ◌≤◌, ℕ, ◌+◌, false, List, replicate, Some, None};
+ghost use Rattle.std.specs.Prelude.{◌≡◌, ◌≤◌, ℕ, ◌+◌, Bool, true, false, List, replicate, Some, None};
+ghost use Rattle.carrier_answers.specs.Answers.{AreOctets};
+ghost use Rattle.tpdu.specs.declared.tpdu.Format.{Format};
+ghost use Rattle.tpdu.specs.declared.tpdu.Tpdu.{Tpdu};
+ghost use Rattle.tpdu.specs.Grammar.{BeginsWithTpdu};
 ghost use Rattle.tpdu.specs.Values.{TpduAndSum, destination_of, format_for};
 ghost use Rattle.tpdu.specs.Writing.{IsAllowed, IsWritten};
 ghost use Rattle.tp4_flow.specs.declared.step.EndEvent.{EndEvent};
@@ -13,12 +17,13 @@ ghost use Rattle.tp4_conn.specs.declared.call.UserCall.{UserCall};
 ghost use Rattle.tp4_entity.specs.Association.{met};
 ghost use Rattle.tp4_entity.specs.Entity.{Acted, Entity, at, end_at};
 ghost use Rattle.tp4_entity.specs.References.{least_free};
-ghost use Rattle.tp4_entity.specs.Step.{call_of, calling, connecting, first_due, is_due, ticking, user_refusal};
+ghost use Rattle.tp4_entity.specs.Step.{call_of, calling, connecting, dues, first_due, is_due, ticking, user_refusal};
 ghost use Rattle.tp4_entity.specs.Unit.{EndsWith, HearsUnit, Separates, extended_of};
+ghost use Rattle.tp4_outcome.specs.Octets.{CallInOctets, ConnectInOctets, EntityInOctets, HasOctets, StepInOctets};
 ghost use Rattle.tp4_outcome.specs.Rest.{AreInTime, AreProper, IsAtRest, IsProperStep, IsProperTick};
 ghost use Rattle.tp4_outcome.specs.Units.{IsOneOrBad};
 
-/// An entity without an end is at rest. Where it is at rest, and a proper call or a TPDU in the format of its end comes, it is
+/// An entity without an end is at rest. Where it is at rest, and a proper call, a TPDU in the format of its end or a unit comes, it is
 /// at rest afterwards, and all that it sends has octets.
 pub fn rests()
     ensures new { (now references : ℕ) (e : Entity) → e.ends ≡ replicate references None → IsTimed e.timers → 1 ≤ e.timers.inactive → IsAtRest now e }
@@ -28,6 +33,8 @@ pub fn rests()
         → IsProperStep now (calling wrap now e reference call) }
     ensures met { (wrap : ℕ → ℕ → ℕ) (now : ℕ) (e : Entity) (from : List ℕ) (tpdu : TpduAndSum) → IsAtRest now e
         → IsAllowed (format_for (extended_of e) (destination_of tpdu.0)) tpdu.0 → IsProperStep now (met wrap now e from tpdu) }
+    ensures heard { (wrap : ℕ → ℕ → ℕ) (now : ℕ) (e : Entity) (from octets : List ℕ) (acted : Acted) → IsAtRest now e → HearsUnit wrap now e from octets acted
+        → IsProperStep now acted }
 {}
 
 /// Where no end was due before a tick, each end that ticks then is due later, or no more. Where none is due any more the entity is at
@@ -36,6 +43,8 @@ pub fn ticks()
     ensures ticking { (wrap : ℕ → ℕ → ℕ) (now : ℕ) (e : Entity) → AreProper e → AreInTime now e → IsProperTick now (ticking wrap now e) }
     ensures after { (wrap : ℕ → ℕ → ℕ) (now reference : ℕ) (e : Entity) → AreProper e → first_due now e ≡ Some reference
         → is_due now (end_at (ticking wrap now e).entity reference) ≡ false }
+    ensures fewer { (wrap : ℕ → ℕ → ℕ) (now reference : ℕ) (e : Entity) → AreProper e → first_due now e ≡ Some reference
+        → dues now (ticking wrap now e).entity + 1 ≡ dues now e }
     ensures waits { (now : ℕ) (e : Entity) → first_due now e ≡ None → AreInTime now e × AreInTime (now + 1) e }
     ensures clock { (now clock : ℕ) (e : Entity) → IsAtRest now e → IsAtRest now (at clock e) }
 {}
@@ -51,4 +60,26 @@ pub fn one_in_unit()
 /// Each unit has an outcome.
 pub fn some_hearing()
     ensures { (wrap : ℕ → ℕ → ℕ) (now : ℕ) (entity : Entity) (from octets : List ℕ) → (acted : Acted) × HearsUnit wrap now entity from octets acted }
+{}
+
+/// What a format allows can be written, in octets where its fields are; and what is read from octets has such fields.
+pub fn written_and_read()
+    ensures writes { (width : Format) (sum : Bool) (tpdu : Tpdu) → IsAllowed width tpdu → HasOctets tpdu
+        → (octets : List ℕ) × IsWritten width sum tpdu octets × AreOctets octets }
+    ensures reads { (extended octets rest : List ℕ) (tpdu : TpduAndSum) → BeginsWithTpdu extended octets tpdu rest → AreOctets octets
+        → HasOctets tpdu.0 × AreOctets rest }
+{}
+
+/// Where all that an entity holds is in octets, and so is what comes, from an address, it is so afterwards, and what it sends is in
+/// octets and goes to addresses.
+pub fn stays_in_octets()
+    ensures connecting { (is_address : List ℕ → Bool) (now reference : ℕ) (e : Entity) (call : ConnectCall) → EntityInOctets is_address e
+        → ConnectInOctets is_address (call_of e reference call) → StepInOctets is_address (connecting now e reference call) }
+    ensures calling { (is_address : List ℕ → Bool) (wrap : ℕ → ℕ → ℕ) (now reference : ℕ) (e : Entity) (call : UserCall) → EntityInOctets is_address e → AreProper e
+        → CallInOctets is_address call → StepInOctets is_address (calling wrap now e reference call) }
+    ensures met { (is_address : List ℕ → Bool) (wrap : ℕ → ℕ → ℕ) (now : ℕ) (e : Entity) (from : List ℕ) (tpdu : TpduAndSum) → EntityInOctets is_address e → AreProper e
+        → is_address from ≡ true → HasOctets tpdu.0 → StepInOctets is_address (met wrap now e from tpdu) }
+    ensures heard { (is_address : List ℕ → Bool) (wrap : ℕ → ℕ → ℕ) (now : ℕ) (e : Entity) (from octets : List ℕ) (acted : Acted) → is_address from ≡ true → AreOctets octets
+        → IsAtRest now e → EntityInOctets is_address e → HearsUnit wrap now e from octets acted → StepInOctets is_address acted }
+    ensures ticking { (is_address : List ℕ → Bool) (wrap : ℕ → ℕ → ℕ) (now : ℕ) (e : Entity) → EntityInOctets is_address e → StepInOctets is_address (ticking wrap now e) }
 {}

@@ -4,6 +4,7 @@ pub mod Asked
 pub mod Destinations
 pub mod Entities
 pub mod Going
+pub mod Having
 pub mod Heard
 pub mod Latest
 pub mod Leaving
@@ -11,8 +12,15 @@ pub mod Lowered
 pub mod OnWire
 pub mod OneRun
 pub mod Places
+pub mod Serving
 pub mod Settled
 pub mod Shown
+pub mod SomeCalls
+pub mod SomeHears
+pub mod SomeLines
+pub mod SomeRefusals
+pub mod SomeRun
+pub mod SomeTicks
 pub mod Standing
 pub mod Ticked
 pub mod Whole

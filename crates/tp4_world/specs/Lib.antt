@@ -1,5 +1,6 @@
 pub mod Laws
 pub mod Run
 pub mod Telling
+pub mod Total
 pub mod World
 pub mod steps

@@ -2,6 +2,7 @@
 
 ghost use Rattle.std.specs.Prelude.{List, ℕ};
 ghost use Rattle.tp4_world.specs.Laws.{OneRun, OneStart, ShowsSent, WholeLine, WholeRun, WireLine};
+ghost use Rattle.tp4_world.specs.Total.{SomeRun, SomeStart};
 
 use nsap::Nsap;
 use osi_base::Carrier;
@@ -39,3 +40,14 @@ pub fn whole_run<C: Carrier<Addr = Nsap>>()
     tp4_entity::over_wires();
     tp4_entity::one_hearing();
 }
+
+/// A line that may be asked has a list of events, where the carrier answers all that it may be asked, what comes up is in octets, and the
+/// least pair that can be taken is known. It leads to a network that has a run of the next line too.
+pub fn some_run<C: Carrier<Addr = Nsap>>()
+    ensures { SomeRun C.link C.steps }
+{}
+
+/// So has the start.
+pub fn some_start<C: Carrier<Addr = Nsap>>()
+    ensures { SomeStart C.link C.steps }
+{}

@@ -1,0 +1,107 @@
+-- Each line, by its kind, and the start.
+use Rattle.std.proofs.Common.{◌≡◌, ℕ, Bool, List, [], ◌∷◌, slice_get, Some, refl, sym, subst}
+use Rattle.osi_base.specs.declared.unit.Wish.{Wish}
+use Rattle.osi_base.specs.Link.{Link}
+use Rattle.osi_base.specs.Calls.{Call, Keeps}
+use Rattle.carrier_answers.specs.Answers.{MayBeOffered}
+use Rattle.carrier_answers.proofs.Gatherings.{some_gathering}
+use Rattle.osi_journal.specs.RawLawful.{raw_address}
+use Rattle.osi_journal.specs.declared.event.Event.{Event}
+use Rattle.osi_journal.specs.declared.event.Event.TheVariants as events
+use Rattle.osi_journal.specs.declared.cause.Refused.TheVariants as refusals
+use Rattle.osi_script.specs.declared.line.Line.{Line}
+use Rattle.osi_script.specs.declared.line.Line.TheVariants as lines
+use Rattle.net_world.specs.Run.{raw_unit}
+use Rattle.net_world.specs.Told.{sent_event, told}
+use Rattle.tp4_conn.specs.Calls.{IsCall}
+use Rattle.tp4_conn.specs.declared.call.UserCall.{UserCall}
+use Rattle.tp4_conn.specs.declared.call.UserCall.TheVariants as asks
+use Rattle.tp4_outcome.specs.Octets.{CallInOctets}
+use Rattle.tp4_world.specs.Run.{Calls, RunsLine}
+use Rattle.tp4_world.specs.Telling.{asked_options}
+use Rattle.tp4_world.specs.Total.{AreReady, CanRun, HasRun, HasStart, IsReady, IsReadyEntity, Serves}
+use Rattle.tp4_world.specs.World.{World}
+use Rattle.tp4_world.specs.declared.place.Placed.{Placed}
+use Rattle.tp4_world.proofs.SomeRun.{Made, taken}
+use Rattle.tp4_world.proofs.SomeCalls.{calls, connect_runs}
+use Rattle.tp4_world.proofs.SomeHears.{delivered, inject_runs, settles}
+use Rattle.tp4_world.proofs.SomeTicks.{tick_runs}
+
+module _ {C : Type 0} (link : C → Link (List ℕ)) (steps : C → Call (List ℕ) → C → Type 0) (keeps : (old : C) (call : Call (List ℕ)) (new : C) → steps old call new → Keeps (link old) call (link new))
+    (is_address : List ℕ → Bool) (Stands : C → Type 0) (serves : Serves is_address link steps Stands) (wrap : ℕ → ℕ → ℕ) where
+  abbrev IsSo : World C → Type 0
+  IsSo world = IsReady is_address link Stands world
+
+  abbrev Makes : (List Event → World C → Type 0) → Type 0
+  Makes R = Made link steps keeps is_address Stands serves R
+
+  abbrev now_of : World C → ℕ
+  now_of world = (link world.carrier).clock
+
+  abbrev Runs : List (List ℕ) → World C → Line → Type 0
+  Runs titles old line = HasRun is_address link steps Stands wrap titles old line
+
+  -- ---- a raw unit
+
+  unit_runs : (titles : List (List ℕ)) (old : World C) (system to : ℕ) (sender receiver : List ℕ) (wish : Wish) (octets : List ℕ) → IsSo old
+      → slice_get titles system ≡ Some sender → slice_get titles to ≡ Some receiver → MayBeOffered is_address (raw_unit sender receiver octets) → Runs titles old (lines.Unit system to wish octets)
+  unit_runs titles old system to sender receiver wish [] r from_is to_is may =
+      record { made = events.No refusals.EmptyUnit ∷ []; new = old; runs = (sender, receiver, from_is, to_is, (old.carrier, (refl, refl), refl)); ready = r }
+  unit_runs titles old system to sender receiver wish (octet ∷ octets) r from_is to_is may =
+      let t = taken link steps keeps is_address Stands serves old.carrier (raw_unit sender receiver (octet ∷ octets)) wish r.carrier may in
+      record {
+        made = sent_event system (raw_address receiver) (octet ∷ octets) t.answer ∷ told t.ups;
+        new = record old { carrier = t.new };
+        runs = (sender, receiver, from_is, to_is, (t.new, (t.answer, t.ups, t.passes, refl), refl));
+        ready = record {
+          carrier = t.stands;
+          entities = λ system e is. subst (λ (now : ℕ). IsReadyEntity is_address now e) (sym t.clock) (r.entities system e is);
+          ends = r.ends;
+        };
+      }
+
+  -- ---- each line
+
+  call_runs : (titles : List (List ℕ)) (old : World C) (line : Line) (number : ℕ) (call : UserCall) → ((made : List Event) (new : World C) → Calls link steps wrap old number call made new → RunsLine link steps wrap titles old line made new)
+      → IsSo old → IsCall call → CallInOctets is_address call → Runs titles old line
+  call_runs titles old line number call is r c octets = let m = calls link steps keeps is_address Stands serves wrap old number call r c octets in record { made = m.made; new = m.new; runs = is m.made m.new m.runs; ready = m.ready }
+
+  pub some_line : (titles : List (List ℕ)) (old : World C) (line : Line) → IsReady is_address link Stands old → CanRun is_address titles link old line
+      → HasRun is_address link steps Stands wrap titles old line
+  some_line titles old lines.Nothing r may = record { made = []; new = old; runs = (refl, refl); ready = r }
+  some_line titles old (lines.Connect system selector to called options octets) r may = connect_runs link steps keeps is_address Stands serves wrap titles old system selector to called options octets r may
+  some_line titles old (lines.Accept end options octets) r may =
+      call_runs titles old (lines.Accept end options octets) end (asks.Accept (asked_options options) octets) (λ made new runs. runs) r may.0 may.1
+  some_line titles old (lines.Refuse end octets) r may = call_runs titles old (lines.Refuse end octets) end (asks.Refuse octets) (λ made new runs. runs) r tt may
+  some_line titles old (lines.Disconnect end octets) r may = call_runs titles old (lines.Disconnect end octets) end (asks.Disconnect octets) (λ made new runs. runs) r tt may
+  some_line titles old (lines.Data end octets) r may = call_runs titles old (lines.Data end octets) end (asks.Normal octets) (λ made new runs. runs) r tt may
+  some_line titles old (lines.Expedite end octets) r may = call_runs titles old (lines.Expedite end octets) end (asks.Urgent octets) (λ made new runs. runs) r tt may
+  some_line titles old (lines.Window end credit) r may = call_runs titles old (lines.Window end credit) end (asks.Window credit) (λ made new runs. runs) r may tt
+  some_line titles old (lines.Unit system to wish octets) r may = unit_runs titles old system to may.0 may.1 wish octets r may.2 may.3 may.4
+  some_line titles old (lines.Deliver number system) r may =
+      let d = delivered link steps keeps is_address Stands serves wrap old number system r in record { made = d.made.made; new = d.made.new; runs = (d.answer, d.made.runs); ready = d.made.ready }
+  some_line titles old lines.Settle r may = let m = settles link steps keeps is_address Stands serves wrap 65536 0 old refl r in record { made = m.made; new = m.new; runs = m.runs; ready = m.ready }
+  some_line titles old (lines.Inject lan system octets) r may = inject_runs link steps keeps is_address Stands serves wrap titles old lan system octets r may
+  some_line titles old lines.Tick r may = tick_runs link steps keeps is_address Stands serves wrap titles old r may
+  some_line titles old (lines.Set key value) r may = absurd may
+  some_line titles old (lines.Lan name bound room) r may = absurd may
+  some_line titles old (lines.Es name title) r may = absurd may
+  some_line titles old (lines.Is name title) r may = absurd may
+  some_line titles old (lines.Port system lan snpa) r may = absurd may
+  some_line titles old (lines.Route system prefix hop lan) r may = absurd may
+  some_line titles old (lines.Path name kind systems) r may = absurd may
+  some_line titles old (lines.Tsap system selector) r may = absurd may
+  some_line titles old lines.Start r may = absurd may
+
+  pub some_begin : (first : C) (placed : List Placed) → Stands first → AreReady is_address (link first).clock placed → HasStart is_address link steps Stands first placed
+  some_begin first placed stands ready =
+      let up = some_gathering link steps keeps is_address Stands serves.answers first stands in record {
+        made = events.Tick 0 ∷ told up.0;
+        new = record { carrier = up.1; entities = placed; ends = [] };
+        starts = record { ups = up.0; below = up.1; gathers = up.2; made_is = refl; becomes = refl };
+        ready = record {
+          carrier = up.3;
+          entities = λ system e is. subst (λ (now : ℕ). IsReadyEntity is_address now e) (sym up.2.stands.clock) (ready system e is);
+          ends = tt;
+        };
+      }

@@ -1,0 +1,5 @@
+use Rattle.tp4_world.proofs.Serving.{some_start}
+use Rattle.tp4_world.proofs.laws.some_start.Goals as goal
+
+pub returns : goal.returns
+returns g c = some_start g.C.Carrier.link g.C.Carrier.steps g.met.C.Carrier.keeps
