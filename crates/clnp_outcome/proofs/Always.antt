@@ -28,12 +28,14 @@ use Rattle.clnp_step.specs.Network.{Network, net_link}
 use Rattle.clnp_step.specs.Sound.{IsNew, IsPeopled, IsSound, settings_of}
 use Rattle.clnp_step.specs.Step.{Arrives, IsDropped, IsFull, IsNobodys, IsTaken, NetStep, counted, is_source, strays_in}
 use Rattle.clnp_step.proofs.Kept.{begins_soundly, net_keeps, stays_sound}
-use Rattle.clnp_outcome.specs.Laws.{BeginsAs, BeginsStanding, MayBegin, first_node}
+use Rattle.clnp_outcome.specs.Laws.{BeginsAs, BeginsServing, BeginsStanding, MayBegin, NetServes, first_node}
+use Rattle.clnp_outcome.specs.Serving.{StandsInOctets, WaitsInOctets}
 use Rattle.clnp_outcome.specs.Standing.{FitsBag, FitsNode, IsSetUp, Stands, is_nsap}
 use Rattle.clnp_outcome.proofs.Bags.{one_bag_answer}
 use Rattle.clnp_outcome.proofs.answered.Carrying.{chosen, gathered, injected, nsap_of, passed}
 use Rattle.clnp_outcome.proofs.answered.Departing.{AllFit, IsUnit, departed}
-use Rattle.clnp_outcome.proofs.answered.Moving.{changed, changed_fit, first_fits, handled, offered_all, ticked_all}
+use Rattle.clnp_outcome.proofs.answered.Least.{least_pair}
+use Rattle.clnp_outcome.proofs.answered.Moving.{changed, changed_fit, first_fits, handled, notes_fit, offered_all, ticked_all, waits_both}
 use Rattle.clnp_outcome.proofs.Steps.{one_answer, one_beginning}
 use Rattle.clnp_outcome.proofs.answered.Storing.{FirstOf, first_of}
 
@@ -45,6 +47,7 @@ record Answered (old : Network Bag Rows) (asked : Asked (List ℕ)) : Type 0 whe
   steps : NetStep link_of BagStep rows_tables old call new
   link : FitsBag new.link
   nodes : AllByRecursion FitsNode new.nodes
+  waiting : WaitsInOctets old.waiting → WaitsInOctets new.waiting
 
 -- ---- an offer
 
@@ -57,6 +60,7 @@ module _ (old : Network Bag Rows) (stands : Stands old) (unit : CarriedUnit (Lis
     steps = (stands.sound, IsFull h refl refl);
     link = stands.link;
     nodes = stands.nodes;
+    waiting = λ h. h;
   }
 
   nobodys : length old.floating.entries < old.floating.limit → list_any (is_source unit.from) old.nodes ≡ false → Answered old (Offering unit wish)
@@ -67,6 +71,7 @@ module _ (old : Network Bag Rows) (stands : Stands old) (unit : CarriedUnit (Lis
     steps = (stands.sound, IsNobodys h none refl refl);
     link = stands.link;
     nodes = stands.nodes;
+    waiting = λ h. h;
   }
 
   sent_by : length old.floating.entries < old.floating.limit → (f : FirstOf (is_source unit.from) old.nodes) → (sent : Result (List Frame) DropCause) (new : Node Rows)
@@ -78,6 +83,7 @@ module _ (old : Network Bag Rows) (stands : Stands old) (unit : CarriedUnit (Lis
     steps = (stands.sound, IsDropped f.one new (f.before ++ new ∷ f.rest) cause h (changed (is_source unit.from) old.nodes f new) sends refl refl);
     link = stands.link;
     nodes = changed_fit (is_source unit.from) old.nodes f new stands.nodes fits;
+    waiting = λ h. h;
   }
   sent_by h f (Ok made) new sends fits frames =
       let out = offered_all old.link f.one.setup.system made stands.link frames in
@@ -94,6 +100,7 @@ module _ (old : Network Bag Rows) (stands : Stands old) (unit : CarriedUnit (Lis
         steps = (stands.sound, IsTaken f.one new after made out.new out.told h (changed (is_source unit.from) old.nodes f new) sends out.offers refl refl);
         link = out.fits;
         nodes = changed_fit (is_source unit.from) old.nodes f new stands.nodes fits;
+        waiting = λ h. waits_both old.waiting out.told h out.told_fit;
       }
 
   offered : Answered old (Offering unit wish)
@@ -114,6 +121,7 @@ record Risen (old : Network Bag Rows) (call : Call Port) : Type 0 where
   arrives : Arrives link_of BagStep rows_tables old call new
   link : FitsBag new.link
   nodes : AllByRecursion FitsNode new.nodes
+  waiting : WaitsInOctets old.waiting → WaitsInOctets new.waiting
 
 risen : (old : Network Bag Rows) (call : Call Port) (called : Bag) → Stands old → BagStep old.link call called → FitsBag called → Risen old call
 risen old call called stands calls fits =
@@ -140,6 +148,7 @@ risen old call called stands calls fits =
       };
       link = h.fits;
       nodes = h.fit;
+      waiting = λ k. waits_both old.waiting h.told k h.told_fit;
     }
 
 -- ---- taking up
@@ -155,6 +164,7 @@ taken_up old [] stands e = record {
   steps = (tt, record { waiting = e; none = λ none. e; becomes = refl });
   link = stands.link;
   nodes = stands.nodes;
+  waiting = λ h. tt;
 }
 taken_up old (up ∷ ups) stands e = record {
   call = NextUp (Some up);
@@ -163,6 +173,7 @@ taken_up old (up ∷ ups) stands e = record {
   steps = (tt, record { waiting = e; none = λ none. absurd (no_up up none); becomes = refl });
   link = stands.link;
   nodes = stands.nodes;
+  waiting = λ h. let all : WaitsInOctets (up ∷ ups) = subst WaitsInOctets e h in all.1;
 }
 
 -- ---- a tick
@@ -199,6 +210,7 @@ ticked old stands low =
       );
       link = all.fits;
       nodes = all.fit;
+      waiting = λ h. waits_both old.waiting (notes_of ups.ups ++ all.told) h (waits_both (notes_of ups.ups) all.told (notes_fit ups.ups) all.told_fit);
     }
 
 -- ---- all calls
@@ -209,11 +221,11 @@ answered old (Offering unit wish) stands may =
 answered old (Choosing pick system) stands may =
     let c = chosen old.link pick system stands.link in
     let r = risen old (Choose pick system c.0) c.1 stands c.2 c.3 in
-    record { call = Choose pick system c.0; new = r.new; is_asked = refl; steps = (stands.sound, r.arrives); link = r.link; nodes = r.nodes }
+    record { call = Choose pick system c.0; new = r.new; is_asked = refl; steps = (stands.sound, r.arrives); link = r.link; nodes = r.nodes; waiting = r.waiting }
 answered old (Injecting lan system octets) stands may =
     let c = injected old.link lan system octets stands.link may in
     let r = risen old (Inject lan system octets c.0) c.1 stands c.2 c.3 in
-    record { call = Inject lan system octets c.0; new = r.new; is_asked = refl; steps = (stands.sound, r.arrives); link = r.link; nodes = r.nodes }
+    record { call = Inject lan system octets c.0; new = r.new; is_asked = refl; steps = (stands.sound, r.arrives); link = r.link; nodes = r.nodes; waiting = r.waiting }
 answered old TakingUp stands may = taken_up old old.waiting stands refl
 answered old Ticking stands may = ticked old stands may
 
@@ -241,6 +253,23 @@ always_answers = record {
 
 -- ---- what waits
 
+in_octets : (old : Network Bag Rows) (call : Call (List ℕ)) (new : Network Bag Rows) → StandsInOctets old → CanBeAsked is_nsap (net_link link_of old) (asked_of call)
+    → NetStep link_of BagStep rows_tables old call new → StandsInOctets new
+in_octets old call new stands may step =
+    let a = answered old (asked_of call) stands.stands may in
+    let same = one_answer link_of BagStep one_bag_answer rows_tables old a.call call a.new new a.is_asked a.steps step in
+    record {
+      stands = stays old call new stands.stands may step;
+      waiting = subst (λ (net : Network Bag Rows). WaitsInOctets net.waiting) same.1 (a.waiting stands.waiting);
+    }
+
+pub serves : NetServes
+serves = record {
+  answers = record { answered = λ old asked stands may. always_answers.answered old asked stands.stands may; stays = in_octets };
+  in_octets = λ old stands. stands.waiting;
+  least = λ old stands. least_pair old.link;
+}
+
 pub always_gathered : SomeGathering (net_link link_of) (NetStep link_of BagStep rows_tables) Stands
 always_gathered =
     some_gathering (net_link link_of) (NetStep link_of BagStep rows_tables) (net_keeps link_of BagStep bag_keeps bag_given rows_tables) is_nsap Stands always_answers
@@ -263,6 +292,7 @@ record Begun (lans : List Lan) (rows : List PortRow) (settings : List Setting) (
   new : Network Bag Rows
   begins : BeginsAs lans rows settings life new
   stands : Stands new
+  waiting : WaitsInOctets new.waiting
 
 begun : (lans : List Lan) (rows : List PortRow) (settings : List Setting) (life : ℕ) → MayBegin lans rows settings life → Begun lans rows settings life
 begun lans rows settings life may =
@@ -280,6 +310,7 @@ begun lans rows settings life may =
         link = all.fits;
         nodes = all.fit;
       };
+      waiting = all.told_fit;
     }
 
 pub begins_standing : BeginsStanding
@@ -289,3 +320,9 @@ begins_standing = record {
       let b = begun lans rows settings life may in
       subst Stands (one_beginning link_of BagStep one_bag_answer rows_tables (new_bag lans rows) (map first_node settings) life b.new new b.begins begins) b.stands;
 }
+
+pub begins_serving : BeginsServing
+begins_serving lans rows settings life new may begins =
+    let b = begun lans rows settings life may in
+    let same = one_beginning link_of BagStep one_bag_answer rows_tables (new_bag lans rows) (map first_node settings) life b.new new b.begins begins in
+    record { stands = subst Stands same b.stands; waiting = subst (λ (net : Network Bag Rows). WaitsInOctets net.waiting) same b.waiting }

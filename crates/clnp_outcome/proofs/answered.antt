@@ -1,6 +1,7 @@
 pub mod Carrying
 pub mod Departing
 pub mod Expiring
+pub mod Least
 pub mod Moving
 pub mod Reacting
 pub mod Slots

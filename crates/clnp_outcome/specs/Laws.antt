@@ -16,6 +16,7 @@ use Rattle.clnp_system.specs.Tables.{Tables, rows_tables}
 use Rattle.clnp_step.specs.Network.{Network, net_link}
 use Rattle.clnp_step.specs.Sound.{IsPeopled}
 use Rattle.clnp_step.specs.Step.{Begins, NetStep}
+use Rattle.clnp_outcome.specs.Serving.{Serves, StandsInOctets}
 use Rattle.clnp_outcome.specs.Standing.{FitsBag, IsSetUp, Stands, is_nsap, is_port}
 
 -- what is asked of the network has one answer, and leads to one network, whatever its systems know of each other
@@ -71,3 +72,12 @@ LansAlwaysAnswered = AlwaysAnswers is_port link_of BagStep FitsBag
 -- what waits in the network can be taken up
 abbrev pub AlwaysGathered : Type 0
 AlwaysGathered = SomeGathering (net_link link_of) (NetStep link_of BagStep rows_tables) Stands
+
+-- while the network stands, and what waits in it is in octets, it serves: then both are still so, and there is a least fresh pair, or none
+abbrev pub NetServes : Type 0
+NetServes = Serves is_nsap (net_link link_of) (NetStep link_of BagStep rows_tables) StandsInOctets
+
+-- both are so of a network that begins
+abbrev pub BeginsServing : Type 0
+BeginsServing = (lans : List Lan) (rows : List PortRow) (settings : List Setting) (life : ℕ) (new : Network Bag Rows) → MayBegin lans rows settings life
+    → BeginsAs lans rows settings life new → StandsInOctets new

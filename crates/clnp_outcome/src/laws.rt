@@ -1,8 +1,8 @@
 //! What holds of each call of the network.
 
 ghost use Rattle.std.specs.Prelude.{◌≡◌};
-ghost use Rattle.clnp_outcome.specs.Laws.{AlwaysAnswered, AlwaysGathered, BeginsStanding, LansAlwaysAnswered};
-ghost use Rattle.clnp_outcome.specs.Laws.{OneAnswer, OneBeginning, OneLanAnswer, OneNetAnswer, OneNetBeginning};
+ghost use Rattle.clnp_outcome.specs.Laws.{AlwaysAnswered, AlwaysGathered, BeginsServing, BeginsStanding, LansAlwaysAnswered};
+ghost use Rattle.clnp_outcome.specs.Laws.{NetServes, OneAnswer, OneBeginning, OneLanAnswer, OneNetAnswer, OneNetBeginning};
 
 use nsap::Port;
 use osi_base::Carrier;
@@ -35,4 +35,15 @@ pub fn always_answers()
 /// Of set-ups that may be, a network begins over LANs without frames, and stands.
 pub fn begins_standing()
     ensures { BeginsStanding }
+{}
+
+/// While the network over the LANs stands and what waits in it is in octets, between addresses of 1 to 20 octets, it serves: each call that
+/// may be asked is answered, then that is still so, and there is a least pair that can be taken and was not yet, or none.
+pub fn serves()
+    ensures { NetServes }
+{}
+
+/// Of set-ups that may be, a network that begins over LANs without frames is such.
+pub fn begins_serving()
+    ensures { BeginsServing }
 {}

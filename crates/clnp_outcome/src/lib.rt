@@ -3,4 +3,7 @@
 
 mod laws;
 
-pub use laws::{always_answers, begins_standing, one_answer, one_lan_answer, one_network};
+pub use laws::{
+    always_answers, begins_serving, begins_standing, one_answer, one_lan_answer, one_network,
+    serves,
+};

@@ -55,6 +55,7 @@ use Rattle.clnp_system.specs.Tables.{heard_rows, rows_tables}
 use Rattle.clnp_system.specs.Verdicts.{IsRoute, aim_of, by_aim, for_this, is_titled, to_destination, to_entry, verdict, whole_or_part}
 use Rattle.clnp_system.specs.Written.{HasPdu, header_in}
 use Rattle.carrier_answers.specs.Answers.{AreOctets}
+use Rattle.clnp_outcome.specs.Serving.{WaitsInOctets}
 use Rattle.clnp_outcome.specs.Standing.{FitsNode, FitsRows, IsFrame, IsHop, IsSnpa}
 use Rattle.clnp_outcome.proofs.written.Fitting.{FitsDiscarded, FitsOctets}
 use Rattle.clnp_outcome.proofs.written.Discarding.{lost}
@@ -65,7 +66,8 @@ use Rattle.clnp_outcome.proofs.written.Octets.{all_both, all_of, octets_take}
 use Rattle.clnp_outcome.proofs.written.Onward.{goes_on}
 use Rattle.clnp_outcome.proofs.written.Pieces.{sent_cut}
 use Rattle.clnp_outcome.proofs.written.Reading.{front_fits, front_hello_fits}
-use Rattle.clnp_outcome.proofs.answered.Storing.{MayJoin, answered}
+use Rattle.clnp_outcome.proofs.answered.Carrying.{nsap_passes}
+use Rattle.clnp_outcome.proofs.answered.Storing.{MayJoin, WholeFits, answered}
 use Rattle.clnp_outcome.proofs.written.Ways.{of_good, to_good}
 use Rattle.clnp_outcome.proofs.written.Writes.{FitsHello}
 
@@ -78,6 +80,10 @@ Fits setting pdu Tell = Prim.Unit {0}
 Fits setting pdu Take = Prim.Unit {0}
 Fits setting pdu Join = IsSome pdu.segment
 Fits setting pdu (Onward hop) = IsHop setting hop
+
+reason_fits : (system : ℕ) (value : Option (List ℕ)) → WaitsInOctets (told_reason system value ∷ [])
+reason_fits system None = (tt, tt)
+reason_fits system (Some value) = (tt, tt)
 
 module _ (node : Node Rows) (fits : FitsNode node) where
   if_fits : (pdu : Pdu) (test : Bool) (one other : Verdict) → Fits node.setup pdu one → Fits node.setup pdu other → Fits node.setup pdu (if test then one else other)
@@ -125,6 +131,7 @@ module _ (node : Node Rows) (fits : FitsNode node) where
     pub stands : FitsNode new
     pub setup : new.setup ≡ node.setup
     pub fit : AllByRecursion IsFrame reaction.frames
+    pub ups_fit : WaitsInOctets reaction.ups
 
   at_tick_fits : (now : ℕ) → FitsNode (at_tick now node)
   at_tick_fits now = record { setup = fits.setup; next_id = fits.next_id; held = fits.held; neighbours = fits.neighbours; redirects = fits.redirects }
@@ -143,7 +150,7 @@ module _ (node : Node Rows) (fits : FitsNode node) where
   heard_by : (now : ℕ) (kind : HelloKind) (snpa : List ℕ) (table : Option Rows) → IfSome table (λ (heard : Rows). FitsRows node.setup heard.rows)
       → Reacted (HeardBy node now kind snpa table)
   heard_by now kind snpa None h =
-      record { reaction = only_note (Noted (notes.HelloFull node.setup.system)); new = at_tick now node; gives = (refl, refl); stands = at_tick_fits now; setup = refl; fit = tt }
+      record { reaction = only_note (Noted (notes.HelloFull node.setup.system)); new = at_tick now node; gives = (refl, refl); stands = at_tick_fits now; setup = refl; fit = tt; ups_fit = (tt, tt) }
   heard_by now kind snpa (Some table) h = record {
     reaction = only_note (Noted (notes.Hello node.setup.system kind snpa));
     new = record node { clock = now; neighbours = table };
@@ -151,11 +158,12 @@ module _ (node : Node Rows) (fits : FitsNode node) where
     stands = record { setup = fits.setup; next_id = fits.next_id; held = fits.held; neighbours = h; redirects = fits.redirects };
     setup = refl;
     fit = tt;
+    ups_fit = (tt, tt);
   }
 
   redirected_by : (now : ℕ) (address snpa : List ℕ) (table : Option Rows) → IfSome table (λ (heard : Rows). FitsRows node.setup heard.rows) → Reacted (RedirectedBy node now address snpa table)
   redirected_by now address snpa None h =
-      record { reaction = only_note (Noted (notes.HelloFull node.setup.system)); new = at_tick now node; gives = (refl, refl); stands = at_tick_fits now; setup = refl; fit = tt }
+      record { reaction = only_note (Noted (notes.HelloFull node.setup.system)); new = at_tick now node; gives = (refl, refl); stands = at_tick_fits now; setup = refl; fit = tt; ups_fit = (tt, tt) }
   redirected_by now address snpa (Some table) h = record {
     reaction = only_note (Noted (notes.Redirect node.setup.system address snpa));
     new = record node { clock = now; redirects = table };
@@ -163,28 +171,29 @@ module _ (node : Node Rows) (fits : FitsNode node) where
     stands = record { setup = fits.setup; next_id = fits.next_id; held = fits.held; neighbours = fits.neighbours; redirects = h };
     setup = refl;
     fit = tt;
+    ups_fit = (tt, tt);
   }
 
   heeded : (end : Bool) (now : ℕ) (from : Port) (told : Told) (address snpa : List ℕ) → IsHop node.setup told.hop → Reacted (HeedsIf end rows_tables node now from told address snpa)
   heeded true now from told address snpa good =
       let r = redirected_by now address snpa (heard_rows node.redirects told) (heard_fits node.redirects told good fits.redirects) in
-      record { reaction = r.reaction; new = r.new; gives = r.gives; stands = r.stands; setup = r.setup; fit = r.fit }
+      record { reaction = r.reaction; new = r.new; gives = r.gives; stands = r.stands; setup = r.setup; fit = r.fit; ups_fit = r.ups_fit }
   heeded false now from told address snpa good =
-      record { reaction = only_note (Noted (notes.Hello node.setup.system kinds.Rd from.snpa)); new = at_tick now node; gives = (refl, refl); stands = at_tick_fits now; setup = refl; fit = tt }
+      record { reaction = only_note (Noted (notes.Hello node.setup.system kinds.Rd from.snpa)); new = at_tick now node; gives = (refl, refl); stands = at_tick_fits now; setup = refl; fit = tt; ups_fit = (tt, tt) }
 
   hearing : (now : ℕ) (from : Port) (hello : Hello) → IsSome (port_on node.setup from.lan) → IsSnpa from.snpa → FitsHello hello → Reacted (Hears rows_tables node now from hello)
   hearing now from (Esh hold addresses) near snpa h =
       let told : Told = told_of now from (Esh hold addresses) in
       let r = heard_by now kinds.Esh from.snpa (heard_rows node.neighbours told) (heard_fits node.neighbours told (record { near = near; snpa = snpa; title = tt }) fits.neighbours) in
-      record { reaction = r.reaction; new = r.new; gives = r.gives; stands = r.stands; setup = r.setup; fit = r.fit }
+      record { reaction = r.reaction; new = r.new; gives = r.gives; stands = r.stands; setup = r.setup; fit = r.fit; ups_fit = r.ups_fit }
   hearing now from (Ish hold title) near snpa h =
       let told : Told = told_of now from (Ish hold title) in
       let r = heard_by now kinds.Ish from.snpa (heard_rows node.neighbours told) (heard_fits node.neighbours told (record { near = near; snpa = snpa; title = h }) fits.neighbours) in
-      record { reaction = r.reaction; new = r.new; gives = r.gives; stands = r.stands; setup = r.setup; fit = r.fit }
+      record { reaction = r.reaction; new = r.new; gives = r.gives; stands = r.stands; setup = r.setup; fit = r.fit; ups_fit = r.ups_fit }
   hearing now from (Rd hold address snpa title) near from_snpa h =
       let told : Told = told_of now (on_lan from.lan) (Rd hold address snpa title) in
       let r = heeded node.setup.end now from told address snpa (record { near = near; snpa = h.1; title = h.2 }) in
-      record { reaction = r.reaction; new = r.new; gives = r.gives; stands = r.stands; setup = r.setup; fit = r.fit }
+      record { reaction = r.reaction; new = r.new; gives = r.gives; stands = r.stands; setup = r.setup; fit = r.fit; ups_fit = r.ups_fit }
 
   -- ---- a PDU
   module _ (now : ℕ) (frame : Frame) (in_octets : IsFrame frame) (near : IsSome (port_on node.setup frame.to.lan)) where
@@ -222,26 +231,30 @@ module _ (node : Node Rows) (fits : FitsNode node) where
         reaction : Reaction
         gives : JoinGives rows_tables node now frame pdu answer reaction
         fit : AllByRecursion IsFrame reaction.frames
+        ups_fit : WaitsInOctets reaction.ups
 
-      given : (answer : Joined) → Given answer
-      given joined.Interference =
+      came_fits : (octets : List ℕ) → AreOctets octets → WaitsInOctets (came node pdu octets)
+      came_fits octets h = (record { from = nsap_passes pdu.source pdu_fits.source; to = nsap_passes pdu.destination pdu_fits.destination; octets = h }, tt)
+
+      given : (answer : Joined) → WholeFits answer → Given answer
+      given joined.Interference whole =
           let l = lost node fits now (discarded_pdu frame pdu ReassemblyInterference 0) (discarded_fits ReassemblyInterference 0 (omega arith)) in
-          record { reaction = l.reaction; gives = l.discards; fit = l.fit }
-      given joined.Full =
+          record { reaction = l.reaction; gives = l.discards; fit = l.fit; ups_fit = l.ups_fit }
+      given joined.Full whole =
           let l = lost node fits now (discarded_pdu frame pdu Congestion 0) (discarded_fits Congestion 0 (omega arith)) in
-          record { reaction = l.reaction; gives = l.discards; fit = l.fit }
-      given (joined.Whole octets) =
+          record { reaction = l.reaction; gives = l.discards; fit = l.fit; ups_fit = l.ups_fit }
+      given (joined.Whole octets) whole =
           let sent = group_answered node.setup fits.setup frame.from frame.to near in_octets.from in
-          record { reaction = record { ups = came node pdu octets; frames = sent.frames }; gives = (refl, sent.are); fit = sent.fit }
-      given joined.Held =
+          record { reaction = record { ups = came node pdu octets; frames = sent.frames }; gives = (refl, sent.are); fit = sent.fit; ups_fit = came_fits octets whole }
+      given joined.Held whole =
           let sent = group_answered node.setup fits.setup frame.from frame.to near in_octets.from in
-          record { reaction = record { ups = []; frames = sent.frames }; gives = (refl, sent.are); fit = sent.fit }
+          record { reaction = record { ups = []; frames = sent.frames }; gives = (refl, sent.are); fit = sent.fit; ups_fit = tt }
 
       joining : (segment : Option SegmentPart) → pdu.segment ≡ segment → IsSome segment → Reacted (Joins rows_tables node now frame pdu)
       joining None e some = absurd cc
       joining (Some part) e some =
           let a = answered node.store now (coming frame (bound_of node.setup frame.to.lan) pdu part) (may_join part e) fits.held in
-          let g = given a.answer in
+          let g = given a.answer a.whole in
           record {
             reaction = g.reaction;
             new = record node { clock = now; store = a.after };
@@ -249,6 +262,7 @@ module _ (node : Node Rows) (fits : FitsNode node) where
             stands = record { setup = fits.setup; next_id = fits.next_id; held = a.held; neighbours = fits.neighbours; redirects = fits.redirects };
             setup = refl;
             fit = g.fit;
+            ups_fit = g.ups_fit;
           }
 
       onward : (hop : Hop) → IsHop node.setup hop → Reacted (λ reaction new. Does rows_tables node now frame pdu (Onward hop) reaction new)
@@ -266,6 +280,7 @@ module _ (node : Node Rows) (fits : FitsNode node) where
                   stands = at_tick_fits now;
                   setup = refl;
                   fit = all_both IsFrame sent.frames redirect.frames sent.fit redirect.fit;
+                  ups_fit = tt;
                 }
             | inr none ↦
                 let l = lost node fits now (discarded_pdu frame pdu SegmentationNeeded 0) (discarded_fits SegmentationNeeded 0 (omega arith)) in
@@ -276,13 +291,14 @@ module _ (node : Node Rows) (fits : FitsNode node) where
                   stands = at_tick_fits now;
                   setup = refl;
                   fit = l.fit;
+                  ups_fit = l.ups_fit;
                 }
           ]
 
       done : (said : Verdict) → Fits node.setup pdu said → Reacted (Does rows_tables node now frame pdu said)
       done (Discard reason place) h =
           let l = lost node fits now (discarded_pdu frame pdu reason place) (discarded_fits reason place h) in
-          record { reaction = l.reaction; new = at_tick now node; gives = (l.discards, refl); stands = at_tick_fits now; setup = refl; fit = l.fit }
+          record { reaction = l.reaction; new = at_tick now node; gives = (l.discards, refl); stands = at_tick_fits now; setup = refl; fit = l.fit; ups_fit = l.ups_fit }
       done Tell h = record {
         reaction = only_note (told_reason node.setup.system (value_of 0xc1 (parameters pdu.options)));
         new = at_tick now node;
@@ -290,6 +306,7 @@ module _ (node : Node Rows) (fits : FitsNode node) where
         stands = at_tick_fits now;
         setup = refl;
         fit = tt;
+        ups_fit = reason_fits node.setup.system (value_of 0xc1 (parameters pdu.options));
       }
       done Take h =
           let sent = group_answered node.setup fits.setup frame.from frame.to near in_octets.from in
@@ -300,13 +317,14 @@ module _ (node : Node Rows) (fits : FitsNode node) where
             stands = at_tick_fits now;
             setup = refl;
             fit = sent.fit;
+            ups_fit = came_fits pdu.body pdu_fits.body;
           }
       done Join h =
           let r = joining pdu.segment refl h in
-          record { reaction = r.reaction; new = r.new; gives = r.gives; stands = r.stands; setup = r.setup; fit = r.fit }
+          record { reaction = r.reaction; new = r.new; gives = r.gives; stands = r.stands; setup = r.setup; fit = r.fit; ups_fit = r.ups_fit }
       done (Onward hop) h =
           let r = onward hop h in
-          record { reaction = r.reaction; new = r.new; gives = r.gives; stands = r.stands; setup = r.setup; fit = r.fit }
+          record { reaction = r.reaction; new = r.new; gives = r.gives; stands = r.stands; setup = r.setup; fit = r.fit; ups_fit = r.ups_fit }
 
       route_at : (value : Option (List ℕ)) → value_of 0xc8 (parameters pdu.options) ≡ value → (route : Option SourceRoute) × IsRoute value route
       route_at None e = (None, tt)
@@ -321,17 +339,17 @@ module _ (node : Node Rows) (fits : FitsNode node) where
         let route = route_at pdu has (value_of 0xc8 (parameters pdu.options)) refl in
         let bound : ℕ = bound_of node.setup frame.to.lan in
         let r = done pdu has (verdict rows_tables node now bound pdu route.0) (verdict_fits now bound pdu route.0) in
-        record { reaction = r.reaction; new = r.new; gives = Reads own pdu route.0 there has route.1 r.gives; stands = r.stands; setup = r.setup; fit = r.fit }
+        record { reaction = r.reaction; new = r.new; gives = Reads own pdu route.0 there has route.1 r.gives; stands = r.stands; setup = r.setup; fit = r.fit; ups_fit = r.ups_fit }
 
     faulty : (own : Port) → port_on node.setup frame.to.lan ≡ Some own → slice_index frame.octets 0 ≡ 0x81 → (fault : Fault) → IsPduFault frame.octets fault → Reacted (Receives rows_tables node now frame)
     faulty own there first fault is =
         let l = lost node fits now (discarded_octets frame fault) (fault_fits frame fault in_octets.octets is) in
-        record { reaction = l.reaction; new = at_tick now node; gives = Faulty own fault there first is l.discards refl; stands = at_tick_fits now; setup = refl; fit = l.fit }
+        record { reaction = l.reaction; new = at_tick now node; gives = Faulty own fault there first is l.discards refl; stands = at_tick_fits now; setup = refl; fit = l.fit; ups_fit = l.ups_fit }
 
     heard : (own : Port) → port_on node.setup frame.to.lan ≡ Some own → (told : Esis) (rest : List ℕ) → BeginsWith IsEsis frame.octets told rest → Reacted (Receives rows_tables node now frame)
     heard own there told rest begins =
         let r = hearing now (sender frame.from frame.to) told.hello near in_octets.from (front_hello_fits frame.octets told rest in_octets.octets begins) in
-        record { reaction = r.reaction; new = r.new; gives = HearsHello own told rest there begins r.gives; stands = r.stands; setup = r.setup; fit = r.fit }
+        record { reaction = r.reaction; new = r.new; gives = HearsHello own told rest there begins r.gives; stands = r.stands; setup = r.setup; fit = r.fit; ups_fit = r.ups_fit }
 
     bad : (own : Port) → port_on node.setup frame.to.lan ≡ Some own → slice_index frame.octets 0 ≡ 0x82 → (fault : EsisFault) → IsEsisFault frame.octets fault → Reacted (Receives rows_tables node now frame)
     bad own there first fault is = record {
@@ -341,6 +359,7 @@ module _ (node : Node Rows) (fits : FitsNode node) where
       stands = at_tick_fits now;
       setup = refl;
       fit = tt;
+      ups_fit = (tt, tt);
     }
 
     alien : (own : Port) → port_on node.setup frame.to.lan ≡ Some own → slice_index frame.octets 0 ≢ 0x81 → slice_index frame.octets 0 ≢ 0x82 → Reacted (Receives rows_tables node now frame)
@@ -351,6 +370,7 @@ module _ (node : Node Rows) (fits : FitsNode node) where
       stands = at_tick_fits now;
       setup = refl;
       fit = tt;
+      ups_fit = (tt, tt);
     }
 
     at_port : (own : Port) → port_on node.setup frame.to.lan ≡ Some own → Reacted (Receives rows_tables node now frame)
@@ -372,5 +392,5 @@ module _ (node : Node Rows) (fits : FitsNode node) where
   received now frame in_octets = by (port_on node.setup frame.to.lan) refl
     where
       by : (port : Option Port) → port_on node.setup frame.to.lan ≡ port → Reacted (Receives rows_tables node now frame)
-      by None e = record { reaction = record { ups = []; frames = [] }; new = at_tick now node; gives = Elsewhere e refl refl; stands = at_tick_fits now; setup = refl; fit = tt }
+      by None e = record { reaction = record { ups = []; frames = [] }; new = at_tick now node; gives = Elsewhere e refl refl; stands = at_tick_fits now; setup = refl; fit = tt; ups_fit = tt }
       by (Some own) e = at_port now frame in_octets (subst (λ (port : Option Port). IsSome port) (sym e) refl) own e

@@ -1,11 +1,13 @@
 -- A system answers each tick.
-use Rattle.std.proofs.Common.{ℕ, ◌++◌, map, refl}
+use Rattle.std.proofs.Common.{ℕ, List, [], ◌∷◌, ◌++◌, map, refl}
 use Rattle.std.specs.List.{AllByRecursion}
+use Rattle.clnp_segment.specs.declared.store.Expired.{Expired}
 use Rattle.esis_tables.specs.Rows.{Rows, is_row_known, swept_table}
 use Rattle.clnp_system.specs.Hellos.{is_due}
 use Rattle.clnp_system.specs.Node.{Node, Reaction}
 use Rattle.clnp_system.specs.Tables.{rows_tables}
 use Rattle.clnp_system.specs.Ticking.{NodeTicks, expiry_note}
+use Rattle.clnp_outcome.specs.Serving.{WaitsInOctets}
 use Rattle.clnp_outcome.specs.Standing.{FitsNode, IsFrame, IsHop}
 use Rattle.clnp_outcome.proofs.written.Discarding.{reported_all}
 use Rattle.clnp_outcome.proofs.answered.Expiring.{given_up}
@@ -13,12 +15,17 @@ use Rattle.clnp_outcome.proofs.written.Greeting.{greeted_if}
 use Rattle.clnp_outcome.proofs.written.Hops.{swept_are}
 use Rattle.clnp_outcome.proofs.written.Octets.{all_both}
 
+notes_fit : (system : ℕ) (list : List Expired) → WaitsInOctets (map (expiry_note system) list)
+notes_fit system [] = tt
+notes_fit system (expired ∷ list) = (tt, notes_fit system list)
+
 pub record Ticked (node : Node Rows) (now : ℕ) : Type 0 where
   pub reaction : Reaction
   pub new : Node Rows
   pub ticks : NodeTicks rows_tables node now reaction new
   pub stands : FitsNode new
   pub fit : AllByRecursion IsFrame reaction.frames
+  pub ups_fit : WaitsInOctets reaction.ups
 
 pub ticked : (node : Node Rows) (now : ℕ) → FitsNode node → Ticked node now
 ticked node now fits =
@@ -50,4 +57,5 @@ ticked node now fits =
       };
       stands = stands;
       fit = all_both IsFrame reports.frames hellos.frames reports.fit hellos.fit;
+      ups_fit = notes_fit node.setup.system gone.list;
     }

@@ -21,6 +21,7 @@ use Rattle.clnp_system.specs.Tables.{rows_tables}
 use Rattle.clnp_system.specs.Ticking.{ReportsEach, discarded_unit}
 use Rattle.clnp_system.proofs.Lans.{lan_of}
 use Rattle.clnp_system.proofs.Writable.{report_written}
+use Rattle.clnp_outcome.specs.Serving.{WaitsInOctets}
 use Rattle.clnp_outcome.specs.Standing.{FitsNode, IsFrame, IsHop}
 use Rattle.clnp_outcome.proofs.written.Fitting.{FitsDiscarded, FitsExpired, FitsOctets}
 use Rattle.clnp_outcome.proofs.written.Octets.{all_both}
@@ -99,6 +100,7 @@ module _ (node : Node Rows) (fits : FitsNode node) where
     pub reaction : Reaction
     pub discards : Discards rows_tables node now discarded reaction
     pub fit : AllByRecursion IsFrame reaction.frames
+    pub ups_fit : WaitsInOctets reaction.ups
 
   pub lost : (now : ℕ) (discarded : Discarded) → FitsDiscarded discarded → Lost now discarded
   lost now discarded h =
@@ -107,6 +109,7 @@ module _ (node : Node Rows) (fits : FitsNode node) where
         reaction = record { ups = Noted (notes.Discard node.setup.system (code_of discarded.reason) discarded.place) ∷ []; frames = sent.frames };
         discards = record { told = refl; reports = sent.are };
         fit = sent.fit;
+        ups_fit = (tt, tt);
       }
 
   pub reported_all : (now : ℕ) (list : List Expired) → AllByRecursion FitsExpired list → SentAll Set fits.setup (ReportsEach rows_tables node now list)
