@@ -1,14 +1,12 @@
--- The network as it starts has no unit on its way, and each of its systems has its title; no call changes its lifetime, and a line
--- moves its clock by one tick at most.
-use Rattle.std.proofs.Common.{◌≡◌, ◌==◌, ◌&&◌, ℕ, zero, suc, ◌+◌, ◌<◌, ◌≤◌, Bool, true, false, List, [], ◌∷◌, ◌++◌, length, map, Some, refl, sym, ◌∙◌, ap, subst, arith}
-use Rattle.std.specs.Prelude.{◌||◌, slice_get, IsTrue}
+-- The network as it starts has no unit on its way, and each of its systems has its title; its transport entities have no end.
+use Rattle.std.proofs.Common.{◌≡◌, ◌==◌, ◌&&◌, ℕ, zero, suc, ◌+◌, ◌≤◌, Bool, true, false, List, [], ◌∷◌, ◌++◌, map, Option, Some, None, refl, sym, ◌∙◌, ap, subst, arith}
+use Rattle.std.specs.Prelude.{◌||◌, if◌then◌else◌, option_map, replicate, slice_get, IsTrue}
+use Rattle.std.proofs.lemmas.Option.{slice_get-map}
 use Rattle.std.specs.List.{AllByRecursion, list_any}
 use Rattle.std.proofs.lemmas.List.Elements.{All-from_recursion}
 use Rattle.nsap.specs.Address.{is_same_system}
-use Rattle.osi_base.specs.declared.unit.Up.{Up}
-use Rattle.osi_base.specs.declared.unit.Wish.{Wish}
 use Rattle.osi_base.specs.Link.{IsNote}
-use Rattle.osi_base.specs.Calls.{Call, Offer, Choose, Inject, NextUp, Tick, Keeps}
+use Rattle.osi_base.specs.Calls.{Call, Keeps}
 use Rattle.lan_bag.specs.Bag.{BagStep, link_of, new_bag}
 use Rattle.lan_bag.specs.steps.Keeping.{bag_given, bag_keeps}
 use Rattle.clnp_system.specs.Tables.{rows_tables}
@@ -17,14 +15,14 @@ use Rattle.clnp_step.specs.Step.{Begins}
 use Rattle.clnp_step.proofs.Kept.{net_keeps}
 use Rattle.clnp_step.proofs.Passed.{all_ticked}
 use Rattle.clnp_step.proofs.Seen.{belongs_same}
-use Rattle.net_world.specs.Laws.{IsAtHome, IsFirst}
-use Rattle.net_world.specs.Run.{Passes, RunsLine, SendsUnit, Starts}
-use Rattle.osi_journal.specs.declared.event.Event.{Event}
-use Rattle.osi_script.specs.declared.line.Line.{Line}
-use Rattle.osi_script.specs.declared.line.Line.TheVariants as lines
-use Rattle.osi_bench.specs.SetUp.{System, SetUp, nodes_from, nodes_of, titles_of}
+use Rattle.net_world.specs.Laws.{IsFirst}
+use Rattle.tp4_world.specs.Laws.{IsFirst as IsFirstWorld, IsNew}
+use Rattle.tp4_world.specs.declared.place.Placed.{Placed}
+use Rattle.osi_setup.specs.declared.transport.Limits.{Limits}
+use Rattle.osi_setup.specs.SetUp.{System, SetUp, entities_from, entities_of, entity_with, nodes_from, nodes_of, placed_at, timers_of, titles_of}
+use Rattle.tp4_conn.specs.End.{End}
 use Rattle.osi_bench.specs.World.{Net, NetDoes, link_of_net}
-use Rattle.osi_bench.proofs.Ports.{number_is}
+use Rattle.osi_setup.proofs.Ports.{number_is}
 
 -- each call of the network keeps the contract of a carrier
 pub net_law : (old : Net) (call : Call (List ℕ)) (new : Net) → NetDoes old call new → Keeps (link_of_net old) call (link_of_net new)
@@ -89,71 +87,51 @@ begins_first setup net b =
 pub begins_life : (setup : SetUp) (net : Net) → Begins link_of BagStep rows_tables (new_bag setup.lans setup.ports) (nodes_of setup) setup.life net → net.life ≡ setup.life
 begins_life setup net b = ap (λ (n : Net). n.life) b.becomes
 
--- ---- a line
+-- ---- the transport entities
 
--- the lifetime is the same, and the clock has gone on by one tick at most
-pub record Near (old new : Net) : Type 0 where
-  pub life : new.life ≡ old.life
-  pub clock : (link_of_net new).clock ≤ (link_of_net old).clock + 1
+no_ends : (count : ℕ) → AllByRecursion (λ (place : Option End). place ≡ None) (replicate count None)
+no_ends zero = tt
+no_ends (suc count) = (refl, no_ends count)
 
-passes_near : (old : Net) (call : Call (List ℕ)) (ups : List (Up (List ℕ))) (new : Net) → Passes link_of_net NetDoes old call ups new → Near old new
-passes_near old (Offer unit wish answer) ups new p =
-    let k = net_law old (Offer unit wish answer) p.called p.steps_to in
-    let clock = p.gathers.stands.clock ∙ k.clock in
-    record { life = p.gathers.stands.same.bound [] ∙ k.same.bound []; clock = omega arith }
-passes_near old (Choose pick system answer) ups new p =
-    let k = net_law old (Choose pick system answer) p.called p.steps_to in
-    let clock = p.gathers.stands.clock ∙ k.clock in
-    record { life = p.gathers.stands.same.bound [] ∙ k.same.bound []; clock = omega arith }
-passes_near old (Inject lan system octets answer) ups new p =
-    let k = net_law old (Inject lan system octets answer) p.called p.steps_to in
-    let clock = p.gathers.stands.clock ∙ k.clock in
-    record { life = p.gathers.stands.same.bound [] ∙ k.same.bound []; clock = omega arith }
-passes_near old (NextUp answer) ups new p =
-    let k = net_law old (NextUp answer) p.called p.steps_to in
-    let clock = p.gathers.stands.clock ∙ k.clock in
-    record { life = p.gathers.stands.same.bound [] ∙ k.same.bound []; clock = omega arith }
-passes_near old Tick ups new p =
-    let k = net_law old Tick p.called p.steps_to in
-    let clock = p.gathers.stands.clock ∙ k.clock in
-    record { life = p.gathers.stands.same.bound [] ∙ k.same.bound []; clock = omega arith }
+all_behind : (P : Placed → Type 0) (xs ys : List Placed) → AllByRecursion P xs → AllByRecursion P ys → AllByRecursion P (xs ++ ys)
+all_behind P [] ys all others = others
+all_behind P (x ∷ xs) ys all others = (all.0, all_behind P xs ys all.1 others)
 
-same_near : (old new : Net) → new ≡ old → Near old new
-same_near old new is = subst (λ (n : Net). Near old n) (sym is) (record { life = refl; clock = omega arith })
+-- what holds of the entity that an end system has
+module _ (P : Placed → Type 0) (life : ℕ) (limits : Limits) where
+  of_system : (number : ℕ) (system : System) → P (record { system = number; entity = entity_with limits.references (timers_of life limits) system }) → AllByRecursion P (placed_at life limits number system)
+  of_system number system holds = by system.end
+    where
+      by : (b : Bool) → AllByRecursion P (if b then record { system = number; entity = entity_with limits.references (timers_of life limits) system } ∷ [] else [])
+      by true = (holds, tt)
+      by false = tt
 
-sends_near : (old : Net) (system : ℕ) (sender receiver : List ℕ) (wish : Wish) (octets : List ℕ) (made : List Event) (new : Net)
-    → SendsUnit link_of_net NetDoes old system sender receiver wish octets made new → Near old new
-sends_near old system sender receiver wish [] made new h = same_near old new h.1
-sends_near old system sender receiver wish (octet ∷ octets) made new h = passes_near old _ h.1 new h.2
+  pub of_systems : (number : ℕ) (systems : List System) → ((place : ℕ) (system : System) → slice_get systems place ≡ Some system → P (record { system = number + place; entity = entity_with limits.references (timers_of life limits) system }))
+      → AllByRecursion P (entities_from life limits number systems)
+  of_systems number [] holds = tt
+  of_systems number (system ∷ systems) holds =
+      all_behind P (placed_at life limits number system) (entities_from life limits (number + 1) systems)
+      (of_system number system (subst (λ (n : ℕ). P (record { system = n; entity = entity_with limits.references (timers_of life limits) system })) (omega arith) (holds 0 system refl)))
+      (of_systems (number + 1) systems (λ place other is.
+      subst (λ (n : ℕ). P (record { system = n; entity = entity_with limits.references (timers_of life limits) other })) (omega arith) (holds (suc place) other is)))
 
-pub line_near : (titles : List (List ℕ)) (old : Net) (line : Line) (made : List Event) (new : Net) → RunsLine link_of_net NetDoes titles old line made new → Near old new
-line_near titles old lines.Nothing made new h = same_near old new h.1
-line_near titles old (lines.Unit system to wish octets) made new h = sends_near old system h.0 h.1 wish octets made new h.4
-line_near titles old (lines.Deliver number system) made new h = passes_near old (Choose number system h.0) h.1 new h.2
-line_near titles old lines.Tick made new h = passes_near old Tick h.0 new h.1
-line_near titles old (lines.Set key value) made new h = absurd h
-line_near titles old (lines.Lan name bound room) made new h = absurd h
-line_near titles old (lines.Es name title) made new h = absurd h
-line_near titles old (lines.Is name title) made new h = absurd h
-line_near titles old (lines.Port system lan snpa) made new h = absurd h
-line_near titles old (lines.Route system prefix next lan) made new h = absurd h
-line_near titles old (lines.Path name kind systems) made new h = absurd h
-line_near titles old (lines.Tsap system selector) made new h = absurd h
-line_near titles old lines.Start made new h = absurd h
-line_near titles old (lines.Connect system selector to called options octets) made new h = absurd h
-line_near titles old (lines.Accept end options octets) made new h = absurd h
-line_near titles old (lines.Refuse end octets) made new h = absurd h
-line_near titles old (lines.Disconnect end octets) made new h = absurd h
-line_near titles old (lines.Data end octets) made new h = absurd h
-line_near titles old (lines.Expedite end octets) made new h = absurd h
-line_near titles old (lines.Window end credit) made new h = absurd h
-line_near titles old lines.Settle made new h = absurd h
-line_near titles old (lines.Inject lan system octets) made new h = absurd h
+pub title_there : (systems : List System) (place : ℕ) (system : System) → slice_get systems place ≡ Some system → slice_get (map (λ (s : System). s.title) systems) place ≡ Some system.title
+title_there systems place system is = slice_get-map (λ (s : System). s.title) systems place ∙ ap (λ (found : Option System). option_map (λ (s : System). s.title) found) is
 
--- what waited at the start was told, and else nothing changed
-pub record StartsNear (net first : Net) : Type 0 where
-  pub life : first.life ≡ net.life
-  pub clock : (link_of_net first).clock ≡ (link_of_net net).clock
+pub entities_new : (setup : SetUp) → AllByRecursion (IsNew (titles_of setup)) (entities_of setup)
+entities_new setup =
+    of_systems (IsNew (titles_of setup)) setup.life setup.limits 0 setup.systems
+    (λ place system is. record {
+      title = system.title;
+      title_is = subst (λ (n : ℕ). slice_get (titles_of setup) n ≡ Some system.title) (omega arith) (title_there setup.systems place system is);
+      own = refl;
+      none = no_ends setup.limits.references;
+    })
 
-pub start_near : (net first : Net) (made : List Event) → Starts link_of_net NetDoes net made first → StartsNear net first
-start_near net first made h = record { life = h.1.stands.same.bound []; clock = h.1.stands.clock }
+-- no entity has a clock ahead
+pub entities_behind : (setup : SetUp) (now : ℕ) → AllByRecursion (λ (one : Placed). one.entity.clock ≤ now) (entities_of setup)
+entities_behind setup now = of_systems (λ (one : Placed). one.entity.clock ≤ now) setup.life setup.limits 0 setup.systems (λ place system is. omega arith)
+
+pub begins_world : (setup : SetUp) (net : Net) → Begins link_of BagStep rows_tables (new_bag setup.lans setup.ports) (nodes_of setup) setup.life net
+    → IsFirstWorld setup.life (titles_of setup) (link_of_net net) (entities_of setup)
+begins_world setup net b = record { carrier_is = begins_first setup net b; entities = entities_new setup }

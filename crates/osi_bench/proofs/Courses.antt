@@ -1,67 +1,73 @@
--- Each line of a script has a course on the bench: what is set up makes a network that stands, and one that stands answers each line.
-use Rattle.std.proofs.Common.{◌≡◌, ℕ, ◌+◌, ◌-◌, ◌<◌, ◌≤◌, Bool, true, false, List, [], ◌∷◌, length, map, take, Some, Result, Ok, Err, inl, inr, refl, sym, ◌∙◌, ap, subst, arith}
-use Rattle.std.specs.Prelude.{slice_get}
+-- Each line of a script has a course on the bench: what is set up makes a network whose transport entities are ready, and such a network
+-- has a run of each line.
+use Rattle.std.proofs.Common.{◌≡◌, ℕ, ◌+◌, ◌-◌, ◌<◌, Bool, true, false, List, [], ◌∷◌, length, take, Option, Some, None, Result, Ok, Err, inl, inr, refl, sym, ◌∙◌, ap, subst, arith}
+use Rattle.std.specs.Prelude.{◌++◌, slice_get, IsSome}
 use Rattle.std.specs.List.{AllByRecursion}
 use Rattle.std.proofs.lemmas.Bool.{cases_lt}
-use Rattle.carrier_answers.specs.Answers.{AreOctets, MayBeOffered}
+use Rattle.nsap.specs.Address.{system_part}
 use Rattle.lan_bag.specs.Bag.{BagStep, link_of, new_bag}
 use Rattle.clnp_system.specs.Node.{Node}
 use Rattle.clnp_system.specs.Tables.{rows_tables}
 use Rattle.clnp_step.specs.Step.{Begins}
 use Rattle.esis_tables.specs.Rows.{Rows}
-use Rattle.clnp_outcome.specs.Standing.{IsNsap, is_nsap, Stands as NetStands}
-use Rattle.clnp_outcome.proofs.Always.{always_answers, always_gathered, begins_standing}
+use Rattle.clnp_outcome.specs.Standing.{is_nsap}
+use Rattle.clnp_outcome.proofs.Always.{begins_standing}
 use Rattle.clnp_outcome.proofs.answered.Carrying.{nsap_passes}
-use Rattle.net_world.specs.Run.{raw_unit, RunsLine}
-use Rattle.net_world.specs.Total.{HasRun, HasStart, CanRun as CanRunOn}
-use Rattle.net_world.proofs.SomeRun.{some_begin, some_line}
+use Rattle.tp4_conn.specs.End.{IsSize}
+use Rattle.tp4_number.specs.Number.{wire}
+use Rattle.tp4_world.specs.Total.{CanConnect, CanRun as CanRunOn, HasStart, IsReady}
+use Rattle.tp4_world.specs.World.{entity_at}
+use Rattle.tp4_world.proofs.Serving.{some_run, some_start}
 use Rattle.osi_journal.specs.declared.event.Event.{Event}
-use Rattle.osi_journal.specs.RawLawful.{raw_address}
 use Rattle.osi_script.specs.declared.fault.LineFault.{LineFault}
 use Rattle.osi_script.specs.declared.line.Line.{Line}
 use Rattle.osi_script.specs.declared.line.Line.TheVariants as lines
 use Rattle.osi_script.specs.Grammar.{Reading, line_read}
-use Rattle.osi_script.specs.Known.{Declared}
+use Rattle.osi_script.specs.Known.{Declared, is_end}
+use Rattle.osi_script.specs.Names.{NamesDeclared}
+use Rattle.osi_script.proofs.LineNames.{line_named}
 use Rattle.line_loop.specs.Lines.{most_lines}
 use Rattle.line_loop.specs.Total.{HasCourse, AsksSomething}
-use Rattle.osi_bench.proofs.Totality.{asks_something}
-use Rattle.osi_bench.specs.steps.BenchLaws.{bench_laws}
+use Rattle.osi_setup.specs.Fitting.{Fits, IsWell}
+use Rattle.osi_setup.specs.SetUp.{SetUp, entities_of, nodes_of, set_up, titles_of as titles_said}
+use Rattle.osi_setup.proofs.Elements.{there, at}
+use Rattle.osi_setup.proofs.Wellness.{nothing_well, well_after}
 use Rattle.osi_bench.specs.Bench.{Bench, RunsLine as BenchRuns, bench_meaning, first_bench, most_events}
-use Rattle.osi_bench.specs.SetUp.{System, SetUp, nodes_of, set_up, titles_of as titles_said}
-use Rattle.osi_bench.specs.World.{IsOfSetUp, Net, NetDoes, SetsUp, StartsUp, WorldStep, is_start, link_of_net}
+use Rattle.osi_bench.specs.World.{Ends, IsOfSetUp, Net, NetDoes, SetsUp, StartsUp, WorldStep, is_start, link_of_net}
 use Rattle.osi_bench.specs.declared.world.World.{World}
 use Rattle.osi_bench.specs.declared.world.World.TheVariants.{SettingUp, Running}
-use Rattle.osi_bench.specs.steps.Agreeing.{Agrees}
-use Rattle.osi_bench.specs.steps.Fitting.{Fits, IsTitle, IsWell}
+use Rattle.osi_bench.specs.steps.Agreeing.{Agrees, AreOne}
+use Rattle.osi_bench.specs.steps.BenchLaws.{bench_laws}
 use Rattle.osi_bench.specs.steps.Known.{CanRun, RunsAt}
+use Rattle.osi_bench.specs.steps.Moves.{line_moves, start_only}
 use Rattle.osi_bench.specs.steps.OneRun.{one_step}
-use Rattle.osi_bench.proofs.Agreement.{read_agrees, read_runs}
-use Rattle.osi_bench.proofs.Elements.{There, there, at}
-use Rattle.osi_bench.proofs.InOctets.{raw_octets}
+use Rattle.osi_bench.proofs.Agreement.{names_kept, read_agrees, read_runs}
+use Rattle.osi_bench.proofs.Begun.{net_law}
+use Rattle.osi_bench.proofs.Fitted.{ends_one}
+use Rattle.osi_bench.proofs.InOctets.{address_octets}
+use Rattle.osi_bench.proofs.Kept.{line_kept}
+use Rattle.osi_bench.proofs.Moving.{line_near, start_near}
+use Rattle.osi_bench.proofs.NetServing.{Serving, begun_serves}
 use Rattle.osi_bench.proofs.Octets.{IsInOctets, LineInOctets, line_octets, may_begin, nodes_are, octets_after}
-use Rattle.osi_bench.proofs.Wellness.{nothing_well, well_after}
+use Rattle.osi_bench.proofs.Placing.{IsOwn, among, entities_ready, present, titles_own}
+use Rattle.osi_bench.proofs.Totality.{asks_something}
 
 -- ---- what stands
 
--- a title of a system, in octets
-pub record IsOwn (title : List ℕ) : Type 0 where
-  pub fits : IsTitle title
-  pub octets : IsNsap title
-
--- what is set up is in octets, and a running network stands, with the titles of its systems
+-- what is set up is in octets; and a running network is ready, with the titles of its systems
 abbrev pub WorldStands : World → Type 0
 WorldStands (SettingUp setup) = IsWell setup × IsInOctets setup
-WorldStands (Running titles net) = NetStands net × AllByRecursion IsOwn titles
+WorldStands (Running titles ends) = IsReady is_nsap link_of_net Serving ends × AllByRecursion IsOwn titles
+
+-- each end system has a transport entity once the network runs
+abbrev pub ArePlaced : Declared → World → Type 0
+ArePlaced names (SettingUp setup) = Unit {0}
+ArePlaced names (Running titles ends) = (system : ℕ) → is_end names system ≡ true → IsSome (entity_at ends.entities system)
 
 pub record Stands (bench : Bench) : Type 0 where
   pub agrees : Agrees bench.names bench.world bench.lines
   pub world : WorldStands bench.world
-
--- ---- the start
-
-titles_own : (titles : List (List ℕ)) → AllByRecursion IsTitle titles → AllByRecursion IsNsap titles → AllByRecursion IsOwn titles
-titles_own [] fits octets = tt
-titles_own (title ∷ titles) fits octets = (record { fits = fits.0; octets = octets.0 }, titles_own titles fits.1 octets.1)
+  pub placed : ArePlaced bench.names bench.world
 
 record HasStep (world : World) (line : Line) : Type 0 where
   made : List Event
@@ -69,43 +75,77 @@ record HasStep (world : World) (line : Line) : Type 0 where
   steps : WorldStep world line made new
   stands : WorldStands new
 
-abbrev Begun : SetUp → Net → Type 0
-Begun setup net = Begins link_of BagStep rows_tables (new_bag setup.lans setup.ports) (nodes_of setup) setup.life net
+-- ---- a line of a running network
 
-record Starting (setup : SetUp) : Type 0 where
-  net : Net
-  begins : Begun setup net
-  stands : NetStands net
+address_passes : (titles : List (List ℕ)) (n selector : ℕ) (title : List ℕ) → selector < 256 → AllByRecursion IsOwn titles → slice_get titles n ≡ Some title
+    → is_nsap (system_part title ++ selector ∷ []) ≡ true
+address_passes titles n selector title small own is =
+    let o = at IsOwn titles n title own is in
+    nsap_passes (system_part title ++ selector ∷ []) (address_octets title selector small o.fits.some o.octets)
 
-starting : (setup : SetUp) → IsWell setup → IsInOctets setup → Starting setup
-starting setup w o =
-    let may = may_begin setup w o in
-    let begun = begins_standing.begins setup.lans setup.ports _ setup.life may in
+record Has {A : Type 0} (found : Option A) : Type 0 where
+  value : A
+  is : found ≡ Some value
+
+has : {A : Type 0} (found : Option A) → IsSome found → Has found
+has None is = absurd (cc)
+has (Some value) is = record { value = value; is = refl }
+
+connects : (titles : List (List ℕ)) (ends : Ends) (system to size : ℕ) (selector called octets : List ℕ) → AllByRecursion IsOwn titles → to < length titles → IsSize size
+    → LineInOctets (lines.Connect system selector to called (record { extended = false; size = size; expedited = false; sum = false }) octets) → IsSome (entity_at ends.entities system)
+    → CanConnect is_nsap titles ends system to size selector called octets
+connects titles ends system to size selector called octets own known sized in_octets some =
+    let receiver = there titles to known in
+    let entity = has (entity_at ends.entities system) some in
     record {
-      net = begun.0;
-      begins = subst (λ (nodes : List (Node Rows)). Begins link_of BagStep rows_tables (new_bag setup.lans setup.ports) nodes setup.life begun.0) (nodes_are setup 0 setup.systems) begun.1;
-      stands = begins_standing.stands setup.lans setup.ports _ setup.life begun.0 may begun.1;
+      receiver = receiver.elem;
+      receiver_is = receiver.is;
+      address = address_passes titles to 1 receiver.elem (omega arith) own receiver.is;
+      entity = entity.value;
+      entity_is = entity.is;
+      size_known = sized;
+      selector_short = in_octets.0.few;
+      selector_octets = in_octets.0.octets;
+      called_short = in_octets.1.few;
+      called_octets = in_octets.1.octets;
+      octets_are = in_octets.2;
     }
 
-first_of : (net : Net) → NetStands net → HasStart link_of_net NetDoes NetStands net
-first_of net stands = some_begin link_of_net NetDoes is_nsap NetStands always_answers always_gathered net stands
+may_run : (names : Declared) (titles : List (List ℕ)) (ends : Ends) (line : Line) → AllByRecursion IsOwn titles → NamesDeclared names line → ArePlaced names (Running titles ends)
+    → RunsAt (length titles) (link_of_net ends.carrier).clock line → LineInOctets line → CanRunOn is_nsap titles link_of_net ends line
+may_run names titles ends lines.Nothing own named placed runs octets = tt
+may_run names titles ends (lines.Connect system selector to called options unit) own named placed runs octets =
+    connects titles ends system to options.size selector called unit own runs.1 runs.2 octets (placed system named.0.1)
+may_run names titles ends (lines.Accept end options unit) own named placed runs octets = (runs, octets)
+may_run names titles ends (lines.Refuse end unit) own named placed runs octets = octets
+may_run names titles ends (lines.Disconnect end unit) own named placed runs octets = octets
+may_run names titles ends (lines.Data end unit) own named placed runs octets = octets
+may_run names titles ends (lines.Expedite end unit) own named placed runs octets = octets
+may_run names titles ends (lines.Window end credit) own named placed runs octets = runs
+may_run names titles ends (lines.Unit system to wish unit) own named placed runs octets =
+    let a = there titles system runs.0 in
+    let b = there titles to runs.1 in (
+      a.elem,
+      b.elem,
+      a.is,
+      b.is,
+      record { from = address_passes titles system 2 a.elem (omega arith) own a.is; to = address_passes titles to 2 b.elem (omega arith) own b.is; octets = octets },
+    )
+may_run names titles ends lines.Tick own named placed runs octets = runs
+may_run names titles ends lines.Settle own named placed runs octets = tt
+may_run names titles ends (lines.Deliver number system) own named placed runs octets = tt
+may_run names titles ends (lines.Inject lan system unit) own named placed runs octets = octets
+may_run names titles ends (lines.Set key value) own named placed runs octets = absurd runs
+may_run names titles ends (lines.Lan name bound room) own named placed runs octets = absurd runs
+may_run names titles ends (lines.Es name title) own named placed runs octets = absurd runs
+may_run names titles ends (lines.Is name title) own named placed runs octets = absurd runs
+may_run names titles ends (lines.Port system lan snpa) own named placed runs octets = absurd runs
+may_run names titles ends (lines.Route system prefix next lan) own named placed runs octets = absurd runs
+may_run names titles ends (lines.Path name kind systems) own named placed runs octets = absurd runs
+may_run names titles ends (lines.Tsap system selector) own named placed runs octets = absurd runs
+may_run names titles ends lines.Start own named placed runs octets = absurd runs
 
-sets_some : (start : Bool) (setup : SetUp) (line : Line) → is_start line ≡ start → IsWell setup → IsInOctets setup → IsOfSetUp line → Fits setup line → LineInOctets line → HasStep (SettingUp setup) line
-sets_some true setup line is w o of_it fits octets =
-    let s = starting setup w o in
-    let f = first_of s.net s.stands in
-    record {
-      made = f.made;
-      new = Running (titles_said setup) f.new;
-      steps = (of_it, subst (λ (b : Bool). SetsUp b setup line f.made (Running (titles_said setup) f.new)) (sym is) (s.net, f.new, s.begins, f.starts, refl));
-      stands = (f.stands, titles_own (titles_said setup) w.titles o.titles);
-    }
-sets_some false setup line is w o of_it fits octets = record {
-  made = [];
-  new = SettingUp (set_up setup line);
-  steps = (of_it, subst (λ (b : Bool). SetsUp b setup line [] (SettingUp (set_up setup line))) (sym is) (refl, refl));
-  stands = (well_after setup line w fits, octets_after setup line o fits octets);
-}
+-- ---- a line of the set-up
 
 of_set_up : (setup : SetUp) (line : Line) → Fits setup line → IsOfSetUp line
 of_set_up setup lines.Nothing f = tt
@@ -117,7 +157,7 @@ of_set_up setup (lines.Is name title) f = tt
 of_set_up setup (lines.Port system lan snpa) f = tt
 of_set_up setup (lines.Route system prefix next lan) f = tt
 of_set_up setup (lines.Path name kind systems) f = tt
-of_set_up setup (lines.Tsap system selector) f = absurd f
+of_set_up setup (lines.Tsap system selector) f = tt
 of_set_up setup (lines.Connect system selector to called options octets) f = absurd f
 of_set_up setup (lines.Accept end options octets) f = absurd f
 of_set_up setup (lines.Refuse end octets) f = absurd f
@@ -131,56 +171,86 @@ of_set_up setup lines.Settle f = absurd f
 of_set_up setup (lines.Deliver number system) f = absurd f
 of_set_up setup (lines.Inject lan system octets) f = absurd f
 
--- ---- a running network
+-- ---- each end system keeps its entity
 
-raw_passes : (titles : List (List ℕ)) (n : ℕ) (title : List ℕ) → AllByRecursion IsOwn titles → slice_get titles n ≡ Some title → is_nsap (raw_address title) ≡ true
-raw_passes titles n title own is =
-    let o = at IsOwn titles n title own is in
-    nsap_passes (raw_address title) (raw_octets title o.fits.some o.octets)
+-- a started network has an entity for each end system that is declared
+starts_placed : (names : Declared) (setup : SetUp) (made : List Event) (new : World) → AreOne names setup → StartsUp setup made new → ArePlaced names new
+starts_placed names setup made new one h =
+    let near = start_near h.0 (entities_of setup) h.1 made h.3 in
+    subst (ArePlaced names) (sym h.4)
+    (λ system is. subst (λ placed. IsSome (entity_at placed system)) (sym near.entities) (present setup system (ends_one setup.systems names.systems system one.systems ∙ is)))
 
-may_run : (titles : List (List ℕ)) (net : Net) (line : Line) → AllByRecursion IsOwn titles → RunsAt (length titles) (link_of_net net).clock line → LineInOctets line
-    → CanRunOn is_nsap titles (link_of_net net) line
-may_run titles net lines.Nothing own runs octets = tt
-may_run titles net (lines.Unit system to wish unit) own runs octets =
-    let a = there titles system runs.0 in
-    let b = there titles to runs.1 in
-    (a.elem, b.elem, a.is, b.is, record { from = raw_passes titles system a.elem own a.is; to = raw_passes titles to b.elem own b.is; octets = octets })
-may_run titles net lines.Tick own runs octets = runs
-may_run titles net (lines.Deliver number system) own runs octets = tt
-may_run titles net (lines.Set key value) own runs octets = absurd runs
-may_run titles net (lines.Lan name bound room) own runs octets = absurd runs
-may_run titles net (lines.Es name title) own runs octets = absurd runs
-may_run titles net (lines.Is name title) own runs octets = absurd runs
-may_run titles net (lines.Port system lan snpa) own runs octets = absurd runs
-may_run titles net (lines.Route system prefix next lan) own runs octets = absurd runs
-may_run titles net (lines.Path name kind systems) own runs octets = absurd runs
-may_run titles net (lines.Tsap system selector) own runs octets = absurd runs
-may_run titles net lines.Start own runs octets = absurd runs
-may_run titles net (lines.Connect system selector to called options unit) own runs octets = absurd runs
-may_run titles net (lines.Accept end options unit) own runs octets = absurd runs
-may_run titles net (lines.Refuse end unit) own runs octets = absurd runs
-may_run titles net (lines.Disconnect end unit) own runs octets = absurd runs
-may_run titles net (lines.Data end unit) own runs octets = absurd runs
-may_run titles net (lines.Expedite end unit) own runs octets = absurd runs
-may_run titles net (lines.Window end credit) own runs octets = absurd runs
-may_run titles net lines.Settle own runs octets = absurd runs
-may_run titles net (lines.Inject lan system unit) own runs octets = absurd runs
+sets_placed : (start : Bool) (names : Declared) (setup : SetUp) (line : Line) (made : List Event) (new : World) → is_start line ≡ start → AreOne names (set_up setup line) → SetsUp start setup line made new → ArePlaced names new
+sets_placed true names setup line made new is one h =
+    starts_placed names setup made new (subst (λ (l : Line). AreOne names (set_up setup l)) (start_only line is) one) h
+sets_placed false names setup line made new is one h = subst (ArePlaced names) (sym h.1) tt
 
-line_run : (titles : List (List ℕ)) (net : Net) (line : Line) → NetStands net → CanRunOn is_nsap titles (link_of_net net) line → HasRun link_of_net NetDoes NetStands titles net line
-line_run titles net line stands may = some_line link_of_net NetDoes is_nsap NetStands always_answers always_gathered titles net line stands may
+placed_after : (names declared : Declared) (world : World) (count : ℕ) (octets : List ℕ) (line : Line) (made : List Event) (new : World) → Agrees names world count
+    → line_read names octets ≡ Ok (record { line = line; names = declared }) → ArePlaced names world → WorldStep world line made new → ArePlaced declared new
+placed_after names declared (SettingUp setup) count octets line made new a is placed h =
+    sets_placed (is_start line) declared setup line made new refl (line_kept names setup octets line declared a.1 a.2 a.0 is).one h.1
+placed_after names declared (Running titles ends) count octets line made new a is placed h =
+    let near = line_near titles ends line made h.0 h.1 in
+    let same = names_kept names declared a.0 (line_moves names octets line declared is).kept in
+    subst (ArePlaced declared) (sym h.2)
+    (λ system end. among ends.entities h.0.entities system near.systems (placed system (ap (λ (n : Declared). is_end n system) (sym same) ∙ end)))
 
-step_of : (world : World) (line : Line) → WorldStands world → CanRun world line → LineInOctets line → HasStep world line
-step_of (SettingUp setup) line stands may octets = sets_some (is_start line) setup line refl stands.0 stands.1 (of_set_up setup line may) may octets
-step_of (Running titles net) line stands may octets =
-    let r = line_run titles net line stands.0 (may_run titles net line stands.1 may octets) in
-    record { made = r.made; new = Running titles r.new; steps = (r.new, r.runs, refl); stands = (r.stands, stands.1) }
+-- ---- the start
+
+abbrev Begun : SetUp → Net → Type 0
+Begun setup net = Begins link_of BagStep rows_tables (new_bag setup.lans setup.ports) (nodes_of setup) setup.life net
+
+record Starting (setup : SetUp) : Type 0 where
+  net : Net
+  begins : Begun setup net
+  serving : Serving net
+
+starting : (setup : SetUp) → IsWell setup → IsInOctets setup → Starting setup
+starting setup w o =
+    let may = may_begin setup w o in
+    let begun = begins_standing.begins setup.lans setup.ports _ setup.life may in
+    record {
+      net = begun.0;
+      begins = subst (λ (nodes : List (Node Rows)). Begins link_of BagStep rows_tables (new_bag setup.lans setup.ports) nodes setup.life begun.0) (nodes_are setup 0 setup.systems) begun.1;
+      serving = begun_serves setup.lans setup.ports _ setup.life begun.0 may begun.1;
+    }
+
+starts_some : (setup : SetUp) → IsWell setup → IsInOctets setup → (s : Starting setup) → HasStart is_nsap link_of_net NetDoes Serving s.net (entities_of setup)
+starts_some setup w o s =
+    some_start link_of_net NetDoes net_law is_nsap s.net (entities_of setup) s.serving
+    (entities_ready setup (link_of_net s.net).clock w (titles_own (titles_said setup) w.titles o.titles))
+
+sets_some : (start : Bool) (setup : SetUp) (line : Line) → is_start line ≡ start → IsWell setup → IsInOctets setup → IsOfSetUp line → Fits setup line → LineInOctets line → HasStep (SettingUp setup) line
+sets_some true setup line is w o of_it fits octets =
+    let s = starting setup w o in
+    let f = starts_some setup w o s in
+    record {
+      made = f.made;
+      new = Running (titles_said setup) f.new;
+      steps = (of_it, subst (λ (b : Bool). SetsUp b setup line f.made (Running (titles_said setup) f.new)) (sym is) (s.net, f.new, s.begins, f.starts, refl));
+      stands = (f.ready, titles_own (titles_said setup) w.titles o.titles);
+    }
+sets_some false setup line is w o of_it fits octets = record {
+  made = [];
+  new = SettingUp (set_up setup line);
+  steps = (of_it, subst (λ (b : Bool). SetsUp b setup line [] (SettingUp (set_up setup line))) (sym is) (refl, refl));
+  stands = (well_after setup line w fits, octets_after setup line o fits octets);
+}
+
+step_of : (names : Declared) (world : World) (line : Line) → WorldStands world → NamesDeclared names line → ArePlaced names world → CanRun world line → LineInOctets line → HasStep world line
+step_of names (SettingUp setup) line stands named placed may octets =
+    sets_some (is_start line) setup line refl stands.0 stands.1 (of_set_up setup line may) may octets
+step_of names (Running titles ends) line stands named placed may octets =
+    let r = some_run link_of_net NetDoes net_law is_nsap wire titles ends line stands.0 (may_run names titles ends line stands.1 named placed may octets) in
+    record { made = r.made; new = Running titles r.new; steps = (r.new, r.runs, refl); stands = (r.ready, stands.1) }
 
 -- ---- the bench
 
 -- the line that was read has a step, after which the network stands
 has_step : (bench : Bench) (octets : List ℕ) (line : Line) (names : Declared) → Stands bench → bench.lines < most_lines → line_read bench.names octets ≡ Ok (record { line = line; names = names }) → HasStep bench.world line
 has_step bench octets line names s few is =
-    step_of bench.world line s.world (read_runs bench.names names bench.world bench.lines octets line s.agrees (omega arith) is) (line_octets bench.names octets line names is)
+    step_of bench.names bench.world line s.world (line_named bench.names octets (record { line = line; names = names }) is) s.placed
+    (read_runs bench.names names bench.world bench.lines octets line s.agrees (omega arith) is) (line_octets bench.names octets line names is)
 
 -- the journal has room for the events of a line, or the line fills it
 roomed : (bench : Bench) (octets : List ℕ) (line : Line) (names : Declared) → line_read bench.names octets ≡ Ok (record { line = line; names = names }) → (h : HasStep bench.world line)
@@ -212,12 +282,14 @@ stays old octets made new s few h =
     record {
       agrees = subst (λ (n : ℕ). Agrees new.names new.world n) (sym h.lines) (read_agrees old.names new.names old.world old.lines octets h.line made new.world s.agrees h.meaning h.steps);
       world = subst WorldStands (sym same) some.stands;
+      placed = placed_after old.names new.names old.world old.lines octets h.line made new.world s.agrees h.meaning s.placed h.steps;
     }
 
 first_stands : Stands first_bench
 first_stands = record {
-  agrees = record { built = refl; one = (refl, record { lans = refl; systems = refl; ports = λ n. refl }, nothing_well) };
+  agrees = (refl, record { lans = refl; systems = refl; ports = λ n. refl; selectors = λ n selector. refl }, nothing_well);
   world = (nothing_well, record { titles = tt; ports = tt; rows = λ n. tt; paths = tt });
+  placed = tt;
 }
 
 pub script_asks : (all : List ℕ) → AsksSomething bench_meaning first_bench all

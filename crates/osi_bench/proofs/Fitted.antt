@@ -1,26 +1,24 @@
 -- A set-up line that was read fits what was said before: what its fields ask of the names holds of the set-up, which knows the same.
-use Rattle.std.proofs.Common.{◌≡◌, ◌==◌, ◌&&◌, ℕ, zero, suc, ◌+◌, ◌<◌, ◌≤◌, Bool, true, false, List, [], ◌∷◌, ◌++◌, length, map, Option, Some, None, Ok, refl, sym, ◌∙◌, ap, subst, arith}
+use Rattle.std.proofs.Common.{◌≡◌, ◌==◌, ◌&&◌, ℕ, zero, suc, ◌<◌, Bool, true, false, List, [], ◌∷◌, ◌++◌, length, map, Some, None, refl, sym, ◌∙◌, ap, subst, arith}
 use Rattle.std.specs.Prelude.{◌||◌, find, if◌then◌else◌, nat_eq, slice_get, IsSome}
 use Rattle.std.specs.List.{AllByRecursion, list_any}
 use Rattle.std.specs.Cmp.Lexicographic.{pointwise}
 use Rattle.std.proofs.lemmas.Bool.Decides.{nat_tests}
 use Rattle.std.proofs.lemmas.List.{length-map}
-use Rattle.nsap.specs.Address.{is_same_system, selector_of, system_part}
+use Rattle.nsap.specs.Address.{is_same_system, system_part}
 use Rattle.nsap.specs.declared.port.Port.{Port}
 use Rattle.nsap.proofs.AddressLemmas.{system_part-selector_of, is_same_system-Decides}
-use Rattle.lan_bag.specs.declared.setup.PortRow.{PortRow}
 use Rattle.lan_bag.specs.Rows.{same_snpa}
 use Rattle.clnp_route.specs.declared.table.RouteRow.{RouteRow}
 use Rattle.clnp_route.specs.Routes.{has_prefix}
-use Rattle.osi_script.specs.declared.parts.Parts.{Parts}
 use Rattle.osi_script.specs.Grammar.{many_from}
-use Rattle.osi_script.specs.Known.{Declared, KnownSystem, end_of as known_end, ports_of, routes_of, has_snpa, has_station, has_port, is_among, is_end}
+use Rattle.osi_script.specs.Known.{Declared, KnownSystem, end_of as known_end, ports_of, routes_of, selectors_of, has_snpa, has_port, is_among, is_end}
 use Rattle.osi_script.specs.Names.{AreIntermediateSystems}
-use Rattle.osi_bench.specs.SetUp.{System, SetUp, end_of, end_at, rows_of, rows_at, ports_at, port_on, titles_of}
+use Rattle.osi_setup.specs.SetUp.{System, SetUp, end_at, rows_at, port_on}
 use Rattle.osi_bench.specs.steps.Agreeing.{AreOne, shape_of, known_shape, Shape}
-use Rattle.osi_bench.specs.steps.Fitting.{IsWell, IsTitle, IsNewTitle, IsNewPort, IsNewRoute, IsNewPath, most_ports}
-use Rattle.osi_bench.proofs.Elements.{each, none_pass}
-use Rattle.osi_bench.proofs.Ports.{of_each, numbers_differ}
+use Rattle.osi_setup.specs.Fitting.{IsWell, IsTitle, IsNewTitle, IsNewPort, IsNewRoute, IsNewPath, IsNewSelector, most_ports}
+use Rattle.osi_setup.proofs.Elements.{each, none_pass}
+use Rattle.osi_setup.proofs.Ports.{of_each, numbers_differ}
 use Rattle.osi_bench.proofs.Values.{IsWithin, PortRead, RouteRead, TitleRead, many_left}
 
 -- ---- what both know of the systems
@@ -117,7 +115,7 @@ port_fits names setup system lan snpa one read known listed limit = record {
 
 -- ---- routes
 
-turned : (xs ys : List ℕ) → pointwise nat_eq xs ys ≡ pointwise nat_eq ys xs
+pub turned : (xs ys : List ℕ) → pointwise nat_eq xs ys ≡ pointwise nat_eq ys xs
 turned [] [] = refl
 turned [] (y ∷ ys) = refl
 turned (x ∷ xs) [] = refl
@@ -168,4 +166,13 @@ path_fits names setup hops one within are = record {
   some = within.least_is;
   few = within.most_is;
   known = all_known names (length setup.systems) hops (as_many names setup one) are;
+}
+
+-- ---- selectors
+
+pub selector_fits : (names : Declared) (setup : SetUp) (system : ℕ) (selector : List ℕ) → AreOne names setup → system < length names.systems
+    → is_among (selectors_of (slice_get names.systems system)) selector ≡ false → IsNewSelector setup system selector
+selector_fits names setup system selector one known fresh = record {
+  known = subst (λ (n : ℕ). system < n) (sym (as_many names setup one)) known;
+  fresh = one.selectors system selector ∙ fresh;
 }

@@ -1,22 +1,18 @@
 -- What a script says is in octets: its titles, its SNPAs and its units; so a network that it starts stands, and answers.
-use Rattle.std.proofs.Common.{◌≡◌, ◌==◌, ◌&&◌, ℕ, zero, suc, ◌+◌, ◌-◌, ◌*◌, ◌/◌, ◌<◌, ◌≤◌, Bool, true, false, List, [], ◌∷◌, ◌++◌, length, map, take, Option, Some, None, Result, Ok, Err, refl, sym, ◌∙◌, ap, subst, arith, length-append}
-use Rattle.std.specs.Prelude.{◌%◌, find, if◌then◌else◌, nat_eq, nat_le, nat_lt, option_map, slice_get, slice_index, slice_set, unwrap_or, codes, IfSome, IsSome}
-use Rattle.std.specs.List.{AllByRecursion}
+use Rattle.std.proofs.Common.{◌≡◌, ◌==◌, ◌&&◌, ℕ, zero, suc, ◌+◌, ◌-◌, ◌*◌, ◌/◌, ◌<◌, ◌≤◌, Bool, true, false, List, [], ◌∷◌, ◌++◌, length, take, Option, Some, None, Result, Ok, Err, refl, sym, ◌∙◌, ap, subst, arith, length-append}
+use Rattle.std.specs.Prelude.{◌%◌, if◌then◌else◌, nat_le, nat_lt, slice_index, unwrap_or, codes}
 use Rattle.std.proofs.lemmas.Bool.Decides.{nat_tests}
-use Rattle.std.proofs.lemmas.List.{length-map, length-take-le, map-append}
-use Rattle.hex.specs.Hex.{IsBytes, decode_of, hex_digit_value}
+use Rattle.std.proofs.lemmas.List.{length-take-le}
+use Rattle.hex.specs.Hex.{decode_of, hex_digit_value}
 use Rattle.hex.proofs.HexLemmas.{decode_of-ok}
 use Rattle.hex.specs.declared.error.FromHexError.{FromHexError}
 use Rattle.nsap.specs.Address.{selector_of, system_part}
-use Rattle.nsap.specs.Text.{address_of_text, hex_octets, octet_of, octets_or_fault, snpa_of_text, text_fault}
+use Rattle.nsap.specs.Text.{hex_octets, octets_or_fault, text_fault}
 use Rattle.nsap.specs.declared.text.NsapFault.{NsapFault}
 use Rattle.nsap.specs.steps.Digits.{IsDigits}
 use Rattle.nsap.proofs.TextLemmas.{length-hex_octets, IsDigits-text_fault}
-use Rattle.pdu_parts.specs.Field.{IsAddress}
 use Rattle.carrier_answers.specs.Answers.{AreOctets}
 use Rattle.clnp_outcome.specs.Standing.{IsNsap, IsSnpa}
-use Rattle.osi_journal.specs.RawLawful.{raw_address}
-use Rattle.osi_script.specs.declared.fault.LineCause.{LineCause}
 use Rattle.osi_script.specs.declared.fault.LineCause.TheVariants as causes
 use Rattle.osi_script.specs.Field.{as_octets, as_station, as_title, is_word, octets_of, station_of, title_of}
 
@@ -84,14 +80,14 @@ pub station_octets : (text snpa : List ℕ) → station_of text ≡ Ok snpa → 
 unfolding station_of
 station_octets text snpa is = station_by text snpa (text_fault 12 12 text) refl is
 
--- the address of a title for raw units
-pub raw_octets : (title : List ℕ) → 1 < length title → IsNsap title → IsNsap (raw_address title)
-raw_octets title some nsap =
+-- the address of a title with a selector
+pub address_octets : (title : List ℕ) (selector : ℕ) → selector < 256 → 1 < length title → IsNsap title → IsNsap (system_part title ++ selector ∷ [])
+address_octets title selector small some nsap =
     let most = nsap.is.most in
-    let count : length (raw_address title) ≡ length (take (length title - 1) title) + 1 = length-append (take (length title - 1) title) (2 ∷ []) in
+    let count : length (system_part title ++ selector ∷ []) ≡ length (take (length title - 1) title) + 1 = length-append (take (length title - 1) title) (selector ∷ []) in
     record {
       is = record { some = omega (arith, count, length-take-le (length title - 1) title (omega arith)); most = omega (arith, count, length-take-le (length title - 1) title (omega arith)) };
-      octets = both (take (length title - 1) title) (2 ∷ []) (front (length title - 1) title nsap.octets) (omega arith, tt);
+      octets = both (take (length title - 1) title) (selector ∷ []) (front (length title - 1) title nsap.octets) (small, tt);
     }
   where
     front : (n : ℕ) (xs : List ℕ) → AreOctets xs → AreOctets (take n xs)

@@ -1,6 +1,12 @@
 -- After a set-up line the names and the set-up know the same again, and a line that was read is one that the network has.
-use Rattle.std.proofs.Common.{◌≡◌, ◌==◌, ◌⊎◌, ℕ, zero, suc, ◌+◌, ◌<◌, ◌≤◌, Bool, true, false, List, [], ◌∷◌, ◌++◌, length, map, Option, Some, None, Ok, inl, inr, refl, sym, ◌∙◌, ap, subst, arith, length-append}
-use Rattle.std.specs.Prelude.{not, slice_get, slice_set, if◌then◌else◌, IsSome, option_map}
+use Rattle.std.proofs.Common.{◌≡◌, ◌==◌, ◌⊎◌, ℕ, zero, suc, ◌<◌, Bool, true, false, List, [], ◌∷◌, ◌++◌, length, map, Option, Some, None, Ok, inl, inr, refl, sym, ◌∙◌, ap, subst, arith, length-append}
+use Rattle.std.specs.Prelude.{◌&&◌, ◌||◌, nat_eq, not, slice_get, slice_set, IsSome, option_map}
+use Rattle.std.specs.Cmp.Lexicographic.{pointwise, slice_cmp}
+use Rattle.std.specs.Ordering.{is_eq, match_ordering, nat_cmp}
+use Rattle.std.specs.declared.cmp.Ordering.{Ordering}
+use Rattle.std.specs.declared.cmp.Ordering.TheVariants.{Less, Equal, Greater}
+use Rattle.std.proofs.lemmas.Bool.Decides.{nat_tests}
+use Rattle.std.proofs.lemmas.Map.Text.{is_eq-slice_cmp}
 use Rattle.std.proofs.Math.Seq.{map-set_same}
 use Rattle.std.proofs.lemmas.List.{append-nil, map-append}
 use Rattle.std.proofs.lemmas.Option.{get_or_from_slice_get}
@@ -8,7 +14,9 @@ use Rattle.nsap.specs.declared.port.Hop.{Hop}
 use Rattle.nsap.specs.declared.port.Port.{Port}
 use Rattle.lan_bag.specs.declared.setup.PortRow.{PortRow}
 use Rattle.clnp_route.specs.declared.table.RouteRow.{RouteRow}
-use Rattle.osi_script.specs.declared.fault.LineCause.{LineCause}
+use Rattle.osi_script.specs.declared.form.Form.TheVariants as forms
+use Rattle.osi_script.specs.declared.form.Named.TheVariants as named
+use Rattle.osi_script.specs.declared.form.Plain.TheVariants as plain
 use Rattle.osi_script.specs.declared.form.Word.{Word}
 use Rattle.osi_script.specs.declared.form.Word.TheVariants as words
 use Rattle.osi_script.specs.declared.line.Line.{Line}
@@ -17,21 +25,22 @@ use Rattle.osi_script.specs.declared.parts.Parts.{Parts}
 use Rattle.osi_script.specs.declared.settings.Key.{Key}
 use Rattle.osi_script.specs.declared.settings.Key.TheVariants as keys
 use Rattle.osi_script.specs.Grammar.{Reading, count_fault, fields_read, is_out_of_order, limit_cause, next_number, line_for, line_read, new_port, new_system, declared_by}
-use Rattle.osi_script.specs.Known.{Declared, KnownSystem, no_parts, given_title, given_station, given_prefix, ports_of, with_changed, changed}
+use Rattle.osi_script.specs.Known.{Declared, KnownSystem, no_parts, given_title, given_station, given_prefix, is_among, ports_of, selectors_of, with, with_changed, changed}
 use Rattle.osi_script.specs.Names.{NamesDeclared}
 use Rattle.osi_script.specs.Table.{row_of}
 use Rattle.osi_script.proofs.LineNames.{line_named}
-use Rattle.osi_bench.specs.Bench.{bench_lines}
-use Rattle.osi_bench.specs.SetUp.{System, SetUp, end_at, ports_at, hop_to, hop_title, port_on, routed, with_route, with_time, set_up}
+use Rattle.tp4_entity.specs.Association.{is_registered}
+use Rattle.osi_setup.specs.SetUp.{System, SetUp, end_at, hop_to, hop_title, port_on, routed, selected, selectors_at, selectors_of as registered_of, with_route, with_selector, with_time, set_up}
 use Rattle.osi_bench.specs.steps.Agreeing.{AreOne, Shape, shape_of, known_shape}
-use Rattle.osi_bench.specs.steps.Came.{Came, Idle, Worded, IsBuilt, built_word, came}
-use Rattle.osi_bench.specs.steps.Fitting.{Fits, IsWell}
+use Rattle.osi_bench.specs.steps.Came.{Came, Idle, Worded, came}
+use Rattle.osi_setup.specs.Fitting.{Fits, IsWell}
 use Rattle.osi_bench.specs.steps.Known.{RunsAt}
-use Rattle.osi_bench.proofs.Elements.{There, there, set_keeps}
-use Rattle.osi_bench.proofs.Fitted.{as_many, path_fits, port_fits, route_fits, title_fits}
-use Rattle.osi_bench.proofs.Ports.{number_is, numbers_differ, own_is, own_none, own_port, ports_push}
-use Rattle.osi_bench.proofs.Values.{lan_values, path_values, port_values, route_values, set_values, title_values}
-use Rattle.osi_bench.proofs.Wellness.{made_hop, with_row}
+use Rattle.osi_setup.proofs.Elements.{There, there, set_keeps}
+use Rattle.osi_bench.proofs.Fields.{agreed_size, all_fine}
+use Rattle.osi_bench.proofs.Fitted.{as_many, path_fits, port_fits, route_fits, selector_fits, title_fits, turned}
+use Rattle.osi_setup.proofs.Ports.{number_is, numbers_differ, own_is, own_none, own_port, ports_push}
+use Rattle.osi_bench.proofs.Values.{lan_values, path_values, port_values, route_values, selector_values, set_values, title_values}
+use Rattle.osi_setup.proofs.Wellness.{made_hop, with_one, with_row}
 
 -- ---- one more of each
 
@@ -41,6 +50,7 @@ lan_one names setup parts number bound room one = record {
   lans = let same = one.lans in omega (arith, length-append setup.lans (record { bound = bound; room = room } ∷ []), length-append names.lans (record { name = parts.name; bound = parts.number } ∷ []));
   systems = one.systems;
   ports = one.ports;
+  selectors = one.selectors;
 }
 
 no_port_more : (systems : List KnownSystem) (end : Bool) (parts : Parts) (n : ℕ) → ports_of (slice_get (systems ++ new_system end parts ∷ []) n) ≡ ports_of (slice_get systems n)
@@ -49,14 +59,28 @@ no_port_more [] end parts (suc n) = refl
 no_port_more (system ∷ systems) end parts zero = refl
 no_port_more (system ∷ systems) end parts (suc n) = no_port_more systems end parts n
 
+no_selector_more : (systems : List KnownSystem) (end : Bool) (parts : Parts) (n : ℕ) → selectors_of (slice_get (systems ++ new_system end parts ∷ []) n) ≡ selectors_of (slice_get systems n)
+no_selector_more [] end parts zero = refl
+no_selector_more [] end parts (suc n) = refl
+no_selector_more (system ∷ systems) end parts zero = refl
+no_selector_more (system ∷ systems) end parts (suc n) = no_selector_more systems end parts n
+
+none_registered : (systems : List System) (end : Bool) (title : List ℕ) (n : ℕ) → selectors_at (systems ++ record { end = end; title = title; rows = []; selectors = [] } ∷ []) n ≡ selectors_at systems n
+none_registered [] end title zero = refl
+none_registered [] end title (suc n) = refl
+none_registered (system ∷ systems) end title zero = refl
+none_registered (system ∷ systems) end title (suc n) = none_registered systems end title n
+
 system_one : (names : Declared) (setup : SetUp) (end : Bool) (parts : Parts) → AreOne names setup
-    → AreOne (record names { systems = names.systems ++ new_system end parts ∷ [] }) (record setup { systems = setup.systems ++ record { end = end; title = (given_title parts); rows = [] } ∷ [] })
+    → AreOne (record names { systems = names.systems ++ new_system end parts ∷ [] }) (record setup { systems = setup.systems ++ record { end = end; title = (given_title parts); rows = []; selectors = [] } ∷ [] })
 system_one names setup end parts one = record {
   lans = one.lans;
-  systems = map-append shape_of setup.systems (record { end = end; title = (given_title parts); rows = [] } ∷ [])
+  systems = map-append shape_of setup.systems (record { end = end; title = (given_title parts); rows = []; selectors = [] } ∷ [])
       ∙ ap (λ (shapes : List Shape). shapes ++ record { end = end; title = (given_title parts); routes = [] } ∷ []) one.systems
       ∙ sym (map-append known_shape names.systems (new_system end parts ∷ []));
   ports = λ n. one.ports n ∙ sym (no_port_more names.systems end parts n);
+  selectors = λ n s. ap (λ (all : List (List ℕ)). is_registered all s) (none_registered setup.systems end (given_title parts) n) ∙ one.selectors n s
+      ∙ sym (ap (λ (all : List (List ℕ)). is_among all s) (no_selector_more names.systems end parts n));
 }
 
 -- ---- a port
@@ -109,6 +133,8 @@ port_one names setup parts one known =
           ∙ map-set_same known_shape names.systems parts.system (with_port at.elem row.port) at.elem (ap known_shape (sym (get_or_from_slice_get names.systems parts.system at.elem at.elem at.is))));
       ports = λ n. ports_push setup.ports row n ∙ ap (λ (ports : List Port). ports ++ own_port row n) (one.ports n)
           ∙ sym (ap (λ (s : List KnownSystem). ports_of (slice_get s n)) is ∙ port_more names.systems row at.elem at.is n);
+      selectors = λ n s. one.selectors n s ∙ sym (ap (λ (all : List (List ℕ)). is_among all s)
+          (ap (λ (k : List KnownSystem). selectors_of (slice_get k n)) is ∙ set_keeps selectors_of names.systems parts.system at.elem (with_port at.elem row.port) at.is refl n));
     }
 
 -- ---- a route
@@ -168,20 +194,132 @@ route_one names setup parts one known on =
       systems = ap (λ (s : List System). map shape_of s) left ∙ shapes_set setup.systems names.systems parts.system x.elem y.elem row one.systems x.is y.is
           ∙ sym (ap (λ (s : List KnownSystem). map known_shape s) right);
       ports = λ n. one.ports n ∙ sym (ap (λ (s : List KnownSystem). ports_of (slice_get s n)) right ∙ set_keeps ports_of names.systems parts.system y.elem (with_prefix y.elem (given_prefix parts)) y.is refl n);
+      selectors = λ n s. ap (λ (all : List (List ℕ)). is_registered all s)
+          (ap (λ (k : List System). selectors_at k n) left ∙ set_keeps registered_of setup.systems parts.system x.elem (with_row x.elem row) x.is refl n)
+          ∙ one.selectors n s ∙ sym (ap (λ (all : List (List ℕ)). is_among all s)
+          (ap (λ (k : List KnownSystem). selectors_of (slice_get k n)) right ∙ set_keeps selectors_of names.systems parts.system y.elem (with_prefix y.elem (given_prefix parts)) y.is refl n));
+    }
+
+-- ---- a selector
+
+both_true : (a b : Bool) → a && b ≡ true → (a ≡ true) × (b ≡ true)
+both_true true true is = (refl, refl)
+both_true true false is = absurd (cc)
+both_true false b is = absurd (cc)
+
+or_assoc : (a b c : Bool) → (a || (b || c)) ≡ ((a || b) || c)
+or_assoc true b c = refl
+or_assoc false b c = refl
+
+or_turned : (a b : Bool) → (a || b) ≡ (b || a)
+or_turned true true = refl
+or_turned true false = refl
+or_turned false true = refl
+or_turned false false = refl
+
+or_none : (a : Bool) → (a || false) ≡ a
+or_none true = refl
+or_none false = refl
+
+-- one selector more is registered
+registered_more : (selectors : List (List ℕ)) (selector other : List ℕ) → is_registered (selectors ++ selector ∷ []) other ≡ (is_registered selectors other || pointwise nat_eq selector other)
+registered_more [] selector other = or_none (pointwise nat_eq selector other)
+registered_more (first ∷ selectors) selector other =
+    ap (λ (b : Bool). pointwise nat_eq first other || b) (registered_more selectors selector other) ∙ or_assoc (pointwise nat_eq first other) (is_registered selectors other) (pointwise nat_eq selector other)
+
+or_again : (a b : Bool) → (a || b) ≡ ((a || b) || a)
+or_again true b = refl
+or_again false true = refl
+or_again false false = refl
+
+equal_octets : (a b : List ℕ) → pointwise nat_eq a b ≡ true → a ≡ b
+equal_octets [] [] is = refl
+equal_octets [] (y ∷ ys) is = absurd (cc)
+equal_octets (x ∷ xs) [] is = absurd (cc)
+equal_octets (x ∷ xs) (y ∷ ys) is =
+    let parts = both_true (nat_eq x y) (pointwise nat_eq xs ys) is in
+    let first : x ≡ y = grind (arith, nat_tests) in
+    ap (λ (n : ℕ). n ∷ xs) first ∙ ap (λ (rest : List ℕ). y ∷ rest) (equal_octets xs ys parts.1)
+
+-- and it is known, at its place in the order
+known_more : (selectors : List (List ℕ)) (selector other : List ℕ) → is_among (with selectors selector) other ≡ (is_among selectors other || pointwise nat_eq selector other)
+known_more [] selector other = or_none (pointwise nat_eq other selector) ∙ turned other selector
+known_more (first ∷ selectors) selector other = by (slice_cmp nat_cmp selector first) refl (known_more selectors selector other)
+  where
+    by : (order : Ordering) → slice_cmp nat_cmp selector first ≡ order → is_among (with selectors selector) other ≡ (is_among selectors other || pointwise nat_eq selector other)
+        → is_among (match_ordering order (selector ∷ first ∷ selectors) (first ∷ selectors) (first ∷ with selectors selector)) other
+        ≡ ((pointwise nat_eq other first || is_among selectors other) || pointwise nat_eq selector other)
+    by Less is rest =
+        ap (λ (b : Bool). b || (pointwise nat_eq other first || is_among selectors other)) (turned other selector)
+        ∙ or_turned (pointwise nat_eq selector other) (pointwise nat_eq other first || is_among selectors other)
+    by Equal is rest =
+        let here : selector ≡ first = equal_octets selector first (sym (is_eq-slice_cmp selector first) ∙ ap is_eq is) in
+        let same : pointwise nat_eq other first ≡ pointwise nat_eq selector other = ap (λ (o : List ℕ). pointwise nat_eq other o) (sym here) ∙ turned other selector in
+        or_again (pointwise nat_eq other first) (is_among selectors other) ∙ ap (λ (b : Bool). (pointwise nat_eq other first || is_among selectors other) || b) same
+    by Greater is rest =
+        ap (λ (b : Bool). pointwise nat_eq other first || b) rest ∙ or_assoc (pointwise nat_eq other first) (is_among selectors other) (pointwise nat_eq selector other)
+
+abbrev with_known : KnownSystem → List ℕ → KnownSystem
+with_known system selector = record system { selectors = with system.selectors selector }
+
+selectors_set : (setup_selectors : List (List ℕ)) (known_selectors : List (List ℕ)) (selector other : List ℕ) → is_registered setup_selectors other ≡ is_among known_selectors other
+    → is_registered (setup_selectors ++ selector ∷ []) other ≡ is_among (with known_selectors selector) other
+selectors_set registered known selector other same =
+    registered_more registered selector other ∙ ap (λ (b : Bool). b || pointwise nat_eq selector other) same ∙ sym (known_more known selector other)
+
+-- both know the selectors of each system alike, after one more at one of them
+module _ (xs : List System) (ys : List KnownSystem) (i : ℕ) (x : System) (y : KnownSystem) (selector : List ℕ) (x_is : slice_get xs i ≡ Some x) (y_is : slice_get ys i ≡ Some y)
+    (alike : (n : ℕ) (other : List ℕ) → is_registered (selectors_at xs n) other ≡ is_among (selectors_of (slice_get ys n)) other) where
+  own_alike : (other : List ℕ) → is_registered (selectors_at (slice_set xs i (with_one x selector)) i) other ≡ is_among (selectors_of (slice_get (slice_set ys i (with_known y selector)) i)) other
+  own_alike other =
+      let before : is_registered x.selectors other ≡ is_among y.selectors other =
+      sym (ap (λ (found : Option System). is_registered (registered_of found) other) x_is) ∙ alike i other ∙ ap (λ (found : Option KnownSystem). is_among (selectors_of found) other) y_is in
+      ap (λ (found : Option System). is_registered (registered_of found) other) (get_same xs i x (with_one x selector) x_is)
+      ∙ selectors_set x.selectors y.selectors selector other before
+      ∙ sym (ap (λ (found : Option KnownSystem). is_among (selectors_of found) other) (get_same ys i y (with_known y selector) y_is))
+
+  still_alike : (n : ℕ) (other : List ℕ) → is_registered (selectors_at (slice_set xs i (with_one x selector)) n) other ≡ is_among (selectors_of (slice_get (slice_set ys i (with_known y selector)) n)) other
+  still_alike n other = elim (same_or_not i n) [
+    | inl here ↦ subst (λ (k : ℕ). is_registered (selectors_at (slice_set xs i (with_one x selector)) k) other ≡ is_among (selectors_of (slice_get (slice_set ys i (with_known y selector)) k)) other) here (own_alike other)
+    | inr differ ↦
+        ap (λ (found : Option System). is_registered (registered_of found) other) (get_other xs i n (with_one x selector) differ)
+        ∙ alike n other
+        ∙ sym (ap (λ (found : Option KnownSystem). is_among (selectors_of found) other) (get_other ys i n (with_known y selector) differ))
+  ]
+
+selector_one : (names : Declared) (setup : SetUp) (parts : Parts) → AreOne names setup → parts.system < length names.systems
+    → AreOne (declared_by names (row_of words.Tsap).effect parts) (set_up setup (lines.Tsap parts.system parts.selector))
+selector_one names setup parts one known =
+    let x : There setup.systems parts.system = there setup.systems parts.system (subst (λ (n : ℕ). parts.system < n) (sym (as_many names setup one)) known) in
+    let y : There names.systems parts.system = there names.systems parts.system known in
+    let change : KnownSystem → KnownSystem = λ (system : KnownSystem). record system { selectors = with system.selectors parts.selector } in
+    let left : with_selector setup.systems parts.system parts.selector ≡ slice_set setup.systems parts.system (with_one x.elem parts.selector) = ap (selected setup.systems parts.system parts.selector) x.is in
+    let right : changed names.systems parts.system change ≡ slice_set names.systems parts.system (with_known y.elem parts.selector) = ap (with_changed names.systems parts.system change) y.is in
+    record {
+      lans = one.lans;
+      systems = ap (λ (s : List System). map shape_of s) left
+          ∙ map-set_same shape_of setup.systems parts.system (with_one x.elem parts.selector) x.elem (ap shape_of (sym (get_or_from_slice_get setup.systems parts.system x.elem x.elem x.is)))
+          ∙ one.systems
+          ∙ sym (ap (λ (s : List KnownSystem). map known_shape s) right
+          ∙ map-set_same known_shape names.systems parts.system (with_known y.elem parts.selector) y.elem (ap known_shape (sym (get_or_from_slice_get names.systems parts.system y.elem y.elem y.is))));
+      ports = λ n. one.ports n ∙ sym (ap (λ (s : List KnownSystem). ports_of (slice_get s n)) right ∙ set_keeps ports_of names.systems parts.system y.elem (with_known y.elem parts.selector) y.is refl n);
+      selectors = λ n other. ap (λ (k : List System). is_registered (selectors_at k n) other) left
+          ∙ still_alike setup.systems names.systems parts.system x.elem y.elem parts.selector x.is y.is one.selectors n other
+          ∙ sym (ap (λ (k : List KnownSystem). is_among (selectors_of (slice_get k n)) other) right);
     }
 
 -- ---- a time
 
 time_one : (names : Declared) (setup : SetUp) (parts : Parts) (key : Key) → AreOne names setup → AreOne (declared_by names (row_of words.Set).effect parts) (with_time setup key parts.number)
-time_one names setup parts keys.Life one = record { lans = one.lans; systems = one.systems; ports = one.ports }
-time_one names setup parts keys.Ct one = record { lans = one.lans; systems = one.systems; ports = one.ports }
-time_one names setup parts keys.Hold one = record { lans = one.lans; systems = one.systems; ports = one.ports }
-time_one names setup parts keys.T1 one = record { lans = one.lans; systems = one.systems; ports = one.ports }
-time_one names setup parts keys.W one = record { lans = one.lans; systems = one.systems; ports = one.ports }
-time_one names setup parts keys.I one = record { lans = one.lans; systems = one.systems; ports = one.ports }
-time_one names setup parts keys.N one = record { lans = one.lans; systems = one.systems; ports = one.ports }
-time_one names setup parts keys.Refs one = record { lans = one.lans; systems = one.systems; ports = one.ports }
-time_one names setup parts keys.Credit one = record { lans = one.lans; systems = one.systems; ports = one.ports }
+time_one names setup parts keys.Life one = record { lans = one.lans; systems = one.systems; ports = one.ports; selectors = one.selectors }
+time_one names setup parts keys.Ct one = record { lans = one.lans; systems = one.systems; ports = one.ports; selectors = one.selectors }
+time_one names setup parts keys.Hold one = record { lans = one.lans; systems = one.systems; ports = one.ports; selectors = one.selectors }
+time_one names setup parts keys.T1 one = record { lans = one.lans; systems = one.systems; ports = one.ports; selectors = one.selectors }
+time_one names setup parts keys.W one = record { lans = one.lans; systems = one.systems; ports = one.ports; selectors = one.selectors }
+time_one names setup parts keys.I one = record { lans = one.lans; systems = one.systems; ports = one.ports; selectors = one.selectors }
+time_one names setup parts keys.N one = record { lans = one.lans; systems = one.systems; ports = one.ports; selectors = one.selectors }
+time_one names setup parts keys.Refs one = record { lans = one.lans; systems = one.systems; ports = one.ports; selectors = one.selectors }
+time_one names setup parts keys.Credit one = record { lans = one.lans; systems = one.systems; ports = one.ports; selectors = one.selectors }
 
 -- ---- a line of the set-up
 
@@ -194,92 +332,97 @@ not_out true is out = absurd (cc)
 not_out false is out = absurd (cc)
 
 module _ (names : Declared) (setup : SetUp) (past column : ℕ) (fields : List (List ℕ)) (parts : Parts) (one : AreOne names setup) (w : IsWell setup) (begun : names.started ≡ false) where
-  word_kept : (word : Word) → IsBuilt word → is_out_of_order names word ≡ false → count_fault past column (row_of word).fields fields ≡ None
+  word_kept : (word : Word) → is_out_of_order names word ≡ false → count_fault past column (row_of word).fields fields ≡ None
       → fields_read names no_parts column (row_of word).fields fields ≡ Ok parts → limit_cause names (row_of word).effect parts ≡ None
       → NamesDeclared names (line_for (next_number names (row_of word).effect) word parts)
       → Kept setup (line_for (next_number names (row_of word).effect) word parts) (declared_by names (row_of word).effect parts)
-  word_kept words.Set is placed count filled limit known =
+  word_kept words.Set placed count filled limit known =
       let value = set_values names past column fields parts count filled in
       record { fits = (value.least_is, value.most_is); one = time_one names setup parts parts.key one }
-  word_kept words.Lan is placed count filled limit known =
+  word_kept words.Lan placed count filled limit known =
       record { fits = lan_values names past column fields parts count filled; one = lan_one names setup parts (length names.lans) parts.number parts.amount one }
-  word_kept words.Es is placed count filled limit known =
+  word_kept words.Es placed count filled limit known =
       record { fits = title_fits names setup (given_title parts) one w (title_values names past column fields parts count filled) limit; one = system_one names setup true parts one }
-  word_kept words.Is is placed count filled limit known =
+  word_kept words.Is placed count filled limit known =
       record { fits = title_fits names setup (given_title parts) one w (title_values names past column fields parts count filled) limit; one = system_one names setup false parts one }
-  word_kept words.Port is placed count filled limit known =
+  word_kept words.Port placed count filled limit known =
       record { fits = port_fits names setup parts.system parts.lan (given_station parts) one (port_values names past column fields parts count filled) known.0 known.1 limit; one = port_one names setup parts one known.0 }
-  word_kept words.Route is placed count filled limit known =
+  word_kept words.Route placed count filled limit known =
       let fit = route_fits names setup parts.system (given_prefix parts) parts.other parts.lan one (route_values names past column fields parts count filled) known.0 known.1 limit in
       record { fits = fit; one = route_one names setup parts one known.0 fit.there }
-  word_kept words.Path is placed count filled limit known =
-      record { fits = path_fits names setup parts.hops one (path_values names past column fields parts count filled) known.1; one = record { lans = one.lans; systems = one.systems; ports = one.ports } }
-  word_kept words.Start is placed count filled limit known = record { fits = tt; one = record { lans = one.lans; systems = one.systems; ports = one.ports } }
-  word_kept words.Unit is placed count filled limit known = absurd (not_out names.started begun placed)
-  word_kept words.Tick is placed count filled limit known = absurd (not_out names.started begun placed)
-  word_kept words.Deliver is placed count filled limit known = absurd (not_out names.started begun placed)
-  word_kept words.Tsap is placed count filled limit known = absurd is
-  word_kept words.Connect is placed count filled limit known = absurd is
-  word_kept words.Accept is placed count filled limit known = absurd is
-  word_kept words.Refuse is placed count filled limit known = absurd is
-  word_kept words.Disconnect is placed count filled limit known = absurd is
-  word_kept words.Data is placed count filled limit known = absurd is
-  word_kept words.Expedite is placed count filled limit known = absurd is
-  word_kept words.Window is placed count filled limit known = absurd is
-  word_kept words.Settle is placed count filled limit known = absurd is
-  word_kept words.Inject is placed count filled limit known = absurd is
+  word_kept words.Path placed count filled limit known =
+      record { fits = path_fits names setup parts.hops one (path_values names past column fields parts count filled) known.1; one = record { lans = one.lans; systems = one.systems; ports = one.ports; selectors = one.selectors } }
+  word_kept words.Start placed count filled limit known = record { fits = tt; one = record { lans = one.lans; systems = one.systems; ports = one.ports; selectors = one.selectors } }
+  word_kept words.Unit placed count filled limit known = absurd (not_out names.started begun placed)
+  word_kept words.Tick placed count filled limit known = absurd (not_out names.started begun placed)
+  word_kept words.Deliver placed count filled limit known = absurd (not_out names.started begun placed)
+  word_kept words.Tsap placed count filled limit known = record {
+    fits = selector_fits names setup parts.system parts.selector one known.0 (selector_values names past column fields parts count filled);
+    one = selector_one names setup parts one known.0;
+  }
+  word_kept words.Connect placed count filled limit known = absurd (not_out names.started begun placed)
+  word_kept words.Accept placed count filled limit known = absurd (not_out names.started begun placed)
+  word_kept words.Refuse placed count filled limit known = absurd (not_out names.started begun placed)
+  word_kept words.Disconnect placed count filled limit known = absurd (not_out names.started begun placed)
+  word_kept words.Data placed count filled limit known = absurd (not_out names.started begun placed)
+  word_kept words.Expedite placed count filled limit known = absurd (not_out names.started begun placed)
+  word_kept words.Window placed count filled limit known = absurd (not_out names.started begun placed)
+  word_kept words.Settle placed count filled limit known = absurd (not_out names.started begun placed)
+  word_kept words.Inject placed count filled limit known = absurd (not_out names.started begun placed)
 
-came_kept : (names : Declared) (setup : SetUp) (reading : Reading) → names.built ≡ bench_lines → AreOne names setup → IsWell setup → names.started ≡ false → NamesDeclared names reading.line
+came_kept : (names : Declared) (setup : SetUp) (reading : Reading) → AreOne names setup → IsWell setup → names.started ≡ false → NamesDeclared names reading.line
     → Came names reading → Kept setup reading.line reading.names
-came_kept names setup reading built one w begun known (Idle is) =
+came_kept names setup reading one w begun known (Idle is) =
     subst (λ (r : Reading). Kept setup r.line r.names) (sym is) (record { fits = tt; one = one })
-came_kept names setup reading built one w begun known (Worded word h) =
+came_kept names setup reading one w begun known (Worded word h) =
     subst (λ (r : Reading). Kept setup r.line r.names) (sym h.is)
-    (word_kept names setup h.past h.column h.fields h.parts one w begun word (built_word names h.field word built h.word_is) h.placed h.counted h.filled h.limit
+    (word_kept names setup h.past h.column h.fields h.parts one w begun word h.placed h.counted h.filled h.limit
     (subst (λ (r : Reading). NamesDeclared names r.line) h.is known))
 
-pub line_kept : (names : Declared) (setup : SetUp) (octets : List ℕ) (line : Line) (new : Declared) → names.built ≡ bench_lines → AreOne names setup → IsWell setup → names.started ≡ false
+pub line_kept : (names : Declared) (setup : SetUp) (octets : List ℕ) (line : Line) (new : Declared) → AreOne names setup → IsWell setup → names.started ≡ false
     → line_read names octets ≡ Ok (record { line = line; names = new }) → Kept setup line new
-line_kept names setup octets line new built one w begun is =
-    came_kept names setup (record { line = line; names = new }) built one w begun (line_named names octets (record { line = line; names = new }) is)
+line_kept names setup octets line new one w begun is =
+    came_kept names setup (record { line = line; names = new }) one w begun (line_named names octets (record { line = line; names = new }) is)
     (came names octets (record { line = line; names = new }) is)
 
 -- ---- a line of a running network
 
-module _ (names : Declared) (clock : ℕ) (parts : Parts) (begun : names.started ≡ true) (low : clock < 4000000000) where
-  word_runs : (word : Word) → IsBuilt word → is_out_of_order names word ≡ false → NamesDeclared names (line_for (next_number names (row_of word).effect) word parts)
+module _ (names : Declared) (clock : ℕ) (past column : ℕ) (fields : List (List ℕ)) (parts : Parts) (begun : names.started ≡ true) (low : clock < 4000000000) where
+  word_runs : (word : Word) → is_out_of_order names word ≡ false → count_fault past column (row_of word).fields fields ≡ None → fields_read names no_parts column (row_of word).fields fields ≡ Ok parts
+      → NamesDeclared names (line_for (next_number names (row_of word).effect) word parts)
       → RunsAt (length names.systems) clock (line_for (next_number names (row_of word).effect) word parts)
-  word_runs words.Unit is placed known = (known.0.0, known.1.0)
-  word_runs words.Tick is placed known = low
-  word_runs words.Deliver is placed known = tt
-  word_runs words.Set is placed known = absurd (cc)
-  word_runs words.Lan is placed known = absurd (cc)
-  word_runs words.Es is placed known = absurd (cc)
-  word_runs words.Is is placed known = absurd (cc)
-  word_runs words.Port is placed known = absurd (cc)
-  word_runs words.Route is placed known = absurd (cc)
-  word_runs words.Path is placed known = absurd (cc)
-  word_runs words.Start is placed known = absurd (cc)
-  word_runs words.Tsap is placed known = absurd is
-  word_runs words.Connect is placed known = absurd is
-  word_runs words.Accept is placed known = absurd is
-  word_runs words.Refuse is placed known = absurd is
-  word_runs words.Disconnect is placed known = absurd is
-  word_runs words.Data is placed known = absurd is
-  word_runs words.Expedite is placed known = absurd is
-  word_runs words.Window is placed known = absurd is
-  word_runs words.Settle is placed known = absurd is
-  word_runs words.Inject is placed known = absurd is
+  word_runs words.Connect placed count filled known =
+      (known.0.0, known.1.0, agreed_size names (forms.Named named.EndSystem ∷ forms.Selector ∷ forms.Named named.To ∷ forms.Called ∷ []) fields past column parts count filled)
+  word_runs words.Accept placed count filled known = agreed_size names (forms.Plain (plain.Number 0 999999999) ∷ []) fields past column parts count filled
+  word_runs words.Refuse placed count filled known = tt
+  word_runs words.Disconnect placed count filled known = tt
+  word_runs words.Data placed count filled known = tt
+  word_runs words.Expedite placed count filled known = tt
+  word_runs words.Window placed count filled known = (all_fine names (row_of words.Window).fields fields column parts filled).credit
+  word_runs words.Unit placed count filled known = (known.0.0, known.1.0)
+  word_runs words.Tick placed count filled known = low
+  word_runs words.Settle placed count filled known = tt
+  word_runs words.Deliver placed count filled known = tt
+  word_runs words.Inject placed count filled known = tt
+  word_runs words.Set placed count filled known = absurd (cc)
+  word_runs words.Lan placed count filled known = absurd (cc)
+  word_runs words.Es placed count filled known = absurd (cc)
+  word_runs words.Is placed count filled known = absurd (cc)
+  word_runs words.Port placed count filled known = absurd (cc)
+  word_runs words.Route placed count filled known = absurd (cc)
+  word_runs words.Path placed count filled known = absurd (cc)
+  word_runs words.Tsap placed count filled known = absurd (cc)
+  word_runs words.Start placed count filled known = absurd (cc)
 
-came_runs : (names : Declared) (clock : ℕ) (reading : Reading) → names.built ≡ bench_lines → names.started ≡ true → clock < 4000000000 → NamesDeclared names reading.line → Came names reading
+came_runs : (names : Declared) (clock : ℕ) (reading : Reading) → names.started ≡ true → clock < 4000000000 → NamesDeclared names reading.line → Came names reading
     → RunsAt (length names.systems) clock reading.line
-came_runs names clock reading built begun low known (Idle is) = subst (λ (r : Reading). RunsAt (length names.systems) clock r.line) (sym is) tt
-came_runs names clock reading built begun low known (Worded word h) =
+came_runs names clock reading begun low known (Idle is) = subst (λ (r : Reading). RunsAt (length names.systems) clock r.line) (sym is) tt
+came_runs names clock reading begun low known (Worded word h) =
     subst (λ (r : Reading). RunsAt (length names.systems) clock r.line) (sym h.is)
-    (word_runs names clock h.parts begun low word (built_word names h.field word built h.word_is) h.placed (subst (λ (r : Reading). NamesDeclared names r.line) h.is known))
+    (word_runs names clock h.past h.column h.fields h.parts begun low word h.placed h.counted h.filled (subst (λ (r : Reading). NamesDeclared names r.line) h.is known))
 
-pub line_runs : (names : Declared) (clock : ℕ) (octets : List ℕ) (line : Line) (new : Declared) → names.built ≡ bench_lines → names.started ≡ true → clock < 4000000000
+pub line_runs : (names : Declared) (clock : ℕ) (octets : List ℕ) (line : Line) (new : Declared) → names.started ≡ true → clock < 4000000000
     → line_read names octets ≡ Ok (record { line = line; names = new }) → RunsAt (length names.systems) clock line
-line_runs names clock octets line new built begun low is =
-    came_runs names clock (record { line = line; names = new }) built begun low (line_named names octets (record { line = line; names = new }) is)
+line_runs names clock octets line new begun low is =
+    came_runs names clock (record { line = line; names = new }) begun low (line_named names octets (record { line = line; names = new }) is)
     (came names octets (record { line = line; names = new }) is)

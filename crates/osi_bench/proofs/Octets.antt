@@ -1,6 +1,6 @@
 -- A set-up is in octets after each line that was read, and so a network begins of it that stands.
-use Rattle.std.proofs.Common.{◌≡◌, ◌==◌, ℕ, zero, suc, ◌+◌, ◌<◌, ◌≤◌, Bool, true, false, List, [], ◌∷◌, ◌++◌, length, map, Option, Some, None, Ok, refl, sym, ◌∙◌, ap, subst, arith, append_assoc, length-append}
-use Rattle.std.specs.Prelude.{find, if◌then◌else◌, option_map, slice_get, slice_set, IfSome, IsSome}
+use Rattle.std.proofs.Common.{◌≡◌, ◌==◌, ℕ, zero, suc, ◌+◌, ◌<◌, Bool, true, false, List, [], ◌∷◌, ◌++◌, length, map, Option, Some, None, Ok, refl, sym, ◌∙◌, ap, subst, arith, append_assoc, length-append}
+use Rattle.std.specs.Prelude.{if◌then◌else◌, option_map, slice_get, slice_set, IfSome, IsSome}
 use Rattle.std.specs.List.{AllByRecursion}
 use Rattle.std.proofs.lemmas.List.{map-append}
 use Rattle.nsap.specs.declared.port.Hop.{Hop}
@@ -26,14 +26,15 @@ use Rattle.osi_script.specs.declared.settings.Key.TheVariants as keys
 use Rattle.osi_script.specs.Grammar.{Reading, count_fault, fields_read, next_number, line_for, line_read}
 use Rattle.osi_script.specs.Known.{Declared, no_parts}
 use Rattle.osi_script.specs.Table.{row_of}
-use Rattle.osi_bench.specs.SetUp.{System, SetUp, end_at, hop_title, hop_to, nodes_from, nodes_of, port_on, ports_at, routed, rows_at, rows_of, set_up, setting_of, title_at, titles_of, with_route, with_time}
+use Rattle.osi_setup.specs.SetUp.{System, SetUp, end_at, hop_title, hop_to, nodes_from, port_on, ports_at, routed, rows_at, rows_of, selected, set_up, setting_of, title_at, titles_of, with_route, with_selector, with_time}
 use Rattle.osi_bench.specs.steps.Came.{Came, Idle, Worded, came}
-use Rattle.osi_bench.specs.steps.Fitting.{Fits, IsNewPath, IsWell}
-use Rattle.osi_bench.proofs.Elements.{There, at, each, find_all, get_end, push, there}
-use Rattle.osi_bench.proofs.Ports.{at_one}
-use Rattle.osi_bench.proofs.Starting.{is_peopled, is_setting}
-use Rattle.osi_bench.proofs.Values.{port_values, title_values, unit_values}
-use Rattle.osi_bench.proofs.Wellness.{made_hop, rows_more, set_rows, set_titles, with_row}
+use Rattle.osi_setup.specs.Fitting.{Fits, IsWell}
+use Rattle.osi_setup.proofs.Elements.{each, find_all, get_end, push, there}
+use Rattle.osi_setup.proofs.Ports.{at_one}
+use Rattle.osi_setup.proofs.Starting.{is_peopled, is_setting}
+use Rattle.osi_bench.proofs.Fields.{IsShort, all_fine}
+use Rattle.osi_bench.proofs.Values.{port_values, title_values}
+use Rattle.osi_setup.proofs.Wellness.{made_hop, rows_more, rows_there, set_rows, set_titles, with_one, with_row}
 
 -- ---- lines
 
@@ -42,7 +43,15 @@ abbrev pub LineInOctets : Line → Type 0
 LineInOctets (lines.Es name title) = IsNsap title
 LineInOctets (lines.Is name title) = IsNsap title
 LineInOctets (lines.Port system lan snpa) = IsSnpa snpa
+LineInOctets (lines.Tsap system selector) = AreOctets selector
+LineInOctets (lines.Connect system selector to called options octets) = IsShort selector × IsShort called × AreOctets octets
+LineInOctets (lines.Accept end options octets) = AreOctets octets
+LineInOctets (lines.Refuse end octets) = AreOctets octets
+LineInOctets (lines.Disconnect end octets) = AreOctets octets
+LineInOctets (lines.Data end octets) = AreOctets octets
+LineInOctets (lines.Expedite end octets) = AreOctets octets
 LineInOctets (lines.Unit system to wish octets) = AreOctets octets
+LineInOctets (lines.Inject lan system octets) = AreOctets octets
 LineInOctets line = Unit {0}
 
 word_octets : (names : Declared) (past column number : ℕ) (fields : List (List ℕ)) (parts : Parts) (word : Word) → count_fault past column (row_of word).fields fields ≡ None
@@ -50,24 +59,26 @@ word_octets : (names : Declared) (past column number : ℕ) (fields : List (List
 word_octets names past column number fields parts words.Es count filled = (title_values names past column fields parts count filled).octets
 word_octets names past column number fields parts words.Is count filled = (title_values names past column fields parts count filled).octets
 word_octets names past column number fields parts words.Port count filled = (port_values names past column fields parts count filled).octets
-word_octets names past column number fields parts words.Unit count filled = unit_values names past column fields parts count filled
+word_octets names past column number fields parts words.Tsap count filled = (all_fine names (row_of words.Tsap).fields fields column parts filled).selector.octets
+word_octets names past column number fields parts words.Connect count filled =
+    let fine = all_fine names (row_of words.Connect).fields fields column parts filled in
+    (fine.selector, fine.called, fine.octets)
+word_octets names past column number fields parts words.Accept count filled = (all_fine names (row_of words.Accept).fields fields column parts filled).octets
+word_octets names past column number fields parts words.Refuse count filled = (all_fine names (row_of words.Refuse).fields fields column parts filled).octets
+word_octets names past column number fields parts words.Disconnect count filled = (all_fine names (row_of words.Disconnect).fields fields column parts filled).octets
+word_octets names past column number fields parts words.Data count filled = (all_fine names (row_of words.Data).fields fields column parts filled).octets
+word_octets names past column number fields parts words.Expedite count filled = (all_fine names (row_of words.Expedite).fields fields column parts filled).octets
+word_octets names past column number fields parts words.Unit count filled = (all_fine names (row_of words.Unit).fields fields column parts filled).octets
+word_octets names past column number fields parts words.Inject count filled = (all_fine names (row_of words.Inject).fields fields column parts filled).octets
 word_octets names past column number fields parts words.Set count filled = tt
 word_octets names past column number fields parts words.Lan count filled = tt
 word_octets names past column number fields parts words.Route count filled = tt
 word_octets names past column number fields parts words.Path count filled = tt
-word_octets names past column number fields parts words.Tsap count filled = tt
 word_octets names past column number fields parts words.Start count filled = tt
-word_octets names past column number fields parts words.Connect count filled = tt
-word_octets names past column number fields parts words.Accept count filled = tt
-word_octets names past column number fields parts words.Refuse count filled = tt
-word_octets names past column number fields parts words.Disconnect count filled = tt
-word_octets names past column number fields parts words.Data count filled = tt
-word_octets names past column number fields parts words.Expedite count filled = tt
 word_octets names past column number fields parts words.Window count filled = tt
 word_octets names past column number fields parts words.Tick count filled = tt
 word_octets names past column number fields parts words.Settle count filled = tt
 word_octets names past column number fields parts words.Deliver count filled = tt
-word_octets names past column number fields parts words.Inject count filled = tt
 
 came_octets : (names : Declared) (reading : Reading) → Came names reading → LineInOctets reading.line
 came_octets names reading (Idle is) = subst (λ (r : Reading). LineInOctets r.line) (sym is) tt
@@ -88,9 +99,9 @@ pub record IsInOctets (setup : SetUp) : Type 0 where
   pub rows : (number : ℕ) → AllByRecursion (λ row. HopInOctets row.hop) (rows_at setup.systems number)
   pub paths : AllByRecursion (λ path. AllByRecursion IsNsap path.titles) setup.paths
 
-system_in : (setup : SetUp) (end : Bool) (title : List ℕ) → IsInOctets setup → IsNsap title → IsInOctets (record setup { systems = setup.systems ++ record { end = end; title = title; rows = [] } ∷ [] })
+system_in : (setup : SetUp) (end : Bool) (title : List ℕ) → IsInOctets setup → IsNsap title → IsInOctets (record setup { systems = setup.systems ++ record { end = end; title = title; rows = []; selectors = [] } ∷ [] })
 system_in setup end title o is = record {
-  titles = subst (AllByRecursion IsNsap) (sym (map-append (λ (s : System). s.title) setup.systems (record { end = end; title = title; rows = [] } ∷ []))) (push IsNsap (titles_of setup) title o.titles is);
+  titles = subst (AllByRecursion IsNsap) (sym (map-append (λ (s : System). s.title) setup.systems (record { end = end; title = title; rows = []; selectors = [] } ∷ []))) (push IsNsap (titles_of setup) title o.titles is);
   ports = o.ports;
   rows = λ n. subst (AllByRecursion (λ (row : RouteRow). HopInOctets row.hop)) (sym (rows_more setup.systems end title n)) (o.rows n);
   paths = o.paths;
@@ -121,14 +132,30 @@ hop_in setup next lan hop o is = by (port_on setup.ports next lan) refl is
         let ports = at_one (λ p. IsSnpa p.snpa) setup.ports next (each (λ (row : PortRow). IsSnpa row.port.snpa) (λ (row : PortRow). row.system ≡ next → IsSnpa row.port.snpa) setup.ports (λ row snpa. λ its. snpa) o.ports) in
         subst HopInOctets same (find_all (λ (p : Port). IsSnpa p.snpa) (λ p. p.lan == lan) (ports_at setup.ports next) port ports there, hop_title_in setup.systems next o.titles)
 
-row_in : (setup : SetUp) (i : ℕ) (system : System) (row : RouteRow) → IsInOctets setup → slice_get setup.systems i ≡ Some system → HopInOctets row.hop
-    → IsInOctets (record setup { systems = slice_set setup.systems i (with_row system row) })
-row_in setup i system row o is hop = record {
-  titles = subst (AllByRecursion IsNsap) (sym (set_titles setup.systems i system row is)) o.titles;
+-- a system is another, but for its title
+changed_in : (setup : SetUp) (i : ℕ) (system new : System) → IsInOctets setup → slice_get setup.systems i ≡ Some system → new.title ≡ system.title
+    → AllByRecursion (λ (row : RouteRow). HopInOctets row.hop) new.rows → IsInOctets (record setup { systems = slice_set setup.systems i new })
+changed_in setup i system new o is same hops = record {
+  titles = subst (AllByRecursion IsNsap) (sym (set_titles setup.systems i system new is same)) o.titles;
   ports = o.ports;
-  rows = set_rows (λ (n : ℕ). λ (r : RouteRow). HopInOctets r.hop) setup.systems i system row is o.rows hop;
+  rows = set_rows (λ (n : ℕ). λ (r : RouteRow). HopInOctets r.hop) setup.systems i system new is o.rows hops;
   paths = o.paths;
 }
+
+rows_in : (setup : SetUp) (i : ℕ) (system : System) → IsInOctets setup → slice_get setup.systems i ≡ Some system → AllByRecursion (λ (row : RouteRow). HopInOctets row.hop) system.rows
+rows_in setup i system o is = rows_there (λ (n : ℕ). λ (r : RouteRow). HopInOctets r.hop) setup.systems i system is o.rows
+
+row_in : (setup : SetUp) (i : ℕ) (system : System) (row : RouteRow) → IsInOctets setup → slice_get setup.systems i ≡ Some system → HopInOctets row.hop
+    → IsInOctets (record setup { systems = slice_set setup.systems i (with_row system row) })
+row_in setup i system row o is hop =
+    changed_in setup i system (with_row system row) o is refl (push (λ (r : RouteRow). HopInOctets r.hop) system.rows row (rows_in setup i system o is) hop)
+
+selector_in : (setup : SetUp) (system : ℕ) (selector : List ℕ) → IsInOctets setup → IsInOctets (record setup { systems = with_selector setup.systems system selector })
+selector_in setup system selector o = by (slice_get setup.systems system) refl
+  where
+    by : (found : Option System) → slice_get setup.systems system ≡ found → IsInOctets (record setup { systems = selected setup.systems system selector found })
+    by None is = o
+    by (Some there) is = changed_in setup system there (with_one there selector) o is refl (rows_in setup system there o is)
 
 route_in : (setup : SetUp) (system : ℕ) (prefix : List ℕ) (next lan : ℕ) → IsInOctets setup → IsInOctets (record setup { systems = with_route setup.systems system prefix (hop_to setup next lan) })
 route_in setup system prefix next lan o = by (hop_to setup next lan) refl
@@ -157,12 +184,12 @@ time_in : (setup : SetUp) (key : Key) (value : ℕ) → IsInOctets setup → IsI
 time_in setup keys.Life value o = same_in setup _ o refl refl refl
 time_in setup keys.Ct value o = same_in setup _ o refl refl refl
 time_in setup keys.Hold value o = same_in setup _ o refl refl refl
-time_in setup keys.T1 value o = o
-time_in setup keys.W value o = o
-time_in setup keys.I value o = o
-time_in setup keys.N value o = o
-time_in setup keys.Refs value o = o
-time_in setup keys.Credit value o = o
+time_in setup keys.T1 value o = same_in setup _ o refl refl refl
+time_in setup keys.W value o = same_in setup _ o refl refl refl
+time_in setup keys.I value o = same_in setup _ o refl refl refl
+time_in setup keys.N value o = same_in setup _ o refl refl refl
+time_in setup keys.Refs value o = same_in setup _ o refl refl refl
+time_in setup keys.Credit value o = same_in setup _ o refl refl refl
 
 pub octets_after : (setup : SetUp) (line : Line) → IsInOctets setup → Fits setup line → LineInOctets line → IsInOctets (set_up setup line)
 octets_after setup lines.Nothing o f is = o
@@ -184,7 +211,7 @@ octets_after setup (lines.Path name kind systems) o f is = record {
   rows = o.rows;
   paths = push (λ (path : Path). AllByRecursion IsNsap path.titles) setup.paths _ o.paths (titles_in setup systems o f.known);
 }
-octets_after setup (lines.Tsap system selector) o f is = absurd f
+octets_after setup (lines.Tsap system selector) o f is = selector_in setup system selector o
 octets_after setup (lines.Connect system selector to called options octets) o f is = absurd f
 octets_after setup (lines.Accept end options octets) o f is = absurd f
 octets_after setup (lines.Refuse end octets) o f is = absurd f

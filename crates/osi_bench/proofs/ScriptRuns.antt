@@ -16,13 +16,13 @@ use Rattle.osi_journal.specs.declared.event.Event.{Event}
 use Rattle.osi_journal.specs.declared.event.Event.TheVariants as events
 use Rattle.osi_script.specs.declared.line.Line.{Line}
 use Rattle.osi_bench.specs.Bench.{Bench, RunsLine, FillsJournal, first_bench, bench_meaning, most_events}
-use Rattle.line_loop.specs.Course.{Runs, IsRead, IsWhole, IsOver, IsTooMuch, IsTooMuchAtEnd, IsRefusedAt, IsRefusedAtEnd}
+use Rattle.line_loop.specs.Course.{Runs, IsOver, IsTooMuch, IsTooMuchAtEnd, IsRefusedAt, IsRefusedAtEnd}
 use Rattle.osi_script.specs.declared.fault.LineFault.{LineFault}
 use Rattle.osi_script.specs.Grammar.{line_read}
 use Rattle.osi_script.specs.Script.{Says}
 use Rattle.osi_journal.specs.RawLawful.{RawLawful}
 use Rattle.osi_bench.specs.World.{life_of, titles_of, WorldRuns, WorldStep}
-use Rattle.osi_bench.specs.Top.{IsScriptRun, ShowsSent, texts_in, RefusedRun, IsFilledRun, OverRun, TooMuchRun, AskedRun, OutcomeRun, IsTranscript}
+use Rattle.osi_bench.specs.Top.{IsRun, IsScriptRun, RanScript, texts_in, RefusedRun, IsFilledRun, OverRun, TooMuchRun, AskedRun, OutcomeRun, ShowsWhatWasSubmitted, IsTranscript}
 use Rattle.osi_bench.proofs.Lawful.{raw_lawful}
 
 -- the lines that the texts say, with what they did
@@ -49,12 +49,7 @@ ran first (text ∷ texts) journal last h =
 pub script_run : (texts : List (List ℕ)) (journal : List Event) (last : Bench) → Runs bench_meaning first_bench texts journal last → IsScriptRun texts journal last
 script_run texts journal last h =
     let r = ran first_bench texts journal last h in
-    record { script = r.script; lines = r.lines; run = r.runs }
-
-lawful_run : (texts : List (List ℕ)) (journal : List Event) (last : Bench) → Runs bench_meaning first_bench texts journal last → RawLawful (life_of last.world) (titles_of last.world) journal
-lawful_run texts journal last h =
-    let r = ran first_bench texts journal last h in
-    raw_lawful r.script journal last.world r.runs
+    record { script = r.script; lines = r.lines; run = r.runs; sent = raw_lawful r.script journal last.world r.runs }
 
 -- one line more
 ran_more : (first : Bench) (texts : List (List ℕ)) (before : List Event) (state : Bench) (text : List ℕ) (line : Line) (made : List Event) (last : Bench)
@@ -80,40 +75,6 @@ ran_more first (other ∷ texts) before state text line made last h read step =
 front_lawful : (life : ℕ) (titles : List (List ℕ)) (front back : List Event) → RawLawful life titles (front ++ back) → RawLawful life titles front
 front_lawful life titles front back raw = λ before after system from octets is.
     raw before (after ++ back) system from octets (ap (λ (journal : List Event). journal ++ back) is ∙ append_assoc before (events.Unit system from octets ∷ after) back)
-
-filled_lawful : (texts : List (List ℕ)) (before : List Event) (state : Bench) (text : List ℕ) (made journal : List Event) (last : Bench)
-    → Runs bench_meaning first_bench texts before state → FillsJournal state text made last → journal ≡ before ++ made → RawLawful (life_of last.world) (titles_of last.world) journal
-filled_lawful texts before state text made journal last runs h is =
-    let r = ran_more first_bench texts before state text h.line h.whole last runs h.meaning h.steps in
-    let kept : ℕ = most_events - state.events in
-    let journal_is : journal ≡ before ++ take kept h.whole = is ∙ ap (λ (m : List Event). before ++ m) h.made_is in
-    let whole_is : before ++ h.whole ≡ journal ++ drop kept h.whole =
-    ap (λ (w : List Event). before ++ w) (sym (take-append-drop kept h.whole)) ∙ sym (append_assoc before (take kept h.whole) (drop kept h.whole))
-    ∙ ap (λ (j : List Event). j ++ drop kept h.whole) (sym journal_is) in
-    front_lawful (life_of last.world) (titles_of last.world) journal (drop kept h.whole)
-    (subst (λ (j : List Event). RawLawful (life_of last.world) (titles_of last.world) j) whole_is (raw_lawful r.script (before ++ h.whole) last.world r.runs))
-
-over_lawful : (front : List ℕ) (octet : ℕ) (before made : List Event) (state last : Bench) (journal : List Event) → Runs bench_meaning first_bench (texts_in front) before state
-    → journal ≡ before ++ made → IsOver bench_meaning state front octet made last → RawLawful (life_of last.world) (titles_of last.world) journal
-over_lawful front octet before made state last journal runs is (inl limit) =
-    let all : before ≡ journal = sym (is ∙ ap (λ (m : List Event). before ++ m) limit.1 ∙ append-nil before) in
-    subst (λ (b : Bench). RawLawful (life_of b.world) (titles_of b.world) journal) (sym limit.2)
-    (subst (λ (j : List Event). RawLawful (life_of state.world) (titles_of state.world) j) all (lawful_run (texts_in front) before state runs))
-over_lawful front octet before made state last journal runs is (inr fills) =
-    filled_lawful (texts_in front) before state (without_return (open_line front)) made journal last runs fills.2 is
-
-course_sent : (front : List ℕ) (journal : List Event) (last : Bench)
-    → IsRead bench_meaning first_bench front journal last
-    ⊎ (IsWhole bench_meaning first_bench front journal last ⊎ (IsTooMuch bench_meaning first_bench front journal last ⊎ IsTooMuchAtEnd bench_meaning first_bench front journal last))
-    → RawLawful (life_of last.world) (titles_of last.world) journal
-course_sent front journal last (inl read) = lawful_run _ journal last read.runs
-course_sent front journal last (inr (inl whole)) = lawful_run _ journal last whole.runs
-course_sent front journal last (inr (inr (inl h))) = over_lawful h.front h.octet h.before h.events h.state last journal h.so_far.runs h.journal_is h.over
-course_sent front journal last (inr (inr (inr h))) =
-    filled_lawful (texts_in front) h.before h.state (open_line front) h.events journal last h.so_far.runs h.fills h.journal_is
-
-pub shows_sent : (octets : List ℕ) → ShowsSent octets
-shows_sent octets journal last h = course_sent h.front journal last h.run
 
 -- the same of what octets ask for, by how the run ends
 refused_run : {end : Type 0} (read : List ℕ) (line : ℕ) (said : LineFault) (journal : List Event) (last : Bench)
@@ -161,11 +122,17 @@ filled_run texts before state text part journal last runs h is =
     let count : state.events ≡ length before = omega (arith, c.events) in
     let r = ran_more first_bench texts before state text h.line h.whole last runs h.meaning h.steps in
     let made : part ≡ take (most_events - length before) h.whole = h.made_is ∙ ap (λ (n : ℕ). take (most_events - n) h.whole) count in
+    let journal_is : journal ≡ take most_events (before ++ h.whole) =
+    is ∙ ap (λ (m : List Event). before ++ m) made ∙ take_past most_events before h.whole (subst (λ (n : ℕ). n ≤ most_events) count c.room) in
+    let whole_is : before ++ h.whole ≡ journal ++ drop most_events (before ++ h.whole) =
+    sym (take-append-drop most_events (before ++ h.whole)) ∙ ap (λ (j : List Event). j ++ drop most_events (before ++ h.whole)) (sym journal_is) in
     record {
       whole = before ++ h.whole;
-      run = record { script = r.script; lines = r.lines; run = r.runs };
+      run = record { script = r.script; lines = r.lines; run = r.runs; sent = raw_lawful r.script (before ++ h.whole) last.world r.runs };
       over = subst (λ (n : ℕ). most_events < n) (ap (λ (n : ℕ). n + length h.whole) count ∙ sym (length-append before h.whole)) h.over;
-      journal_is = is ∙ ap (λ (m : List Event). before ++ m) made ∙ take_past most_events before h.whole (subst (λ (n : ℕ). n ≤ most_events) count c.room);
+      journal_is = journal_is;
+      sent = λ none. front_lawful (life_of last.world) (titles_of last.world) journal (drop most_events (before ++ h.whole))
+          (subst (λ (j : List Event). RawLawful (life_of last.world) (titles_of last.world) j) whole_is (raw_lawful r.script (before ++ h.whole) last.world r.runs none));
     }
 
 over_run : (front : List ℕ) (octet : ℕ) (before part : List Event) (state last : Bench) (journal : List Event) → Runs bench_meaning first_bench (texts_in front) before state
@@ -179,6 +146,12 @@ too_much_run : {end : Type 0} (read : List ℕ) (journal : List Event) (last : B
 too_much_run read journal last (inl here) = over_run here.front here.octet here.before here.events here.state last journal here.so_far.runs here.journal_is here.over
 too_much_run read journal last (inr at_end) =
     filled_run (texts_in read) at_end.1.before at_end.1.state (open_line read) at_end.1.events journal last at_end.1.so_far.runs at_end.1.fills at_end.1.journal_is
+
+ran_script : (octets : List ℕ) (journal : List Event) (last : Bench) (run : IsRun octets journal last) → RanScript octets journal last run
+ran_script octets journal last (inl read) = script_run (texts_in octets) journal last read.runs
+ran_script octets journal last (inr (inl whole)) = script_run (texts_in octets ++ last_line (open_line octets)) journal last whole.runs
+ran_script octets journal last (inr (inr (inl here))) = over_run here.front here.octet here.before here.events here.state last journal here.so_far.runs here.journal_is here.over
+ran_script octets journal last (inr (inr (inr at_end))) = filled_run (texts_in octets) at_end.before at_end.state (open_line octets) at_end.events journal last at_end.so_far.runs at_end.fills at_end.journal_is
 
 asked_run : (end : Type 0) (read text : List ℕ) (status : Status) (asked : Asks bench_meaning end first_bench read text status) → AskedRun end read text status asked
 asked_run end read text Done asked = script_run (texts_in read ++ last_line (open_line read)) asked.0 asked.1 asked.3.runs
@@ -201,9 +174,9 @@ outcome_run end read written RefusedWords told = told
 outcome_run end read written RefusedCapture told = told
 
 pub transcript : (end : Type 0) (read written : List ℕ) (status : Status) → Outcome bench_meaning end first_bench read written status → length read ≤ most_octets + most_read
-    → IsTranscript end read written status
-transcript end read written status told within =
-    record { outcome = told; run = outcome_run end read written status told; sent = shows_sent read; within = within }
+    → ((octets : List ℕ) → ShowsWhatWasSubmitted octets) → IsTranscript end read written status
+transcript end read written status told within lawful =
+    record { outcome = told; run = outcome_run end read written status told; sent = λ front journal last begins run. ran_script front journal last run; lawful = lawful read; within = within }
 
 -- what the program does for a run that ended with this status, or where memory ran out in its place
 abbrev pub Gives : Status → Status → Type 0
@@ -218,11 +191,11 @@ module _ {S K : Type 0} (left : S → Option (List ℕ)) (held : K → Option (L
   from_first : RanOver bench_meaning left held source sink first_bench now_source now_sink status
   from_first = subst (λ (bench : Bench). RanOver bench_meaning left held source sink bench now_source now_sink status) fresh ran
 
-  pub gives_transcript : (answer : Status) → Gives status answer
+  pub gives_transcript : ((octets : List ℕ) → ShowsWhatWasSubmitted octets) → (answer : Status) → Gives status answer
       → (read : List ℕ) × (written : List ℕ) × Took (left source) read (left now_source) × Put (held sink) written (held now_sink) × IsTranscript (IsAtEnd (left now_source)) read written answer
-  gives_transcript answer gives =
+  gives_transcript lawful answer gives =
       let h = from_first in
-      (h.0, h.1, h.2, h.3, transcript (IsAtEnd (left now_source)) h.0 h.1 answer (given (IsAtEnd (left now_source)) h.0 h.1 status answer gives h.4) h.5)
+      (h.0, h.1, h.2, h.3, transcript (IsAtEnd (left now_source)) h.0 h.1 answer (given (IsAtEnd (left now_source)) h.0 h.1 status answer gives h.4) h.5 lawful)
 
   pub gives_exact : (all text : List ℕ) (asked : Status) → left source ≡ Some all → AsksFor bench_meaning first_bench all text asked → (answer : Status) → Gives status answer
       → ((answer ≡ asked) × Put (held sink) text (held now_sink)) ⊎ IsFailure answer

@@ -1,5 +1,5 @@
 -- What the fields of a set-up line give that was read: numbers within their bounds, titles of systems, SNPAs of one system.
-use Rattle.std.proofs.Common.{◌≡◌, ◌==◌, ◌&&◌, ℕ, ◌+◌, ◌-◌, ◌<◌, ◌≤◌, Bool, true, false, List, [], ◌∷◌, ◌++◌, length, Option, Some, None, Result, Ok, Err, refl, sym, ◌∙◌, ap, subst, arith}
+use Rattle.std.proofs.Common.{◌≡◌, ◌==◌, ◌&&◌, ℕ, ◌<◌, ◌≤◌, Bool, true, false, List, [], ◌∷◌, length, Some, None, Result, Ok, Err, refl, sym, ◌∙◌, ap, subst, arith}
 use Rattle.std.specs.Prelude.{◌%◌, if◌then◌else◌, not, nat_le, nat_lt, nat_eq, slice_get, slice_index}
 use Rattle.std.specs.List.{list_all, list_any}
 use Rattle.std.specs.Cmp.Lexicographic.{pointwise}
@@ -14,41 +14,37 @@ use Rattle.lan_bag.specs.Rows.{IsLan}
 use Rattle.osi_script.specs.declared.fault.LineCause.{LineCause}
 use Rattle.osi_script.specs.declared.fault.LineCause.TheVariants as causes
 use Rattle.osi_script.specs.declared.fault.LineFault.{LineFault}
-use Rattle.osi_script.specs.declared.form.Form.{Form}
 use Rattle.osi_script.specs.declared.form.Form.TheVariants as forms
 use Rattle.osi_script.specs.declared.form.Named.TheVariants as named
 use Rattle.osi_script.specs.declared.form.Plain.TheVariants as plain
-use Rattle.osi_script.specs.declared.line.PathKind.{PathKind}
 use Rattle.osi_script.specs.declared.parts.Parts.{Parts}
-use Rattle.osi_base.specs.declared.unit.Wish.{Wish}
 use Rattle.osi_script.specs.declared.settings.Key.{Key}
-use Rattle.osi_script.specs.Field.{is_name, is_number, number_of, as_title, title_of, as_station, station_of, prefix_of, octets_of}
+use Rattle.osi_script.specs.Field.{is_name, is_number, number_of, as_title, title_of, as_station, station_of, prefix_of}
 use Rattle.osi_script.specs.Gives.{into, then_read}
 use Rattle.osi_script.specs.Grammar.{next_column, count_fault, at_column, fields_read, many_from}
-use Rattle.osi_script.specs.Known.{Declared, no_parts, given_title, given_station, given_prefix, system_at, lan_at, path_at, has_port, has_station, is_among, routes_of}
-use Rattle.osi_script.specs.Reading.{passing, system_of, lan_of, port_lan_of, route_lan_of, end_system_of, path_of, flags_of, new_name, unset_key, value_of, path_kind_of, new_title, new_station, new_prefix, listed_names, intermediate, each_intermediate, hops_of}
+use Rattle.osi_script.specs.Known.{Declared, no_parts, given_title, given_station, given_prefix, system_at, lan_at, path_at, has_port, has_station, is_among, routes_of, selectors_of}
+use Rattle.osi_script.specs.Reading.{passing, system_of, lan_of, port_lan_of, route_lan_of, end_system_of, new_name, new_selector, selector_of as given_selector, unset_key, value_of, path_kind_of, new_title, new_station, new_prefix, listed_names, intermediate, each_intermediate, hops_of}
 use Rattle.osi_script.specs.Settings.{key_of, least_of, most_of, keeps_order, with_setting}
-use Rattle.carrier_answers.specs.Answers.{AreOctets}
 use Rattle.clnp_outcome.specs.Standing.{IsNsap, IsSnpa}
-use Rattle.osi_bench.specs.steps.Fitting.{IsTitle}
-use Rattle.osi_bench.proofs.InOctets.{station_octets, title_octets, unit_octets}
+use Rattle.osi_setup.specs.Fitting.{IsTitle}
+use Rattle.osi_bench.proofs.InOctets.{station_octets, title_octets}
 
 -- ---- one field after another
 
-record Step {A : Type 0} (read : Result A LineCause) (put : A → Parts) (next : Parts → Result Parts LineFault) (out : Parts) : Type 0 where
-  value : A
-  read_is : read ≡ Ok value
-  rest : next (put value) ≡ Ok out
+pub record Step {A : Type 0} (read : Result A LineCause) (put : A → Parts) (next : Parts → Result Parts LineFault) (out : Parts) : Type 0 where
+  pub value : A
+  pub read_is : read ≡ Ok value
+  pub rest : next (put value) ≡ Ok out
 
-step : {A : Type 0} (column : ℕ) (read : Result A LineCause) (put : A → Parts) (next : Parts → Result Parts LineFault) (out : Parts)
+pub step : {A : Type 0} (column : ℕ) (read : Result A LineCause) (put : A → Parts) (next : Parts → Result Parts LineFault) (out : Parts)
     → at_column column (into read put) next ≡ Ok out → Step read put next out
 step column (Ok value) put next out is = record { value = value; read_is = refl; rest = is }
 step column (Err cause) put next out is = absurd (cc)
 
-abbrev done : Parts → Result Parts LineFault
+abbrev pub done : Parts → Result Parts LineFault
 done parts = Ok parts
 
-same_parts : (first second : Parts) → done first ≡ done second → first ≡ second
+pub same_parts : (first second : Parts) → done first ≡ done second → first ≡ second
 same_parts first second is = cc
 
 passed : {A : Type 0} (test : Bool) (cause : LineCause) (value other : A) → passing test cause value ≡ Ok other → (test ≡ true) × (value ≡ other)
@@ -56,11 +52,11 @@ passed true cause value other is = (refl, cc)
 passed false cause value other is = absurd (cc)
 
 -- the reading, and what it passes
-record Then {A : Type 0} (read : Result A LineCause) (test : A → Bool) (value : A) : Type 0 where
-  read_is : read ≡ Ok value
-  passes : test value ≡ true
+pub record Then {A : Type 0} (read : Result A LineCause) (test : A → Bool) (value : A) : Type 0 where
+  pub read_is : read ≡ Ok value
+  pub passes : test value ≡ true
 
-then_by : {A : Type 0} (read : Result A LineCause) (test : A → Bool) (cause : LineCause) (value : A) → then_read read (λ v. passing (test v) cause v) ≡ Ok value → Then read test value
+pub then_by : {A : Type 0} (read : Result A LineCause) (test : A → Bool) (cause : LineCause) (value : A) → then_read read (λ v. passing (test v) cause v) ≡ Ok value → Then read test value
 then_by {A} (Ok first) test cause value is =
     let p = passed (test first) cause first value is in
     record { read_is = ap {B = Result A LineCause} (λ (v : A). Ok v) p.1; passes = ap test (sym p.1) ∙ p.0 }
@@ -81,7 +77,7 @@ number_by : (least most n m : ℕ) (b : Bool) → (if b then (if nat_le least n 
 number_by least most n m true is = within least most n m (nat_le least n && nat_le n most) refl is
 number_by least most n m false is = absurd (cc)
 
-number_within : (least most : ℕ) (text : List ℕ) (m : ℕ) → number_of least most text ≡ Ok m → IsWithin least most m
+pub number_within : (least most : ℕ) (text : List ℕ) (m : ℕ) → number_of least most text ≡ Ok m → IsWithin least most m
 unfolding number_of
 number_within least most text m is = number_by least most (digits_value 10 text) m (is_number text) is
 
@@ -139,7 +135,7 @@ pub record TitleRead (names : Declared) (title : List ℕ) : Type 0 where
   pub octets : IsNsap title
   pub fresh : list_any (λ system. pointwise nat_eq system.title title) names.systems ≡ false
 
-not_true : (b : Bool) → not b ≡ true → b ≡ false
+pub not_true : (b : Bool) → not b ≡ true → b ≡ false
 not_true true is = absurd (cc)
 not_true false is = refl
 
@@ -302,32 +298,25 @@ path_values names past column (first ∷ second ∷ third ∷ []) out count is =
     let c = step (next_column (next_column column first) second) (hops_of names third) (λ hops. record no_parts { name = a.value; kind = b.value; hops = hops }) (λ more. Ok more) out b.rest in
     subst (λ (p : Parts). IsWithin 1 4 (length p.hops)) (same_parts _ out c.rest) (hops_read names third c.value c.read_is)
 
--- ---- units
+-- ---- selectors
 
-pub unit_values : (names : Declared) (past column : ℕ) (fields : List (List ℕ)) (out : Parts)
-    → count_fault past column (forms.Named named.EndSystem ∷ forms.Named named.To ∷ forms.Plain plain.Flags ∷ forms.Named named.Path ∷ forms.Octets ∷ []) fields ≡ None
-    → fields_read names no_parts column (forms.Named named.EndSystem ∷ forms.Named named.To ∷ forms.Plain plain.Flags ∷ forms.Named named.Path ∷ forms.Octets ∷ []) fields ≡ Ok out → AreOctets out.octets
-unit_values names past column [] out count is = absurd (cc)
-unit_values names past column (first ∷ []) out count is = absurd (cc)
-unit_values names past column (first ∷ second ∷ []) out count is = absurd (cc)
-unit_values names past column (first ∷ second ∷ third ∷ []) out count is = absurd (cc)
-unit_values names past column (first ∷ second ∷ third ∷ fourth ∷ []) out count is = absurd (cc)
-unit_values names past column (first ∷ second ∷ third ∷ fourth ∷ fifth ∷ sixth ∷ others) out count is = absurd (cc)
-unit_values names past column (first ∷ second ∷ third ∷ fourth ∷ fifth ∷ []) out count is =
-    let c1 = next_column column first in
-    let c2 = next_column c1 second in
-    let c3 = next_column c2 third in
-    let c4 = next_column c3 fourth in
+selector_read : (names : Declared) (system : ℕ) (field selector : List ℕ) → new_selector names system field ≡ Ok selector → is_among (selectors_of (slice_get names.systems system)) selector ≡ false
+unfolding new_selector
+selector_read names system field selector is =
+    not_true (is_among (selectors_of (slice_get names.systems system)) selector)
+    (then_by (given_selector field) (λ s. not (is_among (selectors_of (slice_get names.systems system)) s)) causes.Repeat selector is).passes
+
+pub selector_values : (names : Declared) (past column : ℕ) (fields : List (List ℕ)) (out : Parts)
+    → count_fault past column (forms.Named named.EndSystem ∷ forms.NewSelector ∷ []) fields ≡ None
+    → fields_read names no_parts column (forms.Named named.EndSystem ∷ forms.NewSelector ∷ []) fields ≡ Ok out → is_among (selectors_of (slice_get names.systems out.system)) out.selector ≡ false
+selector_values names past column [] out count is = absurd (cc)
+selector_values names past column (first ∷ []) out count is = absurd (cc)
+selector_values names past column (first ∷ second ∷ third ∷ others) out count is = absurd (cc)
+selector_values names past column (first ∷ second ∷ []) out count is =
     let a = step column (end_system_of names first) (λ system. record no_parts { system = system })
-    (λ more. fields_read names more c1 (forms.Named named.To ∷ forms.Plain plain.Flags ∷ forms.Named named.Path ∷ forms.Octets ∷ []) (second ∷ third ∷ fourth ∷ fifth ∷ [])) out is in
-    let b = step c1 (end_system_of names second) (λ system. record no_parts { system = a.value; other = system })
-    (λ more. fields_read names more c2 (forms.Plain plain.Flags ∷ forms.Named named.Path ∷ forms.Octets ∷ []) (third ∷ fourth ∷ fifth ∷ [])) out a.rest in
-    let c = step c2 (flags_of third) (λ wish. record no_parts { system = a.value; other = b.value; wish = wish })
-    (λ more. fields_read names more c3 (forms.Named named.Path ∷ forms.Octets ∷ []) (fourth ∷ fifth ∷ [])) out b.rest in
-    let d = step c3 (path_of names fourth) (λ path. record no_parts { system = a.value; other = b.value; wish = record c.value { path = path } })
-    (λ more. fields_read names more c4 (forms.Octets ∷ []) (fifth ∷ [])) out c.rest in
-    let e = step c4 (octets_of fifth) (λ octets. record no_parts { system = a.value; other = b.value; wish = record c.value { path = d.value }; octets = octets }) (λ more. Ok more) out d.rest in
-    subst (λ (p : Parts). AreOctets p.octets) (same_parts _ out e.rest) (unit_octets fifth e.value e.read_is)
+    (λ more. fields_read names more (next_column column first) (forms.NewSelector ∷ []) (second ∷ [])) out is in
+    let b = step (next_column column first) (new_selector names a.value second) (λ selector. record no_parts { system = a.value; selector = selector }) (λ more. Ok more) out a.rest in
+    subst (λ (p : Parts). is_among (selectors_of (slice_get names.systems p.system)) p.selector ≡ false) (same_parts _ out b.rest) (selector_read names a.value second b.value b.read_is)
 
 -- ---- limits
 

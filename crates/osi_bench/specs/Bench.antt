@@ -10,14 +10,15 @@ use Rattle.osi_script.specs.Tags.{tags_of}
 use Rattle.osi_journal.specs.declared.event.Event.{Event}
 use Rattle.osi_journal.specs.Told.{journal_text}
 use Rattle.line_loop.specs.Meaning.{Meaning}
-use Rattle.osi_bench.specs.Text.{done_line, refused_line, toomuch_line}
-use Rattle.osi_bench.specs.World.{first_world, WorldStep}
+use Rattle.osi_bench.specs.Text.{done_lines, refused_line, toomuch_line}
+use Rattle.osi_bench.specs.World.{first_world, strays_of, WorldStep}
 use Rattle.osi_bench.specs.declared.world.World.{World}
 
--- the lines that the network runs: all but those of the transport layer, `settle` and `inject`
+-- the lines of a script: all that there are
 abbrev pub bench_lines : Lines
 bench_lines = record {
-  words = words.Deliver ∷ words.Tick ∷ words.Unit ∷ words.Route ∷ words.Port ∷ words.Es ∷ words.Is ∷ words.Lan ∷ words.Path ∷ words.Set ∷ words.Start ∷ [];
+  words = words.Deliver ∷ words.Data ∷ words.Tick ∷ words.Settle ∷ words.Unit ∷ words.Expedite ∷ words.Window ∷ words.Connect ∷ words.Accept ∷ words.Disconnect
+      ∷ words.Refuse ∷ words.Inject ∷ words.Route ∷ words.Port ∷ words.Es ∷ words.Is ∷ words.Tsap ∷ words.Lan ∷ words.Path ∷ words.Set ∷ words.Start ∷ [];
   lans = 16;
   wishes = true;
 }
@@ -73,7 +74,7 @@ bench_meaning = record {
   text = λ bench journal. journal_text (tags_of bench.names) journal;
   tells = TellsEvents;
   lines = λ bench. bench.lines;
-  done = λ bench. done_line;
+  done = λ bench. done_lines (strays_of bench.world);
   refused = λ bench line found. refused_line line found;
   too_much = λ bench. toomuch_line;
 }

@@ -1,5 +1,4 @@
 pub mod Bench
-pub mod SetUp
 pub mod Text
 pub mod Top
 pub mod World

@@ -6,7 +6,7 @@ use Rattle.osi_base.specs.declared.status.Status.{Status}
 use Rattle.osi_base.specs.declared.status.Status.TheVariants.{Done, RefusedLine, RefusedWords, ReadFault, WriteFault, NoMemory, RefusedCapture, TooMuch}
 use Rattle.osi_journal.specs.declared.event.Event.{Event}
 use Rattle.osi_script.specs.declared.line.Line.{Line}
-use Rattle.osi_bench.specs.Bench.{Bench, bench_lines, first_bench, bench_meaning, most_events}
+use Rattle.osi_bench.specs.Bench.{Bench, RunsLine, bench_lines, first_bench, bench_meaning, most_events}
 use Rattle.line_loop.specs.Course.{Runs, IsRead, IsWhole, IsOver, IsTooMuch, IsTooMuchAtEnd, IsRefusedAt, IsRefusedAtEnd}
 use Rattle.line_loop.specs.Limits.{most_octets, most_read}
 use Rattle.line_loop.specs.Lines.{whole_lines, open_line, without_return, last_line}
@@ -14,7 +14,8 @@ use Rattle.line_loop.specs.Outcome.{Asks, Outcome}
 use Rattle.osi_script.specs.declared.fault.LineFault.{LineFault}
 use Rattle.osi_script.specs.Known.{nothing_declared}
 use Rattle.osi_script.specs.Script.{Says}
-use Rattle.osi_bench.specs.World.{life_of, titles_of, WorldRun}
+use Rattle.osi_bench.specs.World.{HasNoInject, life_of, titles_of, WorldRun}
+use Rattle.osi_journal.specs.Lawful.{Lawful}
 use Rattle.osi_journal.specs.RawLawful.{RawLawful}
 use Rattle.line_loop.specs.Writing.{IsPrefix}
 
@@ -30,11 +31,13 @@ is_decode [] = false
 is_decode (word ∷ []) = bytes_eq word (codes "decode")
 is_decode (word ∷ other ∷ words) = false
 
--- the texts are the lines of a script, and by the run of the network they have this journal and leave that network
+-- the texts are the lines of a script, and by the run of the network they have this journal and leave that network; where none of them
+-- is an `inject` line, each raw unit that is shown was sent
 pub record IsScriptRun (texts : List (List ℕ)) (journal : List Event) (last : Bench) : Type 0 where
   pub script : List Line
   pub lines : Says (nothing_declared bench_lines) texts script last.names
   pub run : WorldRun script journal last.world
+  pub sent : HasNoInject script → RawLawful (life_of last.world) (titles_of last.world) journal
 
 -- what runs on the bench is a script, line by line, and the run of the network for its lines
 abbrev pub RunsScripts : Type 0
@@ -47,10 +50,6 @@ pub record IsJournal (octets : List ℕ) (journal : List Event) (last : Bench) :
   pub run : IsRead bench_meaning first_bench front journal last
       ⊎ (IsWhole bench_meaning first_bench front journal last
       ⊎ (IsTooMuch bench_meaning first_bench front journal last ⊎ IsTooMuchAtEnd bench_meaning first_bench front journal last))
-
--- whatever part of the octets was run, each raw unit that is shown was sent
-abbrev pub ShowsSent : List ℕ → Type 0
-ShowsSent octets = (journal : List Event) (last : Bench) → IsJournal octets journal last → RawLawful (life_of last.world) (titles_of last.world) journal
 
 -- the lines that have their line feed, without their ends
 abbrev pub texts_in : List ℕ → List (List ℕ)
@@ -68,6 +67,7 @@ pub record IsFilledRun (texts : List (List ℕ)) (journal : List Event) (last : 
   pub run : IsScriptRun texts whole last
   pub over : most_events < length whole
   pub journal_is : journal ≡ take most_events whole
+  pub sent : HasNoInject run.script → RawLawful (life_of last.world) (titles_of last.world) journal
 
 -- the lines before a limit and their journal are a run of a script; a line that fills the journal is the last of them
 abbrev pub OverRun : (front : List ℕ) (octet : ℕ) (events : List Event) (state last : Bench) (journal : List Event)
@@ -102,11 +102,58 @@ OutcomeRun end read written NoMemory told = AskedRun ((told.front ≡ read) × e
 OutcomeRun end read written RefusedWords told = ⊥
 OutcomeRun end read written RefusedCapture told = ⊥
 
+-- how far octets were run: to the end of the lines that have their line feed, to the end of all lines, or to a limit
+abbrev pub IsRun : List ℕ → List Event → Bench → Type 0
+IsRun octets journal last =
+    IsRead bench_meaning first_bench octets journal last
+    ⊎ (IsWhole bench_meaning first_bench octets journal last
+    ⊎ (IsTooMuch bench_meaning first_bench octets journal last ⊎ IsTooMuchAtEnd bench_meaning first_bench octets journal last))
+
+-- the lines of octets that were run are a script, and their journal is that of the run of the network, or its front at a limit
+abbrev pub RanScript : (octets : List ℕ) (journal : List Event) (last : Bench) → IsRun octets journal last → Type 0
+RanScript octets journal last (inl read) = IsScriptRun (texts_in octets) journal last
+RanScript octets journal last (inr (inl whole)) = IsScriptRun (texts_in octets ++ last_line (open_line octets)) journal last
+RanScript octets journal last (inr (inr (inl here))) = OverRun here.front here.octet here.events here.state last journal here.over
+RanScript octets journal last (inr (inr (inr at_end))) = IsFilledRun (texts_in octets ++ open_line octets ∷ []) journal last
+
+-- whatever front of the octets was run: a script was run, and where no line of it is an `inject` line, each raw unit that is shown was
+-- sent
+abbrev pub ShowsSent : List ℕ → Type 0
+ShowsSent octets = (front : List ℕ) (journal : List Event) (last : Bench) → IsPrefix front octets → (run : IsRun front journal last) → RanScript front journal last run
+
+-- the lines that ran
+abbrev pub lines_run : (first : Bench) (texts : List (List ℕ)) (journal : List Event) (last : Bench) → Runs bench_meaning first texts journal last → List Line
+lines_run first [] journal last runs = []
+lines_run first (text ∷ texts) journal last runs = let one : RunsLine first text runs.0 runs.1 = runs.3 in one.line ∷ lines_run runs.1 texts runs.2 last runs.5
+
+-- the line that fills the journal, where one does
+abbrev pub lines_over : (state : Bench) (front : List ℕ) (octet : ℕ) (events : List Event) (last : Bench) → IsOver bench_meaning state front octet events last → List Line
+lines_over state front octet events last (inl limit) = []
+lines_over state front octet events last (inr fills) = fills.2.line ∷ []
+
+-- the lines of the octets that were handled
+abbrev pub lines_handled : (octets : List ℕ) (journal : List Event) (last : Bench) → IsRun octets journal last → List Line
+lines_handled octets journal last (inl read) = lines_run first_bench (texts_in octets) journal last read.runs
+lines_handled octets journal last (inr (inl whole)) = lines_run first_bench (texts_in octets ++ last_line (open_line octets)) journal last whole.runs
+lines_handled octets journal last (inr (inr (inl here))) =
+    lines_run first_bench (texts_in here.front) here.before here.state here.so_far.runs ++ lines_over here.state here.front here.octet here.events last here.over
+lines_handled octets journal last (inr (inr (inr at_end))) =
+    lines_run first_bench (texts_in octets) at_end.before at_end.state at_end.so_far.runs ++ at_end.fills.line ∷ []
+
+-- whatever front of the octets was run: where no line handled is an `inject` line, the journal is lawful, and so is each front of it. Each
+-- connect indication has one request, which says the same: its partner. What an end shows of the connection is a front, in order, of what
+-- its partner submitted, of normal units and of expedited ones, and no normal unit comes before an expedited one that was submitted
+-- before it. An end without a partner shows nothing
+abbrev pub ShowsWhatWasSubmitted : List ℕ → Type 0
+ShowsWhatWasSubmitted octets = (front : List ℕ) (journal : List Event) (last : Bench) → IsPrefix front octets
+    → (run : IsRun front journal last) → HasNoInject (lines_handled front journal last run) → Lawful (titles_of last.world) journal
+
 -- of the octets read, what was written is told as the status says, and tells the run of the network for the lines of the
--- script; whatever part of the octets was run, each raw unit that is shown was sent; and no more was read than an input may
--- have, and one read more
+-- script; whatever part of the octets was run, each raw unit that is shown was sent, and each end shows what its partner submitted,
+-- unless a frame was injected; and no more was read than an input may have, and one read more
 pub record IsTranscript (end : Type 0) (read written : List ℕ) (status : Status) : Type 0 where
   pub outcome : Outcome bench_meaning end first_bench read written status
   pub run : OutcomeRun end read written status outcome
   pub sent : ShowsSent read
+  pub lawful : ShowsWhatWasSubmitted read
   pub within : length read ≤ most_octets + most_read

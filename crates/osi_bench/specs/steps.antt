@@ -2,7 +2,6 @@
 pub mod Agreeing
 pub mod BenchLaws
 pub mod Came
-pub mod Fitting
 pub mod Known
 pub mod Moves
 pub mod OneRun

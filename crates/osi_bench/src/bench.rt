@@ -3,10 +3,8 @@
 ghost use Rattle.std.specs.Prelude.{◌≡◌, ◌<◌, ◌≤◌, ◌+◌, ◌-◌};
 ghost use Rattle.osi_script.specs.Known.{lines_of};
 ghost use Rattle.osi_bench.specs.Bench.{bench_lines, most_events};
-ghost use Rattle.osi_bench.specs.World.{first_world};
 
-use crate::setup::SetUp;
-use crate::text::{push_done, push_events, push_refusal, push_too_much};
+use crate::text::{push_done, push_events, push_refusal, push_strays, push_too_much};
 use crate::world::{World, step};
 use line_loop::{LineError, Machine};
 use osi_base::NoMemory;
@@ -14,17 +12,26 @@ use osi_journal::Event;
 use osi_script::{Built, LineCause, LineFault, LineRefusal, Names, Word};
 use std::alloc::Global;
 use std::marker::Model;
-use std::mem;
 
-/// The words of the lines that the network runs, those of long scripts first.
-const WORDS: [Word; 11] = [
+/// The words of the lines, those of long scripts first.
+const WORDS: [Word; 21] = [
     Word::Deliver,
+    Word::Data,
     Word::Tick,
+    Word::Settle,
     Word::Unit,
+    Word::Expedite,
+    Word::Window,
+    Word::Connect,
+    Word::Accept,
+    Word::Disconnect,
+    Word::Refuse,
+    Word::Inject,
     Word::Route,
     Word::Port,
     Word::Es,
     Word::Is,
+    Word::Tsap,
     Word::Lan,
     Word::Path,
     Word::Set,
@@ -72,8 +79,8 @@ impl Bench {
     {
         Bench {
             alloc,
-            names: Names::new(alloc, network_lines()),
-            world: first_world(alloc),
+            names: Names::new(alloc, all_lines()),
+            world: World::new(alloc),
             lines: 0,
             count: 0,
             events: Vec::new(alloc),
@@ -82,15 +89,8 @@ impl Bench {
     }
 }
 
-/// A network of which nothing was said yet.
-fn first_world(alloc: Global) -> World
-    ensures { result ≡ first_world }
-{
-    World::SettingUp(SetUp::new(alloc))
-}
-
-/// The lines that the network runs.
-fn network_lines() -> Built
+/// The lines of a script.
+fn all_lines() -> Built
     ensures { lines_of result ≡ bench_lines }
 {
     Built {
@@ -135,11 +135,9 @@ impl Machine for Bench {
         };
         self.stopped = true;
         self.events.clear();
-        let world = mem::replace(&mut self.world, first_world(self.alloc));
-        let Ok(world) = step(self.alloc, world, line, &mut self.events) else {
+        let Ok(()) = step(self.alloc, &mut self.world, line, &mut self.events) else {
             return Err(LineError::NoMemory);
         };
-        self.world = world;
         self.lines += 1;
         let made = self.events.len();
         let told = told_of(self.count, made);
@@ -162,6 +160,9 @@ impl Machine for Bench {
     }
 
     fn push_done(&self, out: &mut Vec<u8>) -> Result<(), NoMemory> {
+        if let Some(count) = self.world.strays() {
+            push_strays(count, out)?;
+        }
         push_done(out)
     }
 

@@ -1,15 +1,21 @@
 //! What holds of every run of the network, for all scripts.
 
 ghost use Rattle.std.specs.Prelude.{◌≡◌, List, ℕ};
-ghost use Rattle.osi_bench.specs.Bench.{bench_meaning, first_bench};
+ghost use Rattle.osi_bench.specs.Bench.{bench_lines, bench_meaning, first_bench};
 ghost use Rattle.line_loop.specs.Total.{AsksSomething};
 ghost use Rattle.line_loop.specs.Exact.{OneCourse, AsksOne};
 ghost use Rattle.osi_bench.specs.Top.{RunsScripts};
 ghost use Rattle.osi_journal.specs.declared.event.Event.{Event};
 ghost use Rattle.osi_script.specs.declared.line.Line.{Line};
-ghost use Rattle.osi_bench.specs.World.{WorldRun, life_of, titles_of};
+ghost use Rattle.osi_script.specs.Known.{Declared, nothing_declared};
+ghost use Rattle.osi_script.specs.Script.{Says};
+ghost use Rattle.osi_bench.specs.World.{HasNoInject, WorldRun, life_of, titles_of};
 ghost use Rattle.osi_bench.specs.declared.world.World.{World};
+ghost use Rattle.osi_journal.specs.Lawful.{Lawful};
 ghost use Rattle.osi_journal.specs.RawLawful.{RawLawful};
+
+use clnp_net::ClnpNet;
+use lan_bag::LanBag;
 
 /// The lines of a script have one journal, and leave one network.
 pub fn one_journal()
@@ -17,12 +23,23 @@ pub fn one_journal()
         → WorldRun script journal last → WorldRun script other end → (journal ≡ other) × (last ≡ end) }
 {}
 
-/// Each raw unit that is shown was sent to that system, from that address, with those octets, at
-/// most the lifetime before.
+/// Where no line is an `inject` line, each raw unit that is shown was sent to that system, from that address, with those octets,
+/// at most the lifetime before.
 pub fn raw_units_are_lawful()
-    ensures { (script : List Line) (journal : List Event) (last : World) → WorldRun script journal last
+    ensures { (script : List Line) (journal : List Event) (last : World) → WorldRun script journal last → HasNoInject script
         → RawLawful (life_of last) (titles_of last) journal }
 {}
+
+/// Where no line of a script is an `inject` line, its journal is lawful, and with it each front of the journal: what an end shows of a
+/// connection is a front, in order, of what its one partner was asked to send, of normal units and of expedited ones; no normal unit
+/// comes before an expedited one that was submitted before it; and an end without a partner shows nothing.
+pub fn ends_are_lawful()
+    ensures { (texts : List (List ℕ)) (script : List Line) (names : Declared) (journal : List Event) (last : World)
+        → Says (nothing_declared bench_lines) texts script names → WorldRun script journal last → HasNoInject script
+        → Lawful (titles_of last) journal }
+{
+    tp4_headline::lawful::<ClnpNet<LanBag>>();
+}
 
 /// What runs on the bench is a script, line by line, and the run of the network for its lines.
 pub fn script_runs()

@@ -8,8 +8,12 @@ use std::alloc::Global;
 use std::process::Abort;
 use std::test::Fail;
 
+mod connected;
+mod injected;
 mod network;
 mod refused;
+mod settled;
+mod timed;
 
 /// Two end systems on one LAN: seven lines.
 const SET_UP: &str = "lan x 1 1497\nes a 490a00\nes b 490b00\nport a x 02000000000a\n\
@@ -70,7 +74,7 @@ const EVENTS: [[&str; 2]; 7] = [
 
 /// Lines that are taken after the set-up and `es c 490c00`, before `start`.
 const TAKEN: &str =
-    "\n# tsap\nlan y 16 264\nis r 490900\nset life 1\nset t1 1\nset ct 0\nset hold 255\nes x 490d00\nes frames 490d00\nes dZ345678 4900\n\
+    "\n# tsap\ntsap b bb\ntsap c bb\nlan y 16 264\nis r 490900\nset life 1\nset t1 1\nset ct 0\nset hold 255\nes x 490d00\nes frames 490d00\nes dZ345678 4900\n\
     es d 4900000000000000000000000000000000000000\nport c x 0200000000aB\n\
     route a 490b00 b x\nroute a - a x\nroute b 490b b x";
 
@@ -108,6 +112,8 @@ fn scripts_have_their_transcripts(rt: HostRuntime) -> Result<(), Fail> {
     let full = "refused 17 1 many\n";
     expect(&rt, rt.alloc(), &[SIXTEEN], &["done\n"])?;
     expect(&rt, rt.alloc(), &[SIXTEEN, "es q 1700\n"], &[full])?;
+    let twice = "tsap b bb\ntsap b bb\n";
+    expect(&rt, rt.alloc(), &[SET_UP, twice], &["refused 9 8 repeat\n"])?;
     expect(&rt, rt.alloc(), &[SET_UP, AGE], &[AGE_SHOWN, "done\n"])?;
     expect(&rt, rt.alloc(), &[SET_UP, THIRD], &[THIRD_SHOWN])
 }
@@ -143,162 +149,40 @@ fn lines_have_their_answers(rt: HostRuntime) -> Result<(), Fail> {
 }
 
 #[test]
-fn networks_have_their_transcripts(rt: HostRuntime) -> Result<(), Fail> {
-    for [lans, more, events, shown] in network::RUNS {
+fn connections_have_their_transcripts(rt: HostRuntime) -> Result<(), Fail> {
+    for [events, shown] in connected::OPENED {
         expect(
             &rt,
             rt.alloc(),
-            &[lans, network::ROUTED, more, events],
-            &[shown],
+            &[SET_UP, connected::STARTED, connected::CONNECTED, events],
+            &[
+                connected::CALLED_SHOWN,
+                connected::INDICATED,
+                connected::ACCEPTED_SHOWN,
+                shown,
+                "done\n",
+            ],
         )?;
     }
-    for [script, shown] in [network::FOUND, network::ANSWERED] {
-        expect(&rt, rt.alloc(), &[script], &[shown])?;
+    for [lines, events, shown] in connected::CALLED {
+        expect(
+            &rt,
+            rt.alloc(),
+            &[SET_UP, lines, "start\n", events],
+            &[shown, "done\n"],
+        )?;
     }
     Ok(())
 }
 
 /// The lines of so many ticks, from the one after that tick on.
-fn ticks(alloc: Global, after: u8, count: u8) -> Result<String, Fail> {
+fn ticks(alloc: Global, after: u32, count: u8) -> Result<String, Fail> {
     let mut shown = String::new(alloc);
     for number in 0..count {
-        let now = u32::from(after) + u32::from(number) + 1;
+        let now = u64::from(after) + u64::from(number) + 1;
         shown.push_str(&format!(in alloc; "tick {now}\n")?)?;
     }
     Ok(shown)
-}
-
-#[test]
-fn a_redirect_ends_with_its_holding_time(rt: HostRuntime) -> Result<(), Fail> {
-    let passing = "tick\n".repeat(rt.alloc(), 39)?;
-    let passed = ticks(rt.alloc(), 0, 39)?;
-    expect(
-        &rt,
-        rt.alloc(),
-        &[network::DETOUR, &passing, network::DETOUR_END],
-        &[network::DETOUR_SHOWN, &passed, network::DETOUR_END_SHOWN],
-    )
-}
-
-/// The digits of 3,000 octets that are cut into unlike pieces.
-fn long_unit(alloc: Global) -> Result<String, Fail> {
-    let front = "01020304050607".repeat(alloc, 428)?;
-    Ok([front.as_str(), "01020304"].concat(alloc)?)
-}
-
-/// A unit of 3,000 octets in S is cut in three, of which the last is lost.
-#[test]
-fn a_lost_segment_is_told(rt: HostRuntime) -> Result<(), Fail> {
-    let alloc = rt.alloc();
-    let unit = long_unit(alloc)?;
-    let passing = "tick\n".repeat(alloc, 31)?;
-    let passed = ticks(alloc, 0, 31)?;
-    let sent =
-        "frame 1 x a 02000000000b 1512\nframe 2 x a 02000000000b 1512\nframe 3 x a 02000000000b 96\n";
-    expect(
-        &rt,
-        alloc,
-        &[
-            SET_UP,
-            "start\nunit a b s - ",
-            &unit,
-            "\ndeliver 1 b\ndeliver 2 b\n",
-            &passing,
-            "tick\n",
-        ],
-        &[
-            "tick 0\nsent a 490b02 ",
-            &unit,
-            "\n",
-            sent,
-            "deliver 1 b\ndeliver 2 b\n",
-            &passed,
-            "tick 32\ndiscard b a1 0\ndone\n",
-        ],
-    )
-}
-
-/// The frames of three segments that r cuts for a LAN of little room, with the delivery of each segment before them.
-fn cut_again(alloc: Global) -> Result<String, Fail> {
-    let mut shown = String::new(alloc);
-    for number in 4..19u32 {
-        if number == 4 || number == 11 || number == 18 {
-            shown.push_str(&format!(in alloc; "deliver {} r\n", (number - 4) / 7 + 1)?)?;
-        }
-        let length = match number {
-            10 | 17 => 72,
-            18 => 96,
-            _ => 280,
-        };
-        shown.push_str(&format!(in alloc; "frame {number} y r 02000000000b {length}\n")?)?;
-    }
-    Ok(shown)
-}
-
-/// The deliveries of the frames 18 to 4, backwards.
-fn backwards(alloc: Global) -> Result<String, Fail> {
-    let mut events = String::new(alloc);
-    for number in 0..15u32 {
-        events.push_str(&format!(in alloc; "deliver {} b\n", 18 - number)?)?;
-    }
-    Ok(events)
-}
-
-#[test]
-fn a_unit_is_cut_twice_and_joined_backwards(rt: HostRuntime) -> Result<(), Fail> {
-    let alloc = rt.alloc();
-    let unit = long_unit(alloc)?;
-    let (cut, back) = (cut_again(alloc)?, backwards(alloc)?);
-    let sent =
-        "frame 1 x a 020000000901 1512\nframe 2 x a 020000000901 1512\nframe 3 x a 020000000901 96\n";
-    let events = "\ndeliver 1 r\ndeliver 2 r\ndeliver 3 r\n";
-    expect(
-        &rt,
-        alloc,
-        &[
-            network::SMALL,
-            network::ROUTED,
-            network::TO_B,
-            "start\nunit a b s - ",
-            &unit,
-            events,
-            &back,
-        ],
-        &[
-            "tick 0\nsent a 490b02 ",
-            &unit,
-            "\n",
-            sent,
-            &cut,
-            &back,
-            "unit b 490a02 ",
-            &unit,
-            "\ndone\n",
-        ],
-    )
-}
-
-/// A unit that may not be cut does not fit the second LAN.
-#[test]
-fn a_lan_is_too_small(rt: HostRuntime) -> Result<(), Fail> {
-    let alloc = rt.alloc();
-    let unit = "7e".repeat(alloc, 300)?;
-    let shown =
-        "\nframe 1 x a 020000000901 334\ndeliver 1 r\ndiscard r 05 0\nframe 2 x r 02000000000a 55\n\
-        deliver 2 a\nreport a 05 0\ndone\n";
-    expect(
-        &rt,
-        alloc,
-        &[
-            network::SMALL,
-            network::ROUTED,
-            network::TO_B,
-            "start\nunit a b e - ",
-            &unit,
-            "\ndeliver 1 r\ndeliver 2 a\n",
-        ],
-        &["tick 0\nsent a 490b02 ", &unit, shown],
-    )
 }
 
 /// What is told of so many units of a to b: a frame for each, by its number from the first on, of which the LANs keep 16,384.
@@ -399,24 +283,52 @@ fn in_pieces(
     Ok((status, sink.written().to_vec(alloc)?))
 }
 
-#[test]
-fn a_failed_call_ends_the_run(rt: HostRuntime) -> Result<(), Fail> {
-    let again = "deliver 1 b\n#678901\n".repeat(rt.alloc(), 6)?;
-    let script = [SET_UP, AGE, &again].concat(rt.alloc())?;
-    let late = "late 1 b\n".repeat(rt.alloc(), 6)?;
-    let whole = [AGE_SHOWN, &late, "done\n"].concat(rt.alloc())?;
+/// A script of a network, one of a connection, and what is shown of each but for the last line.
+const CUT: [([&str; 4], [&str; 4]); 2] = [
+    ([SET_UP, AGE, "", ""], [AGE_SHOWN, "", "", ""]),
+    (
+        [
+            SET_UP,
+            connected::STARTED,
+            connected::CONNECTED,
+            connected::USED,
+        ],
+        [
+            connected::CALLED_SHOWN,
+            connected::INDICATED,
+            connected::ACCEPTED_SHOWN,
+            connected::USED_SHOWN,
+        ],
+    ),
+];
+
+/// The first ten reads and writes of the script fail, each in a run of its own.
+fn expect_failures(rt: &impl Abort, alloc: Global, script: &str, whole: &[u8]) -> Result<(), Fail> {
     for size in [1, 20, 4096] {
-        let (status, written) = in_pieces(rt.alloc(), &script, size, &[], &[])?;
+        let (status, written) = in_pieces(alloc, script, size, &[], &[])?;
         assert_eq!(rt; status, Status::Done);
-        assert_eq!(rt; written.as_slice(), whole.as_bytes());
+        assert_eq!(rt; written.as_slice(), whole);
     }
     for call in 1..=10 {
-        let (status, written) = in_pieces(rt.alloc(), &script, 20, &[call], &[])?;
+        let (status, written) = in_pieces(alloc, script, 20, &[call], &[])?;
         assert_eq!(rt; status, Status::ReadFault);
-        assert!(rt; whole.as_bytes().starts_with(&written));
-        let (status, written) = in_pieces(rt.alloc(), &script, 20, &[], &[call])?;
+        assert!(rt; whole.starts_with(&written));
+        let (status, written) = in_pieces(alloc, script, 20, &[], &[call])?;
         assert_eq!(rt; status, Status::WriteFault);
-        assert!(rt; whole.as_bytes().starts_with(&written));
+        assert!(rt; whole.starts_with(&written));
+    }
+    Ok(())
+}
+
+#[test]
+fn a_failed_call_ends_the_run(rt: HostRuntime) -> Result<(), Fail> {
+    let alloc = rt.alloc();
+    let again = "deliver 9 b\n#678901\n".repeat(alloc, 6)?;
+    let unknown = "nosuch 9 b\n".repeat(alloc, 6)?;
+    for (parts, shown) in CUT {
+        let script = [parts.concat(alloc)?.as_str(), &again].concat(alloc)?;
+        let whole = [shown.concat(alloc)?.as_str(), &unknown, "done\n"].concat(alloc)?;
+        expect_failures(&rt, alloc, &script, whole.as_bytes())?;
     }
     Ok(())
 }

@@ -4,7 +4,7 @@ ghost use Rattle.std.specs.Prelude.{◌≡◌, ◌++◌, ◌∷◌, [], ◌≤�
 ghost use Rattle.std.specs.Fmt.{decimal};
 ghost use Rattle.osi_script.specs.Tags.{tags_of};
 ghost use Rattle.osi_journal.specs.Told.{journal_text};
-ghost use Rattle.osi_bench.specs.Text.{done_line, refused_line, toomuch_line, usage_line};
+ghost use Rattle.osi_bench.specs.Text.{done_line, refused_line, strays_line, toomuch_line, usage_line};
 
 use osi_base::NoMemory;
 use osi_journal::{Event, write_event};
@@ -31,6 +31,15 @@ pub fn push_refusal(line: u32, fault: LineFault, out: &mut Vec<u8>) -> Result<()
     push_numbered(b"refused ", line, out)?;
     push_numbered(b"", fault.column, out)?;
     push_word(fault.cause.text().as_bytes(), out)?;
+    push_word(b"\n", out)
+}
+
+/// Appends how many arrivals equalled no unit afloat. After `NoMemory`, `out` ends in a part of it.
+pub fn push_strays(count: u32, out: &mut Vec<u8>) -> Result<(), NoMemory>
+    ensures { OnOk result (out.new.items ≡ out.old.items ++ strays_line count) }
+{
+    push_word(b"strays ", out)?;
+    push_number(count, out)?;
     push_word(b"\n", out)
 }
 

@@ -14,6 +14,7 @@ ghost use Rattle.osi_bench.specs.Top.{is_run, is_decode, IsTranscript};
 ghost use Rattle.line_loop.specs.Writing.{IsPrefix, IsWritten};
 
 use crate::bench::Bench;
+use crate::laws::ends_are_lawful;
 use crate::text::usage;
 use line_loop::{drive, write_last};
 use osi_base::{Bytes, NoMemory, PlainSink, PlainSource, Sink, Source, Status};
@@ -87,6 +88,7 @@ pub fn osi<S: Source, K: Sink>(
     ensures write_fault { result ≡ Status.WriteFault → HasRisen (K.faults sink.old) (K.faults sink.new) }
 {
     if is_run(words) {
+        ends_are_lawful();
         drive(alloc, Bench::new(alloc), source, sink)
     } else if is_decode(words) {
         decode(alloc, source, sink)

@@ -1,24 +1,26 @@
-//! The network that a script sets up and then runs.
+//! The network that a script sets up and then runs, with its transport entities.
 
 ghost use Rattle.std.specs.Prelude.{◌≡◌, [], length, IfOk, OnOk};
-ghost use Rattle.net_world.specs.Run.{RunsLine};
-ghost use Rattle.osi_bench.specs.World.{IsOfSetUp, NetDoes, SetsUp, StartsUp, WorldStep, is_start, link_of_net};
-ghost use Rattle.osi_bench.specs.declared.world.World.TheVariants.{Running};
-ghost use Rattle.osi_bench.specs.steps.Fitting.{Fits};
+ghost use Rattle.tp4_number.specs.Number.{wire};
+ghost use Rattle.tp4_world.specs.Run.{RunsLine};
+ghost use Rattle.osi_bench.specs.World.{NetDoes, StartsUp, WorldStep, first_world, is_start, link_of_net, strays_in, strays_of};
 ghost use Rattle.osi_bench.specs.steps.Known.{CanRun, RunsAt};
 
-use crate::setup::SetUp;
+use crate::asking::connect_call;
 use clnp_net::ClnpNet;
 use lan_bag::LanBag;
-use net_world::NetWorld;
 use nsap::Nsap;
-use osi_base::{Items, NoMemory};
+use osi_base::{Carrier, Items, NoMemory};
 use osi_journal::Event;
 use osi_script::Line;
+use osi_setup::SetUp;
 use std::alloc::Global;
+use std::mem;
+use tp4_conn::UserCall;
+use tp4_world::{TpWorld, asked_options};
 
-/// A network of systems over LANs.
-type Net = NetWorld<ClnpNet<LanBag>>;
+/// A network of systems over LANs, with transport entities.
+pub type Ends = TpWorld<ClnpNet<LanBag>>;
 
 /// The network of a script.
 #[derive(Drop)]
@@ -26,43 +28,61 @@ pub enum World {
     /// It is set up.
     SettingUp(SetUp),
     /// Its systems have these titles, and it runs.
-    Running(Items<Nsap>, Net),
+    Running(Items<Nsap>, Ends),
+}
+
+impl World {
+    /// Nothing was said yet.
+    pub fn new(alloc: Global) -> World
+        ensures { result ≡ first_world }
+    {
+        World::SettingUp(SetUp::new(alloc))
+    }
+
+    /// How many arrivals equalled no unit afloat, where something was injected.
+    pub fn strays(&self) -> Option<u32>
+        ensures { result ≡ strays_of self.now }
+    {
+        match self {
+            World::SettingUp(_) => None,
+            World::Running(_, ends) => strays_in(ends.carrier()),
+        }
+    }
+}
+
+/// How many arrivals equalled no unit afloat, where something was injected.
+fn strays_in(net: &ClnpNet<LanBag>) -> Option<u32>
+    ensures { result ≡ strays_in net.now }
+{
+    if net.honest() {
+        None
+    } else {
+        Some(net.strays())
+    }
 }
 
 /// Does what a line that the network has says, and adds its events.
 pub fn step(
     alloc: Global,
-    world: World,
+    world: &mut World,
     line: Line,
     events: &mut Vec<Event>,
-) -> Result<World, NoMemory>
+) -> Result<(), NoMemory>
     requires none { events.old.items ≡ [] }
-    requires known { CanRun world line }
-    ensures { IfOk result (λ new. WorldStep world line events.new.items new) }
+    requires known { CanRun world.old line }
+    ensures { OnOk result (WorldStep world.old line events.new.items world.new) }
 {
     match world {
-        World::SettingUp(setup) => set_up(alloc, setup, line, events),
-        World::Running(titles, net) => run(titles, net, line, events),
+        World::Running(titles, ends) => run_line(ends, titles.as_slice(), line, events),
+        World::SettingUp(setup) => {
+            if !is_start(&line) {
+                return setup.add(line);
+            }
+            let setup = mem::replace(setup, SetUp::new(alloc));
+            *world = start(alloc, setup, events)?;
+            Ok(())
+        }
     }
-}
-
-/// A line of the set-up.
-fn set_up(
-    alloc: Global,
-    setup: SetUp,
-    line: Line,
-    events: &mut Vec<Event>,
-) -> Result<World, NoMemory>
-    requires none { events.old.items ≡ [] }
-    requires fits { Fits setup line }
-    ensures { IfOk result (λ new. IsOfSetUp line × SetsUp (is_start line) setup line events.new.items new) }
-{
-    if is_start(&line) {
-        return start(alloc, setup, events);
-    }
-    let mut setup = setup;
-    setup.add(line)?;
-    Ok(World::SettingUp(setup))
 }
 
 /// Whether the line ends the set-up.
@@ -72,44 +92,56 @@ fn is_start(line: &Line) -> bool
     matches!(line, Line::Start)
 }
 
-/// The network starts: the systems are made, and what they tell at tick 0 is told.
+/// The network starts: the systems and their transport entities are made, and what they tell at tick 0 is told.
 fn start(alloc: Global, setup: SetUp, events: &mut Vec<Event>) -> Result<World, NoMemory>
     requires none { events.old.items ≡ [] }
     ensures { IfOk result (λ new. StartsUp setup events.new.items new) }
 {
     let titles = setup.titles()?;
-    let net = NetWorld::start(alloc, setup.start()?, events)?;
-    Ok(World::Running(titles, net))
+    let entities = setup.entities()?;
+    let ends = TpWorld::start(alloc, setup.start()?, entities, events)?;
+    Ok(World::Running(titles, ends))
 }
 
 /// A line of a running network.
-fn run(
-    titles: Items<Nsap>,
-    net: Net,
-    line: Line,
-    events: &mut Vec<Event>,
-) -> Result<World, NoMemory>
-    requires none { events.old.items ≡ [] }
-    requires known { RunsAt (length titles) (link_of_net net).clock line }
-    ensures { IfOk result (λ new. WorldStep (Running titles net) line events.new.items new) }
-{
-    let mut net = net;
-    run_line(&mut net, titles.as_slice(), line, events)?;
-    Ok(World::Running(titles, net))
-}
-
 fn run_line(
-    net: &mut Net,
+    ends: &mut Ends,
     titles: &[Nsap],
     line: Line,
     events: &mut Vec<Event>,
 ) -> Result<(), NoMemory>
     requires none { events.old.items ≡ [] }
-    requires known { RunsAt (length titles.now) (link_of_net net.old).clock line }
-    ensures { OnOk result (RunsLine link_of_net NetDoes titles.now net.old line events.new.items net.new) }
+    requires known { RunsAt (length titles.now) (link_of_net ends.old.carrier).clock line }
+    ensures { OnOk result (RunsLine link_of_net NetDoes wire titles.now ends.old line events.new.items ends.new) }
 {
     match line {
         Line::Nothing => Ok(()),
+        Line::Connect {
+            system,
+            selector,
+            to,
+            called,
+            options,
+            octets,
+        } => {
+            let to = &titles[usize::from(to)];
+            let call = connect_call(selector, to, called, options, octets);
+            ends.connect(system, call, events)
+        }
+        Line::Accept {
+            end,
+            options,
+            octets,
+        } => ends.call(
+            end,
+            UserCall::Accept(asked_options(options), octets),
+            events,
+        ),
+        Line::Refuse { end, octets } => ends.call(end, UserCall::Refuse(octets), events),
+        Line::Disconnect { end, octets } => ends.call(end, UserCall::Disconnect(octets), events),
+        Line::Data { end, octets } => ends.call(end, UserCall::Normal(octets), events),
+        Line::Expedite { end, octets } => ends.call(end, UserCall::Urgent(octets), events),
+        Line::Window { end, credit } => ends.call(end, UserCall::Window(credit), events),
         Line::Unit {
             system,
             to,
@@ -117,11 +149,17 @@ fn run_line(
             octets,
         } => {
             let (sender, receiver) = (titles[usize::from(system)], titles[usize::from(to)]);
-            net.unit(system, &sender, &receiver, wish, octets, events)
+            ends.unit(system, &sender, &receiver, wish, octets, events)
         }
-        Line::Deliver { frame, system } => net.deliver(frame, system, events),
-        Line::Tick => net.tick(events),
-        // The bench reads no such line of a running network.
+        Line::Tick => ends.tick(events),
+        Line::Settle => ends.settle(events),
+        Line::Deliver { frame, system } => ends.deliver(frame, system, events),
+        Line::Inject {
+            lan,
+            system,
+            octets,
+        } => ends.inject(lan, system, octets.into_vec(), events),
+        // These lines are of the set-up.
         Line::Set { .. }
         | Line::Lan { .. }
         | Line::Es { .. }
@@ -130,15 +168,6 @@ fn run_line(
         | Line::Route { .. }
         | Line::Path { .. }
         | Line::Tsap { .. }
-        | Line::Start
-        | Line::Connect { .. }
-        | Line::Accept { .. }
-        | Line::Refuse { .. }
-        | Line::Disconnect { .. }
-        | Line::Data { .. }
-        | Line::Expedite { .. }
-        | Line::Window { .. }
-        | Line::Settle
-        | Line::Inject { .. } => unreachable!(),
+        | Line::Start => unreachable!(),
     }
 }

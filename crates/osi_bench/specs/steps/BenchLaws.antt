@@ -11,10 +11,11 @@ use Rattle.osi_script.specs.Tags.{Tags, tags_of}
 use Rattle.osi_journal.specs.declared.event.Event.{Event}
 use Rattle.osi_journal.specs.Told.{event_text, journal_text}
 use Rattle.line_loop.specs.Meaning.{Laws}
-use Rattle.osi_bench.specs.Bench.{Bench, RunsLine, FillsJournal, TellsEvents, bench_meaning, most_events}
-use Rattle.net_world.specs.Run.{RunsLine as NetRuns}
-use Rattle.osi_bench.specs.SetUp.{SetUp}
-use Rattle.osi_bench.specs.World.{Net, NetDoes, SetsUp, WorldStep, is_start, link_of_net}
+use Rattle.osi_bench.specs.Bench.{Bench, RunsLine, FillsJournal, bench_meaning, most_events}
+use Rattle.tp4_number.specs.Number.{wire}
+use Rattle.tp4_world.specs.Run.{RunsLine as EndsRun}
+use Rattle.osi_setup.specs.SetUp.{SetUp}
+use Rattle.osi_bench.specs.World.{Ends, NetDoes, SetsUp, WorldStep, is_start, link_of_net}
 use Rattle.osi_bench.specs.declared.world.World.{World}
 use Rattle.osi_bench.specs.declared.world.World.TheVariants.{SettingUp, Running}
 use Rattle.osi_bench.specs.steps.Known.{IsPlaced, started_after}
@@ -82,35 +83,35 @@ still true started setup line made new is step later =
     absurd (false≢true (sym later ∙ after))
 still false started setup line made new is step later = (sym (starts_not started line is) ∙ later, step.0)
 
-running : (started : Bool) (titles : List (List ℕ)) (old net : Net) (line : Line) (made : List Event) → IsPlaced started line → NetRuns link_of_net NetDoes titles old line made net
+running : (started : Bool) (titles : List (List ℕ)) (old ends : Ends) (line : Line) (made : List Event) → IsPlaced started line → EndsRun link_of_net NetDoes wire titles old line made ends
     → started_after started line ≡ false → (started ≡ false) × (made ≡ [])
-running started titles old net lines.Nothing made placed step later = (later, step.0)
-running started titles old net (lines.Unit system to wish octets) made placed step later = absurd (false≢true (sym later ∙ placed))
-running started titles old net lines.Tick made placed step later = absurd (false≢true (sym later ∙ placed))
-running started titles old net (lines.Deliver number system) made placed step later = absurd (false≢true (sym later ∙ placed))
-running started titles old net (lines.Set key value) made placed step later = absurd step
-running started titles old net (lines.Lan name bound room) made placed step later = absurd step
-running started titles old net (lines.Es name title) made placed step later = absurd step
-running started titles old net (lines.Is name title) made placed step later = absurd step
-running started titles old net (lines.Port system lan snpa) made placed step later = absurd step
-running started titles old net (lines.Route system prefix next lan) made placed step later = absurd step
-running started titles old net (lines.Path name kind systems) made placed step later = absurd step
-running started titles old net (lines.Tsap system selector) made placed step later = absurd step
-running started titles old net lines.Start made placed step later = absurd step
-running started titles old net (lines.Connect system selector to called options octets) made placed step later = absurd step
-running started titles old net (lines.Accept end options octets) made placed step later = absurd step
-running started titles old net (lines.Refuse end octets) made placed step later = absurd step
-running started titles old net (lines.Disconnect end octets) made placed step later = absurd step
-running started titles old net (lines.Data end octets) made placed step later = absurd step
-running started titles old net (lines.Expedite end octets) made placed step later = absurd step
-running started titles old net (lines.Window end credit) made placed step later = absurd step
-running started titles old net lines.Settle made placed step later = absurd step
-running started titles old net (lines.Inject lan system octets) made placed step later = absurd step
+running started titles old ends lines.Nothing made placed step later = (later, step.0)
+running started titles old ends (lines.Connect system selector to called options octets) made placed step later = absurd (false≢true (sym later ∙ placed))
+running started titles old ends (lines.Accept end options octets) made placed step later = absurd (false≢true (sym later ∙ placed))
+running started titles old ends (lines.Refuse end octets) made placed step later = absurd (false≢true (sym later ∙ placed))
+running started titles old ends (lines.Disconnect end octets) made placed step later = absurd (false≢true (sym later ∙ placed))
+running started titles old ends (lines.Data end octets) made placed step later = absurd (false≢true (sym later ∙ placed))
+running started titles old ends (lines.Expedite end octets) made placed step later = absurd (false≢true (sym later ∙ placed))
+running started titles old ends (lines.Window end credit) made placed step later = absurd (false≢true (sym later ∙ placed))
+running started titles old ends (lines.Unit system to wish octets) made placed step later = absurd (false≢true (sym later ∙ placed))
+running started titles old ends lines.Tick made placed step later = absurd (false≢true (sym later ∙ placed))
+running started titles old ends lines.Settle made placed step later = absurd (false≢true (sym later ∙ placed))
+running started titles old ends (lines.Deliver number system) made placed step later = absurd (false≢true (sym later ∙ placed))
+running started titles old ends (lines.Inject lan system octets) made placed step later = absurd (false≢true (sym later ∙ placed))
+running started titles old ends (lines.Set key value) made placed step later = absurd step
+running started titles old ends (lines.Lan name bound room) made placed step later = absurd step
+running started titles old ends (lines.Es name title) made placed step later = absurd step
+running started titles old ends (lines.Is name title) made placed step later = absurd step
+running started titles old ends (lines.Port system lan snpa) made placed step later = absurd step
+running started titles old ends (lines.Route system prefix next lan) made placed step later = absurd step
+running started titles old ends (lines.Path name kind systems) made placed step later = absurd step
+running started titles old ends (lines.Tsap system selector) made placed step later = absurd step
+running started titles old ends lines.Start made placed step later = absurd step
 
 quiet : (started : Bool) (line : Line) (old new : World) (made : List Event) → IsPlaced started line → WorldStep old line made new → started_after started line ≡ false
     → (started ≡ false) × (made ≡ [])
 quiet started line (SettingUp setup) new made placed step later = still (is_start line) started setup line made new refl step.1 later
-quiet started line (Running titles net) new made placed step later = running started titles net step.0 line made placed step.1 later
+quiet started line (Running titles ends) new made placed step later = running started titles ends step.0 line made placed step.1 later
 
 tells_on : (names new : Declared) (line : Line) (world next : World) (journal made : List Event) → Moves names line new → WorldStep world line made next
     → (names.started ≡ false → journal ≡ []) → new.started ≡ false → journal ++ made ≡ []
@@ -121,13 +122,13 @@ tells_on names new line world next journal made moves step tells later =
 text-append : (tags : Tags) (first second : List Event) → journal_text tags (first ++ second) ≡ journal_text tags first ++ journal_text tags second
 text-append tags first second = flat_map-append (event_text tags) first second
 
-said_on : (names new : Declared) (journal made : List Event) → (names.started ≡ false) ⊎ (tags_of new ≡ tags_of names) → (names.started ≡ false → journal ≡ [])
+said_on : (names new : Declared) (journal made : List Event) → (names.started ≡ false) ⊎ (new ≡ names) → (names.started ≡ false → journal ≡ [])
     → journal_text (tags_of new) (journal ++ made) ≡ journal_text (tags_of names) journal ++ journal_text (tags_of new) made
 said_on names new journal made (inl not_yet) tells =
     let none : journal ≡ [] = tells not_yet in
     ap (λ (j : List Event). journal_text (tags_of new) (j ++ made)) none ∙ ap (λ (j : List Event). journal_text (tags_of names) j ++ journal_text (tags_of new) made) (sym none)
 said_on names new journal made (inr same) tells =
-    text-append (tags_of new) journal made ∙ ap (λ (t : Tags). journal_text t journal ++ journal_text (tags_of new) made) same
+    text-append (tags_of new) journal made ∙ ap (λ (n : Declared). journal_text (tags_of n) journal ++ journal_text (tags_of new) made) same
 
 pub bench_laws : Laws bench_meaning
 bench_laws = record {
@@ -141,6 +142,6 @@ bench_laws = record {
   none_told = λ state. (λ _. refl, refl);
   told = λ old octets made new journal a tells.
       let moves = line_moves old.names octets a.line new.names a.meaning in
-      (tells_on old.names new.names a.line old.world new.world journal made moves a.steps tells, said_on old.names new.names journal made moves.tags tells);
-  told_full = λ old octets made new journal a tells. said_on old.names new.names journal made (line_moves old.names octets a.line new.names a.meaning).tags tells;
+      (tells_on old.names new.names a.line old.world new.world journal made moves a.steps tells, said_on old.names new.names journal made moves.kept tells);
+  told_full = λ old octets made new journal a tells. said_on old.names new.names journal made (line_moves old.names octets a.line new.names a.meaning).kept tells;
 }

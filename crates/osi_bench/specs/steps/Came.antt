@@ -1,21 +1,16 @@
--- Where a line that is read comes from: from nothing, or from the fields of a word that the network has, with no limit passed.
-use Rattle.std.proofs.Common.{◌≡◌, ℕ, ◌+◌, Bool, true, false, List, [], ◌∷◌, length, Option, Some, None, Result, Ok, Err, refl, sym, subst}
-use Rattle.std.specs.Prelude.{if◌then◌else◌, find}
-use Rattle.std.specs.List.{AllByRecursion}
+-- Where a line that is read comes from: from nothing, or from the fields of a word, with no limit passed.
+use Rattle.std.proofs.Common.{◌≡◌, ℕ, ◌+◌, Bool, true, false, List, [], ◌∷◌, length, Option, Some, None, Result, Ok, Err, refl, sym}
+use Rattle.std.specs.Prelude.{if◌then◌else◌}
 use Rattle.osi_script.specs.declared.fault.LineCause.{LineCause}
 use Rattle.osi_script.specs.declared.fault.LineCause.TheVariants as causes
 use Rattle.osi_script.specs.declared.fault.LineFault.{LineFault}
 use Rattle.osi_script.specs.declared.form.Word.{Word}
-use Rattle.osi_script.specs.declared.form.Word.TheVariants as words
 use Rattle.osi_script.specs.declared.line.Line.TheVariants as lines
 use Rattle.osi_script.specs.declared.parts.Parts.{Parts}
-use Rattle.osi_script.specs.Field.{fields_of, is_word}
-use Rattle.osi_script.specs.Known.{Declared, Lines, no_parts}
+use Rattle.osi_script.specs.Field.{fields_of}
+use Rattle.osi_script.specs.Known.{Declared, no_parts}
 use Rattle.osi_script.specs.Table.{row_of, word_of}
 use Rattle.osi_script.specs.Grammar.{Reading, fault, next_column, count_fault, fields_read, limit_cause, next_number, line_for, declared_by, with_limit, whole_read, counted_read, is_out_of_order, worded_read, split_read, is_idle, text_read, printable_read, line_read}
-use Rattle.osi_bench.specs.Bench.{bench_lines}
-
--- ---- where a line comes from
 
 -- the fields of a word, with no limit passed
 pub record IsWorded (names : Declared) (word : Word) (reading : Reading) : Type 0 where
@@ -105,35 +100,3 @@ long names octets false at reading i = printable names octets at reading i
 pub came : (names : Declared) (octets : List ℕ) (reading : Reading) → line_read names octets ≡ Ok reading → Came names reading
 unfolding line_read
 came names octets reading i = long names octets _ _ reading i
-
--- ---- the words of the network's lines
-
-abbrev pub IsBuilt : Word → Type 0
-IsBuilt words.Lan = Unit {0}
-IsBuilt words.Es = Unit {0}
-IsBuilt words.Is = Unit {0}
-IsBuilt words.Path = Unit {0}
-IsBuilt words.Set = Unit {0}
-IsBuilt words.Port = Unit {0}
-IsBuilt words.Route = Unit {0}
-IsBuilt words.Start = Unit {0}
-IsBuilt words.Unit = Unit {0}
-IsBuilt words.Tick = Unit {0}
-IsBuilt words.Deliver = Unit {0}
-IsBuilt word = ⊥
-
-found_first : (P : Word → Type 0) (test : Word → Bool) (word other : Word) (others : List Word) (is_it : Bool) → P word → ((found : Word) → find test others ≡ Some found → P found)
-    → (if is_it then Some word else find test others) ≡ Some other → P other
-found_first P test word other others true holds rest is =
-    let same : word ≡ other = cc in
-    subst P same holds
-found_first P test word other others false holds rest is = rest other is
-
-found_holds : (P : Word → Type 0) (test : Word → Bool) (all : List Word) (word : Word) → AllByRecursion P all → find test all ≡ Some word → P word
-found_holds P test [] word holds is = absurd (cc)
-found_holds P test (first ∷ others) word holds is = found_first P test first word others (test first) holds.0 (λ found i. found_holds P test others found holds.1 i) is
-
-pub built_word : (names : Declared) (field : List ℕ) (word : Word) → names.built ≡ bench_lines → word_of names.built.words field ≡ Some word → IsBuilt word
-built_word names field word built is =
-    found_holds IsBuilt (λ each. is_word (row_of each).text field) bench_lines.words word (tt, (tt, (tt, (tt, (tt, (tt, (tt, (tt, (tt, (tt, (tt, tt)))))))))))
-    (subst (λ (b : Lines). word_of b.words field ≡ Some word) built is)

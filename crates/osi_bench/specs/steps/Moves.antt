@@ -8,7 +8,6 @@ use Rattle.osi_script.specs.declared.line.Line.TheVariants as lines
 use Rattle.osi_script.specs.declared.parts.Parts.{Parts}
 use Rattle.osi_script.specs.Known.{Declared}
 use Rattle.osi_script.specs.Table.{row_of}
-use Rattle.osi_script.specs.Tags.{tags_of}
 use Rattle.osi_script.specs.Grammar.{Reading, next_number, line_for, declared_by, is_out_of_order, line_read}
 use Rattle.osi_bench.specs.steps.Came.{Came, Idle, Worded, came}
 use Rattle.osi_bench.specs.World.{is_start}
@@ -18,38 +17,38 @@ use Rattle.osi_bench.specs.steps.Known.{IsPlaced, started_after}
 pub record Moves (names : Declared) (line : Line) (new : Declared) : Type 0 where
   pub placed : IsPlaced names.started line
   pub started : new.started ≡ started_after names.started line
-  pub tags : (names.started ≡ false) ⊎ (tags_of new ≡ tags_of names)
+  pub kept : (names.started ≡ false) ⊎ (new ≡ names)
 
 is_started : (started : Bool) → not started ≡ false → started ≡ true
 is_started true is = refl
 is_started false is = absurd (cc)
 
 idle_moves : (names : Declared) → Moves names lines.Nothing names
-idle_moves names = record { placed = tt; started = refl; tags = inr refl }
+idle_moves names = record { placed = tt; started = refl; kept = inr refl }
 
 word_moves : (names : Declared) (parts : Parts) (word : Word) → is_out_of_order names word ≡ false
     → Moves names (line_for (next_number names (row_of word).effect) word parts) (declared_by names (row_of word).effect parts)
-word_moves names parts words.Lan placed = record { placed = placed; started = refl; tags = inl placed }
-word_moves names parts words.Es placed = record { placed = placed; started = refl; tags = inl placed }
-word_moves names parts words.Port placed = record { placed = placed; started = refl; tags = inl placed }
-word_moves names parts words.Route placed = record { placed = placed; started = refl; tags = inl placed }
-word_moves names parts words.Start placed = record { placed = placed; started = refl; tags = inl placed }
-word_moves names parts words.Unit placed = record { placed = is_started names.started placed; started = refl; tags = inr refl }
-word_moves names parts words.Tick placed = record { placed = is_started names.started placed; started = refl; tags = inr refl }
-word_moves names parts words.Deliver placed = record { placed = is_started names.started placed; started = refl; tags = inr refl }
-word_moves names parts words.Set placed = record { placed = placed; started = refl; tags = inl placed }
-word_moves names parts words.Is placed = record { placed = placed; started = refl; tags = inl placed }
-word_moves names parts words.Path placed = record { placed = placed; started = refl; tags = inl placed }
-word_moves names parts words.Tsap placed = record { placed = placed; started = refl; tags = inl placed }
-word_moves names parts words.Connect placed = record { placed = is_started names.started placed; started = refl; tags = inr refl }
-word_moves names parts words.Accept placed = record { placed = is_started names.started placed; started = refl; tags = inr refl }
-word_moves names parts words.Refuse placed = record { placed = is_started names.started placed; started = refl; tags = inr refl }
-word_moves names parts words.Disconnect placed = record { placed = is_started names.started placed; started = refl; tags = inr refl }
-word_moves names parts words.Data placed = record { placed = is_started names.started placed; started = refl; tags = inr refl }
-word_moves names parts words.Expedite placed = record { placed = is_started names.started placed; started = refl; tags = inr refl }
-word_moves names parts words.Window placed = record { placed = is_started names.started placed; started = refl; tags = inr refl }
-word_moves names parts words.Settle placed = record { placed = is_started names.started placed; started = refl; tags = inr refl }
-word_moves names parts words.Inject placed = record { placed = is_started names.started placed; started = refl; tags = inr refl }
+word_moves names parts words.Lan placed = record { placed = placed; started = refl; kept = inl placed }
+word_moves names parts words.Es placed = record { placed = placed; started = refl; kept = inl placed }
+word_moves names parts words.Port placed = record { placed = placed; started = refl; kept = inl placed }
+word_moves names parts words.Route placed = record { placed = placed; started = refl; kept = inl placed }
+word_moves names parts words.Start placed = record { placed = placed; started = refl; kept = inl placed }
+word_moves names parts words.Unit placed = record { placed = is_started names.started placed; started = refl; kept = inr refl }
+word_moves names parts words.Tick placed = record { placed = is_started names.started placed; started = refl; kept = inr refl }
+word_moves names parts words.Deliver placed = record { placed = is_started names.started placed; started = refl; kept = inr refl }
+word_moves names parts words.Set placed = record { placed = placed; started = refl; kept = inl placed }
+word_moves names parts words.Is placed = record { placed = placed; started = refl; kept = inl placed }
+word_moves names parts words.Path placed = record { placed = placed; started = refl; kept = inl placed }
+word_moves names parts words.Tsap placed = record { placed = placed; started = refl; kept = inl placed }
+word_moves names parts words.Connect placed = record { placed = is_started names.started placed; started = refl; kept = inr refl }
+word_moves names parts words.Accept placed = record { placed = is_started names.started placed; started = refl; kept = inr refl }
+word_moves names parts words.Refuse placed = record { placed = is_started names.started placed; started = refl; kept = inr refl }
+word_moves names parts words.Disconnect placed = record { placed = is_started names.started placed; started = refl; kept = inr refl }
+word_moves names parts words.Data placed = record { placed = is_started names.started placed; started = refl; kept = inr refl }
+word_moves names parts words.Expedite placed = record { placed = is_started names.started placed; started = refl; kept = inr refl }
+word_moves names parts words.Window placed = record { placed = is_started names.started placed; started = refl; kept = inr refl }
+word_moves names parts words.Settle placed = record { placed = is_started names.started placed; started = refl; kept = inr refl }
+word_moves names parts words.Inject placed = record { placed = is_started names.started placed; started = refl; kept = inr refl }
 
 came_moves : (names : Declared) (reading : Reading) → Came names reading → Moves names reading.line reading.names
 came_moves names reading (Idle is) = subst (λ (r : Reading). Moves names r.line r.names) (sym is) (idle_moves names)

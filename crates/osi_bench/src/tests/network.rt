@@ -1,21 +1,25 @@
 //! Networks of end and intermediate systems: scripts and the transcripts that they ask for, which were counted by hand.
 
+use super::{SET_UP, expect, ticks};
+use std::alloc::Global;
+use std::test::Fail;
+
 /// End system a on LAN x, b on y, and r between them, with the routes of a and of r to a. The LANs come before it.
-pub const ROUTED: &str = "es a 490a00\nes b 490b00\nis r 490900\nport a x 02000000000a\n\
+const ROUTED: &str = "es a 490a00\nes b 490b00\nis r 490900\nport a x 02000000000a\n\
     port b y 02000000000b\nport r x 020000000901\nport r y 020000000902\nroute a 490b r x\n\
     route r 490a a x\n";
 
 /// The LANs of these systems.
-pub const LANS: &str = "lan x 1 1497\nlan y 1 1497\n";
+const LANS: &str = "lan x 1 1497\nlan y 1 1497\n";
 
 /// The LANs, where the second one has little room.
-pub const SMALL: &str = "lan x 1 1497\nlan y 1 264\n";
+const SMALL: &str = "lan x 1 1497\nlan y 1 264\n";
 
 /// The route of r to b.
-pub const TO_B: &str = "route r 490b b y\n";
+const TO_B: &str = "route r 490b b y\n";
 
 /// Set-ups of these systems, what stands after them, and what the events show.
-pub const RUNS: [[&str; 4]; 10] = [
+const RUNS: [[&str; 4]; 10] = [
     // A unit is forwarded, and a unit the other way goes by all end systems.
     [
         LANS,
@@ -104,7 +108,7 @@ pub const RUNS: [[&str; 4]; 10] = [
 ];
 
 /// A user's network: hellos find what lies between two end systems.
-pub const FOUND: [&str; 2] = [
+const FOUND: [&str; 2] = [
     "set ct 30\nlan x 1 1497\nlan y 1 1497\nes a 490a00\nes b 490b00\nis r 490900\n\
         port a x 02000000000a\nport b y 02000000000b\nport r x 020000000901\nport r y 020000000902\n\
         start\ndeliver 1 r\ndeliver 2 r\ndeliver 3 a\ndeliver 4 b\nunit a b - - 00\ndeliver 5 r\ndeliver 6 b\n\
@@ -119,7 +123,7 @@ pub const FOUND: [&str; 2] = [
 ];
 
 /// Two end systems without routes: the first unit goes to all end systems, and the hello that answers it is heard.
-pub const ANSWERED: [&str; 2] = [
+const ANSWERED: [&str; 2] = [
     "lan x 1 1497\nes a 490a00\nes b 490b00\nport a x 02000000000a\nport b x 02000000000b\nstart\n\
         unit a b - - 00\ndeliver 1 b\ndeliver 2 a\nunit a b - - 00\n",
     "tick 0\nsent a 490b02 00\nframe 1 x a 09002b000004 35\ndeliver 1 b\nunit b 490a02 00\n\
@@ -128,18 +132,160 @@ pub const ANSWERED: [&str; 2] = [
 ];
 
 /// A router on the LAN of both end systems.
-pub const DETOUR: &str =
-    "lan x 1 1497\nes a 490a00\nes b 490b00\nis r 490900\nport a x 02000000000a\n\
+const DETOUR: &str = "lan x 1 1497\nes a 490a00\nes b 490b00\nis r 490900\nport a x 02000000000a\n\
     port b x 02000000000b\nport r x 020000000901\nroute a 490b r x\nroute r 490b b x\nstart\n\
     unit a b - - 01\ndeliver 1 r\ndeliver 3 a\nunit a b - - 02\n";
 
-pub const DETOUR_SHOWN: &str =
-    "tick 0\nsent a 490b02 01\nframe 1 x a 020000000901 35\ndeliver 1 r\n\
+const DETOUR_SHOWN: &str = "tick 0\nsent a 490b02 01\nframe 1 x a 020000000901 35\ndeliver 1 r\n\
     frame 2 x r 02000000000b 35\nframe 3 x r 02000000000a 38\ndeliver 3 a\n\
     redirect a 490b02 02000000000b\nsent a 490b02 02\nframe 4 x a 02000000000b 35\n";
 
 /// Two units, as the redirect is about to end, and when it has ended.
-pub const DETOUR_END: &str = "unit a b - - 03\ntick\nunit a b - - 04\n";
+const DETOUR_END: &str = "unit a b - - 03\ntick\nunit a b - - 04\n";
 
-pub const DETOUR_END_SHOWN: &str = "sent a 490b02 03\nframe 5 x a 02000000000b 35\ntick 40\n\
+const DETOUR_END_SHOWN: &str = "sent a 490b02 03\nframe 5 x a 02000000000b 35\ntick 40\n\
     sent a 490b02 04\nframe 6 x a 020000000901 35\ndone\n";
+
+#[test]
+fn networks_have_their_transcripts(rt: HostRuntime) -> Result<(), Fail> {
+    for [lans, more, events, shown] in RUNS {
+        expect(&rt, rt.alloc(), &[lans, ROUTED, more, events], &[shown])?;
+    }
+    for [script, shown] in [FOUND, ANSWERED] {
+        expect(&rt, rt.alloc(), &[script], &[shown])?;
+    }
+    Ok(())
+}
+
+#[test]
+fn a_redirect_ends_with_its_holding_time(rt: HostRuntime) -> Result<(), Fail> {
+    let passing = "tick\n".repeat(rt.alloc(), 39)?;
+    let passed = ticks(rt.alloc(), 0, 39)?;
+    expect(
+        &rt,
+        rt.alloc(),
+        &[DETOUR, &passing, DETOUR_END],
+        &[DETOUR_SHOWN, &passed, DETOUR_END_SHOWN],
+    )
+}
+
+/// The digits of 3,000 octets that are cut into unlike pieces.
+fn long_unit(alloc: Global) -> Result<String, Fail> {
+    let front = "01020304050607".repeat(alloc, 428)?;
+    Ok([front.as_str(), "01020304"].concat(alloc)?)
+}
+
+/// A unit of 3,000 octets in S is cut in three, of which the last is lost.
+#[test]
+fn a_lost_segment_is_told(rt: HostRuntime) -> Result<(), Fail> {
+    let alloc = rt.alloc();
+    let unit = long_unit(alloc)?;
+    let passing = "tick\n".repeat(alloc, 31)?;
+    let passed = ticks(alloc, 0, 31)?;
+    let sent =
+        "frame 1 x a 02000000000b 1512\nframe 2 x a 02000000000b 1512\nframe 3 x a 02000000000b 96\n";
+    expect(
+        &rt,
+        alloc,
+        &[
+            SET_UP,
+            "start\nunit a b s - ",
+            &unit,
+            "\ndeliver 1 b\ndeliver 2 b\n",
+            &passing,
+            "tick\n",
+        ],
+        &[
+            "tick 0\nsent a 490b02 ",
+            &unit,
+            "\n",
+            sent,
+            "deliver 1 b\ndeliver 2 b\n",
+            &passed,
+            "tick 32\ndiscard b a1 0\ndone\n",
+        ],
+    )
+}
+
+/// The frames of three segments that r cuts for a LAN of little room, with the delivery of each segment before them.
+fn cut_again(alloc: Global) -> Result<String, Fail> {
+    let mut shown = String::new(alloc);
+    for number in 4..19u32 {
+        if number == 4 || number == 11 || number == 18 {
+            shown.push_str(&format!(in alloc; "deliver {} r\n", (number - 4) / 7 + 1)?)?;
+        }
+        let length = match number {
+            10 | 17 => 72,
+            18 => 96,
+            _ => 280,
+        };
+        shown.push_str(&format!(in alloc; "frame {number} y r 02000000000b {length}\n")?)?;
+    }
+    Ok(shown)
+}
+
+/// The deliveries of the frames 18 to 4, backwards.
+fn backwards(alloc: Global) -> Result<String, Fail> {
+    let mut events = String::new(alloc);
+    for number in 0..15u32 {
+        events.push_str(&format!(in alloc; "deliver {} b\n", 18 - number)?)?;
+    }
+    Ok(events)
+}
+
+#[test]
+fn a_unit_is_cut_twice_and_joined_backwards(rt: HostRuntime) -> Result<(), Fail> {
+    let alloc = rt.alloc();
+    let unit = long_unit(alloc)?;
+    let (cut, back) = (cut_again(alloc)?, backwards(alloc)?);
+    let sent =
+        "frame 1 x a 020000000901 1512\nframe 2 x a 020000000901 1512\nframe 3 x a 020000000901 96\n";
+    let events = "\ndeliver 1 r\ndeliver 2 r\ndeliver 3 r\n";
+    expect(
+        &rt,
+        alloc,
+        &[
+            SMALL,
+            ROUTED,
+            TO_B,
+            "start\nunit a b s - ",
+            &unit,
+            events,
+            &back,
+        ],
+        &[
+            "tick 0\nsent a 490b02 ",
+            &unit,
+            "\n",
+            sent,
+            &cut,
+            &back,
+            "unit b 490a02 ",
+            &unit,
+            "\ndone\n",
+        ],
+    )
+}
+
+/// A unit that may not be cut does not fit the second LAN.
+#[test]
+fn a_lan_is_too_small(rt: HostRuntime) -> Result<(), Fail> {
+    let alloc = rt.alloc();
+    let unit = "7e".repeat(alloc, 300)?;
+    let shown =
+        "\nframe 1 x a 020000000901 334\ndeliver 1 r\ndiscard r 05 0\nframe 2 x r 02000000000a 55\n\
+        deliver 2 a\nreport a 05 0\ndone\n";
+    expect(
+        &rt,
+        alloc,
+        &[
+            SMALL,
+            ROUTED,
+            TO_B,
+            "start\nunit a b e - ",
+            &unit,
+            "\ndeliver 1 r\ndeliver 2 a\n",
+        ],
+        &["tick 0\nsent a 490b02 ", &unit, shown],
+    )
+}

@@ -1,7 +1,7 @@
 //! Lines that are refused, with the column and the cause of each, which were counted by hand.
 
 /// Lines that are refused after the set-up and `es c 490c00`, before `start`, with column and cause.
-pub const SET_UP: [[&str; 2]; 51] = [
+pub const SET_UP: [[&str; 2]; 55] = [
     ["lan x 1 1497", "5 repeat"],
     ["lan y 1 263", "9 range"],
     ["lan y 17 1497", "7 range"],
@@ -40,7 +40,11 @@ pub const SET_UP: [[&str; 2]; 51] = [
     ["deliver 1 a", "1 order"],
     ["Start", "1 word"],
     ["start x", "7 fields"],
-    ["tsap b bb", "1 word"],
+    ["tsap d bb", "6 unknown"],
+    ["tsap b -", "8 range"],
+    ["tsap b b", "8 syntax"],
+    ["tsap b", "7 fields"],
+    ["connect a aa b bb normal 128 exp sum -", "1 order"],
     ["is a 490900", "4 repeat"],
     ["is r 490a00", "6 repeat"],
     ["set life 0", "10 range"],
@@ -56,7 +60,7 @@ pub const SET_UP: [[&str; 2]; 51] = [
 ];
 
 /// Lines that are refused after the set-up and `start`, with column and cause.
-pub const EVENTS: [[&str; 2]; 21] = [
+pub const EVENTS: [[&str; 2]; 34] = [
     ["unit a b es - 00", "10 syntax"],
     ["unit a b - p 00", "12 unknown"],
     ["unit a b - - 0", "14 syntax"],
@@ -74,7 +78,20 @@ pub const EVENTS: [[&str; 2]; 21] = [
     ["tick 1", "6 fields"],
     ["tick ", "6 fields"],
     [" tick", "1 word"],
-    ["settle", "1 word"],
+    ["settled", "1 word"],
+    ["settle 1", "8 fields"],
+    ["tsap b bb", "1 order"],
+    ["connect a aa c bb normal 128 exp sum -", "14 unknown"],
+    ["connect a - b bb normal 128 exp sum -", "11 range"],
+    ["connect a aa b bb wide 128 exp sum -", "19 syntax"],
+    ["connect a aa b bb normal 1000 exp sum -", "26 syntax"],
+    ["accept 1 normal 128 exp maybe -", "25 syntax"],
+    ["refuse b -", "8 syntax"],
+    ["data 1", "7 fields"],
+    ["window 1 256", "10 range"],
+    ["inject y b 00", "8 unknown"],
+    ["inject x c 00", "10 unknown"],
+    ["inject x b 0", "12 syntax"],
     ["start", "1 order"],
     ["lan y 1 1497", "1 order"],
     ["es d 490d00", "1 order"],

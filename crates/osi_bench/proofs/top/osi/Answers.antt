@@ -1,4 +1,5 @@
 use Rattle.std.proofs.Common.{rules, map, string_bytes}
+use Rattle.osi_bench.proofs.Handled.{shows_submitted}
 use Rattle.osi_bench.proofs.ScriptRuns.{gives_transcript, gives_exact, gives_complete}
 use Rattle.osi_bench.proofs.Words.{one_command}
 use Rattle.osi_bench.proofs.top.osi.Goals as goal
@@ -6,7 +7,8 @@ use Rattle.osi_bench.proofs.top.osi.Goals as goal
 pub returns-then-is_run-clause-run : goal.returns-then-is_run-clause-run
 returns-then-is_run-clause-run g c is =
     gives_transcript g.S.Source.left g.K.Sink.held
-    c.args.source.now c.args.sink.now c.new.result c.drive.new.source c.drive.new.sink c.drive.result c.new.ensures c.drive.ensures.outcome _ (search rules)
+    c.args.source.now c.args.sink.now c.new.result c.drive.new.source c.drive.new.sink c.drive.result c.new.ensures c.drive.ensures.outcome
+    (shows_submitted c.ends_are_lawful.ensures) _ (search rules)
 
 pub returns-then-is_run-clause-exact : goal.returns-then-is_run-clause-exact
 returns-then-is_run-clause-exact g c is all text asked tells asks =

@@ -1,0 +1,6 @@
+pub mod Adding
+pub mod Elements
+pub mod Entities
+pub mod Ports
+pub mod Starting
+pub mod Wellness

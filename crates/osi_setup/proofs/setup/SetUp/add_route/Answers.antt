@@ -1,0 +1,18 @@
+use Rattle.std.proofs.Common.{◌≡◌, ◌∙◌, ap, length, refl, subst, sym, Some, ℕ}
+use Rattle.std.specs.Prelude.{slice_get}
+use Rattle.std.proofs.lemmas.Option.{slice_get_read}
+use Rattle.osi_setup.specs.SetUp.{SetUp, hop_to}
+use Rattle.osi_setup.specs.Fitting.{IsNewRoute}
+use Rattle.osi_setup.proofs.Adding.{route_added}
+use Rattle.osi_setup.proofs.setup.SetUp.add_route.Goals as goal
+
+pub invariant_of-self : goal.invariant_of-self
+invariant_of-self c =
+    let setup : SetUp = record c.self.inside.shared { systems = c.self.inside.systems.items } in
+    let fits : IsNewRoute setup c.from.result c.args.prefix c.args.next c.args.lan =
+    subst (λ (n : ℕ). IsNewRoute setup n c.args.prefix c.args.next c.args.lan) (sym c.from.ensures)
+    (subst (λ (s : SetUp). IsNewRoute s c.args.system c.args.prefix c.args.next c.args.lan) (sym c.self.view_is) c.requires) in
+    let is : slice_get c.self.inside.systems.items c.from.result ≡ Some c.index_mut-system.result.now =
+    slice_get_read c.self.inside.systems.items (length c.self.inside.systems.items) c.from.result c.index_mut-system.result.now refl fits.known c.index_mut-system.ensures.value in
+    route_added c.add_route.result setup c.from.result c.index_mut-system.result.now c.add_route.new.self c.args.prefix c.in-Some.hop c.args.next c.args.lan c.self.invariant is fits
+    (ap (λ (s : SetUp). hop_to s c.args.next c.args.lan) c.self.view_is ∙ sym c.in-Some.ensures) c.add_route.ensures.ok c.add_route.ensures.same

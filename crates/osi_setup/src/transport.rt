@@ -1,0 +1,104 @@
+//! The transport entities of the end systems of a script (X.224, class 4: timers, frozen references).
+
+ghost use Rattle.std.specs.Prelude.{◌≡◌, ◌≤◌, ◌++◌, [], length, IfOk, OnOk};
+ghost use Rattle.std.specs.List.{AllByRecursion};
+ghost use Rattle.osi_setup.specs.Fitting.{AreLimits, AreSelectorsApart};
+ghost use Rattle.osi_setup.specs.SetUp.{entities_from, placed_at, timers_of, usual_limits};
+ghost use Rattle.tp4_conn.specs.End.{IsTimed};
+
+use crate::system::System;
+use osi_base::NoMemory;
+use std::alloc::Global;
+use tp4_conn::Timers;
+use tp4_world::Placed;
+
+/// The times and limits of transport. The times are in ticks.
+#[derive(Clone, Copy)]
+pub struct Limits {
+    /// T1, after which a TPDU without its answer is sent again: 1 to 255.
+    pub t1: u8,
+    /// N, how often a TPDU is sent: 2 to 16.
+    pub sendings: u8,
+    /// W, after which an AK is sent again: 1 to 255.
+    pub window: u8,
+    /// I, after which an end to which nothing comes is closed: 1 to 255.
+    pub inactive: u8,
+    /// The credit that an end gives at first: 0 to 15.
+    pub credit: u8,
+    /// The references of a system: 1 to 64.
+    pub references: u8,
+}
+
+impl Limits {
+    /// Those of a script that sets none.
+    pub fn new() -> Limits
+        ensures { result ≡ usual_limits }
+    {
+        Limits {
+            t1: 8,
+            sendings: 4,
+            window: 20,
+            inactive: 60,
+            credit: 8,
+            references: 64,
+        }
+    }
+
+    /// The times and counts of an end, where a TPDU is under way for so many ticks at most.
+    fn timers(self, life: u8) -> Timers
+        ensures { result ≡ timers_of life self }
+    {
+        Timers {
+            life: u32::from(life),
+            t1: u32::from(self.t1),
+            sendings: u32::from(self.sendings),
+            window: u32::from(self.window),
+            inactive: u32::from(self.inactive),
+            credit: u16::from(self.credit),
+        }
+    }
+}
+
+/// The transport entities of the end systems, in the order of their lines.
+pub fn entities(
+    alloc: Global,
+    limits: Limits,
+    life: u8,
+    systems: &[System],
+) -> Result<Vec<Placed>, NoMemory>
+    requires limits { AreLimits limits }
+    requires few { length systems.now ≤ 16 }
+    requires apart { AllByRecursion (λ system. AreSelectorsApart [] system.selectors) systems.now }
+    ensures { IfOk result (λ placed. placed.items ≡ entities_from life limits 0 systems.now) }
+{
+    let mut placed = Vec::new(alloc);
+    for (number, system) in systems.iter().enumerate() {
+        place(alloc, limits, life, number as u8, system, &mut placed)?;
+    }
+    Ok(placed)
+}
+
+/// Adds the transport entity of a system, where it is an end system.
+fn place(
+    alloc: Global,
+    limits: Limits,
+    life: u8,
+    number: u8,
+    system: &System,
+    placed: &mut Vec<Placed>,
+) -> Result<(), NoMemory>
+    requires limits { AreLimits limits }
+    requires apart { AreSelectorsApart [] system.now.selectors }
+    ensures { OnOk result (placed.new.items ≡ placed.old.items ++ placed_at life limits number system.now) }
+{
+    if !system.end {
+        return Ok(());
+    }
+    let references = u16::from(limits.references);
+    let entity = system.entity(alloc, references, limits.timers(life))?;
+    placed.push(Placed {
+        system: number,
+        entity,
+    })?;
+    Ok(())
+}
