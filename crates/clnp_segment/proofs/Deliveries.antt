@@ -1,19 +1,17 @@
 -- Whatever is cut, forwarded or comes twice, the PDUs stay segments of the unit with its key, and together they have all its
 -- octets. So once all of them came, each position has come, and the first answer after which it has is Whole.
-use Rattle.std.proofs.Common.{◌≡◌, ◌≢◌, ◌⊎◌, ℕ, zero, suc, ◌+◌, ◌<◌, ◌≤◌, Bool, true, false, List, [], ◌∷◌, ◌++◌, length, slice_get, if◌then◌else◌, Option, Some, None, refl, sym, ◌∙◌, ap, subst, arith, length-append, inl, inr}
+use Rattle.std.proofs.Common.{◌≡◌, ◌≢◌, ◌⊎◌, ℕ, zero, suc, ◌+◌, ◌<◌, Bool, true, false, List, [], ◌∷◌, ◌++◌, length, slice_get, if◌then◌else◌, Option, Some, refl, sym, ◌∙◌, ap, subst, arith, length-append, inl, inr}
 use Rattle.std.specs.Prelude.{MatchOption}
 use Rattle.std.specs.List.{AllByRecursion}
 use Rattle.clnp_header.specs.declared.pdu.Pdu.{Pdu}
-use Rattle.clnp_header.specs.declared.pdu.PduRef.{PduRef}
 use Rattle.clnp_header.specs.declared.pdu.SegmentPart.{SegmentPart}
-use Rattle.clnp_header.specs.Values.{value_of}
-use Rattle.clnp_header.specs.Writing.{header_length, pdu_length}
+use Rattle.clnp_header.specs.Writing.{header_length}
 use Rattle.clnp_segment.specs.Cutting.{Cuts, Pieces, piece_of, piece_pdus}
 use Rattle.clnp_segment.specs.Delivery.{AreAllOf, ComesWhole, HasCome, IsForwarded, IsInitial, IsMoved, IsOneOf, IsPieceOf, IsReadAs, JoinsWhatWasCut, MovesTo, key_in}
 use Rattle.clnp_segment.specs.Joining.{Has, IsOf, IsSegmentOf, Segment}
-use Rattle.clnp_segment.specs.Store.{AreApart, Coming, Holding, Key, Partial, coming_of, is_key, key_of}
-use Rattle.clnp_segment.specs.Units.{Came, HoldsOnly, IsOnly, TakesAll, segment_in}
-use Rattle.clnp_segment.specs.Whole.{AnswersBy, AnswersInTurn, Bring, BringAll, HasRoomFor, HoldsWhatCame, of_key, so_far_after}
+use Rattle.clnp_segment.specs.Store.{Coming, Key, Partial, is_key, key_of}
+use Rattle.clnp_segment.specs.Units.{Came, IsOnly, segment_in}
+use Rattle.clnp_segment.specs.Whole.{AnswersBy, AnswersInTurn, Bring, BringAll, HoldsWhatCame, of_key, so_far_after}
 use Rattle.clnp_segment.specs.declared.store.Joined.{Joined}
 use Rattle.clnp_segment.specs.declared.store.Joined.TheVariants as joined
 use Rattle.clnp_segment.proofs.Joins.{get_within}

@@ -3,6 +3,7 @@ mod Deliveries
 mod Determined
 mod Dues
 pub mod Joins
+mod Marks
 mod Pieces
 mod Read
 mod Rooms

@@ -1,13 +1,13 @@
 -- Room for whole units: units with differing keys use differing shares, so what is held is at most all the shares, and the
 -- store has at least these; so a segment that brings no more than its share is never Full.
-use Rattle.std.proofs.Common.{◌≡◌, ◌≢◌, ◌⊎◌, ℕ, suc, ◌+◌, ◌-◌, ◌<◌, ◌≤◌, List, [], ◌∷◌, ◌++◌, length, replicate, is_some, Option, Some, None, refl, sym, ◌∙◌, ap, subst, arith, length-append, inl, inr}
+use Rattle.std.proofs.Common.{◌≡◌, ◌≢◌, ℕ, suc, ◌+◌, ◌-◌, ◌≤◌, List, [], ◌∷◌, ◌++◌, length, is_some, Option, Some, None, refl, sym, ◌∙◌, ap, subst, arith, length-append, inl, inr}
 use Rattle.std.specs.List.{AllByRecursion}
 use Rattle.std.proofs.lemmas.List.{length-replicate}
 use Rattle.std.proofs.lemmas.List.Sums.{count_by-le-length}
-use Rattle.clnp_segment.specs.Joining.{Held, Segment, Together, filled_places, nothing_of}
+use Rattle.clnp_segment.specs.Joining.{Held, filled_places, nothing_of}
 use Rattle.clnp_segment.specs.Store.{AreApart, At, Coming, HasNoRoom, Holding, Key, Partial, TakesAt, found_or_nothing, key_of, octets_held, partial_with}
 use Rattle.clnp_segment.specs.Units.{Came, TakesAll}
-use Rattle.clnp_segment.specs.Whole.{HasRoomFor, HasShare, NoneIsFull, Share, octets_of}
+use Rattle.clnp_segment.specs.Whole.{HasShare, NoneIsFull, Share, octets_of}
 use Rattle.clnp_segment.specs.declared.store.Joined.{Joined}
 use Rattle.clnp_segment.specs.declared.store.Joined.TheVariants as joined
 use Rattle.clnp_segment.proofs.Slots.{none_filled}

@@ -1,6 +1,6 @@
 -- Places one by one: what is written into them is found there and nowhere else, a clash is found where there is one, and the
 -- places that are filled are as many more as were empty where octets are written.
-use Rattle.std.proofs.Common.{◌≡◌, ◌≢◌, ◌⊎◌, ℕ, zero, suc, ◌+◌, ◌-◌, ◌<◌, ◌≤◌, Bool, true, false, ◌||◌, List, [], ◌∷◌, ◌++◌, cond, count_by, drop, get_or, is_none, is_some, length, map, replicate, slice_get, slice_set, take, Option, Some, None, refl, sym, ◌∙◌, ap, subst, arith, drop-cons, add-one, inl, inr}
+use Rattle.std.proofs.Common.{◌≡◌, ◌≢◌, ◌⊎◌, ℕ, zero, suc, ◌+◌, ◌<◌, ◌≤◌, Bool, true, false, ◌||◌, List, [], ◌∷◌, ◌++◌, cond, count_by, drop, get_or, is_none, is_some, length, replicate, slice_get, slice_set, take, Option, Some, None, refl, sym, ◌∙◌, ap, subst, arith, drop-cons, add-one, inl, inr}
 use Rattle.std.proofs.lemmas.Grind.{common_steps}
 use Rattle.std.proofs.lemmas.Option.{slice_get-get_or}
 use Rattle.std.proofs.lemmas.List.Sums.{count_by-le-length, sum_by-cons}
@@ -105,30 +105,17 @@ clash_next slots place i octets inside here =
     let got : slice_get slots place ≡ Some (get_or slots place None) = slice_get-get_or slots place None inside in
     ap (λ (xs : List ℕ). is_clash slots place xs) cut ∙ ap (λ (s : Option (Option ℕ)). differs s (get_or octets i 0) || is_clash slots (place + 1) (drop (i + 1) octets)) got
 
-pub or_true : (a b : Bool) → a ≡ true → true ≡ (a || b)
-or_true a b h = sym (ap (λ (x : Bool). x || b) h)
-
-pub or_false : (a b : Bool) → a ≡ false → (a || b) ≡ b
-or_false a b h = ap (λ (x : Bool). x || b) h
-
--- one place more is taken
-pub slots_next : (slots : List (Option ℕ)) (i : ℕ) (done : List ℕ) (slot : Option ℕ) → i < length slots → get_or slots i None ≡ slot
-    → slots ≡ map Some done ++ drop i slots → slots ≡ map Some done ++ slot ∷ drop (i + 1) slots
-slots_next slots i done slot here is whole =
-    let cut : drop i slots ≡ get_or slots i None ∷ drop (i + 1) slots = grind (arith, common_steps, drop-cons slots i None) in
-    whole ∙ ap (λ (xs : List (Option ℕ)). map Some done ++ xs) (cut ∙ ap (λ (s : Option ℕ). s ∷ drop (i + 1) slots) is)
-
 -- ---- how many places are filled
 pub filled_none : (slots : List (Option ℕ)) → count_by is_some (None ∷ slots) ≡ count_by is_some slots
 filled_none slots = omega (arith, sum_by-cons (λ (slot : Option ℕ). cond (is_some slot) 1 0) None slots)
 
-filled_some : (octet : ℕ) (slots : List (Option ℕ)) → count_by is_some (Some octet ∷ slots) ≡ 1 + count_by is_some slots
+pub filled_some : (octet : ℕ) (slots : List (Option ℕ)) → count_by is_some (Some octet ∷ slots) ≡ 1 + count_by is_some slots
 filled_some octet slots = sum_by-cons (λ (slot : Option ℕ). cond (is_some slot) 1 0) (Some octet) slots
 
-empty_none : (slots : List (Option ℕ)) → count_by (is_none {T = ℕ}) (None ∷ slots) ≡ 1 + count_by (is_none {T = ℕ}) slots
+pub empty_none : (slots : List (Option ℕ)) → count_by (is_none {T = ℕ}) (None ∷ slots) ≡ 1 + count_by (is_none {T = ℕ}) slots
 empty_none slots = sum_by-cons (λ (slot : Option ℕ). cond (is_none slot) 1 0) None slots
 
-empty_some : (octet : ℕ) (slots : List (Option ℕ)) → count_by (is_none {T = ℕ}) (Some octet ∷ slots) ≡ count_by (is_none {T = ℕ}) slots
+pub empty_some : (octet : ℕ) (slots : List (Option ℕ)) → count_by (is_none {T = ℕ}) (Some octet ∷ slots) ≡ count_by (is_none {T = ℕ}) slots
 empty_some octet slots = omega (arith, sum_by-cons (λ (slot : Option ℕ). cond (is_none slot) 1 0) (Some octet) slots)
 
 count_set : (slots : List (Option ℕ)) (at octet : ℕ) → at < length slots
@@ -173,17 +160,15 @@ count_written slots at (octet ∷ octets) h =
     ap (λ (n : ℕ). count_by (is_none {T = ℕ}) (take (length octets) (drop n set))) (add-one at) ∙ ap (λ (xs : List (Option ℕ)). count_by (is_none {T = ℕ}) (take (length octets) xs)) (drop_set slots at (Some octet)) in
     omega (arith, rest, same, count_set slots at octet inside, count_cut slots at (length octets) inside)
 
--- the empty places of the run, as a slice gives them
-pub count_run : (slots lent : List (Option ℕ)) (at fresh : ℕ) (octets : List ℕ) → at + length octets ≤ length slots → lent ≡ slots
-    → fresh ≡ count_by (is_none {T = ℕ}) (take (at + length octets - at) (drop at lent)) → count_by is_some (written slots at octets) ≡ count_by is_some slots + fresh
-count_run slots lent at fresh octets h is counted =
-    let n : at + length octets - at ≡ length octets = omega arith in
-    let same : fresh ≡ count_by (is_none {T = ℕ}) (take (length octets) (drop at slots)) =
-    counted ∙ ap (λ (k : ℕ). count_by (is_none {T = ℕ}) (take k (drop at lent))) n ∙ ap (λ (xs : List (Option ℕ)). count_by (is_none {T = ℕ}) (take (length octets) (drop at xs))) is in
-    count_written slots at octets h ∙ ap (λ (k : ℕ). count_by is_some slots + k) (sym same)
+-- the empty places among those that are written
+pub count_fresh : (lent slots : List (Option ℕ)) (at fresh : ℕ) (octets : List ℕ) → at + length octets ≤ length slots → lent ≡ slots
+    → fresh ≡ count_by (is_none {T = ℕ}) (take (length octets) (drop at lent)) → count_by is_some (written slots at octets) ≡ count_by is_some slots + fresh
+count_fresh lent slots at fresh octets h same counted =
+    count_written slots at octets h
+    ∙ ap (λ (k : ℕ). count_by is_some slots + k) (sym (counted ∙ ap (λ (xs : List (Option ℕ)). count_by (is_none {T = ℕ}) (take (length octets) (drop at xs))) same))
 
 -- a whole vector is written back
-pub written_back : (n : ℕ) (slots rest : List (Option ℕ)) → n ≡ length slots → take n (slots ++ rest) ≡ slots
+pub written_back : {A : Type 0} (n : ℕ) (slots rest : List A) → n ≡ length slots → take n (slots ++ rest) ≡ slots
 written_back n slots rest is = ap (λ (k : ℕ). take k (slots ++ rest)) is ∙ take-append_seam slots rest
 
 -- all places are filled exactly where as many are filled as there are

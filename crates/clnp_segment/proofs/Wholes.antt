@@ -1,15 +1,15 @@
 -- What is held of a key is what the segments of its unit brought since it was last whole: a segment of the key adds its octets
 -- or ends the unit, and one of another key leaves the places of the key as they are.
-use Rattle.std.proofs.Common.{◌≡◌, ◌≢◌, ◌⊎◌, ◌↔◌, ℕ, ◌<◌, ◌-◌, ◌+◌, Bool, true, false, List, [], ◌∷◌, ◌++◌, length, if◌then◌else◌, Option, Some, None, refl, sym, ◌∙◌, ap, subst, arith, inl, inr}
-use Rattle.std.specs.List.{AllByRecursion, list_any}
-use Rattle.clnp_segment.specs.Joining.{Filled, Has, Held, Holds, IsOf, IsSegmentOf, Segment, Together, nothing_of}
-use Rattle.clnp_segment.specs.Store.{AreApart, At, Coming, Holding, Key, Partial, Takes, TakesAt, found_or_nothing, has_key, is_key, key_of, partial_with}
+use Rattle.std.proofs.Common.{◌≡◌, ◌≢◌, ◌↔◌, ℕ, ◌-◌, ◌+◌, Bool, true, false, List, [], ◌∷◌, ◌++◌, if◌then◌else◌, Option, Some, None, refl, sym, ◌∙◌, ap, subst, arith, inl, inr}
+use Rattle.std.specs.List.{AllByRecursion}
+use Rattle.clnp_segment.specs.Joining.{Filled, Held, Holds, IsOf, IsSegmentOf, Segment, Together, nothing_of}
+use Rattle.clnp_segment.specs.Store.{AreApart, At, Coming, Holding, Key, Partial, TakesAt, found_or_nothing, is_key, key_of, partial_with}
 use Rattle.clnp_segment.specs.Units.{AnswersOnly, Came, HoldsOnly, IsOnly, TakesAll}
 use Rattle.clnp_segment.specs.Whole.{AnswersBy, AnswersInTurn, Bring, BringAll, HoldsAt, HoldsWhatCame, WholeInTurn, of_key, so_far_after, so_far_in}
 use Rattle.clnp_segment.specs.declared.store.Joined.{Joined}
 use Rattle.clnp_segment.specs.declared.store.Joined.TheVariants as joined
 use Rattle.clnp_segment.proofs.Joins.{units_kept}
-use Rattle.clnp_segment.proofs.Storing.{all_back, all_front, apart_change, apart_more, apart_out, none_apart, own_key}
+use Rattle.clnp_segment.proofs.Storing.{apart_change, apart_more, apart_out, none_apart, own_key}
 use Rattle.clnp_segment.proofs.Units.{about, empty_place, key_there, one}
 
 -- ---- the places of a key

@@ -1,5 +1,5 @@
 -- The pieces of a PDU, cut and forwarded on the way and delivered in any order, come to its data (X.233, segmentation, reassembly).
-use Rattle.std.specs.Prelude.{◌≡◌, ◌≢◌, ◌⊎◌, ℕ, zero, suc, Bool, List, [], ◌∷◌, ◌++◌, length, take, Option, Some}
+use Rattle.std.specs.Prelude.{◌≡◌, ◌≢◌, ◌⊎◌, ℕ, zero, suc, Bool, List, [], ◌∷◌, ◌++◌, length, take, Some}
 use Rattle.std.specs.List.{AllByRecursion}
 use Rattle.pdu_parts.specs.Front.{BeginsWith}
 use Rattle.clnp_header.specs.declared.pdu.Pdu.{Pdu}

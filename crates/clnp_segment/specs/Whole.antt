@@ -1,5 +1,5 @@
 -- When a unit becomes whole (X.233, reassembly): exactly where each of its positions has come.
-use Rattle.std.specs.Prelude.{◌≡◌, ◌⊎◌, ◌↔◌, ◌-◌, ◌+◌, ◌≤◌, ◌<◌, ℕ, Bool, List, [], ◌∷◌, length, if◌then◌else◌}
+use Rattle.std.specs.Prelude.{◌≡◌, ◌⊎◌, ◌↔◌, ◌-◌, ◌+◌, ◌≤◌, ◌<◌, ℕ, List, [], ◌∷◌, length, if◌then◌else◌}
 use Rattle.std.specs.List.{AllByRecursion}
 use Rattle.clnp_segment.specs.Joining.{Has, Holds, Segment}
 use Rattle.clnp_segment.specs.Store.{AreApart, Holding, Key, Partial, is_key, key_of}

@@ -1,9 +1,10 @@
 //! What is held of one unit (X.233, reassembly).
 
-ghost use Rattle.std.specs.Prelude.{◌≡◌, ◌≤◌, ◌+◌, length, count_by, is_none, is_some, map, Some, IfOk};
+ghost use Rattle.std.specs.Prelude.{◌≡◌, ◌≤◌, ◌+◌, length, count_by, is_some, IfOk};
 ghost use Rattle.clnp_segment.specs.Joining.{Filled, IsUnit, nothing_of};
-ghost use Rattle.clnp_segment.specs.steps.Places.{Compares, Judges, differs, is_clash, segment_of, with_segment, written};
+ghost use Rattle.clnp_segment.specs.steps.Places.{Compares, Judges, segment_of, with_segment};
 
+use crate::places::Places;
 use osi_base::NoMemory;
 use std::alloc::Global;
 use std::marker::Model;
@@ -33,20 +34,15 @@ pub enum Verdict {
 pub struct Joint {
     header: usize,
     total: u16,
-    slots: Vec<Option<u8>>,
-    count: usize,
+    places: Places,
 }
 
-// The count is that of the places with an octet.
 impl Model for Joint {
-    ghost use Rattle.std.specs.Prelude.{◌≡◌, count_by, is_some};
     ghost use Rattle.clnp_segment.specs.Joining.{Held};
 
     ghost Value = { Held };
 
-    ghost view = { λ j. record { header = j.header; total = j.total; slots = j.slots.items } };
-
-    ghost invariant = { λ j. j.count ≡ count_by is_some j.slots.items };
+    ghost view = { λ j. record { header = j.header; total = j.total; slots = j.places } };
 }
 
 impl Joint {
@@ -59,8 +55,7 @@ impl Joint {
         Ok(Joint {
             header: segment.header,
             total: segment.total,
-            slots: vec![in alloc; None; places]?,
-            count: 0,
+            places: Places::new(alloc, places)?,
         })
     }
 
@@ -68,7 +63,7 @@ impl Joint {
     pub fn count(&self) -> usize
         ensures { result ≡ count_by is_some self.now.slots }
     {
-        self.count
+        self.places.count()
     }
 
     /// What the segment does.
@@ -88,11 +83,12 @@ impl Joint {
         requires { at + length octets.now ≤ length self.now.slots }
         ensures { Compares self.now.slots at octets.now result }
     {
-        if clashes(&self.slots, at, octets) {
+        if self.places.clash(at, octets) {
             return Verdict::Clash;
         }
-        let fresh = empty_places(&self.slots[at..at + octets.len()]);
-        if self.count + fresh == self.slots.len() {
+        let all = self.places.len();
+        let fresh = self.places.empty(at, octets.len());
+        if self.places.count() + fresh == all {
             return Verdict::Whole;
         }
         Verdict::Fresh(fresh)
@@ -103,75 +99,15 @@ impl Joint {
         requires { segment.now.offset + length segment.now.octets.now ≤ length self.old.slots }
         ensures { self.new ≡ with_segment self.old (segment_of segment.now) }
     {
-        let at = usize::from(segment.offset);
-        self.count += empty_places(&self.slots[at..at + segment.octets.len()]);
-        write(&mut self.slots, at, segment.octets);
+        self.places
+            .write(usize::from(segment.offset), segment.octets);
     }
 
     /// The unit, of which all octets are there.
-    pub fn unit(&self, alloc: Global) -> Result<Vec<u8>, NoMemory>
-        requires { Filled self.now }
-        ensures { IfOk result (λ octets. IsUnit self.now octets.items) }
+    pub fn unit(self) -> Vec<u8>
+        requires { Filled self }
+        ensures { IsUnit self result.items }
     {
-        unit_of(alloc, &self.slots)
+        self.places.into_octets()
     }
-}
-
-/// How many places are empty.
-fn empty_places(slots: &[Option<u8>]) -> usize
-    ensures { result ≡ count_by is_none slots.now }
-{
-    slots.iter().filter(|slot| slot.is_none()).count()
-}
-
-/// Whether an octet is another than that in its place.
-fn clashes(slots: &[Option<u8>], at: usize, octets: &[u8]) -> bool
-    requires { at + length octets.now ≤ length slots.now }
-    ensures { result ≡ is_clash slots.now at octets.now }
-{
-    let mut place = at;
-    for octet in octets {
-        if is_other(slots[place], *octet) {
-            return true;
-        }
-        place += 1;
-    }
-    false
-}
-
-/// Whether the place has another octet.
-fn is_other(slot: Option<u8>, octet: u8) -> bool
-    ensures { result ≡ differs (Some slot) octet }
-{
-    match slot {
-        Some(held) => held != octet,
-        None => false,
-    }
-}
-
-/// Writes the octets into their places.
-fn write(slots: &mut [Option<u8>], at: usize, octets: &[u8])
-    requires { at + length octets.now ≤ length slots.old }
-    ensures { slots.new ≡ written slots.old at octets.now }
-{
-    let mut place = at;
-    for octet in octets {
-        slots[place] = Some(*octet);
-        place += 1;
-    }
-}
-
-/// The octets in all the places, of which none is empty.
-fn unit_of(alloc: Global, slots: &[Option<u8>]) -> Result<Vec<u8>, NoMemory>
-    requires { count_by is_some slots.now ≡ length slots.now }
-    ensures { IfOk result (λ octets. slots.now ≡ map Some octets.items) }
-{
-    let mut octets = Vec::with_capacity(alloc, slots.len())?;
-    for slot in slots {
-        let Some(octet) = slot else {
-            unreachable!();
-        };
-        octets.push(*octet)?;
-    }
-    Ok(octets)
 }

@@ -4,6 +4,7 @@
 mod cutting;
 mod held;
 mod laws;
+mod places;
 mod store;
 mod unit;
 

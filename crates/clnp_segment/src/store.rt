@@ -173,7 +173,7 @@ impl Store {
             }
             Verdict::Whole => {
                 let unit = self.withdraw(place);
-                Ok(Joined::Whole(unit.whole(self.alloc, &segment)?))
+                Ok(Joined::Whole(unit.whole(&segment)))
             }
             Verdict::Fresh(fresh) if self.octets - self.used < fresh => Ok(Joined::Full),
             Verdict::Fresh(fresh) => {
@@ -199,7 +199,7 @@ impl Store {
         let mut unit = HeldUnit::new(self.alloc, deadline, incoming)?;
         match unit.judge(&segment) {
             Verdict::Clash => Ok(Joined::Interference),
-            Verdict::Whole => Ok(Joined::Whole(unit.whole(self.alloc, &segment)?)),
+            Verdict::Whole => Ok(Joined::Whole(unit.whole(&segment))),
             Verdict::Fresh(fresh) if !self.has_room(fresh) => Ok(Joined::Full),
             Verdict::Fresh(fresh) => {
                 unit.add(&segment, deadline);

@@ -127,14 +127,14 @@ impl HeldUnit {
     }
 
     /// The octets of the unit, which the segment fills.
-    pub fn whole(self, alloc: Global, segment: &SegmentRef<'_>) -> Result<Bytes, NoMemory>
+    pub fn whole(self, segment: &SegmentRef<'_>) -> Bytes
         requires within { segment.now.offset + length segment.now.octets.now ≤ length self.held.slots }
         requires filled { Filled (with_segment self.held (segment_of segment.now)) }
-        ensures { IfOk result (λ octets. IsUnit (with_segment self.held (segment_of segment.now)) octets) }
+        ensures { IsUnit (with_segment self.held (segment_of segment.now)) result }
     {
         let mut joint = self.joint;
         joint.write(segment);
-        Ok(Bytes::of(joint.unit(alloc)?))
+        Bytes::of(joint.unit())
     }
 
     /// What is told of it where it expires.

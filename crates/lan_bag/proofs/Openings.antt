@@ -1,8 +1,10 @@
 -- The first frame that a system can take and has not taken: what changes do to it, and the least fresh pair.
-use Rattle.std.proofs.Common.{◌≡◌, ◌≢◌, ◌⊎◌, inl, inr, get_or, ℕ, zero, suc, ◌+◌, ◌<◌, ◌≤◌, Bool, true, false, not, ◌&&◌, ◌||◌, ◌==◌, nat_lt, IsTrue, if◌then◌else◌, List, [], ◌∷◌, ◌++◌, length, map, take, set, refl, sym, ◌∙◌, ap, subst, arith, Option, Some, None, slice_get, All}
+use Rattle.std.proofs.Common.{◌≡◌, ◌≢◌, ◌⊎◌, inl, inr, get_or, ℕ, zero, suc, ◌+◌, ◌<◌, ◌≤◌, Bool, true, false, not, ◌&&◌, ◌||◌, ◌==◌, nat_lt, IsTrue, if◌then◌else◌, List, [], ◌∷◌, ◌++◌, length, length-append, map, take, set, refl, sym, ◌∙◌, ap, subst, arith, Option, Some, None, slice_get, All}
+use Rattle.std.specs.Prelude.{IsSome}
 use Rattle.std.specs.List.{list_any}
 use Rattle.std.proofs.lemmas.Bool.{cases_Bool, cases_lt}
 use Rattle.std.proofs.lemmas.Bool.Decides.{nat_tests, eqb_tells}
+use Rattle.std.proofs.lemmas.List.{length-map, length-set}
 use Rattle.std.proofs.lemmas.List.Elements.{All-nil, All-cons, All-head, All-tail, All-more}
 use Rattle.osi_base.specs.declared.unit.Picked.TheVariants.{Late}
 use Rattle.nsap.specs.declared.port.Port.{Port}
@@ -129,6 +131,72 @@ tick_closes clock lans rows (Some frame) h = by_live (is_live (clock + 1) lans f
 pub closed_ticked : (clock : ℕ) (lans : List Lan) (rows : List PortRow) (frames : List (Option Frame)) (place : ℕ) → IsFirstOpen clock lans rows frames place → IsClosedTo (clock + 1) lans rows (map (kept_at (clock + 1) lans) frames) place
 closed_ticked clock lans rows frames place f k lt =
     ap (is_open (clock + 1) lans rows) (kept_places (clock + 1) lans frames k) ∙ tick_closes clock lans rows (kept (slice_get frames k)) (f.before k lt)
+
+-- the first open frame stays the first where another changes, and where it is not late after a tick
+
+pub first_pushed : (clock : ℕ) (lans : List Lan) (rows : List PortRow) (frames : List (Option Frame)) (place number : ℕ) (slot : Option Frame) → IsFirstOpen clock lans rows frames place → place + 1 ≢ number → number ≡ length frames + 1 → IsFirstOpen clock lans rows (frames ++ slot ∷ []) place
+first_pushed clock lans rows frames place number slot f other is =
+    let inside : place < length frames = omega (arith, f.within) in
+    record {
+      within = omega (arith, length-append frames (slot ∷ []));
+      before = closed_pushed clock lans rows frames place slot f;
+      here = λ _. ap (λ (o : Option (Option Frame)). is_open clock lans rows (kept o)) (push_kept frames slot place inside) ∙ f.here inside;
+    }
+
+marked_first : (clock : ℕ) (lans : List Lan) (rows : List PortRow) (frames : List (Option Frame)) (place i system : ℕ) (o : Option Frame) → IsFirstOpen clock lans rows frames place → place ≢ i → IsClosedTo clock lans rows (marked_frame frames i system o) place → IsFirstOpen clock lans rows (marked_frame frames i system o) place
+marked_first clock lans rows frames place i system None f other closed = f
+marked_first clock lans rows frames place i system (Some frame) f other closed = record {
+  within = omega (arith, f.within, length-set frames i (Some (marked frame system)));
+  before = closed;
+  here = λ lt.
+      ap (λ (o : Option (Option Frame)). is_open clock lans rows (kept o)) (set_other frames (Some (marked frame system)) i place other)
+      ∙ f.here (omega (arith, lt, length-set frames i (Some (marked frame system))));
+}
+
+pub first_marked : (clock : ℕ) (lans : List Lan) (rows : List PortRow) (frames : List (Option Frame)) (place number system : ℕ) → IsFirstOpen clock lans rows frames place → place + 1 ≢ number → IsFirstOpen clock lans rows (marked_at frames number system) place
+first_marked clock lans rows frames place zero system f other = f
+first_marked clock lans rows frames place (suc i) system f other =
+    marked_first clock lans rows frames place i system (kept (slice_get frames i)) f (λ same. other (omega (arith, same)))
+    (closed_marked clock lans rows frames place (suc i) system f)
+
+-- what is open to some system is open while it is live
+any_more : {X : Type 0} (p q : X → Bool) → ((x : X) → p x ≡ true → q x ≡ true) → (xs : List X) → list_any p xs ≡ true → list_any q xs ≡ true
+any_more p q more xs h =
+    elim (cases_Bool (list_any q xs)) [
+      | inl some ↦ some
+      | inr none ↦ let closed = any_less q p (λ x no_q. not_more (p x) (q x) (more x) no_q) xs none in cc
+    ]
+  where
+    not_more : (a b : Bool) → (a ≡ true → b ≡ true) → b ≡ false → a ≡ false
+    not_more true b m e = let t = m refl in cc
+    not_more false b m e = refl
+
+stays_open_to : (clock : ℕ) (lans : List Lan) (rows : List PortRow) (frame : Frame) (system : ℕ) → is_live (clock + 1) lans frame ≡ true → is_open_to clock lans rows frame system ≡ true → is_open_to (clock + 1) lans rows frame system ≡ true
+stays_open_to clock lans rows frame system live h = grind (arith, nat_tests)
+
+stays_open : (clock : ℕ) (lans : List Lan) (rows : List PortRow) (slot : Option Frame) → is_open clock lans rows slot ≡ true → IsSome (kept_at (clock + 1) lans slot) → is_open (clock + 1) lans rows (kept_at (clock + 1) lans slot) ≡ true
+stays_open clock lans rows None h kept = cc
+stays_open clock lans rows (Some frame) h kept = by_live (is_live (clock + 1) lans frame) refl kept
+  where
+    by_live : (b : Bool) → is_live (clock + 1) lans frame ≡ b → IsSome (if b then Some frame else None) → is_open (clock + 1) lans rows (if b then Some frame else None) ≡ true
+    by_live true live some =
+        any_more (λ (row : PortRow). is_open_to clock lans rows frame row.system) (λ (row : PortRow). is_open_to (clock + 1) lans rows frame row.system)
+        (λ row e. stays_open_to clock lans rows frame row.system live e) rows h
+    by_live false live some = cc
+
+pub first_ticked : (clock : ℕ) (lans : List Lan) (rows : List PortRow) (frames : List (Option Frame)) (place : ℕ) → IsFirstOpen clock lans rows frames place → IsSome (kept (slice_get (map (kept_at (clock + 1) lans) frames) place)) → IsFirstOpen (clock + 1) lans rows (map (kept_at (clock + 1) lans) frames) place
+first_ticked clock lans rows frames place f some = record {
+  within = omega (arith, f.within, length-map frames (kept_at (clock + 1) lans));
+  before = closed_ticked clock lans rows frames place f;
+  here = λ lt.
+      ap (is_open (clock + 1) lans rows) (kept_places (clock + 1) lans frames place)
+      ∙ stays_open clock lans rows (kept (slice_get frames place)) (f.here (omega (arith, lt, length-map frames (kept_at (clock + 1) lans))))
+      (subst IsSome (kept_places (clock + 1) lans frames place) some);
+}
+
+-- the first open one at equal frames
+pub first_same : (clock : ℕ) (lans : List Lan) (rows : List PortRow) (frames other : List (Option Frame)) (place : ℕ) → IsFirstOpen clock lans rows frames place → other ≡ frames → IsFirstOpen clock lans rows other place
+first_same clock lans rows frames other place h e = subst (λ (fs : List (Option Frame)). IsFirstOpen clock lans rows fs place) (sym e) h
 
 -- the system may take what stands there, and has not
 abbrev open_in : ℕ → List Lan → List PortRow → Option Frame → ℕ → Bool

@@ -6,7 +6,7 @@ ghost use Rattle.lan_bag.specs.Rows.{IsSetUp, sender_of};
 ghost use Rattle.lan_bag.specs.Bag.{frame_note};
 ghost use Rattle.lan_bag.specs.Frames.{live_frame, octets_of, offered, frame_of, strays_of};
 
-use crate::delivery::{answer_to, first_open, first_system, judge};
+use crate::delivery::{answer_to, first_system, judge, open_after, open_while_live};
 use crate::frame::{Sent, up_of};
 use crate::setup::{Lan, PortRow, Setup};
 use crate::store::Store;
@@ -92,24 +92,27 @@ impl LanBag {
         ensures { IfOk result (λ answer. BagStep self.old (Offer unit.now wish answer) self.new) }
     {
         let _ = wish;
-        let answer = answer_to(&self.setup, &self.frames, unit);
+        let sender = self.setup.system_of(&unit.from);
+        let answer = answer_to(&self.setup, &self.frames, sender, unit);
         if answer == Offered::Taken {
-            self.keep(unit)?;
+            self.keep(sender, unit)?;
         }
         Ok(answer)
     }
 
-    /// Keeps the frame of a unit that is taken, and tells of it.
-    fn keep(&mut self, unit: &Unit<Port>) -> Result<(), NoMemory>
-        requires { WasTaken ≡ offered self.old.lans self.old.rows self.old.frames unit.now }
+    /// Keeps the frame of a unit of a system that is taken, and tells of it.
+    fn keep(&mut self, sender: Option<u8>, unit: &Unit<Port>) -> Result<(), NoMemory>
+        requires sender { sender ≡ sender_of self.old.rows unit.now.from }
+        requires taken { WasTaken ≡ offered self.old.lans self.old.rows self.old.frames unit.now }
         ensures { OnOk result (self.new ≡ after_offer self.old unit.now WasTaken) }
     {
         let sent = Sent::new(self.alloc, self.clock, unit)?;
         let place = self.frames.count();
-        tell(&self.setup, place + 1, unit, &mut self.waiting)?;
+        tell(sender, place + 1, unit, &mut self.waiting)?;
         self.wheel.list(self.setup.bound(unit.to.lan), place)?;
         self.frames.push(sent)?;
-        self.fresh_at = first_open(self.clock, &self.setup, &self.frames, self.fresh_at);
+        let fresh_at = self.fresh_at;
+        self.fresh_at = open_after(self.clock, &self.setup, &self.frames, fresh_at, place + 1);
         Ok(())
     }
 
@@ -134,7 +137,8 @@ impl LanBag {
         let arrival = sent.arrival(self.alloc, system)?;
         self.waiting.push_back(Up::Unit(arrival))?;
         self.frames.mark(pick, system)?;
-        self.fresh_at = first_open(self.clock, &self.setup, &self.frames, self.fresh_at);
+        let fresh_at = self.fresh_at;
+        self.fresh_at = open_after(self.clock, &self.setup, &self.frames, fresh_at, pick);
         Ok(())
     }
 
@@ -161,7 +165,8 @@ impl LanBag {
         let due = self.wheel.turn();
         self.clock += 1;
         self.frames.give_up(self.clock, &self.setup, &due);
-        self.fresh_at = first_open(self.clock, &self.setup, &self.frames, self.fresh_at);
+        let fresh_at = self.fresh_at;
+        self.fresh_at = open_while_live(self.clock, &self.setup, &self.frames, fresh_at);
     }
 
     /// The least pair that a choice would take and has not taken.
@@ -174,12 +179,12 @@ impl LanBag {
     }
 }
 
-/// Tells of a frame that is sent.
-fn tell(setup: &Setup, number: u32, unit: &Unit<Port>, ups: &mut Ups) -> Result<(), NoMemory>
+/// Tells of a frame that a system sends.
+fn tell(sender: Option<u8>, number: u32, unit: &Unit<Port>, ups: &mut Ups) -> Result<(), NoMemory>
     requires { length unit.now.octets ≤ 1497 }
-    ensures { OnOk result (ups.new.items ≡ ups.old.items ++ frame_note number (sender_of setup.now.rows unit.now.from) unit.now) }
+    ensures { OnOk result (ups.new.items ≡ ups.old.items ++ frame_note number sender unit.now) }
 {
-    if let Some(system) = setup.system_of(&unit.from) {
+    if let Some(system) = sender {
         let mut snpa = [0; 6];
         snpa.copy_from_slice(unit.to.snpa.octets());
         let note = Note::Frame {

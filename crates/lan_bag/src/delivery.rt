@@ -1,8 +1,9 @@
 //! Which answers offers and choices get, and which frame comes next (IEEE 802.3).
 
-ghost use Rattle.std.specs.Prelude.{◌≡◌, ◌≤◌, length, Some, option_copied};
+ghost use Rattle.std.specs.Prelude.{◌≡◌, ◌≢◌, ◌≤◌, ◌+◌, length, IsSome, Some, option_copied, slice_get};
 ghost use Rattle.std.specs.List.{list_any};
-ghost use Rattle.lan_bag.specs.Frames.{offered, picked, picked_of};
+ghost use Rattle.lan_bag.specs.Rows.{sender_of};
+ghost use Rattle.lan_bag.specs.Frames.{kept, offered, picked, picked_of};
 ghost use Rattle.lan_bag.specs.steps.Openings.{is_open_at, is_open, IsClosedTo, IsFirstOpen, IsLeastOpen, lesser_of};
 
 use crate::frame::Sent;
@@ -11,11 +12,12 @@ use crate::store::Store;
 use nsap::Port;
 use osi_base::{DropCause, Offered, Picked, Tick, Unit};
 
-/// The answer to an offer: the first cause that applies.
-pub fn answer_to(setup: &Setup, frames: &Store, unit: &Unit<Port>) -> Offered
+/// The answer to an offer of a unit of a system: the first cause that applies.
+pub fn answer_to(setup: &Setup, frames: &Store, sender: Option<u8>, unit: &Unit<Port>) -> Offered
+    requires { sender ≡ sender_of setup.now.rows unit.now.from }
     ensures { result ≡ offered setup.now.lans setup.now.rows frames.now unit.now }
 {
-    if setup.system_of(&unit.from).is_none() || unit.from.lan != unit.to.lan {
+    if sender.is_none() || unit.from.lan != unit.to.lan {
         Offered::Dropped(DropCause::NoRoute)
     } else if unit.octets.as_slice().len() as u64 > u64::from(setup.room(unit.to.lan)) {
         Offered::Dropped(DropCause::TooLong)
@@ -66,7 +68,13 @@ fn is_free(clock: Tick, setup: &Setup, frame: Option<&Sent>) -> bool
 fn has_free_port(clock: Tick, setup: &Setup, sent: &Sent) -> bool
     ensures { result ≡ list_any (is_open_at clock setup.now.lans setup.now.rows sent.now) setup.now.rows }
 {
-    let rows = setup.rows();
+    is_free_among(setup.rows_on(sent.to().lan), clock, setup, sent)
+}
+
+/// The same, for some port among these.
+fn is_free_among(rows: &[PortRow], clock: Tick, setup: &Setup, sent: &Sent) -> bool
+    ensures { result ≡ list_any (is_open_at clock setup.now.lans setup.now.rows sent.now) rows.now }
+{
     rows.iter().any(|row| is_free_at(clock, setup, sent, row))
 }
 
@@ -81,7 +89,7 @@ fn is_free_at(clock: Tick, setup: &Setup, sent: &Sent, row: &PortRow) -> bool
 }
 
 /// The place of the first frame, from that place on, that a system may take and has not taken.
-pub fn first_open(clock: Tick, setup: &Setup, frames: &Store, from: u32) -> u32
+fn first_open(clock: Tick, setup: &Setup, frames: &Store, from: u32) -> u32
     requires within { from ≤ length frames.now }
     requires closed { IsClosedTo clock setup.now.lans setup.now.rows frames.now from }
     ensures { IsFirstOpen clock setup.now.lans setup.now.rows frames.now result }
@@ -93,12 +101,39 @@ pub fn first_open(clock: Tick, setup: &Setup, frames: &Store, from: u32) -> u32
     place
 }
 
+/// The same where the first that can be taken was at a place, and since then at most the frame of a number came or was taken.
+pub fn open_after(clock: Tick, setup: &Setup, frames: &Store, from: u32, number: u32) -> u32
+    requires within { from ≤ length frames.now }
+    requires closed { IsClosedTo clock setup.now.lans setup.now.rows frames.now from }
+    requires others { from + 1 ≢ number → IsFirstOpen clock setup.now.lans setup.now.rows frames.now from }
+    ensures { IsFirstOpen clock setup.now.lans setup.now.rows frames.now result }
+{
+    if u64::from(from) + 1 == u64::from(number) {
+        first_open(clock, setup, frames, from)
+    } else {
+        from
+    }
+}
+
+/// The same where the first that can be taken was at a place, and since then the frames that are late were given up.
+pub fn open_while_live(clock: Tick, setup: &Setup, frames: &Store, from: u32) -> u32
+    requires within { from ≤ length frames.now }
+    requires closed { IsClosedTo clock setup.now.lans setup.now.rows frames.now from }
+    requires stands { IsSome (kept (slice_get frames.now from)) → IsFirstOpen clock setup.now.lans setup.now.rows frames.now from }
+    ensures { IsFirstOpen clock setup.now.lans setup.now.rows frames.now result }
+{
+    match frames.at(from) {
+        Some(_) => from,
+        None => first_open(clock, setup, frames, from),
+    }
+}
+
 /// The least system that may take a frame, and has not.
 pub fn first_system(clock: Tick, setup: &Setup, sent: &Sent) -> Option<u8>
     ensures { IsLeastOpen clock setup.now.lans setup.now.rows sent.now result }
 {
     let mut least = None;
-    for row in setup.rows() {
+    for row in setup.rows_on(sent.to().lan) {
         if is_free_at(clock, setup, sent, row) {
             least = Some(lesser(least, row.system));
         }

@@ -1,7 +1,8 @@
 //! The LANs and which system has which port (IEEE 802.3; ISO 9542, subnetwork addresses).
 
-ghost use Rattle.std.specs.Prelude.{◌≡◌, IfOk};
+ghost use Rattle.std.specs.Prelude.{◌≡◌, IfOk, map};
 ghost use Rattle.lan_bag.specs.Rows.{bound_on, room_on, is_on, sender_of, has_sent, goes_to, is_one_of, group_of_kind};
+ghost use Rattle.lan_bag.specs.steps.Setting.{AreOfLans, rows_on};
 
 use nsap::{Port, Snpa};
 use osi_base::NoMemory;
@@ -45,14 +46,19 @@ pub struct PortRow {
 pub struct Setup {
     lans: Vec<Lan>,
     rows: Vec<PortRow>,
+    lists: Vec<Vec<PortRow>>,
 }
 
+// The ports on each LAN that is listed are in its list.
 impl Model for Setup {
-    ghost use Rattle.lan_bag.specs.steps.Setting.{Setting};
+    ghost use Rattle.std.specs.Prelude.{map};
+    ghost use Rattle.lan_bag.specs.steps.Setting.{AreOfLans, Setting};
 
     ghost Value = { Setting };
 
     ghost view = { λ s. record { lans = s.lans.items; rows = s.rows.items } };
+
+    ghost invariant = { λ s. AreOfLans (map (λ list. list.items) s.lists.items) s.rows.items };
 }
 
 impl Setup {
@@ -60,15 +66,19 @@ impl Setup {
     pub fn new(alloc: Global, lans: &[Lan], rows: &[PortRow]) -> Result<Setup, NoMemory>
         ensures { IfOk result (λ setup. setup ≡ record { lans = lans.now; rows = rows.now }) }
     {
+        let lists = lists_of(alloc, lans.len(), rows)?;
         let (lans, rows) = (lans.to_vec(alloc)?, rows.to_vec(alloc)?);
-        Ok(Setup { lans, rows })
+        Ok(Setup { lans, rows, lists })
     }
 
-    /// The ports.
-    pub fn rows(&self) -> &[PortRow]
-        ensures { result.now ≡ self.now.rows }
+    /// Ports among which are those on a LAN, and for a LAN that is listed no others.
+    pub fn rows_on(&self, lan: u8) -> &[PortRow]
+        ensures { rows_on result.now lan ≡ rows_on self.now.rows lan }
     {
-        &self.rows
+        match self.lists.get(usize::from(lan)) {
+            Some(list) => list,
+            None => &self.rows,
+        }
     }
 
     /// The bound of a LAN.
@@ -86,42 +96,35 @@ impl Setup {
     }
 
     /// Whether a system has a port on a LAN.
+    #[tactic(auto, using(crate::proofs::LanLists::on_alike))]
     pub fn has_port(&self, system: u8, lan: u8) -> bool
         ensures { result ≡ is_on self.now.rows system lan }
     {
-        self.rows
-            .iter()
-            .any(|row| row.system == system && row.port.lan == lan)
+        is_on(self.rows_on(lan), system, lan)
     }
 
     /// The system that has a port; None exactly where none has.
+    #[tactic(auto, using(crate::proofs::LanLists::sender_on))]
     pub fn system_of(&self, port: &Port) -> Option<u8>
         ensures { result ≡ sender_of self.now.rows port.now }
     {
-        for row in &self.rows {
-            if row.port == *port {
-                return Some(row.system);
-            }
-        }
-        None
+        sender_of(self.rows_on(port.lan), port)
     }
 
     /// Whether a port is one of a system.
+    #[tactic(auto, using(crate::proofs::LanLists::sent_alike))]
     pub fn is_sender(&self, system: u8, from: &Port) -> bool
         ensures { result ≡ has_sent self.now.rows system from.now }
     {
-        self.rows
-            .iter()
-            .any(|row| row.system == system && row.port == *from)
+        has_sent(self.rows_on(from.lan), system, from)
     }
 
     /// Whether a system is one of a destination.
+    #[tactic(auto, using(crate::proofs::LanLists::goes_alike))]
     pub fn is_receiver(&self, system: u8, to: &Port) -> bool
         ensures { result ≡ goes_to self.now.rows to.now system }
     {
-        self.rows
-            .iter()
-            .any(|row| row.system == system && row.is_one_of(to))
+        goes_to(self.rows_on(to.lan), system, to)
     }
 }
 
@@ -143,4 +146,61 @@ fn group_of(end: bool) -> Snpa
     } else {
         ALL_INTERMEDIATE_SYSTEMS
     })
+}
+
+/// Whether a system has a port on a LAN, among these.
+fn is_on(rows: &[PortRow], system: u8, lan: u8) -> bool
+    ensures { result ≡ is_on rows.now system lan }
+{
+    rows.iter()
+        .any(|row| row.system == system && row.port.lan == lan)
+}
+
+/// The first system that has a port, among these.
+fn sender_of(rows: &[PortRow], port: &Port) -> Option<u8>
+    ensures { result ≡ sender_of rows.now port.now }
+{
+    for row in rows {
+        if row.port == *port {
+            return Some(row.system);
+        }
+    }
+    None
+}
+
+/// Whether a port is one of a system, among these.
+fn has_sent(rows: &[PortRow], system: u8, from: &Port) -> bool
+    ensures { result ≡ has_sent rows.now system from.now }
+{
+    rows.iter()
+        .any(|row| row.system == system && row.port == *from)
+}
+
+/// Whether a system is one of a destination, by these.
+fn goes_to(rows: &[PortRow], system: u8, to: &Port) -> bool
+    ensures { result ≡ goes_to rows.now to.now system }
+{
+    rows.iter()
+        .any(|row| row.system == system && row.is_one_of(to))
+}
+
+/// The ports on each LAN.
+#[tactic(auto, using(crate::proofs::LanLists::listed_more))]
+fn lists_of(alloc: Global, lans: usize, rows: &[PortRow]) -> Result<Vec<Vec<PortRow>>, NoMemory>
+    ensures { IfOk result (λ lists. AreOfLans (map (λ list. list.items) lists.items) rows.now) }
+{
+    let mut lists = Vec::new(alloc);
+    for lan in 0..lans {
+        lists.push(list_of(alloc, lan, rows)?)?;
+    }
+    Ok(lists)
+}
+
+/// The ports on a LAN.
+fn list_of(alloc: Global, lan: usize, rows: &[PortRow]) -> Result<Vec<PortRow>, NoMemory>
+    ensures { IfOk result (λ list. list.items ≡ rows_on rows.now lan) }
+{
+    let rows = rows.iter().copied();
+    let list = rows.filter(|row| usize::from(row.port.lan) == lan);
+    Ok(list.collect(alloc)?)
 }

@@ -1,5 +1,6 @@
 -- The LANs and the ports, as they are kept.
-use Rattle.std.specs.Prelude.{List}
+use Rattle.std.specs.Prelude.{◌≡◌, ℕ, ◌<◌, ◌==◌, List, [], length, get_or}
+use Rattle.std.specs.List.{filter}
 use Rattle.lan_bag.specs.declared.setup.Lan.{Lan}
 use Rattle.lan_bag.specs.declared.setup.PortRow.{PortRow}
 
@@ -7,3 +8,11 @@ use Rattle.lan_bag.specs.declared.setup.PortRow.{PortRow}
 pub record Setting : Type 0 where
   pub lans : List Lan
   pub rows : List PortRow
+
+-- the ports on a LAN
+abbrev pub rows_on : List PortRow → ℕ → List PortRow
+rows_on rows lan = filter (λ row. row.port.lan == lan) rows
+
+-- each list has the ports on the LAN of its place
+abbrev pub AreOfLans : List (List PortRow) → List PortRow → Type 0
+AreOfLans lists rows = (lan : ℕ) → lan < length lists → get_or lists lan [] ≡ rows_on rows lan

@@ -1,26 +1,59 @@
 use Rattle.std.proofs.Common.{◌≡◌, ℕ, List, Option, count_by, is_some, length, sym, ◌∙◌, ap, arith}
+use Rattle.std.proofs.lemmas.List.Sums.{count_by-le-length}
 use Rattle.clnp_segment.specs.Joining.{Held}
-use Rattle.clnp_segment.specs.steps.Places.{is_clash}
-use Rattle.clnp_segment.proofs.Slots.{count_run, written_length}
+use Rattle.clnp_segment.specs.steps.Places.{is_clash, written}
+use Rattle.clnp_segment.proofs.Slots.{count_fresh, written_length}
 use Rattle.clnp_segment.proofs.held.Joint.compare.Goals as goal
 
-pub returns-then-self-fresh : goal.returns-then-self-fresh
-returns-then-self-fresh c =
+pub overflow_add-count : goal.overflow_add-count
+overflow_add-count c =
     let slots = c.args.self.now.slots in
-    let same : slots ≡ c.self.inside.slots.items = sym (ap (λ (h : Held). h.slots) c.self.view_is) in
-    let counts : c.self.inside.count ≡ count_by is_some slots = c.self.invariant ∙ ap (λ (xs : List (Option ℕ)). count_by is_some xs) (sym same) in
-    let counted = count_run slots c.deref-2.result.now c.args.at c.empty_places-fresh.result c.args.octets.now c.requires (c.deref-2.ensures.value ∙ sym same) c.empty_places-fresh.ensures in (
-      ap (λ (xs : List (Option ℕ)). is_clash xs c.args.at c.args.octets.now) (same ∙ sym c.deref.ensures.value) ∙ sym c.clashes.ensures ∙ c.if-clashes.false,
-      omega (arith, counted, counts, c.if-self-fresh.true, c.len.ensures, ap (λ (xs : List (Option ℕ)). length xs) same, written_length slots c.args.at c.args.octets.now),
+    let same : c.self.inside.places ≡ slots = ap (λ (h : Held). h.slots) c.self.view_is in
+    let counted = count_fresh c.self.inside.places slots c.args.at c.empty-fresh.result c.args.octets.now c.requires same c.empty-fresh.ensures in
+    omega (
+      arith,
+      counted,
+      c.count.ensures,
+      ap (λ (xs : List (Option ℕ)). count_by is_some xs) same,
+      c.len-all.ensures,
+      ap (λ (xs : List (Option ℕ)). length xs) same,
+      count_by-le-length is_some (written slots c.args.at c.args.octets.now),
+      written_length slots c.args.at c.args.octets.now,
+    )
+
+pub returns-then-count-fresh : goal.returns-then-count-fresh
+returns-then-count-fresh c =
+    let slots = c.args.self.now.slots in
+    let same : c.self.inside.places ≡ slots = ap (λ (h : Held). h.slots) c.self.view_is in
+    let counted = count_fresh c.self.inside.places slots c.args.at c.empty-fresh.result c.args.octets.now c.requires same c.empty-fresh.ensures in (
+      ap (λ (xs : List (Option ℕ)). is_clash xs c.args.at c.args.octets.now) (sym same) ∙ (sym c.clash.ensures ∙ c.if-clash.false),
+      omega (
+        arith,
+        counted,
+        c.if-count-fresh.true,
+        c.count.ensures,
+        ap (λ (xs : List (Option ℕ)). count_by is_some xs) same,
+        c.len-all.ensures,
+        ap (λ (xs : List (Option ℕ)). length xs) same,
+        written_length slots c.args.at c.args.octets.now,
+      ),
     )
 
 pub returns : goal.returns
 returns c =
     let slots = c.args.self.now.slots in
-    let same : slots ≡ c.self.inside.slots.items = sym (ap (λ (h : Held). h.slots) c.self.view_is) in
-    let counts : c.self.inside.count ≡ count_by is_some slots = c.self.invariant ∙ ap (λ (xs : List (Option ℕ)). count_by is_some xs) (sym same) in
-    let counted = count_run slots c.deref-2.result.now c.args.at c.empty_places-fresh.result c.args.octets.now c.requires (c.deref-2.ensures.value ∙ sym same) c.empty_places-fresh.ensures in (
-      ap (λ (xs : List (Option ℕ)). is_clash xs c.args.at c.args.octets.now) (same ∙ sym c.deref.ensures.value) ∙ sym c.clashes.ensures ∙ c.if-clashes.false,
-      λ all. omega (arith, counted, counts, c.if-self-fresh.false, c.len.ensures, ap (λ (xs : List (Option ℕ)). length xs) same, written_length slots c.args.at c.args.octets.now, all),
+    let same : c.self.inside.places ≡ slots = ap (λ (h : Held). h.slots) c.self.view_is in
+    let counted = count_fresh c.self.inside.places slots c.args.at c.empty-fresh.result c.args.octets.now c.requires same c.empty-fresh.ensures in (
+      ap (λ (xs : List (Option ℕ)). is_clash xs c.args.at c.args.octets.now) (sym same) ∙ (sym c.clash.ensures ∙ c.if-clash.false),
+      λ all. c.if-count-fresh.false (omega (
+        arith,
+        counted,
+        all,
+        c.count.ensures,
+        ap (λ (xs : List (Option ℕ)). count_by is_some xs) same,
+        c.len-all.ensures,
+        ap (λ (xs : List (Option ℕ)). length xs) same,
+        written_length slots c.args.at c.args.octets.now,
+      )),
       counted,
     )

@@ -13,10 +13,10 @@ returns-in-Clash-clause-takes c =
     first_clash c.args.self.now (incoming_of c.args.incoming.now) c.in_ok-unit.unit.held (segment_of c.segment-segment.result) (ap (λ (u : Partial). u.held) c.in_ok-unit.ensures)
     c.segment-segment.ensures c.in-Clash.ensures
 
-pub returns-in_ok-whole-in-Whole-clause-takes : goal.returns-in_ok-whole-in-Whole-clause-takes
-returns-in_ok-whole-in-Whole-clause-takes c =
-    first_whole c.args.self.now (incoming_of c.args.incoming.now) c.in_ok-unit.unit.held (segment_of c.segment-segment.result) c.in_ok-whole-in-Whole.field-0
-    (ap (λ (u : Partial). u.held) c.in_ok-unit.ensures) c.segment-segment.ensures c.in-Whole.ensures c.in_ok-whole-in-Whole.ensures
+pub returns-in-Whole-clause-takes : goal.returns-in-Whole-clause-takes
+returns-in-Whole-clause-takes c =
+    first_whole c.args.self.now (incoming_of c.args.incoming.now) c.in_ok-unit.unit.held (segment_of c.segment-segment.result) c.whole.result
+    (ap (λ (u : Partial). u.held) c.in_ok-unit.ensures) c.segment-segment.ensures c.in-Whole.ensures c.whole.ensures
 
 pub returns-in-Fresh-clause-takes : goal.returns-in-Fresh-clause-takes
 returns-in-Fresh-clause-takes c =

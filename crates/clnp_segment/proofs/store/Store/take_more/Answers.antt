@@ -29,8 +29,8 @@ whole-requires-clause-filled c =
     let same : c.index.result.now ≡ c.withdraw-unit.result = same_got old.held place c.index.result.now c.withdraw-unit.result there c.withdraw-unit.ensures.unit in
     subst (λ (u : Partial). Filled (with_segment u.held (segment_of c.segment-segment.result))) same c.in-Whole.ensures.2
 
-pub returns-in_ok-whole-in-Whole-clause-takes : goal.returns-in_ok-whole-in-Whole-clause-takes
-returns-in_ok-whole-in-Whole-clause-takes c =
+pub returns-in-Whole-clause-takes : goal.returns-in-Whole-clause-takes
+returns-in-Whole-clause-takes c =
     let old = c.args.self.now in
     let place = c.args.place in
     let segment = segment_of c.segment-segment.result in
@@ -39,8 +39,8 @@ returns-in_ok-whole-in-Whole-clause-takes c =
     ∙ sym (ap Some (c.index.ensures ∙ ap (λ (us : List Partial). get_or us place c.index.result.now) is)) in
     let same : c.index.result.now ≡ c.withdraw-unit.result = same_got old.held place c.index.result.now c.withdraw-unit.result there c.withdraw-unit.ensures.unit in
     let judged : Judges c.withdraw-unit.result.held segment verdict.Whole = subst (λ (u : Partial). Judges u.held segment verdict.Whole) same c.in-Whole.ensures in
-    more_whole old (incoming_of c.args.incoming.now) place c.withdraw-unit.result segment c.in_ok-whole-in-Whole.field-0 _ c.withdraw-unit.ensures.unit c.segment-segment.ensures judged
-    c.in_ok-whole-in-Whole.ensures c.withdraw-unit.ensures.rest
+    more_whole old (incoming_of c.args.incoming.now) place c.withdraw-unit.result segment c.whole.result _ c.withdraw-unit.ensures.unit c.segment-segment.ensures judged
+    c.whole.ensures c.withdraw-unit.ensures.rest
 
 pub returns-in-Fresh-clause-takes : goal.returns-in-Fresh-clause-takes
 returns-in-Fresh-clause-takes c =

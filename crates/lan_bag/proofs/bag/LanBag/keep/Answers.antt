@@ -1,24 +1,30 @@
-use Rattle.std.proofs.Common.{◌≡◌, ℕ, ◌<◌, ◌++◌, ◌∷◌, [], List, Option, Some, sym, subst}
+use Rattle.std.proofs.Common.{◌≡◌, ℕ, ◌+◌, ◌<◌, ◌++◌, ap, ◌∷◌, [], List, Option, Some, sym, subst}
 use Rattle.osi_base.specs.declared.unit.Offered.TheVariants.{Taken as WasTaken}
 use Rattle.lan_bag.specs.Frames.{offered, Frame}
 use Rattle.lan_bag.specs.steps.Openings.{IsFirstOpen}
 use Rattle.lan_bag.specs.steps.Wheel.{listed}
 use Rattle.lan_bag.specs.Bag.{Bag}
 use Rattle.lan_bag.proofs.Offers.{taken_fits, bounds_fit}
-use Rattle.lan_bag.proofs.Openings.{closed_pushed, closed_same}
+use Rattle.lan_bag.proofs.Openings.{closed_pushed, closed_same, first_pushed, first_same}
 use Rattle.lan_bag.proofs.Wheels.{due_listed, due_offered, due_same}
 use Rattle.lan_bag.proofs.bag.LanBag.keep.Goals as goal
 
 pub tell-requires : goal.tell-requires
 tell-requires c =
     taken_fits c.self.inside.setup.lans c.self.inside.setup.rows c.self.inside.frames c.args.unit.now
-    (subst (λ (bag : Bag). WasTaken ≡ offered bag.lans bag.rows bag.frames c.args.unit.now) (sym c.self.view_is) c.requires)
+    (subst (λ (bag : Bag). WasTaken ≡ offered bag.lans bag.rows bag.frames c.args.unit.now) (sym c.self.view_is) c.requires.taken)
     c.self.invariant.lans_fit
 
-pub first_open-self-inside-requires-clause-closed : goal.first_open-self-inside-requires-clause-closed
-first_open-self-inside-requires-clause-closed c =
+pub open_after-self-inside-requires-clause-closed : goal.open_after-self-inside-requires-clause-closed
+open_after-self-inside-requires-clause-closed c =
     closed_same c.self.inside.clock c.self.inside.setup.lans c.self.inside.setup.rows (c.self.inside.frames ++ Some c.in_ok-sent.sent ∷ []) c.push.new.self c.self.inside.fresh_at
     (closed_pushed c.self.inside.clock c.self.inside.setup.lans c.self.inside.setup.rows c.self.inside.frames c.self.inside.fresh_at (Some c.in_ok-sent.sent) c.self.invariant.first)
+    c.in_ok-push.ensures.ok
+
+pub open_after-self-inside-requires-clause-others : goal.open_after-self-inside-requires-clause-others
+open_after-self-inside-requires-clause-others c other =
+    first_same c.self.inside.clock c.self.inside.setup.lans c.self.inside.setup.rows (c.self.inside.frames ++ Some c.in_ok-sent.sent ∷ []) c.push.new.self c.self.inside.fresh_at
+    (first_pushed c.self.inside.clock c.self.inside.setup.lans c.self.inside.setup.rows c.self.inside.frames c.self.inside.fresh_at (c.count-place.result + 1) (Some c.in_ok-sent.sent) c.self.invariant.first other (ap (λ (n : ℕ). n + 1) c.count-place.ensures))
     c.in_ok-push.ensures.ok
 
 pub invariant_of-self-in_err-push : goal.invariant_of-self-in_err-push
@@ -35,7 +41,7 @@ pub invariant_of-self-2 : goal.invariant_of-self-2
 invariant_of-self-2 c = record {
   lans_fit = c.self.invariant.lans_fit;
   strays = c.self.invariant.strays;
-  first = c.first_open-self-inside.ensures;
+  first = c.open_after-self-inside.ensures;
   due = due_offered c.self.inside.clock c.self.inside.setup.lans c.self.inside.frames c.push.new.self c.self.inside.wheel c.list.new.self c.in_ok-sent.sent c.args.unit.now c.bound.result c.count-place.result
       c.self.invariant.due c.in_ok-sent.ensures c.bound.ensures c.count-place.ensures
       (subst (λ (bound : ℕ). bound < 17) (sym c.bound.ensures) (bounds_fit c.self.inside.setup.lans c.args.unit.now.to.lan c.self.invariant.lans_fit))

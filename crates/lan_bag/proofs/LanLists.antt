@@ -1,0 +1,126 @@
+-- What is looked for among the ports on a LAN is found among any ports that have the same ones on the LAN.
+use Rattle.std.proofs.Common.{◌≡◌, ℕ, ◌<◌, ◌≤◌, ◌++◌, length, map, get_or, length-append, Bool, true, false, ◌&&◌, ◌==◌, if◌then◌else◌, List, [], ◌∷◌, Option, Some, None, refl, sym, ◌∙◌, ap, subst, inl, inr, arith, All}
+use Rattle.std.specs.List.{list_any}
+use Rattle.std.proofs.Math.ListN.{get_or-append}
+use Rattle.std.proofs.Math.Seq.{get_or-append_seam}
+use Rattle.std.proofs.lemmas.Bool.{cases_Bool, cases_lt}
+use Rattle.std.proofs.lemmas.List.{get_or-map, length-map}
+use Rattle.std.proofs.lemmas.List.Elements.{All-nil, All-cons, All-head, All-tail, All-filter}
+use Rattle.std.proofs.lemmas.Map.Views.{any-filter_same}
+use Rattle.nsap.specs.declared.port.Port.{Port}
+use Rattle.lan_bag.specs.declared.setup.PortRow.{PortRow}
+use Rattle.lan_bag.specs.declared.setup.Lan.{Lan}
+use Rattle.lan_bag.specs.Rows.{same_port, same_snpa, sender_of, is_on, has_sent, goes_to, is_one_of, is_named_by}
+use Rattle.lan_bag.specs.Frames.{Frame}
+use Rattle.lan_bag.specs.steps.Openings.{is_open_to, is_open_at}
+use Rattle.lan_bag.proofs.Openings.{IsLeastAmong}
+use Rattle.lan_bag.specs.steps.Setting.{AreOfLans, rows_on}
+
+pub any_on : (test : PortRow → Bool) (lan : ℕ) → ((row : PortRow) → test row ≡ true → (row.port.lan == lan) ≡ true) → (some all : List PortRow) → rows_on some lan ≡ rows_on all lan → list_any test some ≡ list_any test all
+any_on test lan only some all same =
+    sym (any-filter_same test (λ row. row.port.lan == lan) true only some)
+    ∙ (ap (list_any test) same ∙ any-filter_same test (λ row. row.port.lan == lan) true only all)
+
+-- the ports on a LAN among the ports on it
+pub on_twice : (rows : List PortRow) (lan : ℕ) → rows_on (rows_on rows lan) lan ≡ rows_on rows lan
+on_twice [] lan = refl
+on_twice (row ∷ rows) lan =
+    elim (cases_Bool (row.port.lan == lan)) [
+      | inl same ↦ rw same (rw same (ap (λ (rest : List PortRow). row ∷ rest) (on_twice rows lan)))
+      | inr other ↦ rw other (on_twice rows lan)
+    ]
+
+-- the port that comes first among those on its LAN is the first
+first_on : (rows : List PortRow) (port : Port) → sender_of (rows_on rows port.lan) port ≡ sender_of rows port
+first_on [] port = refl
+first_on (row ∷ rows) port =
+    elim (cases_Bool (row.port.lan == port.lan)) [
+      | inl same ↦ rw same (rw same (ap (λ (rest : Option ℕ). if same_snpa row.port.snpa port.snpa then Some row.system else rest) (first_on rows port)))
+      | inr other ↦ rw other (first_on rows port)
+    ]
+
+pub sender_on : (port : Port) (some all : List PortRow) → rows_on some port.lan ≡ rows_on all port.lan → sender_of some port ≡ sender_of all port
+sender_on port some all same = sym (first_on some port) ∙ (ap (λ (rows : List PortRow). sender_of rows port) same ∙ first_on all port)
+
+all_from_on : (P : PortRow → Type 0) (lan : ℕ) (rows : List PortRow) → All P (rows_on rows lan) → All (λ (row : PortRow). (row.port.lan == lan) ≡ true → P row) rows
+all_from_on P lan [] h = All-nil (λ (row : PortRow). (row.port.lan == lan) ≡ true → P row)
+all_from_on P lan (row ∷ rows) h =
+    elim (cases_Bool (row.port.lan == lan)) [
+      | inl same ↦
+          let both : All P (row ∷ rows_on rows lan) = rw same at h in
+          All-cons (λ (r : PortRow). (r.port.lan == lan) ≡ true → P r) row rows (λ _. All-head P row (rows_on rows lan) both) (all_from_on P lan rows (All-tail P row (rows_on rows lan) both))
+      | inr other ↦
+          let rest : All P (rows_on rows lan) = rw other at h in
+          All-cons (λ (r : PortRow). (r.port.lan == lan) ≡ true → P r) row rows (λ yes. cc) (all_from_on P lan rows rest)
+    ]
+
+pub all_on : (P : PortRow → Type 0) (lan : ℕ) (some all : List PortRow) → rows_on some lan ≡ rows_on all lan → All P some → All (λ (row : PortRow). (row.port.lan == lan) ≡ true → P row) all
+all_on P lan some all same h =
+    all_from_on P lan all (subst (All P) same (All-filter (λ (row : PortRow). row.port.lan == lan) P some h))
+
+both : (a b c : Bool) → (a && (b && c)) ≡ true → b ≡ true
+both true true c h = refl
+both true false c h = cc
+both false b c h = cc
+
+second : (a b : Bool) → (a && b) ≡ true → b ≡ true
+second true b h = h
+second false b h = cc
+
+first : (a b : Bool) → (a && b) ≡ true → a ≡ true
+first true b h = refl
+first false b h = cc
+
+pub on_alike : (system lan : ℕ) (some all : List PortRow) → rows_on some lan ≡ rows_on all lan → is_on some system lan ≡ is_on all system lan
+on_alike system lan some all same = any_on (λ row. row.system == system && row.port.lan == lan) lan (λ row h. second (row.system == system) (row.port.lan == lan) h) some all same
+
+pub sent_alike : (system : ℕ) (from : Port) (some all : List PortRow) → rows_on some from.lan ≡ rows_on all from.lan → has_sent some system from ≡ has_sent all system from
+sent_alike system from some all same =
+    any_on (λ row. row.system == system && same_port row.port from) from.lan (λ row h. both (row.system == system) (row.port.lan == from.lan) (same_snpa row.port.snpa from.snpa) h) some all same
+
+pub goes_alike : (system : ℕ) (to : Port) (some all : List PortRow) → rows_on some to.lan ≡ rows_on all to.lan → goes_to some to system ≡ goes_to all to system
+goes_alike system to some all same =
+    any_on (λ row. row.system == system && is_one_of to row) to.lan (λ row h. both (row.system == system) (row.port.lan == to.lan) (is_named_by row to.snpa) h) some all same
+
+on_lan : (clock : ℕ) (lans : List Lan) (rows : List PortRow) (frame : Frame) (row : PortRow) → is_open_at clock lans rows frame row ≡ true → (row.port.lan == frame.unit.to.lan) ≡ true
+on_lan clock lans rows frame row h =
+    first (row.port.lan == frame.unit.to.lan) (is_named_by row frame.unit.to.snpa) (first (is_one_of frame.unit.to row) (is_open_to clock lans rows frame row.system) h)
+
+pub open_alike : (clock : ℕ) (lans : List Lan) (rows : List PortRow) (frame : Frame) (some all : List PortRow) → rows_on some frame.unit.to.lan ≡ rows_on all frame.unit.to.lan → list_any (is_open_at clock lans rows frame) some ≡ list_any (is_open_at clock lans rows frame) all
+open_alike clock lans rows frame some all same =
+    any_on (is_open_at clock lans rows frame) frame.unit.to.lan (on_lan clock lans rows frame) some all same
+
+-- a list that stands among the lists
+pub rows_listed : {V : Type 0} (rows_of : V → List PortRow) (lists : List V) (rows : List PortRow) (lan : ℕ) (found : V) → lan < length lists → found ≡ get_or lists lan found → AreOfLans (map rows_of lists) rows → rows_on (rows_of found) lan ≡ rows_on rows lan
+rows_listed rows_of lists rows lan found lt at listed =
+    let here : rows_of found ≡ rows_on rows lan =
+    ap rows_of at ∙ (sym (get_or-map rows_of lists lan found [] lt) ∙ listed lan (omega (arith, length-map lists rows_of))) in
+    ap (λ (r : List PortRow). rows_on r lan) here ∙ on_twice rows lan
+
+-- one list more
+pub listed_more : {V : Type 0} (rows_of : V → List PortRow) (lists : List V) (rows : List PortRow) (found : V) → rows_of found ≡ rows_on rows (length lists) → AreOfLans (map rows_of lists) rows → AreOfLans (map rows_of (lists ++ found ∷ [])) rows
+listed_more rows_of lists rows found is listed lan lt =
+    elim (cases_lt lan (length lists)) [
+      | inl before ↦
+          get_or-map rows_of (lists ++ found ∷ []) lan found [] (omega (arith, length-map (lists ++ found ∷ []) rows_of, lt))
+          ∙ (ap rows_of (get_or-append lists (found ∷ []) found lan before)
+          ∙ (sym (get_or-map rows_of lists lan found [] before) ∙ listed lan (omega (arith, length-map lists rows_of))))
+      | inr after ↦
+          let last : lan ≡ length lists = omega (arith, length-map (lists ++ found ∷ []) rows_of, length-append lists (found ∷ []), lt) in
+          get_or-map rows_of (lists ++ found ∷ []) lan found [] (omega (arith, length-map (lists ++ found ∷ []) rows_of, lt))
+          ∙ (ap rows_of (ap (λ (k : ℕ). get_or (lists ++ found ∷ []) k found) last ∙ get_or-append_seam lists found [] found)
+          ∙ (is ∙ ap (rows_on rows) (sym last)))
+    ]
+
+-- the least at the ports on its LAN is the least at all
+pub least_on : (clock : ℕ) (lans : List Lan) (rows : List PortRow) (frame : Frame) (some : List PortRow) (least : Option ℕ) → rows_on some frame.unit.to.lan ≡ rows_on rows frame.unit.to.lan → IsLeastAmong clock lans rows frame some least → IsLeastAmong clock lans rows frame rows least
+least_on clock lans rows frame some None same h =
+    λ k d lt. elim (cases_Bool (is_open_at clock lans rows frame (get_or rows k d))) [
+      | inl opens ↦ all_on (λ (row : PortRow). is_open_at clock lans rows frame row ≡ false) frame.unit.to.lan some rows same h k d lt (on_lan clock lans rows frame (get_or rows k d) opens)
+      | inr closed ↦ closed
+    ]
+least_on clock lans rows frame some (Some least) same h = (
+  h.0,
+  λ k d lt opens.
+      all_on (λ (row : PortRow). is_open_at clock lans rows frame row ≡ true → least ≤ row.system) frame.unit.to.lan some rows same h.1 k d lt (on_lan clock lans rows frame (get_or rows k d) opens) opens,
+)

@@ -1,6 +1,0 @@
-use Rattle.std.proofs.Common.{◌≡◌, drop}
-use Rattle.lan_bag.specs.Rows.{sender_of}
-use Rattle.lan_bag.proofs.setup.Setup.system_of.Given as goal
-
-abbrev pub invariant-loop-row : goal.invariant-loop-row
-invariant-loop-row l = sender_of (drop l.row-index l.row-items) l.port ≡ sender_of l.self.rows l.port
