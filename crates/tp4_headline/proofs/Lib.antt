@@ -15,6 +15,15 @@ pub mod MeetsAside
 pub mod MeetsRequests
 pub mod MeetsOthers
 pub mod Meets
+pub mod NumbersRead
+pub mod ReferencesMet
+pub mod ReferencesOwn
+pub mod ReferencesHalves
+pub mod ReferencesRuns
+pub mod ReferencesLater
+pub mod ReferencesSince
+pub mod ReferencesStarts
+pub mod ReferencesStays
 pub mod WorldActs
 pub mod WorldAsides
 pub mod WorldCalls

@@ -1,2 +1,4 @@
 pub mod Headline
+pub mod Numbers
+pub mod References
 pub mod steps

@@ -1,6 +1,9 @@
 //! What a receiver of a connection may see, over any carrier of units (X.214, model of the transport service).
 
 ghost use Rattle.tp4_headline.specs.Headline.{ReceivesWhatWasSubmitted};
+ghost use Rattle.tp4_headline.specs.Numbers.{AreRead};
+ghost use Rattle.tp4_headline.specs.References.{AreCarried, IsNotBefore, IsOfPartner, OnRuns};
+ghost use Rattle.tp4_number.specs.Number.{whole, wire};
 
 use nsap::Nsap;
 use osi_base::Carrier;
@@ -14,5 +17,26 @@ pub fn lawful<C: Carrier<Addr = Nsap>>()
     tp4_world::whole_run::<C>();
     tp4_history::journals_are_lawful();
     tp4_moves::times();
+    tp4_moves::flowed();
+}
+
+/// What is afloat and matches an end was not offered before that end was made, and is of its partner, or an entity's answer to it; a DT
+/// or an ED carries the piece or the unit of its number.
+pub fn references<C: Carrier<Addr = Nsap>>()
+    ensures later { OnRuns C.link C.steps wire (IsNotBefore C.link) }
+    ensures partner { OnRuns C.link C.steps wire (IsOfPartner C.link) }
+    ensures carries { OnRuns C.link C.steps wire (AreCarried C.link) }
+{
+    tp4_world::whole_run::<C>();
+    tp4_history::journals_are_lawful();
+    tp4_moves::times();
+    tp4_moves::flowed();
+}
+
+/// An end that is open reads what comes to it as the number that it was sent with, or as one that it ignores; over whole numbers.
+pub fn numbers<C: Carrier<Addr = Nsap>>()
+    ensures { OnRuns C.link C.steps whole (AreRead C.link) }
+{
+    tp4_history::journals_are_lawful();
     tp4_moves::flowed();
 }
