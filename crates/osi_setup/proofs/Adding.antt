@@ -1,14 +1,11 @@
 -- A set-up is well after each of its calls: with what was added, and as it was where memory ran out.
-use Rattle.std.proofs.Common.{◌≡◌, ℕ, zero, suc, ◌+◌, ◌<◌, ◌≤◌, Bool, true, false, List, [], ◌∷◌, ◌++◌, length, take, get_or, Option, Some, Result, Ok, Err, refl, sym, ◌∙◌, ap, subst, arith}
+use Rattle.std.proofs.Common.{◌≡◌, ℕ, zero, suc, ◌+◌, ◌≤◌, Bool, true, false, List, [], ◌∷◌, ◌++◌, take, Some, Result, Ok, Err, sym, ◌∙◌, ap, subst}
 use Rattle.std.specs.Prelude.{if◌then◌else◌, map, slice_get, slice_set, IsSome, OnErr, OnOk}
-use Rattle.std.specs.List.{AllByRecursion}
 use Rattle.nsap.specs.declared.port.Hop.{Hop}
 use Rattle.nsap.specs.declared.port.Port.{Port}
 use Rattle.lan_bag.specs.declared.setup.Lan.{Lan}
 use Rattle.lan_bag.specs.declared.setup.PortRow.{PortRow}
 use Rattle.lan_bag.specs.Rows.{IsLan}
-use Rattle.clnp_route.specs.declared.table.RouteRow.{RouteRow}
-use Rattle.clnp_system.specs.declared.setup.Path.{Path}
 use Rattle.osi_script.specs.declared.settings.Key.{Key}
 use Rattle.osi_script.specs.declared.settings.Key.TheVariants as keys
 use Rattle.osi_script.specs.Settings.{least_of, most_of}

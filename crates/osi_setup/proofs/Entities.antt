@@ -1,13 +1,11 @@
 -- The transport entities of a set-up: each selector of a system is registered once, and each end system has its entity in turn.
-use Rattle.std.proofs.Common.{◌≡◌, ℕ, ◌+◌, ◌<◌, ◌≤◌, false, List, [], ◌∷◌, ◌++◌, length, take, drop, get_or, refl, sym, ◌∙◌, ap, subst, arith, append_assoc}
-use Rattle.std.specs.List.{AllByRecursion}
+use Rattle.std.proofs.Common.{◌≡◌, ℕ, ◌+◌, ◌<◌, ◌≤◌, false, List, [], ◌∷◌, ◌++◌, length, take, drop, get_or, sym, ◌∙◌, ap, subst, append_assoc}
 use Rattle.std.proofs.lemmas.List.{append-nil, drop_more, take-append-drop}
 use Rattle.tp4_conn.specs.End.{IsTimed}
 use Rattle.tp4_entity.specs.Association.{is_registered}
-use Rattle.tp4_world.specs.declared.place.Placed.{Placed}
 use Rattle.osi_setup.specs.declared.transport.Limits.{Limits}
 use Rattle.osi_setup.specs.Fitting.{AreLimits, AreSelectorsApart}
-use Rattle.osi_setup.specs.SetUp.{System, entities_from, placed_at, timers_of}
+use Rattle.osi_setup.specs.SetUp.{timers_of}
 
 -- a list around the element at a place
 pub split_item : {X : Type 0} (xs : List X) (i : ℕ) (x : X) → i < length xs → x ≡ get_or xs i x → xs ≡ take i xs ++ x ∷ drop (i + 1) xs

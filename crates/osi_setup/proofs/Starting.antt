@@ -1,7 +1,7 @@
 -- What was set up makes LANs, systems and a network: each is as those below ask for.
-use Rattle.std.proofs.Common.{◌≡◌, ◌≢◌, ◌==◌, ℕ, zero, suc, ◌+◌, ◌<◌, ◌≤◌, Bool, true, false, List, [], ◌∷◌, ◌++◌, length, map, Option, Some, None, Result, Ok, Err, refl, sym, ◌∙◌, ap, subst, arith, append_assoc, length-append}
-use Rattle.std.specs.Prelude.{find, slice_get, if◌then◌else◌, IfOk, IsSome, option_map, unwrap_or}
-use Rattle.std.specs.List.{AllByRecursion, All}
+use Rattle.std.proofs.Common.{◌≡◌, ◌==◌, ℕ, zero, suc, ◌+◌, ◌<◌, ◌≤◌, false, List, [], ◌∷◌, ◌++◌, length, map, Option, Some, Result, Ok, Err, refl, sym, ◌∙◌, ap, subst, arith, append_assoc, length-append}
+use Rattle.std.specs.Prelude.{slice_get, if◌then◌else◌, IfOk, IsSome, option_map, unwrap_or}
+use Rattle.std.specs.List.{AllByRecursion}
 use Rattle.std.proofs.lemmas.List.Elements.{All-from_recursion}
 use Rattle.std.proofs.lemmas.Option.{slice_get-map}
 use Rattle.nsap.specs.Address.{is_same_system}
@@ -14,12 +14,12 @@ use Rattle.lan_bag.specs.Rows.{IsLan, IsSetUp, bound_on}
 use Rattle.clnp_route.specs.declared.table.RouteRow.{RouteRow}
 use Rattle.clnp_system.specs.Node.{Node, fresh_node}
 use Rattle.clnp_system.specs.Tables.{rows_tables}
-use Rattle.clnp_system.specs.Setting.{HasLan, IsSetting, Setting, bound_of, is_group, port_on as own_port_on}
+use Rattle.clnp_system.specs.Setting.{HasLan, IsSetting, Setting, is_group}
 use Rattle.clnp_step.specs.Sound.{AreApart, AreDistinct, IsBounded, IsNew, IsPeopled, settings_of}
 use Rattle.clnp_step.specs.Network.{Network}
 use Rattle.clnp_step.specs.Step.{Begins}
-use Rattle.osi_setup.specs.SetUp.{System, SetUp, end_of, end_at, rows_of, rows_at, ports_at, port_on, titles_of, setting_of, nodes_from, nodes_of}
-use Rattle.osi_setup.specs.Fitting.{IsWell, IsTitle, AreTitlesApart, most_ports}
+use Rattle.osi_setup.specs.SetUp.{System, SetUp, end_of, rows_of, ports_at, port_on, titles_of, setting_of, nodes_from, nodes_of}
+use Rattle.osi_setup.specs.Fitting.{IsWell, IsTitle, AreTitlesApart}
 use Rattle.osi_setup.proofs.Elements.{each, at, find_all, find_passes, get_end}
 use Rattle.osi_setup.proofs.Ports.{at_one, lans_differ, number_is}
 

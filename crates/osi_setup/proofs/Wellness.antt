@@ -1,7 +1,7 @@
 -- A set-up stays well with each line that fits it.
 use Rattle.std.proofs.Common.{◌≡◌, ◌==◌, ◌⊎◌, ℕ, zero, suc, ◌+◌, ◌<◌, ◌≤◌, Bool, true, false, List, [], ◌∷◌, ◌++◌, length, map, Option, Some, None, inl, inr, refl, sym, ◌∙◌, ap, subst, arith, length-append, append_assoc}
 use Rattle.std.specs.Prelude.{find, slice_get, slice_set, if◌then◌else◌, IsSome, option_map}
-use Rattle.std.specs.List.{AllByRecursion, All}
+use Rattle.std.specs.List.{AllByRecursion}
 use Rattle.std.proofs.Math.ListN.{length-set}
 use Rattle.std.proofs.Math.Seq.{map-set_same}
 use Rattle.std.proofs.lemmas.Bool.{cases_lt}
@@ -14,7 +14,6 @@ use Rattle.lan_bag.specs.declared.setup.Lan.{Lan}
 use Rattle.lan_bag.specs.declared.setup.PortRow.{PortRow}
 use Rattle.lan_bag.specs.Rows.{AreApart, IsLan, same_snpa}
 use Rattle.clnp_route.specs.declared.table.RouteRow.{RouteRow}
-use Rattle.clnp_system.specs.declared.setup.Path.{Path}
 use Rattle.clnp_system.specs.Setting.{IsPath, is_group}
 use Rattle.osi_script.specs.declared.settings.Key.{Key}
 use Rattle.osi_script.specs.declared.settings.Key.TheVariants as keys
@@ -25,8 +24,8 @@ use Rattle.tp4_entity.specs.Association.{is_registered}
 use Rattle.osi_setup.specs.declared.transport.Limits.{Limits}
 use Rattle.osi_setup.specs.SetUp.{System, SetUp, end_of, end_at, rows_of, rows_at, selectors_of, title_at, ports_at, port_on, hop_to, hop_title, titles_of, routed, selected, with_route, with_selector, with_time, nothing_said, is_complete, set_up}
 use Rattle.osi_setup.specs.Fitting.{Fits, IsWell, IsTitle, AreTitlesApart, AreTimes, AreLimits, AreSelectorsApart, IsNewTitle, IsNewPort, IsNewRoute, IsNewPath, IsNewSelector, most_ports}
-use Rattle.osi_setup.proofs.Elements.{push, each, both, at, get_front, set_each, set_keeps, find_passes, find_front}
-use Rattle.osi_setup.proofs.Ports.{own_port, ports_push, own_is, own_none, none_at, of_one, rows_push, number_is}
+use Rattle.osi_setup.proofs.Elements.{push, each, at, get_front, set_each, set_keeps, find_passes, find_front}
+use Rattle.osi_setup.proofs.Ports.{own_port, ports_push, own_is, none_at, of_one, rows_push, number_is}
 
 pub nothing_well : IsWell nothing_said
 nothing_well = record {

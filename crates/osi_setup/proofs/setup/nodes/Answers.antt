@@ -1,4 +1,4 @@
-use Rattle.std.proofs.Common.{◌≡◌, ◌++◌, ◌∷◌, ◌∙◌, ◌+◌, [], ap, sym, refl, List, length, length-append, arith}
+use Rattle.std.proofs.Common.{◌≡◌, ◌++◌, ◌∷◌, ◌∙◌, [], ap, sym, List, length, length-append, arith}
 use Rattle.clnp_system.specs.Node.{Node}
 use Rattle.esis_tables.specs.Rows.{Rows}
 use Rattle.osi_setup.specs.SetUp.{System, nodes_from}

@@ -1,4 +1,4 @@
-use Rattle.std.proofs.Common.{subst, sym, ◌∙◌, ap, map, List, ℕ}
+use Rattle.std.proofs.Common.{subst, sym, ◌∙◌, ap, map}
 use Rattle.osi_setup.specs.SetUp.{SetUp, title_at}
 use Rattle.osi_setup.specs.Fitting.{IsNewPath}
 use Rattle.osi_setup.proofs.Adding.{path_added}

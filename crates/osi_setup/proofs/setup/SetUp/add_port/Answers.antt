@@ -1,5 +1,5 @@
-use Rattle.std.proofs.Common.{subst, sym, ◌∙◌, ap, List, ℕ}
-use Rattle.osi_setup.specs.SetUp.{SetUp, System, end_at}
+use Rattle.std.proofs.Common.{subst, sym, ◌∙◌, ap}
+use Rattle.osi_setup.specs.SetUp.{SetUp, end_at}
 use Rattle.osi_setup.specs.Fitting.{IsNewPort}
 use Rattle.osi_setup.proofs.Adding.{port_added}
 use Rattle.osi_setup.proofs.setup.SetUp.add_port.Goals as goal

@@ -1,4 +1,4 @@
-use Rattle.std.proofs.Common.{◌≡◌, ◌∙◌, ap, length, refl, subst, sym, Some, ℕ}
+use Rattle.std.proofs.Common.{◌≡◌, length, refl, subst, sym, Some, ℕ}
 use Rattle.std.specs.Prelude.{slice_get}
 use Rattle.std.proofs.lemmas.Option.{slice_get_read}
 use Rattle.osi_setup.specs.SetUp.{SetUp}

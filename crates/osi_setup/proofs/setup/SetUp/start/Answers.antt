@@ -1,5 +1,4 @@
-use Rattle.std.proofs.Common.{refl}
-use Rattle.osi_setup.proofs.Starting.{are_peopled, begun, lans_set_up, made_new}
+use Rattle.osi_setup.proofs.Starting.{are_peopled, begun, made_new}
 use Rattle.osi_setup.proofs.setup.SetUp.start.Goals as goal
 
 pub new-requires-clause-peopled : goal.new-requires-clause-peopled

@@ -1,4 +1,4 @@
-use Rattle.std.proofs.Common.{◌≡◌, ◌<◌, ◌∙◌, [], List, length, get_or, take, false, ap, subst, sym, ℕ}
+use Rattle.std.proofs.Common.{◌≡◌, ◌∙◌, [], List, take, false, ap, subst, sym, ℕ}
 use Rattle.tp4_entity.specs.Association.{is_registered}
 use Rattle.tp4_entity.specs.Entity.{Entity}
 use Rattle.osi_setup.specs.Fitting.{AreSelectorsApart}

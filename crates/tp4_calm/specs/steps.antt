@@ -1,0 +1,5 @@
+-- What only carries proofs: what holds of a pair at any time.
+pub mod Carrying
+pub mod Flowing
+pub mod Standing
+pub mod Waiting
