@@ -87,6 +87,20 @@ impl LanBag {
             .then_some(sent.whole())
     }
 
+    /// How many frames were numbered.
+    pub fn count(&self) -> u32
+        ensures { result ≡ length self.now.frames }
+    {
+        self.frames.count()
+    }
+
+    /// The frame of a number; None where it is late or there is none.
+    pub fn frame(&self, number: u32) -> Option<&Sent>
+        ensures { option_copied result ≡ frame_of self.now.frames number }
+    {
+        self.frames.get(number)
+    }
+
     /// Offers the frame of a unit.
     fn send(&mut self, unit: &Unit<Port>, wish: Wish) -> Result<Offered, NoMemory>
         ensures { IfOk result (λ answer. BagStep self.old (Offer unit.now wish answer) self.new) }

@@ -51,6 +51,13 @@ impl Sent {
         })
     }
 
+    /// The tick at which it was sent.
+    pub fn tick(&self) -> Tick
+        ensures { result ≡ self.now.tick }
+    {
+        self.tick
+    }
+
     /// The port that sent it.
     pub fn from(&self) -> Port
         ensures { result ≡ self.now.unit.from }
@@ -81,7 +88,8 @@ impl Sent {
 
     /// The whole 802.3 frame.
     pub fn whole(&self) -> &[u8]
-        ensures { result.now ≡ whole_frame self.now.unit.to.snpa self.now.unit.from.snpa self.now.unit.octets }
+        ensures whole { result.now ≡ whole_frame self.now.unit.to.snpa self.now.unit.from.snpa self.now.unit.octets }
+        ensures most { length result.now ≤ 1514 }
     {
         &self.whole
     }

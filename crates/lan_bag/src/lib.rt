@@ -11,4 +11,5 @@ mod tests;
 mod wheel;
 
 pub use bag::LanBag;
+pub use frame::Sent;
 pub use setup::{Lan, PortRow};

@@ -1,13 +1,15 @@
 pub mod Agreement
 pub mod Begun
+pub mod Captured
+pub mod Capturing
 pub mod Courses
 pub mod Decimals
 pub mod Fields
 pub mod Fitted
+pub mod Framing
 pub mod Handled
 pub mod Headline
 pub mod InOctets
-pub mod Keeping
 pub mod Kept
 pub mod Lawful
 pub mod Moving
@@ -16,6 +18,9 @@ pub mod Octets
 pub mod Placing
 pub mod Proper
 pub mod ScriptRuns
+pub mod StormWords
+pub mod Storming
+pub mod Summaries
 pub mod Totality
 pub mod Values
 pub mod Words

@@ -22,7 +22,7 @@ use Rattle.osi_script.specs.Grammar.{line_read}
 use Rattle.osi_script.specs.Script.{Says}
 use Rattle.osi_journal.specs.RawLawful.{RawLawful}
 use Rattle.osi_bench.specs.World.{life_of, titles_of, WorldRuns, WorldStep}
-use Rattle.osi_bench.specs.Top.{IsRun, IsScriptRun, RanScript, texts_in, RefusedRun, IsFilledRun, OverRun, TooMuchRun, AskedRun, OutcomeRun, ShowsWhatWasSubmitted, IsTranscript}
+use Rattle.osi_bench.specs.Top.{IsRun, IsScriptRun, RanScript, texts_in, RefusedRun, IsFilledRun, OverRun, TooMuchRun, AskedRun, OutcomeRun, ShowsSent, ShowsWhatWasSubmitted, IsTranscript}
 use Rattle.osi_bench.proofs.Lawful.{raw_lawful}
 
 -- the lines that the texts say, with what they did
@@ -172,6 +172,9 @@ outcome_run end read written WriteFault told = asked_run ((told.front ≡ read) 
 outcome_run end read written NoMemory told = asked_run ((told.front ≡ read) × end) told.front told.text told.status told.asked
 outcome_run end read written RefusedWords told = told
 outcome_run end read written RefusedCapture told = told
+
+pub shows_sent : (read : List ℕ) → ShowsSent read
+shows_sent read front journal last begins run = ran_script front journal last run
 
 pub transcript : (end : Type 0) (read written : List ℕ) (status : Status) → Outcome bench_meaning end first_bench read written status → length read ≤ most_octets + most_read
     → ((octets : List ℕ) → ShowsWhatWasSubmitted octets) → IsTranscript end read written status

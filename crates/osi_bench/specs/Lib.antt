@@ -1,4 +1,6 @@
 pub mod Bench
+pub mod Frames
+pub mod Storm
 pub mod Text
 pub mod Top
 pub mod World

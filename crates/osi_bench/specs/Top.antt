@@ -18,12 +18,24 @@ use Rattle.osi_bench.specs.World.{HasNoInject, life_of, titles_of, WorldRun}
 use Rattle.osi_journal.specs.Lawful.{Lawful}
 use Rattle.osi_journal.specs.RawLawful.{RawLawful}
 use Rattle.line_loop.specs.Writing.{IsPrefix}
+use Rattle.osi_storm.specs.declared.request.Storm.{Storm}
+use Rattle.osi_storm.specs.Request.{Asks as AsksStorm}
 
 -- the words are the one word `run`
 abbrev pub is_run : List (List ℕ) → Bool
 is_run [] = false
 is_run (word ∷ []) = bytes_eq word (codes "run")
 is_run (word ∷ other ∷ words) = false
+
+-- the words are the one word `frames`
+abbrev pub is_frames : List (List ℕ) → Bool
+is_frames [] = false
+is_frames (word ∷ []) = bytes_eq word (codes "frames")
+is_frames (word ∷ other ∷ words) = false
+
+-- the words are `storm`, a seed and a count
+abbrev pub IsStorm : List (List ℕ) → Storm → Type 0
+IsStorm words storm = (seed count : List ℕ) × (words ≡ codes "storm" ∷ seed ∷ count ∷ []) × AsksStorm seed count storm
 
 -- the words are the one word `decode`
 abbrev pub is_decode : List (List ℕ) → Bool

@@ -2,6 +2,8 @@
 pub mod Agreeing
 pub mod BenchLaws
 pub mod Came
+pub mod FrameLaws
 pub mod Known
 pub mod Moves
 pub mod OneRun
+pub mod Storming

@@ -1,8 +1,11 @@
 //! The bench: what a line of a script does to the names declared, to the network and to the journal.
 
-ghost use Rattle.std.specs.Prelude.{◌≡◌, ◌<◌, ◌≤◌, ◌+◌, ◌-◌};
+ghost use Rattle.std.specs.Prelude.{◌≡◌, ◌<◌, ◌≤◌, ◌+◌, ◌-◌, ◌++◌, OnErr, OnOk, IsErrOf};
+ghost use Rattle.line_loop.specs.Lines.{most_lines};
+ghost use Rattle.osi_journal.specs.Told.{journal_text};
 ghost use Rattle.osi_script.specs.Known.{lines_of};
-ghost use Rattle.osi_bench.specs.Bench.{bench_lines, most_events};
+ghost use Rattle.osi_script.specs.Tags.{tags_of};
+ghost use Rattle.osi_bench.specs.Bench.{FillsJournal, RefusesLine, RunsLine, bench_lines, most_events};
 
 use crate::text::{push_done, push_events, push_refusal, push_strays, push_too_much};
 use crate::world::{World, step};
@@ -12,6 +15,7 @@ use osi_journal::Event;
 use osi_script::{Built, LineCause, LineFault, LineRefusal, Names, Word};
 use std::alloc::Global;
 use std::marker::Model;
+use std::mem;
 
 /// The words of the lines, those of long scripts first.
 const WORDS: [Word; 21] = [
@@ -87,6 +91,66 @@ impl Bench {
             stopped: false,
         }
     }
+
+    /// The network.
+    pub(crate) fn world(&self) -> &World
+        ensures { result.now ≡ self.now.world }
+    {
+        &self.world
+    }
+
+    /// Runs a line, which stands without its end; the events that the journal has room for take the place of `events`.
+    ///
+    /// Refused exactly where the line is refused in this state. Full exactly where the journal has no room for what the line
+    /// does. After Full or NoMemory no line is run.
+    pub(crate) fn run(
+        &mut self,
+        line: &[u8],
+        events: &mut Vec<Event>,
+    ) -> Result<(), LineError<LineFault>>
+        requires { self.old.lines < most_lines }
+        ensures ok { OnOk result (RunsLine self.old line.now events.new.items self.new) }
+        ensures refused { (said : LineFault) → IsErrOf result (LineError.Refused said)
+            → RefusesLine self.old line.now said × (self.new ≡ self.old) }
+        ensures full { IsErrOf result LineError.Full → FillsJournal self.old line.now events.new.items self.new }
+    {
+        if self.stopped {
+            return Err(LineError::NoMemory);
+        }
+        let line = match self.names.read_line(line) {
+            Ok(line) => line,
+            Err(LineRefusal::Fault(fault)) => return Err(LineError::Refused(fault)),
+            Err(LineRefusal::NoMemory) => return Err(LineError::NoMemory),
+        };
+        self.stopped = true;
+        events.clear();
+        let Ok(()) = step(self.alloc, &mut self.world, line, events) else {
+            return Err(LineError::NoMemory);
+        };
+        self.lines += 1;
+        let made = events.len();
+        let told = told_of(self.count, made);
+        events.truncate(told);
+        self.count += told as u32;
+        if told < made {
+            return Err(LineError::Full);
+        }
+        self.stopped = false;
+        Ok(())
+    }
+
+    /// Tells the events of a line, and keeps their list for the next one.
+    fn tell(&mut self, events: Vec<Event>, out: &mut Vec<u8>) -> Result<(), LineError<LineFault>>
+        ensures told { OnOk result (out.new.items ≡ out.old.items ++ journal_text (tags_of self.old.names) events.items) }
+        ensures same { self.new ≡ self.old }
+        ensures memory { OnErr result (IsErrOf result LineError.NoMemory) }
+    {
+        let Ok(()) = push_events(&events, &self.names, out) else {
+            return Err(LineError::NoMemory);
+        };
+        self.events = events;
+        Ok(())
+    }
 }
 
 /// The lines of a script.
@@ -125,31 +189,17 @@ impl Machine for Bench {
     ghost laws = { bench_laws };
 
     fn run_line(&mut self, line: &[u8], out: &mut Vec<u8>) -> Result<(), LineError<LineFault>> {
-        if self.stopped {
-            return Err(LineError::NoMemory);
+        let mut events = mem::replace(&mut self.events, Vec::new(self.alloc));
+        match self.run(line, &mut events) {
+            Ok(()) => self.tell(events, out),
+            Err(LineError::Full) => {
+                let Ok(()) = self.tell(events, out) else {
+                    return Err(LineError::NoMemory);
+                };
+                Err(LineError::Full)
+            }
+            Err(error) => Err(error),
         }
-        let line = match self.names.read_line(line) {
-            Ok(line) => line,
-            Err(LineRefusal::Fault(fault)) => return Err(LineError::Refused(fault)),
-            Err(LineRefusal::NoMemory) => return Err(LineError::NoMemory),
-        };
-        self.stopped = true;
-        self.events.clear();
-        let Ok(()) = step(self.alloc, &mut self.world, line, &mut self.events) else {
-            return Err(LineError::NoMemory);
-        };
-        self.lines += 1;
-        let made = self.events.len();
-        let told = told_of(self.count, made);
-        let Ok(()) = push_events(&self.events[..told], &self.names, out) else {
-            return Err(LineError::NoMemory);
-        };
-        self.count += told as u32;
-        if told < made {
-            return Err(LineError::Full);
-        }
-        self.stopped = false;
-        Ok(())
     }
 
     fn too_long(&self) -> LineFault {

@@ -4,6 +4,8 @@ ghost use Rattle.std.specs.Prelude.{◌≡◌, List, ℕ};
 ghost use Rattle.osi_bench.specs.Bench.{bench_lines, bench_meaning, first_bench};
 ghost use Rattle.line_loop.specs.Total.{AsksSomething};
 ghost use Rattle.line_loop.specs.Exact.{OneCourse, AsksOne};
+ghost use Rattle.osi_bench.specs.Frames.{MakesCaptures};
+ghost use Rattle.osi_bench.specs.Storm.{RunsGenerated};
 ghost use Rattle.osi_bench.specs.Top.{RunsScripts};
 ghost use Rattle.osi_journal.specs.declared.event.Event.{Event};
 ghost use Rattle.osi_script.specs.declared.line.Line.{Line};
@@ -44,6 +46,16 @@ pub fn ends_are_lawful()
 /// What runs on the bench is a script, line by line, and the run of the network for its lines.
 pub fn script_runs()
     ensures { RunsScripts }
+{}
+
+/// The frames of the lines of a script are those of its journal, and what is written of them is a capture, whose records they are.
+pub fn frames_make_captures()
+    ensures { MakesCaptures }
+{}
+
+/// What runs of a generated script is a script, line by line, and the run of the network for its lines.
+pub fn generated_scripts_run()
+    ensures { RunsGenerated }
 {}
 
 /// All octets ask for a status and a transcript: each line has a step, or fills the journal, or is refused.

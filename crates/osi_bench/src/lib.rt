@@ -6,13 +6,16 @@
 
 mod asking;
 mod bench;
+mod frames;
 mod laws;
+mod storm;
 mod text;
 mod top;
 mod world;
 
 pub use laws::{
-    ends_are_lawful, one_journal, one_outcome, raw_units_are_lawful, script_runs, some_outcome,
+    ends_are_lawful, frames_make_captures, generated_scripts_run, one_journal, one_outcome,
+    raw_units_are_lawful, script_runs, some_outcome,
 };
 pub use top::{Transcript, osi, run_in_memory};
 

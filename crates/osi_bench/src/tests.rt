@@ -8,7 +8,9 @@ use std::alloc::Global;
 use std::process::Abort;
 use std::test::Fail;
 
+mod captured;
 mod connected;
+mod generated;
 mod injected;
 mod network;
 mod refused;
@@ -267,9 +269,10 @@ fn a_long_unit_is_refused(rt: HostRuntime) -> Result<(), Fail> {
     Ok(())
 }
 
-/// How a run ends that reads a script in pieces of this size, and where these reads and writes fail.
+/// How a run of the word ends that reads a script in pieces of this size, and where these reads and writes fail.
 fn in_pieces(
     alloc: Global,
+    word: &str,
     script: &str,
     size: usize,
     reads: &[u32],
@@ -278,8 +281,8 @@ fn in_pieces(
     let sizes = [size].repeat(alloc, 300)?;
     let mut source = MemSource::new(alloc, script.as_bytes(), &sizes, reads)?;
     let mut sink = MemSink::new(alloc, writes)?;
-    let run = ["run".to_string(alloc)?];
-    let status = osi(alloc, &run, &mut source, &mut sink);
+    let words = [word.to_string(alloc)?];
+    let status = osi(alloc, &words, &mut source, &mut sink);
     Ok((status, sink.written().to_vec(alloc)?))
 }
 
@@ -305,15 +308,15 @@ const CUT: [([&str; 4], [&str; 4]); 2] = [
 /// The first ten reads and writes of the script fail, each in a run of its own.
 fn expect_failures(rt: &impl Abort, alloc: Global, script: &str, whole: &[u8]) -> Result<(), Fail> {
     for size in [1, 20, 4096] {
-        let (status, written) = in_pieces(alloc, script, size, &[], &[])?;
+        let (status, written) = in_pieces(alloc, "run", script, size, &[], &[])?;
         assert_eq!(rt; status, Status::Done);
         assert_eq!(rt; written.as_slice(), whole);
     }
     for call in 1..=10 {
-        let (status, written) = in_pieces(alloc, script, 20, &[call], &[])?;
+        let (status, written) = in_pieces(alloc, "run", script, 20, &[call], &[])?;
         assert_eq!(rt; status, Status::ReadFault);
         assert!(rt; whole.starts_with(&written));
-        let (status, written) = in_pieces(alloc, script, 20, &[], &[call])?;
+        let (status, written) = in_pieces(alloc, "run", script, 20, &[], &[call])?;
         assert_eq!(rt; status, Status::WriteFault);
         assert!(rt; whole.starts_with(&written));
     }

@@ -1,6 +1,6 @@
 //! The call of the program.
 
-ghost use Rattle.std.specs.Prelude.{◌≡◌, ◌≢◌, ◌⊎◌, ◌+◌, ◌≤◌, ◌++◌, true, false, List, ℕ, [], Some, length, map, max, string_bytes, IfOk};
+ghost use Rattle.std.specs.Prelude.{◌≡◌, ◌≢◌, ◌⊎◌, ◌+◌, ◌≤◌, ◌++◌, true, false, List, ℕ, [], Some, length, map, max, string_bytes, IfOk, IfSome};
 ghost use Rattle.osi_base.specs.Ends.{HasRisen, Took, Put, IsAtEnd};
 ghost use Rattle.osi_bench.specs.Bench.{first_bench, bench_meaning};
 ghost use Rattle.line_loop.specs.Exact.{IsAccepted, IsFailure};
@@ -10,21 +10,28 @@ ghost use Rattle.octet_loop.specs.Outcome.{AsksFor as CaptureAsksFor, IsOver, Ou
 ghost use Rattle.osi_capture.specs.declared.cause.Cause.{Cause};
 ghost use Rattle.osi_capture.specs.Course.{capture_course, Finishes, Refuses, IsAccepted as IsCaptureAccepted, IsRefused, IsPast};
 ghost use Rattle.osi_bench.specs.Text.{usage_line};
-ghost use Rattle.osi_bench.specs.Top.{is_run, is_decode, IsTranscript};
+ghost use Rattle.osi_bench.specs.Frames.{AsksForCapture, IsFramesRun, frames_meaning};
+ghost use Rattle.osi_bench.specs.Storm.{AsksSummary, SummaryOutcome};
+ghost use Rattle.osi_bench.specs.Top.{is_run, is_frames, is_decode, IsStorm, IsTranscript};
+ghost use Rattle.osi_storm.specs.declared.request.Storm.{Storm as StormWords};
 ghost use Rattle.line_loop.specs.Writing.{IsPrefix, IsWritten};
 
 use crate::bench::Bench;
+use crate::frames::write_capture;
 use crate::laws::ends_are_lawful;
+use crate::storm::write_storm;
 use crate::text::usage;
 use line_loop::{drive, write_last};
 use osi_base::{Bytes, NoMemory, PlainSink, PlainSource, Sink, Source, Status};
 use osi_capture::decode;
+use osi_storm::Storm;
 use std::alloc::Global;
 
 /// Does what the words of the program ask for, and answers how it ended.
 ///
-/// `run` reads a script from the source and writes its transcript to the sink; `decode` reads a capture and writes the
-/// lines of its records. Other words write the usage line.
+/// `run` reads a script from the source and writes its transcript to the sink; `frames` writes the capture of its frames;
+/// `decode` reads a capture and writes the lines of its records; `storm SEED COUNT` reads nothing, runs a generated script
+/// and writes its summary. Other words write the usage line.
 pub fn osi<S: Source, K: Sink>(
     alloc: Global,
     words: &[String],
@@ -46,6 +53,37 @@ pub fn osi<S: Source, K: Sink>(
         → (all : List ℕ) → S.left source.old ≡ Some all → IsAccepted bench_meaning first_bench all
         → ¬ HasRisen (S.faults source.old) (S.faults source.new) → ¬ HasRisen (K.faults sink.old) (K.faults sink.new)
         → ((result ≡ Status.Done) × (text : List ℕ) × AsksFor bench_meaning first_bench all text Status.Done × Put (K.held sink.old) text (K.held sink.new))
+        ⊎ (result ≡ Status.NoMemory) }
+    // Of the octets read, what was written is the capture of the frames that their lines make, as the status says.
+    ensures frames { is_frames (map string_bytes words.now) ≡ true
+        → (read : List ℕ) × (written : List ℕ)
+        × Took (S.left source.old) read (S.left source.new)
+        × Put (K.held sink.old) written (K.held sink.new)
+        × IsFramesRun (IsAtEnd (S.left source.new)) read written result }
+    // The capture that all octets of the source ask for comes, or a failure in its place.
+    ensures frames_exact { is_frames (map string_bytes words.now) ≡ true
+        → (all capture : List ℕ) (asked : Status) → S.left source.old ≡ Some all → AsksForCapture all capture asked
+        → ((result ≡ asked) × Put (K.held sink.old) capture (K.held sink.new)) ⊎ IsFailure result }
+    // A script with no refused line and no limit passed is Done, unless memory runs out, where neither count of faults rises
+    // or stands at its last value.
+    ensures frames_complete { is_frames (map string_bytes words.now) ≡ true
+        → (all : List ℕ) → S.left source.old ≡ Some all → IsAccepted frames_meaning first_bench all
+        → ¬ HasRisen (S.faults source.old) (S.faults source.new) → ¬ HasRisen (K.faults sink.old) (K.faults sink.new)
+        → ((result ≡ Status.Done) × (capture : List ℕ) × AsksForCapture all capture Status.Done × Put (K.held sink.old) capture (K.held sink.new))
+        ⊎ (result ≡ Status.NoMemory) }
+    // Of a generated script nothing is read, and what was written is its summary, as the status says.
+    ensures storm { (storm : StormWords) → IsStorm (map string_bytes words.now) storm
+        → (S.left source.new ≡ S.left source.old) × (written : List ℕ) × Put (K.held sink.old) written (K.held sink.new)
+        × SummaryOutcome storm written result }
+    // What the generated script asks for comes, or a failure in its place.
+    ensures storm_exact { (storm : StormWords) → IsStorm (map string_bytes words.now) storm
+        → (text : List ℕ) (asked : Status) → AsksSummary storm text asked
+        → ((result ≡ asked) × Put (K.held sink.old) text (K.held sink.new)) ⊎ IsFailure result }
+    // Where the count of faults of the sink does not rise and does not stand at its last value, a generated script ends, or one of its
+    // lines fills the journal, unless memory runs out.
+    ensures storm_complete { (storm : StormWords) → IsStorm (map string_bytes words.now) storm
+        → ¬ HasRisen (K.faults sink.old) (K.faults sink.new)
+        → ((text : List ℕ) × AsksSummary storm text result × Put (K.held sink.old) text (K.held sink.new))
         ⊎ (result ≡ Status.NoMemory) }
     // Of the octets of a capture that were read, what was written is told as the status says.
     ensures decode { is_decode (map string_bytes words.now) ≡ true
@@ -76,7 +114,8 @@ pub fn osi<S: Source, K: Sink>(
         → ((result ≡ Status.TooMuch) × (text : List ℕ) × IsOver capture_course all text × Put (K.held sink.old) text (K.held sink.new))
         ⊎ IsFailure result }
     // Other words: the usage line was written, or a front of it, and nothing was read.
-    ensures words { is_run (map string_bytes words.now) ≡ false → is_decode (map string_bytes words.now) ≡ false
+    ensures words { is_run (map string_bytes words.now) ≡ false → is_frames (map string_bytes words.now) ≡ false → is_decode (map string_bytes words.now) ≡ false
+        → ((storm : StormWords) → IsStorm (map string_bytes words.now) storm → ⊥)
         → (S.left source.new ≡ S.left source.old) × IsWritten K.held sink.old usage_line Status.RefusedWords sink.new result }
     // One read asks for no more than 4,096 octets.
     ensures asked { S.asked source.new ≤ max (S.asked source.old) most_read }
@@ -90,8 +129,12 @@ pub fn osi<S: Source, K: Sink>(
     if is_run(words) {
         ends_are_lawful();
         drive(alloc, Bench::new(alloc), source, sink)
+    } else if is_frames(words) {
+        write_capture(alloc, source, sink)
     } else if is_decode(words) {
         decode(alloc, source, sink)
+    } else if let Some(storm) = storm_of(words) {
+        write_storm(alloc, storm, sink)
     } else {
         refuse_words(sink)
     }
@@ -107,6 +150,16 @@ fn is_run(words: &[String]) -> bool
     }
 }
 
+/// Whether the words are the one word `frames`.
+fn is_frames(words: &[String]) -> bool
+    ensures { result ≡ is_frames (map string_bytes words.now) }
+{
+    match words {
+        [word] => word.as_str() == "frames",
+        _ => false,
+    }
+}
+
 /// Whether the words are the one word `decode`.
 fn is_decode(words: &[String]) -> bool
     ensures { result ≡ is_decode (map string_bytes words.now) }
@@ -114,6 +167,19 @@ fn is_decode(words: &[String]) -> bool
     match words {
         [word] => word.as_str() == "decode",
         _ => false,
+    }
+}
+
+/// The generated script that the words `storm SEED COUNT` ask for.
+fn storm_of(words: &[String]) -> Option<Storm>
+    ensures some { IfSome result (λ storm. IsStorm (map string_bytes words.now) storm) }
+    ensures exact { (storm : StormWords) → IsStorm (map string_bytes words.now) storm → result ≡ Some storm }
+{
+    match words {
+        [word, seed, count] if word.as_str() == "storm" => {
+            Storm::read(seed.as_str(), count.as_str())
+        }
+        _ => None,
     }
 }
 
@@ -148,8 +214,17 @@ pub fn run_in_memory(alloc: Global, words: &[String], input: &[u8]) -> Result<Tr
     ensures decode { is_decode (map string_bytes words.now) ≡ true
         → (text : List ℕ) (asked : Status) → CaptureAsksFor capture_course input.now text asked
         → IfOk result (λ made. ((made.status ≡ asked) × (made.octets ≡ text)) ⊎ (made.status ≡ Status.NoMemory)) }
+    // The capture that a script asks for comes, unless memory runs out.
+    ensures frames { is_frames (map string_bytes words.now) ≡ true
+        → (capture : List ℕ) (asked : Status) → AsksForCapture input.now capture asked
+        → IfOk result (λ made. ((made.status ≡ asked) × (made.octets ≡ capture)) ⊎ (made.status ≡ Status.NoMemory)) }
+    // What a generated script asks for comes, unless memory runs out.
+    ensures storm { (storm : StormWords) → IsStorm (map string_bytes words.now) storm
+        → (text : List ℕ) (asked : Status) → AsksSummary storm text asked
+        → IfOk result (λ made. ((made.status ≡ asked) × (made.octets ≡ text)) ⊎ (made.status ≡ Status.NoMemory)) }
     // Other words: the usage line, or a front of it where memory runs out.
-    ensures words { is_run (map string_bytes words.now) ≡ false → is_decode (map string_bytes words.now) ≡ false
+    ensures words { is_run (map string_bytes words.now) ≡ false → is_frames (map string_bytes words.now) ≡ false → is_decode (map string_bytes words.now) ≡ false
+        → ((storm : StormWords) → IsStorm (map string_bytes words.now) storm → ⊥)
         → IfOk result (λ made. ((made.status ≡ Status.RefusedWords) × (made.octets ≡ usage_line))
         ⊎ ((made.status ≡ Status.NoMemory) × IsPrefix made.octets usage_line)) }
 {

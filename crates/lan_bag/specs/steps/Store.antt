@@ -3,9 +3,10 @@ use Rattle.std.specs.Prelude.{◌≡◌, ℕ, ◌≤◌, ◌+◌, List, length, 
 use Rattle.lan_frame.specs.Frame.{whole_frame}
 use Rattle.lan_bag.specs.Frames.{Frame, marked, live_count}
 
--- the octets are those of the whole frame of what follows its header
+-- the octets are those of the whole frame of what follows its header, and no more than a frame has
 pub record IsWhole (to from whole : List ℕ) : Type 0 where
   pub long : 17 ≤ length whole
+  pub most : length whole ≤ 1514
   pub framed : whole ≡ whole_frame to from (drop 17 whole)
 
 -- the slot once that system took its frame

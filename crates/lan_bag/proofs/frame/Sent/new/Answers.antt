@@ -1,4 +1,4 @@
-use Rattle.std.proofs.Common.{◌≡◌, List, ℕ, drop, ap, ◌∙◌}
+use Rattle.std.proofs.Common.{◌≡◌, ◌≤◌, List, ℕ, length, drop, ap, ◌∙◌}
 use Rattle.std.proofs.lemmas.Grind.{common_steps}
 use Rattle.std.proofs.Common.{arith}
 use Rattle.lan_bag.proofs.Headers.{is_whole}
@@ -7,8 +7,9 @@ use Rattle.lan_bag.proofs.frame.Sent.new.Goals as goal
 
 pub invariant_of-result : goal.invariant_of-result
 invariant_of-result c =
+    let most : length c.as_slice-pdu.result.now ≤ 1497 = grind (arith, common_steps) in
     is_whole c.args.unit.now.to.snpa c.args.unit.now.from.snpa c.as_slice-pdu.result.now c.in_ok-write_frame.field-0.items
-    c.in_ok-write_frame.ensures.whole c.in_ok-write_frame.ensures.to c.in_ok-write_frame.ensures.from
+    c.in_ok-write_frame.ensures.whole c.in_ok-write_frame.ensures.to c.in_ok-write_frame.ensures.from most
 
 pub returns : goal.returns
 returns c =

@@ -1,0 +1,74 @@
+-- The run of a generated script: each line is made by what the journal of the lines before it counts.
+use Rattle.std.specs.Prelude.{◌≡◌, ◌⊎◌, ℕ, List, [], ◌∷◌, ◌++◌, map}
+use Rattle.line_loop.specs.Writing.{IsPrefix}
+use Rattle.osi_base.specs.declared.status.Status.{Status}
+use Rattle.osi_base.specs.declared.status.Status.TheVariants.{Done, RefusedLine, RefusedWords, ReadFault, WriteFault, NoMemory, RefusedCapture, TooMuch}
+use Rattle.osi_journal.specs.declared.event.Event.{Event}
+use Rattle.osi_storm.specs.declared.request.Storm.{Storm}
+use Rattle.osi_storm.specs.Counted.{counts_of}
+use Rattle.osi_storm.specs.Line.{set_up_lines, line_text}
+use Rattle.osi_storm.specs.Summary.{summary_line}
+use Rattle.osi_storm.specs.Words.{words}
+use Rattle.osi_bench.specs.Bench.{Bench, RunsLine, FillsJournal, first_bench}
+use Rattle.osi_bench.specs.Text.{done_line, toomuch_line}
+use Rattle.osi_bench.specs.Top.{IsScriptRun}
+
+-- the line of a word, by the frames and the ends of the journal before it
+abbrev pub line_after : ℕ → List Event → List ℕ
+line_after word before = line_text word (counts_of before).frames (counts_of before).ends
+
+-- a line of the set-up, whatever the journal before it
+abbrev pub as_it_stands : List ℕ → List Event → List ℕ
+as_it_stands line before = line
+
+-- the lines of a generated script, each by the journal before it: those of the set-up, and then one for each word
+abbrev pub storm_lines : Storm → List (List Event → List ℕ)
+storm_lines storm = map as_it_stands set_up_lines ++ map line_after (words storm.seed storm.count)
+
+-- the lines run one after another; `before` is the journal of those before them, and `journal` of all
+abbrev pub StormRuns : Bench → List Event → List (List Event → List ℕ) → List Event → Bench → Type 0
+StormRuns first before [] journal last = (journal ≡ before) × (last ≡ first)
+StormRuns first before (line ∷ lines) journal last =
+    (made : List Event) × (middle : Bench) × RunsLine first (line before) made middle × StormRuns middle (before ++ made) lines journal last
+
+-- the lines run one after another up to one that fills the journal
+abbrev pub StormFills : Bench → List Event → List (List Event → List ℕ) → Type 0
+StormFills first before [] = ⊥
+StormFills first before (line ∷ lines) =
+    ((made : List Event) × (last : Bench) × FillsJournal first (line before) made last)
+    ⊎ ((made : List Event) × (middle : Bench) × RunsLine first (line before) made middle × StormFills middle (before ++ made) lines)
+
+-- what a generated script asks for, by how its run ends: the counts of its journal, or that a line fills the journal
+abbrev pub AsksSummary : Storm → List ℕ → Status → Type 0
+AsksSummary storm text Done = (journal : List Event) × (last : Bench) × StormRuns first_bench [] (storm_lines storm) journal last
+    × (text ≡ summary_line storm (counts_of journal) ++ done_line)
+AsksSummary storm text TooMuch = StormFills first_bench [] (storm_lines storm) × (text ≡ toomuch_line)
+AsksSummary storm text RefusedLine = ⊥
+AsksSummary storm text ReadFault = ⊥
+AsksSummary storm text WriteFault = ⊥
+AsksSummary storm text NoMemory = ⊥
+AsksSummary storm text RefusedWords = ⊥
+AsksSummary storm text RefusedCapture = ⊥
+
+-- a front of what a generated script asks for
+pub record IsCutSummary (storm : Storm) (written : List ℕ) : Type 0 where
+  pub text : List ℕ
+  pub status : Status
+  pub asked : AsksSummary storm text status
+  pub cut : IsPrefix written text
+
+-- what was written is what the generated script asks for, or where a write or memory failed a front of that
+abbrev pub SummaryOutcome : Storm → List ℕ → Status → Type 0
+SummaryOutcome storm written Done = AsksSummary storm written Done
+SummaryOutcome storm written TooMuch = AsksSummary storm written TooMuch
+SummaryOutcome storm written WriteFault = IsCutSummary storm written
+SummaryOutcome storm written NoMemory = (written ≡ []) ⊎ IsCutSummary storm written
+SummaryOutcome storm written RefusedLine = ⊥
+SummaryOutcome storm written ReadFault = ⊥
+SummaryOutcome storm written RefusedWords = ⊥
+SummaryOutcome storm written RefusedCapture = ⊥
+
+-- the lines of a generated script are a script, and its journal is that of the run of the network for them
+abbrev pub RunsGenerated : Type 0
+RunsGenerated = (storm : Storm) (journal : List Event) (last : Bench) → StormRuns first_bench [] (storm_lines storm) journal last
+    → (texts : List (List ℕ)) × IsScriptRun texts journal last

@@ -1,0 +1,67 @@
+//! Generated scripts and their summaries.
+
+use super::*;
+
+/// The words of each, and what it writes. The second one is the program's own output, which each run has to give again.
+const STORMS: [([&str; 2], &str); 2] = [
+    (
+        ["1", "0"],
+        "storm 1 0 ticks 0 frames 0 ends 0 got 0 urgent 0 gone 0\ndone\n",
+    ),
+    (
+        ["1", "2000"],
+        "storm 1 2000 ticks 206 frames 493 ends 101 got 0 urgent 0 gone 85\ndone\n",
+    ),
+];
+
+/// Words that ask for no generated script.
+const REFUSED: [&[&str]; 7] = [
+    &["storm", "01", "5"],
+    &["storm", "1", "20001"],
+    &["storm", "1000000000", "5"],
+    &["storm", "1", ""],
+    &["storm", "1"],
+    &["storm", "1", "5", "5"],
+    &["storms", "1", "5"],
+];
+
+fn words_of(alloc: Global, call: &[&str]) -> Result<Vec<String>, Fail> {
+    let mut words = Vec::new(alloc);
+    for word in call {
+        words.push(word.to_string(alloc)?)?;
+    }
+    Ok(words)
+}
+
+#[test]
+fn generated_scripts_have_their_summaries(rt: HostRuntime) -> Result<(), Fail> {
+    for ([seed, count], summary) in STORMS {
+        let words = words_of(rt.alloc(), &["storm", seed, count])?;
+        let made = run_in_memory(rt.alloc(), &words, b"start\n")?;
+        assert_eq!(rt; made.status, Status::Done);
+        assert_eq!(rt; made.octets.as_slice(), summary.as_bytes());
+    }
+    Ok(())
+}
+
+#[test]
+fn other_words_ask_for_no_script(rt: HostRuntime) -> Result<(), Fail> {
+    for call in REFUSED {
+        let made = run_in_memory(rt.alloc(), &words_of(rt.alloc(), call)?, b"")?;
+        assert_eq!(rt; made.status, Status::RefusedWords);
+    }
+    Ok(())
+}
+
+#[test]
+fn a_failed_write_ends_a_generated_script(rt: HostRuntime) -> Result<(), Fail> {
+    let alloc = rt.alloc();
+    let words = words_of(alloc, &["storm", "1", "0"])?;
+    let mut source = MemSource::new(alloc, b"start\n", &[1].repeat(alloc, 300)?, &[])?;
+    let mut sink = MemSink::new(alloc, &[1])?;
+    let status = osi(alloc, &words, &mut source, &mut sink);
+    assert_eq!(rt; status, Status::WriteFault);
+    assert!(rt; sink.written().is_empty());
+    assert_eq!(rt; source.read(&mut [0; 1]), Ok(1));
+    Ok(())
+}
