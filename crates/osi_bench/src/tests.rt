@@ -8,7 +8,6 @@ use std::alloc::Global;
 use std::process::Abort;
 use std::test::Fail;
 
-mod captured;
 mod connected;
 mod generated;
 mod injected;
