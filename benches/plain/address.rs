@@ -61,11 +61,15 @@ pub struct Hop {
 }
 
 /// The octets that pairs of hexadecimal digits stand for.
-pub fn read_hex(text: &str) -> Option<Vec<u8>> {
+pub fn read_hex(text: &[u8]) -> Option<Vec<u8>> {
     if text.len() % 2 != 0 {
         return None;
     }
-    text.as_bytes().chunks_exact(2).map(|pair| Some(digit(pair[0])? * 16 + digit(pair[1])?)).collect()
+    let mut octets = Vec::with_capacity(text.len() / 2);
+    for pair in text.chunks_exact(2) {
+        octets.push(digit(pair[0])? << 4 | digit(pair[1])?);
+    }
+    Some(octets)
 }
 
 fn digit(octet: u8) -> Option<u8> {
@@ -79,10 +83,11 @@ fn digit(octet: u8) -> Option<u8> {
 
 pub fn push_hex(octets: &[u8], out: &mut Vec<u8>) {
     const DIGITS: &[u8; 16] = b"0123456789abcdef";
-    out.reserve(2 * octets.len());
-    for octet in octets {
-        out.push(DIGITS[usize::from(octet / 16)]);
-        out.push(DIGITS[usize::from(octet % 16)]);
+    let start = out.len();
+    out.resize(start + 2 * octets.len(), 0);
+    for (pair, octet) in out[start..].chunks_exact_mut(2).zip(octets) {
+        pair[0] = DIGITS[usize::from(octet >> 4)];
+        pair[1] = DIGITS[usize::from(octet & 15)];
     }
 }
 

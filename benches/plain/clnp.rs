@@ -265,25 +265,27 @@ pub fn write(pdu: &Pdu<'_>) -> Vec<u8> {
     out
 }
 
-/// The octets of the pieces of a PDU for a room; None where it does not fit and may not be cut.
-pub fn write_cut(mut pdu: Pdu<'_>, room: usize) -> Option<Vec<Vec<u8>>> {
+/// Writes the pieces of a PDU for a room, and hands on their octets; false where it does not fit and may not be cut.
+pub fn write_cut(mut pdu: Pdu<'_>, room: usize, mut each: impl FnMut(Vec<u8>)) -> bool {
     let header = header_length(&pdu.destination, &pdu.source, pdu.segment.is_some(), pdu.options);
     if header + pdu.body.len() <= room {
-        return Some(vec![write(&pdu)]);
+        each(write(&pdu));
+        return true;
     }
-    let part = pdu.segment?;
+    let Some(part) = pdu.segment else {
+        return false;
+    };
     let body = pdu.body;
     let step = (room - header) / 8 * 8;
-    let mut pieces = Vec::new();
     let mut at = 0;
     while room - header < body.len() - at {
         pdu.segment = Some(Segment { offset: part.offset + at as u16, more: true, ..part });
         pdu.body = &body[at..at + step];
-        pieces.push(write(&pdu));
+        each(write(&pdu));
         at += step;
     }
     pdu.segment = Some(Segment { offset: part.offset + at as u16, ..part });
     pdu.body = &body[at..];
-    pieces.push(write(&pdu));
-    Some(pieces)
+    each(write(&pdu));
+    true
 }

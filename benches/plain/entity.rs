@@ -7,6 +7,7 @@ use crate::journal::{Journal, Options};
 use crate::script::{Settings, SystemSetup};
 use crate::tpdu::{self, Proposal, Tpdu};
 use crate::world::EndAt;
+use std::collections::BTreeMap;
 
 const TRANSPORT: u8 = 1;
 const MOST_OCTETS: usize = 32;
@@ -25,7 +26,10 @@ pub struct Entity {
     own: Nsap,
     timers: Timers,
     selectors: Vec<Vec<u8>>,
-    ends: Vec<Option<Connection>>,
+    /// How many references there are, from 1 on.
+    references: u16,
+    /// The ends that stand, frozen ones too, by reference.
+    ends: BTreeMap<u16, Connection>,
 }
 
 impl Entity {
@@ -35,21 +39,19 @@ impl Entity {
             own: setup.title.with_selector(TRANSPORT),
             timers: Timers::of(settings),
             selectors: setup.selectors.clone(),
-            ends: (0..settings.get("refs")).map(|_| None).collect(),
+            references: settings.get("refs") as u16,
+            ends: BTreeMap::new(),
         }
     }
 
-    pub fn references(&self) -> u16 {
-        self.ends.len() as u16
+    /// The references at which ends stand.
+    pub fn used(&self) -> Vec<u16> {
+        self.ends.keys().copied().collect()
     }
 
-    fn end(&self, reference: u16) -> Option<&Connection> {
-        self.ends.get(usize::from(reference).checked_sub(1)?)?.as_ref()
-    }
-
-    /// The least place whose reference is free.
-    fn free_place(&self, now: u32) -> Option<usize> {
-        self.ends.iter().position(|end| end.as_ref().is_none_or(|end| end.is_over(now)))
+    /// The least reference that is free.
+    fn free_reference(&self, now: u32) -> Option<u16> {
+        (1..=self.references).find(|reference| self.ends.get(reference).is_none_or(|end| end.is_over(now)))
     }
 
     pub fn connect(
@@ -63,21 +65,19 @@ impl Entity {
         if request.octets.len() > MOST_OCTETS {
             return Err("toolong");
         }
-        let place = self.free_place(now).ok_or("refsspent")?;
-        let reference = place as u16 + 1;
+        let reference = self.free_reference(now).ok_or("refsspent")?;
         ends.push(EndAt { system: self.system, reference });
         let number = ends.len() as u32;
         let Request { selector, to, called, options, octets } = request;
         journal.connect(number, self.system, reference, [(&self.own, &selector), (&to, &called)], &octets);
         let end = Connection::connect(now, number, reference, to, (selector, called), options, octets, self.timers, tpdus);
-        self.ends[place] = Some(end);
+        self.ends.insert(reference, end);
         Ok(())
     }
 
     /// A user calls the end of a number that was made at a reference.
     pub fn call(&mut self, now: u32, number: u32, reference: u16, call: Call, journal: &mut Journal, tpdus: &mut Tpdus) {
-        let place = usize::from(reference) - 1;
-        match &mut self.ends[place] {
+        match self.ends.get_mut(&reference) {
             Some(end) if end.number == number && !end.is_over(now) => match end.call(now, call, journal, tpdus) {
                 Ok(()) => {}
                 Err(Refused::State(state)) => journal.no_state(state),
@@ -101,7 +101,7 @@ impl Entity {
         while !rest.is_empty() {
             let extended = match *rest {
                 [_, _, high, low, ..] => {
-                    self.end(u16::from_be_bytes([high, low])).is_some_and(Connection::is_extended)
+                    self.ends.get(&u16::from_be_bytes([high, low])).is_some_and(Connection::is_extended)
                 }
                 _ => false,
             };
@@ -128,20 +128,19 @@ impl Entity {
         tpdus: &mut Tpdus,
     ) {
         let is_called = |end: &&Connection| end.is_called_by(&from, cr.source);
-        let reason = if self.ends.iter().flatten().filter(is_called).any(|end| !end.is_frozen()) {
+        let reason = if self.ends.values().filter(is_called).any(|end| !end.is_frozen()) {
             return;
-        } else if self.ends.iter().flatten().any(|end| is_called(&end)) {
+        } else if self.ends.values().any(|end| is_called(&end)) {
             131
         } else if !self.selectors.iter().any(|selector| selector == cr.called) {
             3
-        } else if let Some(place) = self.free_place(now) {
-            let reference = place as u16 + 1;
+        } else if let Some(reference) = self.free_reference(now) {
             ends.push(EndAt { system: self.system, reference });
             let number = ends.len() as u32;
             let end = Connection::incoming(now, number, reference, from, cr, self.timers);
             let (calling, called) = ((&from, cr.calling), (&self.own, cr.called));
             journal.incoming(number, self.system, reference, cr.source, calling, called, end.proposed(), cr.octets);
-            self.ends[place] = Some(end);
+            self.ends.insert(reference, end);
             return;
         } else {
             129
@@ -159,8 +158,7 @@ impl Entity {
         journal: &mut Journal,
         tpdus: &mut Tpdus,
     ) {
-        let place = tpdu.destination().and_then(|reference| usize::from(reference).checked_sub(1));
-        let end = place.and_then(|place| self.ends.get_mut(place)).and_then(Option::as_mut);
+        let end = tpdu.destination().and_then(|reference| self.ends.get_mut(&reference));
         if let Some(end) = end.filter(|end| end.matches(from, tpdu)) {
             if end.wants_sum(tpdu) && !has_sum {
                 journal.bad_tpdu(self.system, "checksum", 0);
@@ -182,11 +180,10 @@ impl Entity {
 
     /// The end of a reference ticks; it is forgotten where its reference is free.
     pub fn tick(&mut self, now: u32, reference: u16, journal: &mut Journal, tpdus: &mut Tpdus) {
-        let place = &mut self.ends[usize::from(reference) - 1];
-        if let Some(end) = place {
+        if let Some(end) = self.ends.get_mut(&reference) {
             end.tick(now, journal, tpdus);
             if end.is_over(now) {
-                *place = None;
+                self.ends.remove(&reference);
             }
         }
     }

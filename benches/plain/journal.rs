@@ -58,8 +58,8 @@ pub struct Journal {
     pub is_full: bool,
     pub counts: Counts,
     events: u32,
-    systems: Vec<String>,
-    lans: Vec<String>,
+    systems: Vec<Vec<u8>>,
+    lans: Vec<Vec<u8>>,
 }
 
 impl Journal {
@@ -79,12 +79,12 @@ impl Journal {
         })
     }
 
-    pub fn name_system(&mut self, name: &str) {
-        self.systems.push(name.to_string());
+    pub fn name_system(&mut self, name: &[u8]) {
+        self.systems.push(name.to_vec());
     }
 
-    pub fn name_lan(&mut self, name: &str) {
-        self.lans.push(name.to_string());
+    pub fn name_lan(&mut self, name: &[u8]) {
+        self.lans.push(name.to_vec());
     }
 
     /// Writes what there is, where it is much.
@@ -116,13 +116,25 @@ impl Journal {
         self.out.octets.extend_from_slice(word.as_bytes());
     }
 
-    fn number(&mut self, number: impl std::fmt::Display) {
-        let _ = write!(self.out.octets, " {number}");
+    fn number(&mut self, number: impl Into<u64>) {
+        let mut left = number.into();
+        let mut digits = [0; 20];
+        let mut start = digits.len();
+        loop {
+            start -= 1;
+            digits[start] = b'0' + (left % 10) as u8;
+            left /= 10;
+            if left == 0 {
+                break;
+            }
+        }
+        self.out.octets.push(b' ');
+        self.out.octets.extend_from_slice(&digits[start..]);
     }
 
     fn system(&mut self, system: u8) {
         self.out.octets.push(b' ');
-        self.out.octets.extend_from_slice(self.systems[usize::from(system)].as_bytes());
+        self.out.octets.extend_from_slice(&self.systems[usize::from(system)]);
     }
 
     fn octets(&mut self, octets: &[u8]) {
@@ -161,10 +173,10 @@ impl Journal {
         if self.begin("frame") {
             self.number(number);
             self.out.octets.push(b' ');
-            self.out.octets.extend_from_slice(self.lans[usize::from(to.lan)].as_bytes());
+            self.out.octets.extend_from_slice(&self.lans[usize::from(to.lan)]);
             self.system(system);
             self.octets(&to.snpa);
-            self.number(length);
+            self.number(length as u32);
             self.end();
         }
         if self.is_full {
@@ -282,7 +294,7 @@ impl Journal {
         if self.begin("badtpdu") {
             self.system(system);
             self.word(cause);
-            self.number(place);
+            self.number(place as u32);
             self.end();
         }
     }

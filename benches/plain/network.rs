@@ -176,12 +176,15 @@ impl System {
             header: &[],
             body: &unit.octets,
         };
-        let pieces = clnp::write_cut(pdu, self.room(hop.port.lan)).ok_or("toolong")?;
+        let mut frames = Vec::new();
+        if !clnp::write_cut(pdu, self.room(hop.port.lan), |pdu| frames.push(Frame { to: hop.port, pdu })) {
+            return Err("toolong");
+        }
         if wish.cut {
             self.given[half] = Some(now);
             self.next_id = self.next_id.wrapping_add(1);
         }
-        Ok(pieces.into_iter().map(|pdu| Frame { to: hop.port, pdu }).collect())
+        Ok(frames)
     }
 
     /// What comes of a frame.
@@ -303,10 +306,10 @@ impl System {
         };
         let options = self.onward_options(pdu.options);
         let onward = Pdu { lifetime: pdu.lifetime - bound, options: &options, header: &[], ..*pdu };
-        let Some(pieces) = clnp::write_cut(onward, self.room(hop.port.lan)) else {
+        let mut frames = Vec::new();
+        if !clnp::write_cut(onward, self.room(hop.port.lan), |pdu| frames.push(Frame { to: hop.port, pdu })) {
             return self.discard(came, pdu, 0x05, 0, journal);
-        };
-        let mut frames: Vec<Frame> = pieces.into_iter().map(|pdu| Frame { to: hop.port, pdu }).collect();
+        }
         if hop.port.lan == came.to.lan && hop.port.snpa != came.from {
             let rd = Hello::Rd { hold: self.hold, address: pdu.destination, snpa: hop.port.snpa, title: hop.title };
             frames.push(Frame { to: came.sender(), pdu: esis::write(&rd) });

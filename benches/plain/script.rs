@@ -2,7 +2,6 @@
 
 use crate::address::{Hop, Nsap, Port, Snpa, is_group, read_hex};
 use crate::journal::{Journal, Options};
-use std::collections::HashMap;
 
 pub type Cause = &'static str;
 
@@ -90,29 +89,29 @@ pub struct Setup {
     pub systems: Vec<SystemSetup>,
     pub paths: Vec<Path>,
     is_started: bool,
-    lan_names: HashMap<String, u8>,
-    system_names: HashMap<String, u8>,
-    path_names: HashMap<String, usize>,
+    lan_names: Vec<Vec<u8>>,
+    system_names: Vec<Vec<u8>>,
+    path_names: Vec<Vec<u8>>,
 }
 
 /// Whether a word is one of the set-up, and how many fields follow it.
-fn form_of(word: &str) -> Option<(bool, usize)> {
+fn form_of(word: &[u8]) -> Option<(bool, usize)> {
     Some(match word {
-        "set" => (true, 2),
-        "lan" => (true, 3),
-        "es" | "is" => (true, 2),
-        "port" => (true, 3),
-        "route" => (true, 4),
-        "path" => (true, 3),
-        "tsap" => (true, 2),
-        "start" => (true, 0),
-        "connect" => (false, 9),
-        "accept" => (false, 6),
-        "refuse" | "disconnect" | "data" | "expedite" | "window" => (false, 2),
-        "unit" => (false, 5),
-        "tick" | "settle" => (false, 0),
-        "deliver" => (false, 2),
-        "inject" => (false, 3),
+        b"set" => (true, 2),
+        b"lan" => (true, 3),
+        b"es" | b"is" => (true, 2),
+        b"port" => (true, 3),
+        b"route" => (true, 4),
+        b"path" => (true, 3),
+        b"tsap" => (true, 2),
+        b"start" => (true, 0),
+        b"connect" => (false, 9),
+        b"accept" => (false, 6),
+        b"refuse" | b"disconnect" | b"data" | b"expedite" | b"window" => (false, 2),
+        b"unit" => (false, 5),
+        b"tick" | b"settle" => (false, 0),
+        b"deliver" => (false, 2),
+        b"inject" => (false, 3),
         _ => return None,
     })
 }
@@ -125,136 +124,141 @@ impl Setup {
             systems: Vec::new(),
             paths: Vec::new(),
             is_started: false,
-            lan_names: HashMap::new(),
-            system_names: HashMap::new(),
-            path_names: HashMap::new(),
+            lan_names: Vec::new(),
+            system_names: Vec::new(),
+            path_names: Vec::new(),
         }
     }
 
     /// What a line says; one of the set-up is taken up.
     pub fn read_line(&mut self, line: &[u8], journal: &mut Journal) -> Result<Line, Fault> {
-        if let Some(at) = line.iter().position(|octet| !(0x20..=0x7e).contains(octet)) {
-            return Err(Fault { cause: "ascii", column: at + 1 });
+        let mut blanks = 0;
+        for (at, octet) in line.iter().enumerate() {
+            if !(0x20..=0x7e).contains(octet) {
+                return Err(Fault { cause: "ascii", column: at + 1 });
+            }
+            blanks += usize::from(*octet == b' ');
         }
-        let line = std::str::from_utf8(line).unwrap();
-        if line.is_empty() || line.starts_with('#') {
+        if line.is_empty() || line[0] == b'#' {
             return Ok(Line::Nothing);
         }
-        let fields: Vec<&str> = line.split(' ').collect();
-        let (is_set_up, count) = form_of(fields[0]).ok_or(Fault { cause: "word", column: 1 })?;
+        let mut fields = Fields { line, blanks, column: 1, next: 0 };
+        let word = fields.next();
+        let (is_set_up, count) = form_of(word).ok_or(Fault { cause: "word", column: 1 })?;
         if is_set_up == self.is_started {
             return Err(Fault { cause: "order", column: 1 });
         }
-        if fields.len() <= count {
+        if blanks < count {
             return Err(Fault { cause: "fields", column: line.len() + 1 });
         }
-        if fields.len() > count + 1 {
-            return Err(Fault { cause: "fields", column: column_of(&fields, count + 1) });
+        if blanks > count {
+            for _ in 0..=count {
+                fields.next();
+            }
+            return Err(Fault { cause: "fields", column: fields.column });
         }
-        if is_set_up { self.declare(&fields, journal) } else { self.read_event(&fields) }
+        if is_set_up { self.declare(word, fields, journal) } else { self.read_event(word, fields) }
     }
 
-    fn read_event(&self, fields: &[&str]) -> Result<Line, Fault> {
-        let fields = Fields { fields };
-        Ok(match fields.fields[0] {
-            "connect" => Line::Connect {
-                system: fields.read(1, |field| self.end_system(field))?,
-                selector: fields.read(2, selector)?,
-                to: fields.read(3, |field| self.end_system(field))?,
-                called: fields.read(4, selector)?,
-                options: fields.options(5)?,
-                octets: fields.read(9, octets)?,
+    fn read_event(&self, word: &[u8], mut fields: Fields<'_>) -> Result<Line, Fault> {
+        Ok(match word {
+            b"connect" => Line::Connect {
+                system: fields.read(|field| self.end_system(field))?,
+                selector: fields.read(selector)?,
+                to: fields.read(|field| self.end_system(field))?,
+                called: fields.read(selector)?,
+                options: fields.options()?,
+                octets: fields.read(octets)?,
             },
-            "accept" => {
-                Line::Accept { end: fields.read(1, any_number)?, options: fields.options(2)?, octets: fields.read(6, octets)? }
+            b"accept" => {
+                Line::Accept { end: fields.read(any_number)?, options: fields.options()?, octets: fields.read(octets)? }
             }
-            "refuse" => Line::Refuse { end: fields.read(1, any_number)?, octets: fields.read(2, octets)? },
-            "disconnect" => Line::Disconnect { end: fields.read(1, any_number)?, octets: fields.read(2, octets)? },
-            "data" => Line::Data { end: fields.read(1, any_number)?, octets: fields.read(2, octets)? },
-            "expedite" => Line::Expedite { end: fields.read(1, any_number)?, octets: fields.read(2, octets)? },
-            "window" => Line::Window {
-                end: fields.read(1, any_number)?,
-                credit: fields.read(2, |field| number(field, 0, 255))? as u16,
+            b"refuse" => Line::Refuse { end: fields.read(any_number)?, octets: fields.read(octets)? },
+            b"disconnect" => Line::Disconnect { end: fields.read(any_number)?, octets: fields.read(octets)? },
+            b"data" => Line::Data { end: fields.read(any_number)?, octets: fields.read(octets)? },
+            b"expedite" => Line::Expedite { end: fields.read(any_number)?, octets: fields.read(octets)? },
+            b"window" => Line::Window {
+                end: fields.read(any_number)?,
+                credit: fields.read(|field| number(field, 0, 255))? as u16,
             },
-            "unit" => {
-                let system = fields.read(1, |field| self.end_system(field))?;
-                let to = fields.read(2, |field| self.end_system(field))?;
-                let mut wish = fields.read(3, flags)?;
-                wish.path = fields.read(4, |field| self.path(field))?;
-                Line::Unit { system, to, wish, octets: fields.read(5, octets)? }
+            b"unit" => {
+                let system = fields.read(|field| self.end_system(field))?;
+                let to = fields.read(|field| self.end_system(field))?;
+                let mut wish = fields.read(flags)?;
+                wish.path = fields.read(|field| self.path(field))?;
+                Line::Unit { system, to, wish, octets: fields.read(octets)? }
             }
-            "tick" => Line::Tick,
-            "settle" => Line::Settle,
-            "deliver" => {
-                Line::Deliver { frame: fields.read(1, any_number)?, system: fields.read(2, |field| self.system(field))? }
+            b"tick" => Line::Tick,
+            b"settle" => Line::Settle,
+            b"deliver" => {
+                Line::Deliver { frame: fields.read(any_number)?, system: fields.read(|field| self.system(field))? }
             }
             _ => Line::Inject {
-                lan: fields.read(1, |field| self.lan(field))?,
-                system: fields.read(2, |field| self.system(field))?,
-                octets: fields.read(3, octets)?,
+                lan: fields.read(|field| self.lan(field))?,
+                system: fields.read(|field| self.system(field))?,
+                octets: fields.read(octets)?,
             },
         })
     }
 
-    fn declare(&mut self, fields: &[&str], journal: &mut Journal) -> Result<Line, Fault> {
-        let fields = Fields { fields };
-        match fields.fields[0] {
-            "set" => {
-                let key = fields.read(1, |field| self.key(field))?;
-                let value = fields.read(2, |field| self.value(key, field))?;
+    fn declare(&mut self, word: &[u8], mut fields: Fields<'_>, journal: &mut Journal) -> Result<Line, Fault> {
+        match word {
+            b"set" => {
+                let key = fields.read(|field| self.key(field))?;
+                let value = fields.read(|field| self.value(key, field))?;
                 self.settings.set[key] = Some(value);
             }
-            "lan" => {
-                let name = fields.read(1, |field| new_name(field, &self.lan_names))?;
-                let bound = fields.read(2, |field| number(field, 1, 16))?;
-                let room = fields.read(3, |field| number(field, 264, 1497))? as usize;
+            b"lan" => {
+                let name = fields.read(|field| new_name(field, &self.lan_names))?;
+                let bound = fields.read(|field| number(field, 1, 16))?;
+                let room = fields.read(|field| number(field, 264, 1497))? as usize;
                 many(self.lans.len(), 16)?;
                 journal.name_lan(&name);
-                self.lan_names.insert(name, self.lans.len() as u8);
+                self.lan_names.push(name);
                 self.lans.push(Lan { bound, room });
             }
-            "es" | "is" => {
-                let name = fields.read(1, |field| new_name(field, &self.system_names))?;
-                let title = fields.read(2, |field| self.new_title(field))?;
+            b"es" | b"is" => {
+                let name = fields.read(|field| new_name(field, &self.system_names))?;
+                let title = fields.read(|field| self.new_title(field))?;
                 many(self.systems.len(), 16)?;
                 journal.name_system(&name);
-                self.system_names.insert(name, self.systems.len() as u8);
+                self.system_names.push(name);
                 self.systems.push(SystemSetup {
-                    is_end: fields.fields[0] == "es",
+                    is_end: word == b"es",
                     title,
                     ports: Vec::new(),
                     routes: Vec::new(),
                     selectors: Vec::new(),
                 });
             }
-            "port" => {
-                let system = fields.read(1, |field| self.system(field))?;
-                let lan = fields.read(2, |field| self.new_port_lan(system, field))?;
-                let snpa = fields.read(3, |field| self.new_snpa(field))?;
+            b"port" => {
+                let system = fields.read(|field| self.system(field))?;
+                let lan = fields.read(|field| self.new_port_lan(system, field))?;
+                let snpa = fields.read(|field| self.new_snpa(field))?;
                 let system = &mut self.systems[usize::from(system)];
                 many(system.ports.len(), if system.is_end { 1 } else { 8 })?;
                 system.ports.push(Port { lan, snpa });
             }
-            "route" => {
-                let system = fields.read(1, |field| self.system(field))?;
-                let prefix = fields.read(2, |field| self.new_prefix(system, field))?;
-                let next = fields.read(3, |field| self.system(field))?;
-                let hop = fields.read(4, |field| self.hop(system, next, field))?;
+            b"route" => {
+                let system = fields.read(|field| self.system(field))?;
+                let prefix = fields.read(|field| self.new_prefix(system, field))?;
+                let next = fields.read(|field| self.system(field))?;
+                let hop = fields.read(|field| self.hop(system, next, field))?;
                 let system = &mut self.systems[usize::from(system)];
                 many(system.routes.len(), 256)?;
                 system.routes.push((prefix, hop));
             }
-            "path" => {
-                let name = fields.read(1, |field| new_name(field, &self.path_names))?;
-                let is_complete = fields.read(2, |field| choice(field, "complete", "partial"))?;
-                let titles = fields.read(3, |field| self.hops(field))?;
+            b"path" => {
+                let name = fields.read(|field| new_name(field, &self.path_names))?;
+                let is_complete = fields.read(|field| choice(field, b"complete", b"partial"))?;
+                let titles = fields.read(|field| self.hops(field))?;
                 many(self.paths.len(), 16)?;
                 self.paths.push(Path { is_complete, titles });
-                self.path_names.insert(name, self.paths.len());
+                self.path_names.push(name);
             }
-            "tsap" => {
-                let system = fields.read(1, |field| self.end_system(field))?;
-                let selector = fields.read(2, |field| self.new_selector(system, field))?;
+            b"tsap" => {
+                let system = fields.read(|field| self.end_system(field))?;
+                let selector = fields.read(|field| self.new_selector(system, field))?;
                 self.systems[usize::from(system)].selectors.push(selector);
             }
             _ => {
@@ -269,53 +273,41 @@ impl Setup {
         Ok(Line::Nothing)
     }
 
-    fn system(&self, field: &str) -> Result<u8, Cause> {
-        if let Some(system) = self.system_names.get(field) {
-            return Ok(*system);
-        }
-        Err(if is_name(field) { "unknown" } else { "syntax" })
+    fn system(&self, field: &[u8]) -> Result<u8, Cause> {
+        Ok(number_of(field, &self.system_names)? as u8)
     }
 
-    fn end_system(&self, field: &str) -> Result<u8, Cause> {
+    fn end_system(&self, field: &[u8]) -> Result<u8, Cause> {
         let system = self.system(field)?;
         if self.systems[usize::from(system)].is_end { Ok(system) } else { Err("unknown") }
     }
 
-    fn lan(&self, field: &str) -> Result<u8, Cause> {
-        if let Some(lan) = self.lan_names.get(field) {
-            return Ok(*lan);
-        }
-        Err(if is_name(field) { "unknown" } else { "syntax" })
+    fn lan(&self, field: &[u8]) -> Result<u8, Cause> {
+        Ok(number_of(field, &self.lan_names)? as u8)
     }
 
-    fn path(&self, field: &str) -> Result<usize, Cause> {
-        if field == "-" {
-            return Ok(0);
-        }
-        if let Some(path) = self.path_names.get(field) {
-            return Ok(*path);
-        }
-        Err(if is_name(field) { "unknown" } else { "syntax" })
+    fn path(&self, field: &[u8]) -> Result<usize, Cause> {
+        if field == b"-" { Ok(0) } else { Ok(number_of(field, &self.path_names)? + 1) }
     }
 
-    fn key(&self, field: &str) -> Result<usize, Cause> {
-        let key = KEYS.iter().position(|row| row.0 == field).ok_or("syntax")?;
+    fn key(&self, field: &[u8]) -> Result<usize, Cause> {
+        let key = KEYS.iter().position(|row| row.0.as_bytes() == field).ok_or("syntax")?;
         if self.settings.set[key].is_some() { Err("repeat") } else { Ok(key) }
     }
 
-    fn value(&self, key: usize, field: &str) -> Result<u32, Cause> {
+    fn value(&self, key: usize, field: &[u8]) -> Result<u32, Cause> {
         let value = number(field, KEYS[key].1, KEYS[key].2)?;
         let after = |name| if KEYS[key].0 == name { value } else { self.settings.get(name) };
         if after("w") < after("i") { Ok(value) } else { Err("range") }
     }
 
-    fn new_title(&self, field: &str) -> Result<Nsap, Cause> {
+    fn new_title(&self, field: &[u8]) -> Result<Nsap, Cause> {
         let octets = digits(field, 0, 20)?;
         let title = Nsap::of(&octets).filter(|title| octets.len() > 1 && title.selector() == 0).ok_or("range")?;
         if self.systems.iter().any(|system| system.title == title) { Err("repeat") } else { Ok(title) }
     }
 
-    fn new_snpa(&self, field: &str) -> Result<Snpa, Cause> {
+    fn new_snpa(&self, field: &[u8]) -> Result<Snpa, Cause> {
         let snpa: Snpa = digits(field, 6, 6)?.try_into().unwrap();
         if is_group(&snpa) {
             return Err("range");
@@ -324,13 +316,13 @@ impl Setup {
         if stands { Err("repeat") } else { Ok(snpa) }
     }
 
-    fn new_prefix(&self, system: u8, field: &str) -> Result<Vec<u8>, Cause> {
-        let prefix = if field == "-" { Vec::new() } else { digits(field, 0, 20)? };
+    fn new_prefix(&self, system: u8, field: &[u8]) -> Result<Vec<u8>, Cause> {
+        let prefix = if field == b"-" { Vec::new() } else { digits(field, 0, 20)? };
         let routes = &self.systems[usize::from(system)].routes;
         if routes.iter().any(|route| route.0 == prefix) { Err("repeat") } else { Ok(prefix) }
     }
 
-    fn new_selector(&self, system: u8, field: &str) -> Result<Vec<u8>, Cause> {
+    fn new_selector(&self, system: u8, field: &[u8]) -> Result<Vec<u8>, Cause> {
         let selector = selector(field)?;
         if self.systems[usize::from(system)].selectors.contains(&selector) { Err("repeat") } else { Ok(selector) }
     }
@@ -339,12 +331,12 @@ impl Setup {
         self.systems[usize::from(system)].ports.iter().copied().find(|port| port.lan == lan)
     }
 
-    fn new_port_lan(&self, system: u8, field: &str) -> Result<u8, Cause> {
+    fn new_port_lan(&self, system: u8, field: &[u8]) -> Result<u8, Cause> {
         let lan = self.lan(field)?;
         if self.port_of(system, lan).is_some() { Err("repeat") } else { Ok(lan) }
     }
 
-    fn hop(&self, system: u8, next: u8, field: &str) -> Result<Hop, Cause> {
+    fn hop(&self, system: u8, next: u8, field: &[u8]) -> Result<Hop, Cause> {
         let lan = self.lan(field)?;
         let (Some(_), Some(port)) = (self.port_of(system, lan), self.port_of(next, lan)) else {
             return Err("unknown");
@@ -353,15 +345,16 @@ impl Setup {
         Ok(Hop { port, title: (!next.is_end).then_some(next.title) })
     }
 
-    fn hops(&self, field: &str) -> Result<Vec<Nsap>, Cause> {
-        if !field.split(',').all(is_name) {
+    fn hops(&self, field: &[u8]) -> Result<Vec<Nsap>, Cause> {
+        let names: Vec<&[u8]> = field.split(|octet| *octet == b',').collect();
+        if !names.iter().all(|name| is_name(name)) {
             return Err("syntax");
         }
-        if field.split(',').count() > 4 {
+        if names.len() > 4 {
             return Err("range");
         }
-        field
-            .split(',')
+        names
+            .into_iter()
             .map(|name| {
                 let system = &self.systems[usize::from(self.system(name)?)];
                 if system.is_end { Err("unknown") } else { Ok(system.title) }
@@ -370,81 +363,103 @@ impl Setup {
     }
 }
 
-/// The fields of a line.
+/// The fields of a line, which are read one after another.
 struct Fields<'a> {
-    fields: &'a [&'a str],
+    line: &'a [u8],
+    /// The blanks behind what was read.
+    blanks: usize,
+    /// The column of the last field that was read.
+    column: usize,
+    next: usize,
 }
 
-impl Fields<'_> {
-    fn read<T>(&self, at: usize, read: impl FnOnce(&str) -> Result<T, Cause>) -> Result<T, Fault> {
-        read(self.fields[at]).map_err(|cause| Fault { cause, column: column_of(self.fields, at) })
+impl<'a> Fields<'a> {
+    fn next(&mut self) -> &'a [u8] {
+        let rest = &self.line[self.next..];
+        self.column = self.next + 1;
+        if self.blanks == 0 {
+            return rest;
+        }
+        let length = rest.iter().position(|octet| *octet == b' ').unwrap_or(rest.len());
+        self.blanks -= 1;
+        self.next += length + 1;
+        &rest[..length]
     }
 
-    fn options(&self, at: usize) -> Result<Options, Fault> {
+    fn read<T>(&mut self, read: impl FnOnce(&[u8]) -> Result<T, Cause>) -> Result<T, Fault> {
+        read(self.next()).map_err(|cause| Fault { cause, column: self.column })
+    }
+
+    fn options(&mut self) -> Result<Options, Fault> {
         Ok(Options {
-            extended: self.read(at, |field| choice(field, "extended", "normal"))?,
-            size: self.read(at + 1, size)?,
-            expedited: self.read(at + 2, |field| choice(field, "exp", "noexp"))?,
-            sum: self.read(at + 3, |field| choice(field, "sum", "nosum"))?,
+            extended: self.read(|field| choice(field, b"extended", b"normal"))?,
+            size: self.read(size)?,
+            expedited: self.read(|field| choice(field, b"exp", b"noexp"))?,
+            sum: self.read(|field| choice(field, b"sum", b"nosum"))?,
         })
     }
 }
 
-fn column_of(fields: &[&str], at: usize) -> usize {
-    fields[..at].iter().map(|field| field.len() + 1).sum::<usize>() + 1
+/// The number of a name that was declared.
+fn number_of(field: &[u8], names: &[Vec<u8>]) -> Result<usize, Cause> {
+    match names.iter().position(|name| name == field) {
+        Some(number) => Ok(number),
+        None if is_name(field) => Err("unknown"),
+        None => Err("syntax"),
+    }
 }
 
 fn many(count: usize, limit: usize) -> Result<(), Fault> {
     if count < limit { Ok(()) } else { Err(Fault { cause: "many", column: 1 }) }
 }
 
-fn is_name(field: &str) -> bool {
-    field.starts_with(|first: char| first.is_ascii_lowercase())
-        && field.len() <= 8
-        && field.bytes().all(|octet| octet.is_ascii_alphanumeric())
-        && field != "frame"
+fn is_name(field: &[u8]) -> bool {
+    (1..=8).contains(&field.len())
+        && field[0].is_ascii_lowercase()
+        && field.iter().all(|octet| octet.is_ascii_alphanumeric())
+        && field != b"frame"
 }
 
-fn new_name<T>(field: &str, names: &HashMap<String, T>) -> Result<String, Cause> {
+fn new_name(field: &[u8], names: &[Vec<u8>]) -> Result<Vec<u8>, Cause> {
     if !is_name(field) {
         return Err("syntax");
     }
-    if names.contains_key(field) { Err("repeat") } else { Ok(field.to_string()) }
+    if names.iter().any(|name| name == field) { Err("repeat") } else { Ok(field.to_vec()) }
 }
 
-fn number(field: &str, least: u32, most: u32) -> Result<u32, Cause> {
+fn number(field: &[u8], least: u32, most: u32) -> Result<u32, Cause> {
     let is_number = (1..=9).contains(&field.len())
-        && field.bytes().all(|octet| octet.is_ascii_digit())
-        && (field.len() == 1 || !field.starts_with('0'));
+        && field.iter().all(|octet| octet.is_ascii_digit())
+        && (field.len() == 1 || field[0] != b'0');
     if !is_number {
         return Err("syntax");
     }
-    let number = field.parse().map_err(|_| "syntax")?;
+    let number = field.iter().fold(0, |number, digit| 10 * number + u32::from(digit - b'0'));
     if (least..=most).contains(&number) { Ok(number) } else { Err("range") }
 }
 
-fn any_number(field: &str) -> Result<u32, Cause> {
+fn any_number(field: &[u8]) -> Result<u32, Cause> {
     number(field, 0, 999_999_999)
 }
 
-fn digits(field: &str, least: usize, most: usize) -> Result<Vec<u8>, Cause> {
+fn digits(field: &[u8], least: usize, most: usize) -> Result<Vec<u8>, Cause> {
     let octets = read_hex(field).filter(|octets| !octets.is_empty()).ok_or("syntax")?;
     if (least..=most).contains(&octets.len()) { Ok(octets) } else { Err("range") }
 }
 
-fn octets(field: &str) -> Result<Vec<u8>, Cause> {
-    if field == "-" {
+fn octets(field: &[u8]) -> Result<Vec<u8>, Cause> {
+    if field == b"-" {
         return Ok(Vec::new());
     }
     read_hex(field).filter(|octets| !octets.is_empty()).ok_or("syntax")
 }
 
-fn selector(field: &str) -> Result<Vec<u8>, Cause> {
+fn selector(field: &[u8]) -> Result<Vec<u8>, Cause> {
     let octets = octets(field)?;
     if (1..=32).contains(&octets.len()) { Ok(octets) } else { Err("range") }
 }
 
-fn choice(field: &str, yes: &str, no: &str) -> Result<bool, Cause> {
+fn choice(field: &[u8], yes: &[u8], no: &[u8]) -> Result<bool, Cause> {
     if field == yes {
         Ok(true)
     } else if field == no {
@@ -454,19 +469,19 @@ fn choice(field: &str, yes: &str, no: &str) -> Result<bool, Cause> {
     }
 }
 
-fn size(field: &str) -> Result<u16, Cause> {
-    match field {
-        "128" | "256" | "512" | "1024" | "2048" | "4096" | "8192" => Ok(field.parse().unwrap()),
+fn size(field: &[u8]) -> Result<u16, Cause> {
+    match number(field, 0, 9_999) {
+        Ok(size @ (128 | 256 | 512 | 1024 | 2048 | 4096 | 8192)) => Ok(size as u16),
         _ => Err("syntax"),
     }
 }
 
-fn flags(field: &str) -> Result<Wish, Cause> {
+fn flags(field: &[u8]) -> Result<Wish, Cause> {
     match field {
-        "-" | "s" | "e" | "r" | "se" | "sr" | "er" | "ser" => Ok(Wish {
-            cut: field.contains('s'),
-            report: field.contains('e'),
-            record: field.contains('r'),
+        b"-" | b"s" | b"e" | b"r" | b"se" | b"sr" | b"er" | b"ser" => Ok(Wish {
+            cut: field.contains(&b's'),
+            report: field.contains(&b'e'),
+            record: field.contains(&b'r'),
             path: 0,
         }),
         _ => Err("syntax"),

@@ -240,8 +240,8 @@ impl Network {
     }
 
     fn tick_ends(&mut self, system: u8, journal: &mut Journal) {
-        let references = self.entities[usize::from(system)].as_ref().map_or(0, Entity::references);
-        for reference in 1..=references {
+        let references = self.entities[usize::from(system)].as_ref().map_or(Vec::new(), Entity::used);
+        for reference in references {
             let mut tpdus = Vec::new();
             if let Some(entity) = &mut self.entities[usize::from(system)] {
                 entity.tick(self.lans.now, reference, journal, &mut tpdus);
