@@ -85,8 +85,11 @@ impl PartialEq for Snpa {
 
     ghost laws = { partial_equiv_from_equiv nat_list_eq_equiv };
 
+    // The groups of ISO 9542 differ in the last octet alone.
     fn eq(&self, other: &Snpa) -> bool {
-        self.octets() == other.octets()
+        let [a, b, c, d, e, f] = self.octets;
+        let [g, h, i, j, k, l] = other.octets;
+        f == l && a == g && b == h && c == i && d == j && e == k
     }
 }
 
