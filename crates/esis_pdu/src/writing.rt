@@ -29,7 +29,7 @@ pub fn write_esis(alloc: Global, hello: &Hello) -> Result<Vec<u8>, HeaderRefusal
     let Some(length) = length_of(hello) else {
         return Err(HeaderRefusal::TooLong);
     };
-    let mut pdu = Vec::new(alloc);
+    let mut pdu = Vec::with_capacity(alloc, usize::from(length))?;
     push_fixed(&mut pdu, length, hello)?;
     push_parts(&mut pdu, hello)?;
     fletcher_seal(&mut pdu, CHECKSUM_AT);

@@ -12,7 +12,7 @@ returns-clause-written c =
     let fits = within_most (size_of hello) c.in-Some.length c.in-Some.ensures.value in
     let draft : c.deref_mut.result.now ≡ draft_part (size_of hello) hello ++ parts hello =
     c.deref_mut.ensures.value ∙ c.in_ok-push_parts.ensures
-    ∙ ap (λ (xs : List ℕ). xs ++ parts hello) (c.in_ok-push_fixed.ensures ∙ ap (λ (xs : List ℕ). xs ++ draft_part c.in-Some.length hello) c.new-pdu.ensures.items)
+    ∙ ap (λ (xs : List ℕ). xs ++ parts hello) (c.in_ok-push_fixed.ensures ∙ ap (λ (xs : List ℕ). xs ++ draft_part c.in-Some.length hello) c.in_ok-pdu.ensures.items)
     ∙ ap (λ (n : ℕ). draft_part n hello ++ parts hello) fits.0 in
     let same : length c.fletcher_seal.new.octets ≡ c.push_parts.new.pdu.len = omega arith in
     subst (IsWritten hello) (sym (take_at _ _ _ same)) (sealed_is_written _ hello _ draft c.fletcher_seal.ensures)
