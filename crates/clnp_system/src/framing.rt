@@ -3,7 +3,8 @@
 ghost use Rattle.std.specs.Prelude.{◌≡◌, ◌≤◌, ◌∷◌, [], All, IfOk, IsSome, Some, length, option_map, option_to_list};
 ghost use Rattle.clnp_header.specs.Writing.{header_length as length_of_header, pdu_length as length_of_pdu};
 ghost use Rattle.clnp_segment.specs.Cutting.{Cuts};
-ghost use Rattle.esis_pdu.specs.Hellos.{size_of, title_field};
+ghost use Rattle.esis_pdu.specs.Hellos.{IsEsis, size_of, title_field};
+ghost use Rattle.esis_pdu.specs.Hellos.{IsWritten as IsWrittenHello};
 ghost use Rattle.esis_pdu.specs.declared.hello.Hello.TheVariants.{Rd};
 ghost use Rattle.clnp_system.specs.Hellos.{RedirectsTo, is_detour, sender};
 ghost use Rattle.clnp_system.specs.Setting.{IsSetting, port_on};
@@ -74,11 +75,8 @@ impl SystemSetup {
         requires short { size_of hello.now ≤ 254 }
         ensures { IfOk result (λ frame. IsHelloFrame self.now to hello.now frame) }
     {
-        match write_esis(alloc, hello) {
-            Ok(octets) => Ok(self.unit(to, octets)),
-            Err(HeaderRefusal::TooLong) => unreachable!(),
-            Err(HeaderRefusal::NoMemory) => Err(NoMemory),
-        }
+        let octets = hello_octets(alloc, hello)?;
+        Ok(self.unit(to, octets))
     }
 
     /// The redirect to the sender of a frame, about a PDU for that destination that goes to the hop. None exactly where the
@@ -120,7 +118,7 @@ impl SystemSetup {
     }
 
     /// Octets on their way from the own port on the LAN.
-    fn unit(&self, to: Port, octets: Vec<u8>) -> Unit<Port>
+    pub(crate) fn unit(&self, to: Port, octets: Vec<u8>) -> Unit<Port>
         requires { IsSome (port_on self.now to.lan) }
         ensures from { Some result.from ≡ port_on self.now to.lan }
         ensures to { result.to ≡ to }
@@ -131,6 +129,19 @@ impl SystemSetup {
             to,
             octets: Bytes::of(octets),
         }
+    }
+}
+
+/// The octets of a hello.
+pub(crate) fn hello_octets(alloc: Global, hello: &Hello) -> Result<Vec<u8>, NoMemory>
+    requires { size_of hello.now ≤ 254 }
+    ensures is_hello { IfOk result (λ octets. IsEsis octets.items (record { hello = hello.now; options = [] })) }
+    ensures written { IfOk result (λ octets. IsWrittenHello hello.now octets.items) }
+{
+    match write_esis(alloc, hello) {
+        Ok(octets) => Ok(octets),
+        Err(HeaderRefusal::TooLong) => unreachable!(),
+        Err(HeaderRefusal::NoMemory) => Err(NoMemory),
     }
 }
 

@@ -5,7 +5,7 @@ ghost use Rattle.esis_pdu.specs.Hellos.{size_of};
 ghost use Rattle.clnp_system.specs.Hellos.{AnswersGroup, AreHellos, HellosIf, hearers, is_due, own_esh, own_hello, own_ish};
 ghost use Rattle.clnp_system.specs.Setting.{own_address, port_on};
 
-use crate::framing::sender;
+use crate::framing::{hello_octets, sender};
 use crate::setup::SystemSetup;
 use esis_pdu::Hello;
 use nsap::{Nsap, Port, Snpa};
@@ -56,13 +56,14 @@ impl SystemSetup {
         ensures { IfOk result (λ frames. AreHellos self.now ports.now frames.items) }
     {
         let hearers = self.hearers();
-        let mut frames = Vec::new(alloc);
+        let octets = hello_octets(alloc, hello)?;
+        let mut frames = Vec::with_capacity(alloc, ports.len())?;
         for port in ports {
             let to = Port {
                 lan: port.lan,
                 snpa: hearers,
             };
-            frames.push(self.hello_frame(alloc, to, hello)?)?;
+            frames.push(self.unit(to, Vec::from_slice(alloc, &octets)?))?;
         }
         Ok(frames)
     }
