@@ -1,6 +1,6 @@
 -- Each unit afloat is found through the index, and stays in it.
 use Rattle.std.proofs.Common.{◌≡◌, ◌≢◌, ◌∙◌, ℕ, zero, suc, ◌+◌, ◌*◌, ◌-◌, ◌%◌, ◌<◌, ◌≤◌, Bool, true, false, List, [], ◌∷◌, ◌++◌, length, slice_get, Option, Some, None, refl, sym, ap, subst, arith}
-use Rattle.std.specs.Prelude.{◌&&◌, ◌||◌, nat_eq, nat_le, cond, nat_lt, not, drop}
+use Rattle.std.specs.Prelude.{◌&&◌, ◌||◌, nat_eq, nat_le, cond, nat_lt, not, drop, take}
 use Rattle.std.specs.BTreeSet.{BTreeSet, IsUnchanged, Updates, UpdatesBy, contains, keys_between}
 use Rattle.std.specs.BTreeMap.Range.{range_contains}
 use Rattle.std.specs.Cmp.Lexicographic.{pointwise}
@@ -8,10 +8,13 @@ use Rattle.std.specs.List.{All, filter, list_any}
 use Rattle.std.specs.Ordering.{nat_cmp, is_eq}
 use Rattle.std.specs.declared.ops.Bound.TheVariants.{Included}
 use Rattle.std.proofs.lemmas.Bool.Decides.{nat_tests}
+use Rattle.std.proofs.lemmas.List.{length-take-le}
+use Rattle.std.proofs.lemmas.Option.{slice_get_within}
 use Rattle.std.proofs.lemmas.Map.Views.{any-filter_same}
 use Rattle.osi_base.specs.declared.unit.Unit.{Unit as CarriedUnit}
 use Rattle.osi_base.specs.Floated.{is_unit_of, is_young, IsOrdered}
 use Rattle.osi_base.proofs.Young.{first_old, floated_last, young_front}
+use Rattle.clnp_system.proofs.Passing.{take_snoc}
 use Rattle.clnp_net.specs.steps.Indexed.{AreIndexed, IsIndexed, code_of, is_front_older, is_there, key_of, sum_from, unit_at}
 
 pub indexed_more : (had has : ℕ → Bool) (number : ℕ) (entries : List (ℕ × CarriedUnit (List ℕ))) → ((code : ℕ) → had code ≡ true → has code ≡ true) → AreIndexed had number entries → AreIndexed has number entries
@@ -196,17 +199,17 @@ searched s first entries unit low few h = same_bool _ _ sound complete
 -- ---- the whole
 
 -- the oldest goes
-pub indexed_popped : (limit first next code number : ℕ) (s n : BTreeSet ℕ) (entries rest : List (ℕ × CarriedUnit (List ℕ))) (e : ℕ × CarriedUnit (List ℕ)) → IsIndexed limit (contains nat_cmp s) first entries
-    → entries ≡ e ∷ rest → code ≡ code_of (key_of e.1) number → number ≡ first → UpdatesBy nat_cmp (nat_cmp code) s n false → next ≡ (first + 1) % 4294967296 → IsIndexed limit (contains nat_cmp n) next rest
-indexed_popped limit first next code number s n entries rest e h is code_is number_is updates next_is =
-    let here : IsIndexed limit (contains nat_cmp s) first (e ∷ rest) = subst (IsIndexed limit (contains nat_cmp s) first) is h in
+pub indexed_popped : (limit : ℕ) (on : Bool) (first next code number : ℕ) (s n : BTreeSet ℕ) (entries rest : List (ℕ × CarriedUnit (List ℕ))) (e : ℕ × CarriedUnit (List ℕ)) → IsIndexed limit on (contains nat_cmp s) first entries
+    → entries ≡ e ∷ rest → code ≡ code_of (key_of e.1) number → number ≡ first → (on ≡ true → UpdatesBy nat_cmp (nat_cmp code) s n false) → next ≡ (first + 1) % 4294967296 → IsIndexed limit on (contains nat_cmp n) next rest
+indexed_popped limit on first next code number s n entries rest e h is code_is number_is updates next_is =
+    let here : IsIndexed limit on (contains nat_cmp s) first (e ∷ rest) = subst (IsIndexed limit on (contains nat_cmp s) first) is h in
     let within = here.floated.within in
     let most = here.most in
     let same : code ≡ code_of (key_of e.1) first = code_is ∙ ap (code_of (key_of e.1)) number_is in
     record {
       floated = record { within = omega (arith, within); ordered = here.floated.ordered.1 };
-      indexed = indexed_rest (contains nat_cmp s) (contains nat_cmp n) first next e rest
-          (λ q other was. updates.2 q (far q (λ at. other (at_code code q at ∙ same))) ∙ was) (omega (arith, within, most)) next_is here.indexed;
+      indexed = λ is_on. indexed_rest (contains nat_cmp s) (contains nat_cmp n) first next e rest
+          (λ q other was. (updates is_on).2 q (far q (λ at. other (at_code code q at ∙ same))) ∙ was) (omega (arith, within, most)) next_is (here.indexed is_on);
       most = most;
       low = omega (arith, next_is);
     }
@@ -226,40 +229,62 @@ still_there s n code updates q was = updates.0 q ∙ by_test (is_eq (nat_cmp cod
     by_test false c k = k
 
 -- one more
-pub indexed_grown : (limit first code number count : ℕ) (s n : BTreeSet ℕ) (entries grown : List (ℕ × CarriedUnit (List ℕ))) (e : ℕ × CarriedUnit (List ℕ)) → IsIndexed limit (contains nat_cmp s) first entries
-    → length entries < limit → All (λ (entry : ℕ × CarriedUnit (List ℕ)). entry.0 ≤ e.0) entries → code ≡ code_of (key_of e.1) (number + count) → number ≡ first → count ≡ length entries → Updates nat_cmp s n code true
-    → grown ≡ entries ++ e ∷ [] → IsIndexed limit (contains nat_cmp n) first grown
-indexed_grown limit first code number count s n entries grown e h room order code_is number_is count_is updates is =
+pub indexed_grown : (limit : ℕ) (on : Bool) (first code number count : ℕ) (s n : BTreeSet ℕ) (entries grown : List (ℕ × CarriedUnit (List ℕ))) (e : ℕ × CarriedUnit (List ℕ)) → IsIndexed limit on (contains nat_cmp s) first entries
+    → length entries < limit → All (λ (entry : ℕ × CarriedUnit (List ℕ)). entry.0 ≤ e.0) entries → code ≡ code_of (key_of e.1) (number + count) → number ≡ first → count ≡ length entries → (on ≡ true → Updates nat_cmp s n code true)
+    → grown ≡ entries ++ e ∷ [] → IsIndexed limit on (contains nat_cmp n) first grown
+indexed_grown limit on first code number count s n entries grown e h room order code_is number_is count_is updates is =
     let same : code ≡ code_of (key_of e.1) (first + length entries) = code_is ∙ (λ i. code_of (key_of e.1) (number_is i + count_is i)) in
-    subst (IsIndexed limit (contains nat_cmp n) first) (sym is) (record {
+    subst (IsIndexed limit on (contains nat_cmp n) first) (sym is) (record {
       floated = floated_last limit entries e h.floated room order;
-      indexed = indexed_last (contains nat_cmp n) first entries e (indexed_more (contains nat_cmp s) (contains nat_cmp n) first entries (still_there s n code updates) h.indexed)
-          (subst (λ (q : ℕ). contains nat_cmp n q ≡ true) same updates.1);
+      indexed = λ is_on. indexed_last (contains nat_cmp n) first entries e (indexed_more (contains nat_cmp s) (contains nat_cmp n) first entries (still_there s n code (updates is_on)) (h.indexed is_on))
+          (subst (λ (q : ℕ). contains nat_cmp n q ≡ true) same (updates is_on).1);
       most = h.most;
       low = h.low;
     })
 
 -- a code more than there are units
-pub indexed_kept : (limit first code : ℕ) (s n : BTreeSet ℕ) (entries same : List (ℕ × CarriedUnit (List ℕ))) → IsIndexed limit (contains nat_cmp s) first entries → Updates nat_cmp s n code true → same ≡ entries
-    → IsIndexed limit (contains nat_cmp n) first same
-indexed_kept limit first code s n entries same h updates is = subst (IsIndexed limit (contains nat_cmp n) first) (sym is) (record {
+pub indexed_kept : (limit : ℕ) (on : Bool) (first code : ℕ) (s n : BTreeSet ℕ) (entries same : List (ℕ × CarriedUnit (List ℕ))) → IsIndexed limit on (contains nat_cmp s) first entries → (on ≡ true → Updates nat_cmp s n code true) → same ≡ entries
+    → IsIndexed limit on (contains nat_cmp n) first same
+indexed_kept limit on first code s n entries same h updates is = subst (IsIndexed limit on (contains nat_cmp n) first) (sym is) (record {
   floated = h.floated;
-  indexed = indexed_more (contains nat_cmp s) (contains nat_cmp n) first entries (still_there s n code updates) h.indexed;
+  indexed = λ is_on. indexed_more (contains nat_cmp s) (contains nat_cmp n) first entries (still_there s n code (updates is_on)) (h.indexed is_on);
   most = h.most;
   low = h.low;
 })
 
-pub indexed_same : (limit first : ℕ) (s n : BTreeSet ℕ) (entries : List (ℕ × CarriedUnit (List ℕ))) → IsIndexed limit (contains nat_cmp s) first entries → IsUnchanged s n → IsIndexed limit (contains nat_cmp n) first entries
-indexed_same limit first s n entries h unchanged = record {
+pub indexed_same : (limit : ℕ) (on : Bool) (first : ℕ) (s n : BTreeSet ℕ) (entries : List (ℕ × CarriedUnit (List ℕ))) → IsIndexed limit on (contains nat_cmp s) first entries → IsUnchanged s n → IsIndexed limit on (contains nat_cmp n) first entries
+indexed_same limit on first s n entries h unchanged = record {
   floated = h.floated;
-  indexed = indexed_more (contains nat_cmp s) (contains nat_cmp n) first entries (λ q was. ap (list_any (λ x. is_eq (nat_cmp q x))) unchanged ∙ was) h.indexed;
+  indexed = λ is_on. indexed_more (contains nat_cmp s) (contains nat_cmp n) first entries (λ q was. ap (list_any (λ x. is_eq (nat_cmp q x))) unchanged ∙ was) (h.indexed is_on);
   most = h.most;
   low = h.low;
 }
 
-pub found : (limit first : ℕ) (s : BTreeSet ℕ) (entries : List (ℕ × CarriedUnit (List ℕ))) (unit : CarriedUnit (List ℕ)) → IsIndexed limit (contains nat_cmp s) first entries
+pub found : (limit : ℕ) (on : Bool) (first : ℕ) (s : BTreeSet ℕ) (entries : List (ℕ × CarriedUnit (List ℕ))) (unit : CarriedUnit (List ℕ)) → on ≡ true → IsIndexed limit on (contains nat_cmp s) first entries
     → list_any (unit_at entries first unit) (keys_between nat_cmp (Included (key_of unit * 4294967296)) (Included (key_of unit * 4294967296 + 4294967295)) s) ≡ list_any (is_unit_of (pointwise nat_eq) unit) entries
-found limit first s entries unit h = let within = h.floated.within in let most = h.most in searched s first entries unit h.low (omega (arith, within, most)) h.indexed
+found limit on first s entries unit is_on h = let within = h.floated.within in let most = h.most in searched s first entries unit h.low (omega (arith, within, most)) (h.indexed is_on)
+
+-- the index begins
+pub indexed_on : (limit : ℕ) (had has : ℕ → Bool) (first : ℕ) (entries : List (ℕ × CarriedUnit (List ℕ))) → IsIndexed limit false had first entries → AreIndexed has first entries → IsIndexed limit true has first entries
+indexed_on limit had has first entries h are = record { floated = h.floated; indexed = λ is_on. are; most = h.most; low = h.low }
+
+-- and where it does not, it may hold anything
+pub indexed_off : (limit : ℕ) (had has : ℕ → Bool) (first : ℕ) (entries : List (ℕ × CarriedUnit (List ℕ))) → IsIndexed limit false had first entries → IsIndexed limit false has first entries
+indexed_off limit had has first entries h = record { floated = h.floated; indexed = λ is_on. absurd (cc is_on); most = h.most; low = h.low }
+
+pub indexed_few : (limit : ℕ) (on : Bool) (has : ℕ → Bool) (first : ℕ) (entries : List (ℕ × CarriedUnit (List ℕ))) → IsIndexed limit on has first entries → length entries < 4294967296
+indexed_few limit on has first entries h = let within = h.floated.within in let most = h.most in omega (arith, within, most)
+
+-- one more of the units that there are
+pub indexed_next : (s n : BTreeSet ℕ) (first place code : ℕ) (entries : List (ℕ × CarriedUnit (List ℕ))) (e : ℕ × CarriedUnit (List ℕ)) → slice_get entries place ≡ Some e → code ≡ code_of (key_of e.1) (first + place) → Updates nat_cmp s n code true
+    → AreIndexed (contains nat_cmp s) first (take place entries) → AreIndexed (contains nat_cmp n) first (take (place + 1) entries)
+indexed_next s n first place code entries e at is updates h =
+    let grown : take (place + 1) entries ≡ take place entries ++ e ∷ [] = take_snoc entries place e at in
+    let within = slice_get_within entries place e at in
+    let count : length (take place entries) ≡ place = length-take-le place entries (omega (arith, within)) in
+    subst (AreIndexed (contains nat_cmp n) first) (sym grown)
+    (indexed_last (contains nat_cmp n) first (take place entries) e (indexed_more (contains nat_cmp s) (contains nat_cmp n) first (take place entries) (still_there s n code updates) h)
+    (subst (λ (q : ℕ). contains nat_cmp n q ≡ true) (is ∙ ap (λ (k : ℕ). code_of (key_of e.1) (first + k)) (sym count)) updates.1))
 
 -- where the oldest is young all are, and where it is not it is none of the young
 pub young_all : (now age : ℕ) (entries : List (ℕ × CarriedUnit (List ℕ))) → is_front_older now age entries ≡ false → IsOrdered entries → entries ≡ filter (is_young now age) entries

@@ -1,13 +1,13 @@
 //! The units that were taken and may still arrive (X.233, PDU lifetime control), with an index by what they carry.
 
-ghost use Rattle.std.specs.Prelude.{◌≡◌, ◌<◌, ◌≤◌, ◌+◌, ◌*◌, ◌%◌, ◌↔◌, ◌++◌, ◌∷◌, [], drop, filter, length, nat_eq, nat_le, not, IsTrue, OnOk, OnErr};
-ghost use Rattle.std.specs.BTreeSet.{keys_between};
+ghost use Rattle.std.specs.Prelude.{◌≡◌, ◌<◌, ◌≤◌, ◌+◌, ◌*◌, ◌%◌, ◌↔◌, ◌++◌, ◌∷◌, [], true, false, take, drop, filter, length, nat_eq, nat_le, not, IsTrue, OnOk, OnErr};
+ghost use Rattle.std.specs.BTreeSet.{IsUnchanged, Updates, UpdatesBy, contains, keys_between};
 ghost use Rattle.std.specs.Cmp.Lexicographic.{pointwise};
 ghost use Rattle.std.specs.List.{All, list_any};
 ghost use Rattle.std.specs.Ordering.{nat_cmp};
 ghost use Rattle.std.specs.declared.ops.Bound.TheVariants.{Included};
 ghost use Rattle.osi_base.specs.Floated.{is_unit_of, is_young, IsFloated};
-ghost use Rattle.clnp_net.specs.steps.Indexed.{code_of, is_front_older, key_of, sum_from, unit_at};
+ghost use Rattle.clnp_net.specs.steps.Indexed.{AreIndexed, code_of, is_front_older, key_of, sum_from, unit_at};
 
 use nsap::Nsap;
 use osi_base::{NoMemory, Tick, Unit};
@@ -20,16 +20,18 @@ const NUMBERS: u64 = 4_294_967_296;
 
 /// The units with the ticks at which they were taken, oldest first, and an index of them.
 ///
-/// Each unit has a running number, the oldest one `first`. The index has, for each unit, its key before its number.
+/// Each unit has a running number, the oldest one `first`. The index has, for each unit, its key before its number, once it is
+/// wanted: before that nothing is put there.
 #[derive(Drop)]
 pub struct Afloat {
     limit: u32,
     first: u32,
     entries: VecDeque<(u32, Unit<Nsap>)>,
+    indexed: bool,
     index: BTreeSet<u64>,
 }
 
-// There are at most `limit` units, their ticks do not fall, and each is in the index.
+// There are at most `limit` units, their ticks do not fall, and each is in the index once that is wanted.
 impl Model for Afloat {
     ghost use Rattle.std.specs.Prelude.{List, ℕ};
     ghost use Rattle.std.specs.BTreeSet.{contains};
@@ -41,7 +43,7 @@ impl Model for Afloat {
 
     ghost view = { λ a. record { limit = a.limit; entries = a.entries.items } };
 
-    ghost invariant = { λ a. IsIndexed a.limit (contains nat_cmp a.index) a.first a.entries.items };
+    ghost invariant = { λ a. IsIndexed a.limit a.indexed (contains nat_cmp a.index) a.first a.entries.items };
 }
 
 impl Afloat {
@@ -54,6 +56,7 @@ impl Afloat {
             limit,
             first: 0,
             entries: VecDeque::new(alloc),
+            indexed: false,
             index: BTreeSet::new(alloc),
         }
     }
@@ -70,7 +73,22 @@ impl Afloat {
     pub fn has(&self, unit: &Unit<Nsap>) -> bool
         ensures { result ≡ list_any (is_unit_of (pointwise nat_eq) unit.now) self.now.entries }
     {
+        if !self.indexed {
+            return is_among(&self.entries, unit);
+        }
         any_at(&self.index, &self.entries, self.first, unit)
+    }
+
+    /// From here on there is an index, by which `has` is quick among many units.
+    pub fn index_all(&mut self) -> Result<(), NoMemory>
+        ensures { self.new ≡ self.old }
+    {
+        if self.indexed {
+            return Ok(());
+        }
+        enlist_all(&mut self.index, &self.entries, self.first)?;
+        self.indexed = true;
+        Ok(())
     }
 
     /// One unit more, taken at `now`.
@@ -85,7 +103,7 @@ impl Afloat {
         ensures stands { IsFloated self.new }
     {
         let number = u64::from(self.first) + self.entries.len() as u64;
-        self.index.insert(code_for(&unit, number))?;
+        enlist(&mut self.index, self.indexed, &unit, number)?;
         self.entries.push_back((now, unit))?;
         Ok(())
     }
@@ -120,8 +138,8 @@ impl Afloat {
         let Some((_, unit)) = self.entries.pop_front() else {
             return;
         };
-        let code = code_for(&unit, u64::from(self.first));
-        self.index.remove(&code);
+        let number = u64::from(self.first);
+        delist(&mut self.index, self.indexed, &unit, number);
         self.first = self.first.wrapping_add(1);
     }
 }
@@ -131,6 +149,75 @@ fn is_older(taken: Tick, now: Tick, age: u32) -> bool
     ensures { result ≡ not (nat_le now (taken + age)) }
 {
     u64::from(taken) + u64::from(age) < u64::from(now)
+}
+
+/// A unit is put into the index, where there is one.
+fn enlist(
+    index: &mut BTreeSet<u64>,
+    indexed: bool,
+    unit: &Unit<Nsap>,
+    number: u64,
+) -> Result<(), NoMemory>
+    ensures ok { OnOk result (indexed ≡ true → Updates nat_cmp index.old index.new (code_of (key_of unit.now) number) true) }
+    ensures err { OnErr result (IsUnchanged index.old index.new) }
+{
+    if !indexed {
+        return Ok(());
+    }
+    index.insert(code_for(unit, number))?;
+    Ok(())
+}
+
+/// A unit goes from the index, where there is one.
+fn delist(index: &mut BTreeSet<u64>, indexed: bool, unit: &Unit<Nsap>, number: u64)
+    ensures { indexed ≡ true → UpdatesBy nat_cmp (nat_cmp (code_of (key_of unit.now) number)) index.old index.new false }
+{
+    if !indexed {
+        return;
+    }
+    let code = code_for(unit, number);
+    index.remove(&code);
+}
+
+/// All units are put into the index, by running numbers from the first one.
+fn enlist_all(
+    index: &mut BTreeSet<u64>,
+    entries: &VecDeque<(u32, Unit<Nsap>)>,
+    first: u32,
+) -> Result<(), NoMemory>
+    requires { length entries.now.items < 4294967296 }
+    ensures { OnOk result (AreIndexed (contains nat_cmp index.new) first entries.now.items) }
+{
+    for place in 0..entries.len() {
+        enlist_at(index, entries, first, place)?;
+    }
+    Ok(())
+}
+
+/// The unit at a place is put into the index, behind those before it.
+fn enlist_at(
+    index: &mut BTreeSet<u64>,
+    entries: &VecDeque<(u32, Unit<Nsap>)>,
+    first: u32,
+    place: usize,
+) -> Result<(), NoMemory>
+    requires within { place < length entries.now.items }
+    requires few { length entries.now.items < 4294967296 }
+    ensures { OnOk result (AreIndexed (contains nat_cmp index.old) first (take place entries.now.items)
+        → AreIndexed (contains nat_cmp index.new) first (take (place + 1) entries.now.items)) }
+{
+    let Some(entry) = entries.get(place) else {
+        unreachable!();
+    };
+    enlist(index, true, &entry.1, u64::from(first) + place as u64)?;
+    Ok(())
+}
+
+/// Whether one of the units equals this one.
+fn is_among(entries: &VecDeque<(u32, Unit<Nsap>)>, unit: &Unit<Nsap>) -> bool
+    ensures { result ≡ list_any (is_unit_of (pointwise nat_eq) unit.now) entries.now.items }
+{
+    entries.iter().any(|entry| entry.1 == *unit)
 }
 
 /// Whether one of the units that the index has under the key of this one equals it.

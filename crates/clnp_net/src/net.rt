@@ -173,6 +173,7 @@ impl<C: Carrier<Addr = Port> + Drop> ClnpNet<C> {
         self.stopped = true;
         let now = self.link.now();
         let before = self.waiting.len();
+        self.floating.index_all()?;
         let answer = self.link.inject(lan, system, octets)?;
         let ups = gather(self.alloc, &mut self.link)?;
         handle(

@@ -1,4 +1,4 @@
--- The index of what is afloat: each unit stands in it with its key and its running number.
+-- The index of what is afloat: once it is wanted, each unit stands in it with its key and its running number.
 use Rattle.std.specs.Prelude.{◌≡◌, ◌<◌, ℕ, ◌+◌, ◌*◌, ◌-◌, ◌%◌, Bool, true, false, not, nat_eq, List, [], ◌∷◌, slice_get, Option, Some, None}
 use Rattle.std.specs.Cmp.Lexicographic.{pointwise}
 use Rattle.osi_base.specs.declared.unit.Unit.{Unit as CarriedUnit}
@@ -21,9 +21,10 @@ abbrev pub AreIndexed : (ℕ → Bool) → ℕ → List (ℕ × CarriedUnit (Lis
 AreIndexed has number [] = Unit {0}
 AreIndexed has number (entry ∷ entries) = (has (code_of (key_of entry.1) number) ≡ true) × AreIndexed has (number + 1) entries
 
-pub record IsIndexed (limit : ℕ) (has : ℕ → Bool) (first : ℕ) (entries : List (ℕ × CarriedUnit (List ℕ))) : Type 0 where
+-- there are not too many units, and each is in the index where there is one
+pub record IsIndexed (limit : ℕ) (on : Bool) (has : ℕ → Bool) (first : ℕ) (entries : List (ℕ × CarriedUnit (List ℕ))) : Type 0 where
   pub floated : IsFloated (record { limit = limit; entries = entries })
-  pub indexed : AreIndexed has first entries
+  pub indexed : on ≡ true → AreIndexed has first entries
   pub most : limit < 4294967296
   pub low : first < 4294967296
 

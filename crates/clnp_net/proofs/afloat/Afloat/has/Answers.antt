@@ -8,5 +8,5 @@ use Rattle.clnp_net.proofs.afloat.Afloat.has.Goals as goal
 
 pub returns : goal.returns
 returns c =
-    c.any_at.ensures ∙ found c.self.inside.limit c.self.inside.first c.self.inside.index c.self.inside.entries.items c.args.unit.now c.self.invariant
+    c.any_at.ensures ∙ found c.self.inside.limit c.self.inside.indexed c.self.inside.first c.self.inside.index c.self.inside.entries.items c.args.unit.now c.if-not-self.false c.self.invariant
     ∙ ap (λ (f : Floated (List ℕ)). list_any (is_unit_of (pointwise nat_eq) c.args.unit.now) f.entries) c.self.view_is

@@ -1,26 +1,33 @@
-use Rattle.std.proofs.Common.{◌∙◌}
+use Rattle.std.proofs.Common.{◌∙◌, ℕ, List, subst, sym}
+use Rattle.esis_tables.specs.Rows.{Rows}
 use Rattle.osi_base.specs.Calls.{Inject}
+use Rattle.osi_base.specs.Floated.{Floated}
 use Rattle.clnp_system.specs.Tables.{rows_tables}
+use Rattle.clnp_step.specs.Sound.{IsSound}
+use Rattle.clnp_step.specs.Step.{NetStep}
 use Rattle.clnp_step.proofs.Kept.{stays_sound}
 use Rattle.clnp_net.proofs.Parts.{arrived, network_of}
 use Rattle.clnp_net.proofs.net.ClnpNet.receive.Goals as goal
 
 pub invariant_of-self-2 : goal.invariant_of-self-2
 invariant_of-self-2 g c = λ _.
-    stays_sound g.C.Carrier.link g.C.Carrier.steps g.met.C.Carrier.keeps g.met.C.Carrier.given rows_tables
+    subst (λ (f : Floated (List ℕ)). IsSound g.C.Carrier.link (network_of c.handle.new.link c.handle.new.systems f c.handle.new.waiting.items c.strays_after-self-inside.result c.self.inside.life)) (sym c.index_all.ensures)
+    (stays_sound g.C.Carrier.link g.C.Carrier.steps g.met.C.Carrier.keeps g.met.C.Carrier.given rows_tables
     (network_of c.self.inside.link c.self.inside.systems c.self.inside.floating c.self.inside.waiting.items c.self.inside.strays c.self.inside.life) (Inject c.args.lan c.args.system c.args.octets.items c.in_ok-answer.answer) _ (c.self.invariant c.if-self.false) (
       c.self.invariant c.if-self.false,
       arrived g.C.Carrier.link g.C.Carrier.steps
           (network_of c.self.inside.link c.self.inside.systems c.self.inside.floating c.self.inside.waiting.items c.self.inside.strays c.self.inside.life) (Inject c.args.lan c.args.system c.args.octets.items c.in_ok-answer.answer) c.now-now.result c.strays_after-self-inside.result
           c.inject.new.self c.in_ok-ups.ups.items c.gather.new.carrier c.handle.new.link c.handle.new.systems c.handle.new.waiting.items c.len-before.result
-          c.now-now.ensures (c.len-before.ensures ∙ c.self.inside.waiting.ok.0) c.in_ok-answer.ensures.steps c.in_ok-ups.ensures c.in_ok-handle.ensures (rw (← c.honest.ensures) c.strays_after-self-inside.ensures),
-    )
+          c.now-now.ensures (c.len-before.ensures ∙ c.self.inside.waiting.ok.0) c.in_ok-answer.ensures.steps c.in_ok-ups.ensures c.in_ok-handle.ensures (rw (← c.honest.ensures, ← c.index_all.ensures) c.strays_after-self-inside.ensures),
+    ))
 
 pub returns : goal.returns
-returns g c = rw (← c.self.view_is) (
-  c.self.invariant c.if-self.false,
-  arrived g.C.Carrier.link g.C.Carrier.steps
-      (network_of c.self.inside.link c.self.inside.systems c.self.inside.floating c.self.inside.waiting.items c.self.inside.strays c.self.inside.life) (Inject c.args.lan c.args.system c.args.octets.items c.in_ok-answer.answer) c.now-now.result c.strays_after-self-inside.result
-      c.inject.new.self c.in_ok-ups.ups.items c.gather.new.carrier c.handle.new.link c.handle.new.systems c.handle.new.waiting.items c.len-before.result
-      c.now-now.ensures (c.len-before.ensures ∙ c.self.inside.waiting.ok.0) c.in_ok-answer.ensures.steps c.in_ok-ups.ensures c.in_ok-handle.ensures (rw (← c.honest.ensures) c.strays_after-self-inside.ensures),
-)
+returns g c = rw (← c.self.view_is)
+    (subst (λ (f : Floated (List ℕ)). NetStep g.C.Carrier.link g.C.Carrier.steps rows_tables (network_of c.self.inside.link c.self.inside.systems c.self.inside.floating c.self.inside.waiting.items c.self.inside.strays c.self.inside.life) (Inject c.args.lan c.args.system c.args.octets.items c.in_ok-answer.answer)
+    (network_of c.handle.new.link c.handle.new.systems f c.handle.new.waiting.items c.strays_after-self-inside.result c.self.inside.life)) (sym c.index_all.ensures) (
+      c.self.invariant c.if-self.false,
+      arrived g.C.Carrier.link g.C.Carrier.steps
+          (network_of c.self.inside.link c.self.inside.systems c.self.inside.floating c.self.inside.waiting.items c.self.inside.strays c.self.inside.life) (Inject c.args.lan c.args.system c.args.octets.items c.in_ok-answer.answer) c.now-now.result c.strays_after-self-inside.result
+          c.inject.new.self c.in_ok-ups.ups.items c.gather.new.carrier c.handle.new.link c.handle.new.systems c.handle.new.waiting.items c.len-before.result
+          c.now-now.ensures (c.len-before.ensures ∙ c.self.inside.waiting.ok.0) c.in_ok-answer.ensures.steps c.in_ok-ups.ensures c.in_ok-handle.ensures (rw (← c.honest.ensures, ← c.index_all.ensures) c.strays_after-self-inside.ensures),
+    ))
