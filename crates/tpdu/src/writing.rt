@@ -45,6 +45,10 @@ const SUM_COUNT: usize = 4;
 /// The octets of the parameters of a CR or a CC but for the selectors and the checksum.
 const CONNECT_COUNT: usize = 10;
 
+/// The octets beside those of the header without its length indicator and the data: that indicator, and two that stand behind a
+/// checksum while it is made.
+const ROOM: usize = 3;
+
 /// The octets of a subsequence with its code and length.
 const SUBSEQUENCE_COUNT: usize = 4;
 
@@ -90,7 +94,8 @@ fn spell(
     ensures { IfOk result (λ octets. IsSpelled format summed tpdu.now octets.items) }
 {
     let body = body_of(tpdu);
-    let mut out = Vec::new(alloc);
+    let room = body.len().saturating_add(count + ROOM);
+    let mut out = Vec::with_capacity(alloc, room)?;
     out.extend_from_slice(&[count as u8, code_of(tpdu, format)])?;
     push_fixed(&mut out, tpdu, format)?;
     push_parameters(&mut out, tpdu)?;
