@@ -139,6 +139,7 @@ impl TpEntity {
         if destination == 0 {
             return unmatched(self.alloc, from, tpdu, out);
         }
+        self.idle = 0;
         let Some(place) = self.ends.get_mut(usize::from(destination) - 1) else {
             return unmatched(self.alloc, from, tpdu, out);
         };

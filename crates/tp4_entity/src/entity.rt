@@ -38,18 +38,21 @@ pub struct TpEntity {
     pub(crate) clock: Tick,
     pub(crate) selectors: Vec<Bytes>,
     pub(crate) ends: Vec<Option<Connection>>,
+    pub(crate) idle: usize,
 }
 
-// The timers are in their ranges, there are 1 to 64 references, and each end has its reference, these timers and no later clock.
+// The timers are in their ranges, there are 1 to 64 references, and each end has its reference, these timers and no later clock;
+// none of the first `idle` ends is due.
 impl Model for TpEntity {
     ghost use Rattle.tp4_entity.specs.Entity.{Entity};
-    ghost use Rattle.tp4_entity.specs.steps.Places.{IsEntity};
+    ghost use Rattle.tp4_entity.specs.steps.Places.{AreIdle, IsEntity};
 
     ghost Value = { Entity };
 
     ghost view = { λ a. record { own = a.own; timers = a.timers; clock = a.clock; selectors = a.selectors.items; ends = a.ends.items } };
 
-    ghost invariant = { λ a. IsEntity (record { own = a.own; timers = a.timers; clock = a.clock; selectors = a.selectors.items; ends = a.ends.items }) };
+    ghost invariant = { λ a. IsEntity (record { own = a.own; timers = a.timers; clock = a.clock; selectors = a.selectors.items; ends = a.ends.items })
+        × AreIdle a.clock a.idle a.ends.items };
 }
 
 impl TpEntity {
@@ -73,6 +76,7 @@ impl TpEntity {
             clock: 0,
             selectors: Vec::new(alloc),
             ends,
+            idle: 0,
         })
     }
 
@@ -181,6 +185,7 @@ impl TpEntity {
         if reference == 0 {
             return Err(EntityRefusal::NoSuchEnd);
         }
+        self.idle = 0;
         let Some(place) = self.ends.get_mut(usize::from(reference) - 1) else {
             return Err(EntityRefusal::NoSuchEnd);
         };
@@ -207,7 +212,7 @@ impl TpEntity {
         ensures clock { self.new.clock ≤ now }
     {
         self.wake(now);
-        let Some(place) = due_place(&self.ends, now) else {
+        let Some(place) = due_place(&self.ends, self.idle, now) else {
             return Ok(false);
         };
         self.tick_at(place, out)?;

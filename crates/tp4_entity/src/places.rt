@@ -1,6 +1,6 @@
 //! The places of ends, each of one reference (X.224, class 4: frozen references).
 
-ghost use Rattle.std.specs.Prelude.{◌≡◌, ◌≢◌, ◌≤◌, ◌<◌, ℕ, length, IfSome, Some, None, Err, position, replicate, IfErr, IfOk, OnOk, if◌then◌else◌, false};
+ghost use Rattle.std.specs.Prelude.{◌≡◌, ◌==◌, ◌≢◌, ◌≤◌, ◌<◌, ℕ, length, IfSome, Some, None, Err, position, replicate, IfErr, IfOk, OnOk, if◌then◌else◌, false};
 ghost use Rattle.tp4_number.specs.Number.{wire};
 ghost use Rattle.tp4_conn.specs.Calls.{IsCall};
 ghost use Rattle.tp4_conn.specs.declared.call.CallRefusal.TheVariants.{NoMemory as EndOutOfMemory};
@@ -9,7 +9,7 @@ ghost use Rattle.tp4_entity.specs.References.{is_free_place};
 ghost use Rattle.tp4_entity.specs.Step.{end_refusal, is_due};
 ghost use Rattle.tp4_entity.specs.declared.refusal.EntityRefusal.{EntityRefusal};
 ghost use Rattle.tp4_entity.specs.declared.refusal.EntityRefusal.TheVariants.{Call};
-ghost use Rattle.tp4_entity.specs.steps.Places.{AreBehind, IsBehind, IsPlace, Places, calls_at, is_memory, ticks_at};
+ghost use Rattle.tp4_entity.specs.steps.Places.{AreBehind, AreIdle, IsBehind, IsPlace, Places, calls_at, is_memory, ticks_at};
 
 use crate::EntityRefusal;
 use osi_base::{NoMemory, Tick};
@@ -72,11 +72,24 @@ pub(crate) fn free_place(places: &[Option<Connection>], now: Tick) -> Option<usi
     None
 }
 
-/// The first place whose end is due.
-pub(crate) fn due_place(places: &[Option<Connection>], now: Tick) -> Option<usize>
+/// The first place whose end is due, where none is among the first `idle` places.
+pub(crate) fn due_place(places: &[Option<Connection>], idle: usize, now: Tick) -> Option<usize>
+    requires { AreIdle now idle places.now }
     ensures { result ≡ position (is_due now) places.now }
 {
-    places.iter().position(|place| is_due(place, now))
+    for at in idle..places.len() {
+        if is_due(&places[at], now) {
+            return Some(at);
+        }
+    }
+    None
+}
+
+/// How many of the first places are still known to have no due end, as the clock goes on.
+pub(crate) fn idle_after(idle: usize, clock: Tick, now: Tick) -> usize
+    ensures { result ≡ (if clock == now then idle else 0) }
+{
+    if clock == now { idle } else { 0 }
 }
 
 /// Whether an end stands there that is due.

@@ -10,7 +10,7 @@ ghost use Rattle.tp4_entity.specs.Step.{DoesSo, connecting, dues, is_due, tickin
 ghost use Rattle.tp4_entity.specs.steps.Places.{IsOwn};
 
 use crate::TpEntity;
-use crate::places::tick_place;
+use crate::places::{idle_after, tick_place};
 use nsap::Nsap;
 use osi_base::{Bytes, NoMemory, Tick};
 use tp4_conn::{ConnectCall, Connection};
@@ -51,6 +51,7 @@ impl TpEntity {
         requires { self.old.clock ≤ now }
         ensures { self.new ≡ at now self.old }
     {
+        self.idle = idle_after(self.idle, self.clock, now);
         self.clock = now;
     }
 
@@ -60,6 +61,7 @@ impl TpEntity {
         requires own { IsOwn self.old.timers self.old.clock (place + 1) end }
         ensures { self.new ≡ with_end self.old (place + 1) (Some end) }
     {
+        self.idle = 0;
         self.ends[place] = Some(end);
     }
 
@@ -93,16 +95,20 @@ impl TpEntity {
         Ok(own)
     }
 
-    /// The end at a place ticks. Where it was the first that is due, one fewer is due then.
+    /// The first end that is due ticks. One fewer is due then.
     pub(crate) fn tick_at(&mut self, place: usize, out: &mut Step) -> Result<(), NoMemory>
         requires now { self.old.clock ≤ 4000000000 }
+        requires first { position (is_due self.old.clock) self.old.ends ≡ Some place }
         ensures step { OnOk result (DoesSo (ticking_at wire self.old.clock self.old (Some (place + 1))) self.new out.old out.new) }
         ensures fewer { OnOk result (position (is_due self.old.clock) self.old.ends ≡ Some place → dues self.old.clock self.new + 1 ≡ dues self.old.clock self.old) }
         ensures clock { self.new.clock ≡ self.old.clock }
     {
+        self.idle = 0;
         let Some(slot) = self.ends.get_mut(place) else {
             return Ok(());
         };
-        tick_place(slot, self.clock, out)
+        tick_place(slot, self.clock, out)?;
+        self.idle = place + 1;
+        Ok(())
     }
 }

@@ -1,5 +1,5 @@
 -- The place of an end: what holds of it between calls, and what a step makes of it.
-use Rattle.std.specs.Prelude.{◌≡◌, ◌≤◌, ℕ, ◌+◌, ◌*◌, Bool, true, false, List, [], ◌∷◌, length, Option, Some, None, if◌then◌else◌}
+use Rattle.std.specs.Prelude.{◌≡◌, ◌≤◌, ℕ, zero, suc, ◌+◌, ◌*◌, Bool, true, false, List, [], ◌∷◌, length, Option, Some, None, if◌then◌else◌}
 use Rattle.tpdu.specs.declared.tpdu.Format.{Format}
 use Rattle.tpdu.specs.declared.tpdu.Format.TheVariants.{Normal, Extended}
 use Rattle.tpdu.specs.declared.tpdu.Tpdu.{Tpdu}
@@ -17,7 +17,7 @@ use Rattle.tp4_conn.specs.Table.{Called, Ticked, Took, due, stepped}
 use Rattle.tp4_entity.specs.Association.{stateless}
 use Rattle.tp4_entity.specs.Entity.{Entity, end_at}
 use Rattle.tp4_conn.specs.declared.call.CallRefusal.TheVariants.{NoMemory}
-use Rattle.tp4_entity.specs.Step.{kept_end}
+use Rattle.tp4_entity.specs.Step.{is_due, kept_end}
 use Rattle.tp4_entity.specs.declared.refusal.EntityRefusal.{EntityRefusal}
 use Rattle.tp4_entity.specs.declared.refusal.EntityRefusal.TheVariants.{Call}
 
@@ -51,6 +51,12 @@ pub record IsEntity (e : Entity) : Type 0 where
   pub least : 1 ≤ length e.ends
   pub most : length e.ends ≤ 64
   pub places : ArePlaces e.timers e.clock 1 e.ends
+
+-- none of so many first places has an end that is due
+abbrev pub AreIdle : ℕ → ℕ → List (Option End) → Type 0
+AreIdle now zero places = Unit {0}
+AreIdle now (suc count) [] = Unit {0}
+AreIdle now (suc count) (place ∷ places) = (is_due now place ≡ false) × AreIdle now count places
 
 -- the format that the end at a place agreed on
 abbrev pub format_of : Option End → Format

@@ -9,7 +9,7 @@ use Rattle.tp4_entity.proofs.entity.TpEntity.indicate.Goals as goal
 pub free_place-requires : goal.free_place-requires
 free_place-requires c =
     subst (AreBehind c.self.inside.clock) (sym c.deref.ensures.value)
-    (all_behind c.self.inside.timers c.self.inside.clock c.self.inside.clock 1 c.self.inside.ends.items (omega arith) c.self.invariant.places)
+    (all_behind c.self.inside.timers c.self.inside.clock c.self.inside.clock 1 c.self.inside.ends.items (omega arith) c.self.invariant.0.places)
 
 pub put-requires-clause-own : goal.put-requires-clause-own
 put-requires-clause-own c =

@@ -7,5 +7,5 @@ pub is_over-requires : goal.is_over-requires
 is_over-requires c =
     let clock = ap (λ (e : Entity). e.clock) c.self.view_is in
     let there = ap (λ (e : Entity). end_at e c.args.reference) c.self.view_is ∙ sym c.in-Some.ensures in
-    let own = own_at _ c.args.reference c.in-Some.end.now c.self.invariant there in
+    let own = own_at _ c.args.reference c.in-Some.end.now c.self.invariant.0 there in
     omega (arith, clock, own.behind, c.requires.clock)

@@ -11,7 +11,7 @@ pub take_place-requires-clause-behind : goal.take_place-requires-clause-behind
 take_place-requires-clause-behind c =
     let at = c.from.result - 1 in
     let there = slice_get_read c.self.inside.ends.items _ at c.in-Some.place.now c.self.inside.ends.ok.0 (c.in-Some.ensures.variant.0 refl) c.in-Some.ensures.value in
-    place_behind c.self.inside.timers c.self.inside.clock c.self.inside.clock (at + 1) c.in-Some.place.now (omega arith) (entity_at _ at c.in-Some.place.now c.self.invariant there)
+    place_behind c.self.inside.timers c.self.inside.clock c.self.inside.clock (at + 1) c.in-Some.place.now (omega arith) (entity_at _ at c.in-Some.place.now c.self.invariant.0 there)
 
 pub take_place-requires-clause-allowed : goal.take_place-requires-clause-allowed
 take_place-requires-clause-allowed c =
@@ -24,9 +24,11 @@ take_place-requires-clause-allowed c =
 pub invariant_of-self-2 : goal.invariant_of-self-2
 invariant_of-self-2 c =
     let at = c.from.result - 1 in
-    let there = slice_get_read c.self.inside.ends.items _ at c.in-Some.place.now c.self.inside.ends.ok.0 (c.in-Some.ensures.variant.0 refl) c.in-Some.ensures.value in
-    entity_set _ at (at + 1) c.take_place.new.place c.self.invariant
-    (c.take_place.ensures.kept c.self.inside.timers (at + 1) (entity_at _ at c.in-Some.place.now c.self.invariant there)) refl
+    let there = slice_get_read c.self.inside.ends.items _ at c.in-Some.place.now c.self.inside.ends.ok.0 (c.in-Some.ensures.variant.0 refl) c.in-Some.ensures.value in (
+      entity_set _ at (at + 1) c.take_place.new.place c.self.invariant.0
+          (c.take_place.ensures.kept c.self.inside.timers (at + 1) (entity_at _ at c.in-Some.place.now c.self.invariant.0 there)) refl,
+      tt,
+    )
 
 pub returns-in_default-clause-step : goal.returns-in_default-clause-step
 returns-in_default-clause-step c =

@@ -1,8 +1,24 @@
-use Rattle.std.proofs.Common.{◌≡◌, Some}
+use Rattle.std.proofs.Common.{◌≡◌, ◌∙◌, ℕ, List, Some, ap, subst, sym}
 use Rattle.std.specs.List.{position}
+use Rattle.tp4_entity.specs.Entity.{Entity}
 use Rattle.tp4_entity.specs.Step.{is_due}
+use Rattle.tp4_entity.specs.steps.Places.{AreIdle}
+use Rattle.tp4_entity.proofs.PlaceLaws.{Place}
 use Rattle.tp4_entity.proofs.Ticks.{woken_fewer}
 use Rattle.tp4_entity.proofs.entity.TpEntity.tick_next.Goals as goal
+
+pub due_place-requires : goal.due_place-requires
+due_place-requires c =
+    let clock : c.self.inside.clock ≡ c.args.now = ap (λ (e : Entity). e.clock) (c.self.view_is ∙ c.wake.ensures) in
+    subst (λ (places : List Place). AreIdle c.args.now c.self.inside.idle places) (sym c.deref.ensures.value)
+    (subst (λ (n : ℕ). AreIdle n c.self.inside.idle c.self.inside.ends.items) clock c.self.invariant.1)
+
+pub tick_at-requires-clause-first : goal.tick_at-requires-clause-first
+tick_at-requires-clause-first c =
+    let clock : c.self.inside.clock ≡ c.args.now = ap (λ (e : Entity). e.clock) (c.self.view_is ∙ c.wake.ensures) in
+    let first : position (is_due c.args.now) c.self.inside.ends.items ≡ Some c.in-Some.place = cc (c.due_place.ensures, c.deref.ensures.value, c.in-Some.is) in
+    subst (λ (e : Entity). position (is_due e.clock) e.ends ≡ Some c.in-Some.place) c.self.view_is
+    (subst (λ (n : ℕ). position (is_due n) c.self.inside.ends.items ≡ Some c.in-Some.place) (sym clock) first)
 
 pub returns-clause-fewer : goal.returns-clause-fewer
 returns-clause-fewer c =

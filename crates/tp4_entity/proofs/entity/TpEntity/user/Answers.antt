@@ -10,23 +10,25 @@ call_place-requires-clause-behind c =
     let at = c.from.result - 1 in
     let there = slice_get_read c.self.inside.ends.items _ at c.in-Some.place.now c.self.inside.ends.ok.0 (c.in-Some.ensures.variant.0 refl) c.in-Some.ensures.value in
     let clock = ap (λ (e : Entity). e.clock) c.self.view_is in
-    place_behind c.self.inside.timers c.self.inside.clock c.args.now (at + 1) c.in-Some.place.now (omega (arith, clock, c.requires.clock)) (entity_at _ at c.in-Some.place.now c.self.invariant there)
+    place_behind c.self.inside.timers c.self.inside.clock c.args.now (at + 1) c.in-Some.place.now (omega (arith, clock, c.requires.clock)) (entity_at _ at c.in-Some.place.now c.self.invariant.0 there)
 
 pub invariant_of-self-in-Ok : goal.invariant_of-self-in-Ok
 invariant_of-self-in-Ok c =
     let at = c.from.result - 1 in
     let there = slice_get_read c.self.inside.ends.items _ at c.in-Some.place.now c.self.inside.ends.ok.0 (c.in-Some.ensures.variant.0 refl) c.in-Some.ensures.value in
     let clock = ap (λ (e : Entity). e.clock) c.self.view_is in
-    entity_now_set _ c.args.now at c.in-Some.place.now c.call_place.new.place (omega (arith, clock, c.requires.clock)) c.self.invariant there (c.in-Ok.ensures.kept c.self.inside.timers (at + 1))
+    (entity_now_set _ c.args.now at c.in-Some.place.now c.call_place.new.place (omega (arith, clock, c.requires.clock)) c.self.invariant.0 there (c.in-Ok.ensures.kept c.self.inside.timers (at + 1)), tt)
 
 pub invariant_of-self-in-Err : goal.invariant_of-self-in-Err
 invariant_of-self-in-Err c =
     let at = c.from.result - 1 in
     let there = slice_get_read c.self.inside.ends.items _ at c.in-Some.place.now c.self.inside.ends.ok.0 (c.in-Some.ensures.variant.0 refl) c.in-Some.ensures.value in
     let clock = ap (λ (e : Entity). e.clock) c.self.view_is in
-    let same : is_memory c.in-Err.why ≡ false → c.call_place.new.place ≡ c.in-Some.place.now = λ off. (c.in-Err.ensures.same (is_not_memory c.in-Err.why off)).0 in
-    entity_over _ c.clock_after-self-inside.result (is_memory c.in-Err.why) c.args.now at c.in-Some.place.now c.call_place.new.place (omega (arith, clock, c.requires.clock)) c.self.invariant there
-    (c.in-Err.ensures.kept c.self.inside.timers (at + 1)) same c.clock_after-self-inside.ensures
+    let same : is_memory c.in-Err.why ≡ false → c.call_place.new.place ≡ c.in-Some.place.now = λ off. (c.in-Err.ensures.same (is_not_memory c.in-Err.why off)).0 in (
+      entity_over _ c.clock_after-self-inside.result (is_memory c.in-Err.why) c.args.now at c.in-Some.place.now c.call_place.new.place (omega (arith, clock, c.requires.clock)) c.self.invariant.0 there
+          (c.in-Err.ensures.kept c.self.inside.timers (at + 1)) same c.clock_after-self-inside.ensures,
+      tt,
+    )
 
 pub returns-in-Ok-clause-allowed : goal.returns-in-Ok-clause-allowed
 returns-in-Ok-clause-allowed c =
