@@ -7,6 +7,7 @@ use nsap::Nsap;
 use osi_base::{Bytes, NoMemory};
 use std::alloc::Global;
 use std::marker::Model;
+use std::mem;
 use tpdu::{Format, Kind, Tpdu, TpduCause};
 
 /// Why an end is gone.
@@ -125,12 +126,20 @@ impl Step {
         &self.tpdus
     }
 
-    /// The events and the TPDUs, each in order.
-    pub fn into_parts(self) -> (Vec<EndEvent>, Vec<Sent>)
-        ensures events { result.0.items ≡ self.events }
-        ensures tpdus { result.1.items ≡ self.tpdus }
+    /// The events, in order, which leave it.
+    pub fn take_events(&mut self, alloc: Global) -> Vec<EndEvent>
+        ensures events { result.items ≡ self.old.events }
+        ensures rest { self.new ≡ record self.old { events = [] } }
     {
-        (self.events, self.tpdus)
+        mem::replace(&mut self.events, Vec::new(alloc))
+    }
+
+    /// Nothing is left in it, and room for as many TPDUs as it had.
+    pub fn clear(&mut self)
+        ensures { self.new ≡ record { events = []; tpdus = [] } }
+    {
+        self.events.clear();
+        self.tpdus.clear();
     }
 
     /// One event more.

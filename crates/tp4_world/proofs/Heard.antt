@@ -8,8 +8,11 @@ use Rattle.osi_base.specs.declared.unit.Arrival.{Arrival}
 use Rattle.osi_base.specs.declared.unit.Up.{Up}
 use Rattle.osi_base.specs.declared.unit.Up.TheVariants.{Unit as Came, Note as Noted}
 use Rattle.osi_base.specs.Link.{Link}
-use Rattle.osi_base.specs.Calls.{Call}
+use Rattle.osi_base.specs.Calls.{Call, NextUp, TakesUp}
 use Rattle.osi_base.specs.Gathering.{Gathers}
+use Rattle.osi_base.proofs.Gatherings.{Gathering, gathered, gathering_next}
+use Rattle.osi_base.proofs.Standings.{stands_same}
+use Rattle.std.proofs.lemmas.List.{append-nil}
 use Rattle.osi_journal.specs.declared.event.Event.{Event}
 use Rattle.net_world.specs.Told.{told, up_events}
 use Rattle.tp4_flow.specs.Told.{Told}
@@ -22,7 +25,7 @@ use Rattle.tp4_world.specs.Run.{Arrives, Hears, HearsAll, HearsIf, is_for}
 use Rattle.tp4_world.specs.World.{World, entity_at, is_of}
 use Rattle.tp4_world.specs.declared.place.EndAt.{EndAt}
 use Rattle.tp4_world.specs.declared.place.Placed.{Placed}
-use Rattle.tp4_world.specs.steps.Parts.{ChangesAt, Follows, HearsEach, HearsWaiting, Tells, for_transport, listed_if, then_for_transport, world_of}
+use Rattle.tp4_world.specs.steps.Parts.{ChangesAt, Follows, HearsEach, HearsWaiting, TakesUnits, Tells, for_transport, listed_if, then_for_transport, world_of}
 
 -- ---- what came up
 
@@ -36,6 +39,56 @@ sorted_front units (Came arrival) ups = listed_front (selector_of arrival.unit.t
 
 pub told_front : (events : List Event) (up : Up (List ℕ)) (ups : List (Up (List ℕ))) → (events ++ up_events up) ++ told ups ≡ events ++ told (up ∷ ups)
 told_front events up ups = append_assoc events (up_events up) (told ups)
+
+listed_append : {A : Type 0} (fits : Bool) (one : A) (units others : List A) → listed_if fits one (units ++ others) ≡ listed_if fits one units ++ others
+listed_append true one units others = refl
+listed_append false one units others = refl
+
+sorted_append : (ups more : List (Up (List ℕ))) → for_transport (ups ++ more) ≡ for_transport ups ++ for_transport more
+sorted_append [] more = refl
+sorted_append (Noted note ∷ ups) more = sorted_append ups more
+sorted_append (Came arrival ∷ ups) more =
+    ap (listed_if (selector_of arrival.unit.to == 1) arrival) (sorted_append ups more) ∙ listed_append (selector_of arrival.unit.to == 1) arrival (for_transport ups) (for_transport more)
+
+told_append : (ups more : List (Up (List ℕ))) → told (ups ++ more) ≡ told ups ++ told more
+told_append [] more = refl
+told_append (up ∷ ups) more = ap (λ (es : List Event). up_events up ++ es) (told_append ups more) ∙ sym (append_assoc (up_events up) (told ups) (told more))
+
+-- so far these were taken up and told
+pub record TakingUnits {C : Type 0} (link : C → Link (List ℕ)) (steps : C → Call (List ℕ) → C → Type 0) (old : C) (before : List Event) (new : C) (units : List (Arrival (List ℕ))) (after : List Event)
+    : Type 0 where
+  pub ups : List (Up (List ℕ))
+  pub gathering : Gathering link steps old ups new
+  pub units_are : units ≡ for_transport ups
+  pub told_are : after ≡ before ++ told ups
+
+module _ {C : Type 0} (link : C → Link (List ℕ)) (steps : C → Call (List ℕ) → C → Type 0) where
+  gathering_none : (old : C) → Gathering link steps old [] old
+  gathering_none old = record { waited = refl; stands = stands_same (link old); grows = λ entry h. h; chain = refl }
+
+  pub taking_none : (old : C) (before : List Event) (units : List (Arrival (List ℕ))) → units ≡ [] → TakingUnits link steps old before old units before
+  taking_none old before units none = record { ups = []; gathering = gathering_none old; units_are = none; told_are = sym (append-nil before) }
+
+  pub taking_next : (old : C) (before : List Event) (mid new : C) (units then : List (Arrival (List ℕ))) (events after : List Event) (up : Up (List ℕ))
+      → TakingUnits link steps old before mid units events → steps mid (NextUp (Some up)) new → TakesUp (link mid) (Some up) (link new)
+      → then ≡ then_for_transport units up → after ≡ events ++ up_events up → TakingUnits link steps old before new then after
+  taking_next old before mid new units then events after up h step takes sorted added = record {
+    ups = h.ups ++ up ∷ [];
+    gathering = gathering_next link steps old h.ups mid new up h.gathering step takes;
+    units_are = sorted ∙ sym (append-nil (then_for_transport units up)) ∙ sorted_front units up [] ∙ ap (λ (us : List (Arrival (List ℕ))). us ++ for_transport (up ∷ [])) h.units_are
+        ∙ sym (sorted_append h.ups (up ∷ []));
+    told_are = added ∙ sym (append-nil (events ++ up_events up)) ∙ told_front events up [] ∙ ap (λ (es : List Event). es ++ told (up ∷ [])) h.told_are
+        ∙ append_assoc before (told h.ups) (told (up ∷ [])) ∙ ap (λ (es : List Event). before ++ es) (sym (told_append h.ups (up ∷ [])));
+  }
+
+  pub taken_all : (old : C) (before : List Event) (mid new : C) (units : List (Arrival (List ℕ))) (events : List Event) → TakingUnits link steps old before mid units events
+      → steps mid (NextUp None) new → TakesUp (link mid) None (link new) → TakesUnits link steps old before new units events
+  taken_all old before mid new units events h step takes = record {
+    ups = h.ups;
+    gathers = gathered link steps old h.ups mid new h.gathering step takes;
+    units_are = h.units_are;
+    told_are = h.told_are;
+  }
 
 module _ {C : Type 0} (link : C → Link (List ℕ)) (steps : C → Call (List ℕ) → C → Type 0) (wrap : ℕ → ℕ → ℕ) where
   -- ---- one unit

@@ -16,13 +16,12 @@ ghost use Rattle.tp4_world.specs.steps.Parts.{AreBehind, world_of};
 use crate::EndAt;
 use crate::sending::follow;
 use crate::telling::{call_event, request, tell_some};
-use crate::transport::{Transport, connect_at, has_ended, own_at, place_of, user_at};
+use crate::transport::{Transport, connect_at, empty_step, has_ended, own_at, place_of, user_at};
 use crate::words::{told_connect, told_refusal};
 use nsap::Nsap;
 use osi_base::{Carrier, NoMemory, Tick};
 use osi_journal::{Boxed, Event, Refused, Request, Standing};
 use tp4_conn::{ConnectCall, UserCall};
-use tp4_flow::Step;
 
 /// A user of a system asks for a connection.
 pub fn begin<C: Carrier<Addr = Nsap>>(
@@ -51,7 +50,7 @@ pub fn begin<C: Carrier<Addr = Nsap>>(
         return Err(NoMemory);
     };
     let request = request(alloc, system, &own, &call)?;
-    let mut out = Step::new(alloc);
+    let mut out = empty_step(alloc, &mut transport.out);
     match connect_at(&mut transport.entities, place, now, call, &mut out) {
         Ok(reference) => {
             let end = transport.ends.add(EndAt { system, reference })?;
@@ -67,9 +66,10 @@ pub fn begin<C: Carrier<Addr = Nsap>>(
                 &mut transport.ends,
                 system,
                 &own,
-                out,
+                &mut out,
                 events,
             )?;
+            transport.out = out;
             Ok(())
         }
         Err(why) => {
@@ -160,7 +160,7 @@ fn ask_at<C: Carrier<Addr = Nsap>>(
         return Err(NoMemory);
     };
     let event = call_event(alloc, named.number, &call)?;
-    let mut out = Step::new(alloc);
+    let mut out = empty_step(alloc, &mut transport.out);
     match user_at(
         &mut transport.entities,
         place,
@@ -177,9 +177,10 @@ fn ask_at<C: Carrier<Addr = Nsap>>(
                 &mut transport.ends,
                 named.end.system,
                 &own,
-                out,
+                &mut out,
                 events,
             )?;
+            transport.out = out;
             Ok(())
         }
         Err(why) => {

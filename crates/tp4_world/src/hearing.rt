@@ -1,23 +1,21 @@
 //! What the network hands up: it is told, and then each unit for transport is handed to the entity of its system (X.214, model of the
 //! transport service).
 
-ghost use Rattle.std.specs.Prelude.{◌≡◌, ◌≤◌, ◌++◌, ◌==◌, ◌&&◌, nat_eq, IfOk, OnOk};
+ghost use Rattle.std.specs.Prelude.{◌≡◌, ◌≤◌, ◌++◌, ◌==◌, ◌&&◌, [], nat_eq, OnOk};
 ghost use Rattle.std.specs.Cmp.Lexicographic.{pointwise};
 ghost use Rattle.nsap.specs.Address.{selector_of};
-ghost use Rattle.net_world.specs.Told.{told, up_events};
+ghost use Rattle.net_world.specs.Told.{up_events};
 ghost use Rattle.tp4_number.specs.Number.{wire};
 ghost use Rattle.tp4_world.specs.Run.{Hears};
-ghost use Rattle.tp4_world.specs.steps.Parts.{AreBehind, HearsEach, HearsWaiting, Tells, for_transport, systems_of, then_for_transport, world_of};
+ghost use Rattle.tp4_world.specs.steps.Parts.{AreBehind, HearsEach, HearsWaiting, TakesUnits, Tells, then_for_transport, world_of};
 
 use crate::sending::follow;
-use crate::transport::{Transport, hear_at, own_at, place_of};
+use crate::transport::{Transport, empty_step, hear_at, no_units, own_at, place_of};
 use net_world::tell;
 use nsap::Nsap;
-use osi_base::{Arrival, Carrier, NoMemory, Tick, Up, gather};
+use osi_base::{Arrival, Carrier, NoMemory, Tick, Up};
 use osi_journal::Event;
-use std::alloc::Global;
 use std::collections::VecDeque;
-use tp4_flow::Step;
 
 /// The selector of transport.
 const TRANSPORT: u8 = 1;
@@ -37,26 +35,26 @@ pub fn hear_waiting<C: Carrier<Addr = Nsap>>(
     ensures clock { OnOk result ((C.link carrier.new).clock ≡ now) }
     ensures behind { OnOk result (AreBehind now transport.new.entities.items) }
 {
-    let ups = gather(transport.alloc, carrier)?;
-    let units = tell_ups(transport.alloc, ups, events)?;
-    hear_all(carrier, transport, now, units, events)?;
+    let mut units = no_units(transport.alloc, &mut transport.units);
+    take_units(carrier, &mut units, events)?;
+    hear_all(carrier, transport, now, &mut units, events)?;
+    transport.units = units;
     Ok(())
 }
 
-/// Tells what came up, in order; the answer is the units for transport.
-fn tell_ups(
-    alloc: Global,
-    ups: VecDeque<Up<Nsap>>,
+/// Takes up all that waits and tells it, in order; the units for transport are kept.
+fn take_units<C: Carrier<Addr = Nsap>>(
+    carrier: &mut C,
+    units: &mut VecDeque<Arrival<Nsap>>,
     events: &mut Vec<Event>,
-) -> Result<VecDeque<Arrival<Nsap>>, NoMemory>
-    ensures units { IfOk result (λ units. units.items ≡ for_transport ups.items) }
-    ensures told { IfOk result (λ units. events.new.items ≡ events.old.items ++ told ups.items) }
+) -> Result<(), NoMemory>
+    requires none { units.old.items ≡ [] }
+    ensures { OnOk result (TakesUnits C.link C.steps carrier.old events.old.items carrier.new units.new.items events.new.items) }
 {
-    let mut units = VecDeque::new(alloc);
-    for up in ups {
-        sort(up, events, &mut units)?;
+    while let Some(up) = carrier.next_up() {
+        sort(up, events, units)?;
     }
-    Ok(units)
+    Ok(())
 }
 
 /// Tells what came up, or puts it with the units for transport.
@@ -85,14 +83,14 @@ fn hear_all<C: Carrier<Addr = Nsap>>(
     carrier: &mut C,
     transport: &mut Transport,
     now: Tick,
-    mut units: VecDeque<Arrival<Nsap>>,
+    units: &mut VecDeque<Arrival<Nsap>>,
     events: &mut Vec<Event>,
 ) -> Result<(), NoMemory>
     requires low { now ≤ 4000000000 }
     requires clock { (C.link carrier.old).clock ≡ now }
     requires behind { AreBehind now transport.old.entities.items }
     ensures hears { OnOk result (Tells events.old.items events.new.items (λ made. HearsEach C.link C.steps wire
-        (world_of carrier.old transport.old.entities.items transport.old.ends) units.items made (world_of carrier.new transport.new.entities.items transport.new.ends))) }
+        (world_of carrier.old transport.old.entities.items transport.old.ends) units.old.items made (world_of carrier.new transport.new.entities.items transport.new.ends))) }
     ensures clock { OnOk result ((C.link carrier.new).clock ≡ now) }
     ensures behind { OnOk result (AreBehind now transport.new.entities.items) }
 {
@@ -128,7 +126,7 @@ fn hear<C: Carrier<Addr = Nsap>>(
         return Ok(());
     }
     let alloc = transport.alloc;
-    let mut out = Step::new(alloc);
+    let mut out = empty_step(alloc, &mut transport.out);
     hear_at(&mut transport.entities, place, now, &arrival.unit, &mut out)?;
     follow(
         alloc,
@@ -136,9 +134,10 @@ fn hear<C: Carrier<Addr = Nsap>>(
         &mut transport.ends,
         arrival.system,
         &own,
-        out,
+        &mut out,
         events,
     )?;
+    transport.out = out;
     Ok(())
 }
 

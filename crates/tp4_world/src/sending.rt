@@ -23,22 +23,22 @@ const WISH: Wish = Wish {
     path: 0,
 };
 
-/// Tells what an entity told, and then sends its TPDUs.
+/// Tells what an entity told, and then sends its TPDUs. What it told leaves the step.
 pub fn follow<C: Carrier<Addr = Nsap>>(
     alloc: Global,
     carrier: &mut C,
     ends: &mut Ends,
     system: u8,
     own: &Nsap,
-    out: Step,
+    out: &mut Step,
     events: &mut Vec<Event>,
 ) -> Result<(), NoMemory>
-    ensures follows { OnOk result (Tells events.old.items events.new.items (λ made. Follows C.link C.steps carrier.old ends.old system own.now out made carrier.new ends.new)) }
+    ensures follows { OnOk result (Tells events.old.items events.new.items (λ made. Follows C.link C.steps carrier.old ends.old system own.now out.old made carrier.new ends.new)) }
     ensures clock { OnOk result ((C.link carrier.new).clock ≡ (C.link carrier.old).clock) }
 {
-    let (told, tpdus) = out.into_parts();
+    let told = out.take_events(alloc);
     tell_all(alloc, ends, system, own, told, events)?;
-    send_all(alloc, carrier, system, own, &tpdus, events)
+    send_all(alloc, carrier, system, own, out.tpdus(), events)
 }
 
 /// Sends the TPDUs of a system, in order.

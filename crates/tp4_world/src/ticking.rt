@@ -6,11 +6,10 @@ ghost use Rattle.tp4_world.specs.Run.{TicksAll, TicksEntity};
 ghost use Rattle.tp4_world.specs.steps.Parts.{AreBehind, Tells, TicksOnce, dues_at, systems_of, world_of};
 
 use crate::sending::follow;
-use crate::transport::{Transport, own_at, place_of, tick_at};
+use crate::transport::{Transport, empty_step, own_at, place_of, tick_at};
 use nsap::Nsap;
 use osi_base::{Carrier, NoMemory, Tick};
 use osi_journal::Event;
-use tp4_flow::Step;
 
 /// The due ends of each entity tick, in the order of the entities.
 pub fn tick_all<C: Carrier<Addr = Nsap>>(
@@ -94,9 +93,10 @@ fn tick_one<C: Carrier<Addr = Nsap>>(
     let Some(own) = own_at(&transport.entities, place) else {
         return Err(NoMemory);
     };
-    let mut out = Step::new(alloc);
+    let mut out = empty_step(alloc, &mut transport.out);
     let was_due = tick_at(&mut transport.entities, place, now, &mut out)?;
     if !was_due {
+        transport.out = out;
         return Ok(false);
     }
     follow(
@@ -105,8 +105,9 @@ fn tick_one<C: Carrier<Addr = Nsap>>(
         &mut transport.ends,
         system,
         &own,
-        out,
+        &mut out,
         events,
     )?;
+    transport.out = out;
     Ok(true)
 }

@@ -1,7 +1,7 @@
 //! The transport entities of the systems, in the order of their declaration, and the ends that were made there (X.224, class 4
 //! procedures).
 
-ghost use Rattle.std.specs.Prelude.{◌≡◌, ◌≢◌, ◌≤◌, ◌+◌, ℕ, None, Some, Err, is_some, slice_get, true, IfErr, IfOk, OnOk};
+ghost use Rattle.std.specs.Prelude.{◌≡◌, ◌≢◌, ◌≤◌, ◌+◌, ℕ, [], None, Some, Err, is_some, slice_get, true, IfErr, IfOk, OnOk};
 ghost use Rattle.std.specs.List.{position};
 ghost use Rattle.tp4_number.specs.Number.{wire};
 ghost use Rattle.tp4_conn.specs.Calls.{IsCall};
@@ -21,18 +21,40 @@ ghost use Rattle.tp4_world.specs.steps.Parts.{AreBehind, ChangesAt};
 use crate::ends::Ends;
 use crate::{EndAt, Placed};
 use nsap::Nsap;
-use osi_base::{NoMemory, Tick, Unit};
+use osi_base::{Arrival, NoMemory, Tick, Unit};
 use std::alloc::Global;
+use std::collections::VecDeque;
+use std::mem;
 use tp4_conn::{CallRefusal, ConnectCall, UserCall};
 use tp4_entity::{ConnectRefusal, EntityRefusal};
 use tp4_flow::Step;
 
-/// The entities, and their ends by number.
+/// The entities, and their ends by number; and lists that hold nothing of value between calls, but have room.
 #[derive(Drop)]
 pub struct Transport {
     pub alloc: Global,
     pub entities: Vec<Placed>,
     pub ends: Ends,
+    pub out: Step,
+    pub units: VecDeque<Arrival<Nsap>>,
+}
+
+/// A step with nothing in it, with the room of one that is done with.
+pub fn empty_step(alloc: Global, done: &mut Step) -> Step
+    ensures { result ≡ record { events = []; tpdus = [] } }
+{
+    let mut out = mem::replace(done, Step::new(alloc));
+    out.clear();
+    out
+}
+
+/// No units, with the room of those that are done with.
+pub fn no_units(alloc: Global, done: &mut VecDeque<Arrival<Nsap>>) -> VecDeque<Arrival<Nsap>>
+    ensures { result.items ≡ [] }
+{
+    let mut units = mem::replace(done, VecDeque::new(alloc));
+    units.clear();
+    units
 }
 
 /// The place of the entity of a system.

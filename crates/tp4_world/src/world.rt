@@ -23,8 +23,10 @@ use nsap::Nsap;
 use osi_base::{Bytes, Carrier, NoMemory, Picked, Tick, Wish};
 use osi_journal::{Event, Settled};
 use std::alloc::Global;
+use std::collections::VecDeque;
 use std::marker::Model;
 use tp4_conn::{ConnectCall, UserCall};
+use tp4_flow::Step;
 
 /// The most deliveries of one `settle`.
 const MOST_DELIVERIES: u32 = 65_536;
@@ -73,6 +75,8 @@ impl<C: Carrier<Addr = Nsap> + Drop> TpWorld<C> {
                 alloc,
                 entities: systems,
                 ends: Ends::new(alloc),
+                out: Step::new(alloc),
+                units: VecDeque::new(alloc),
             },
             stopped: true,
         };

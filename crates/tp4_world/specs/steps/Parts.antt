@@ -75,6 +75,14 @@ abbrev pub then_for_transport : List (Arrival (List ℕ)) → Up (List ℕ) → 
 then_for_transport units (Noted note) = units
 then_for_transport units (Came arrival) = units ++ listed_if (selector_of arrival.unit.to == 1) arrival []
 
+-- all that waited was taken up and told, and the units for transport among it are there
+pub record TakesUnits {C : Type 0} (link : C → Link (List ℕ)) (steps : C → Call (List ℕ) → C → Type 0) (old : C) (before : List Event) (new : C) (units : List (Arrival (List ℕ))) (after : List Event)
+    : Type 0 where
+  pub ups : List (Up (List ℕ))
+  pub gathers : Gathers link steps old ups new
+  pub units_are : units ≡ for_transport ups
+  pub told_are : after ≡ before ++ told ups
+
 -- the numbers of the systems that have entities
 abbrev pub systems_of : List Placed → List ℕ
 systems_of [] = []
