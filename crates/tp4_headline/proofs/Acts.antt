@@ -48,7 +48,7 @@ use Rattle.tp4_headline.proofs.ActsUnits.{given_other, given_own, made_none, sho
 use Rattle.tp4_headline.proofs.Frames.{owners_with}
 use Rattle.tp4_headline.proofs.FramesKnown.{Frames, at_on, calls_back, holds_on, keeps, known_on, known_stays, known_with, number_at, partner_back}
 use Rattle.tp4_headline.proofs.FramesNotes.{note, note_begun, note_frames, note_known, note_written}
-use Rattle.tp4_headline.proofs.FramesLines.{begun_on, end_here, end_other}
+use Rattle.tp4_headline.proofs.FramesLines.{end_here, end_other, has_begun_on}
 
 -- a TPDU lacks its checksum
 abbrev lacks : ConnEnd → Event → Bool
@@ -231,23 +231,23 @@ module _ (titles : List (List ℕ)) (timers : Timers) (w : Whole) (journal : Lis
         known_stays w new frames own r one o refl (end_other w.base.end kn.k mv.new o.k k_apart)
         (λ z terms p are. let q = partner_back w.base (acted w.base kn.k mv.new d.offers) frames o.k z p in d.others o.k z terms one.base one.stage k_apart q timed_ are (λ before. o.stands z terms q before))
 
-    begun : (a b : ℕ) (terms : Terms) → IsCaller (acted w.base kn.k mv.new d.offers) a b → ((acted w.base kn.k mv.new d.offers).end b).agreed ≡ Some terms → HaveBegun new a b
+    begun : (a b : ℕ) (terms : Terms) → IsCaller (acted w.base kn.k mv.new d.offers) a b → ((acted w.base kn.k mv.new d.offers).end b).agreed ≡ Some terms → HaveBegun new a b terms
     begun a b terms p agreed = elim (cases_eq b kn.k) [
       | inl same ↦
           (let q = calls_back w.base (acted w.base kn.k mv.new d.offers) frames a b p in
           let c : IsCaller w.base a kn.k = subst (λ (j : ℕ). IsCaller w.base a j) same q in
           let now_agreed : (mv.new).agreed ≡ Some terms = ap (λ (x : End). x.agreed) (sym (end_here w.base.end kn.k mv.new)) ∙ ap (λ (j : ℕ). (set_end w.base.end kn.k mv.new j).agreed) (sym same) ∙ agreed in
-          subst (HaveBegun new a) (sym same) (elim (d.begun a terms c now_agreed) [
-            | inl was ↦ on_both a kn.k (known.begun a kn.k terms c was)
+          subst (λ (j : ℕ). HaveBegun new a j terms) (sym same) (elim (d.begun a terms c now_agreed) [
+            | inl was ↦ on_both a kn.k terms (known.begun a kn.k terms c was)
             | inr both ↦ record { own = both.0; theirs = both.1 }
           ]))
-      | inr apart ↦ on_both a b (known.begun a b terms (calls_back w.base (acted w.base kn.k mv.new d.offers) frames a b p) (ap (λ (x : End). x.agreed) (sym (end_other w.base.end kn.k mv.new b apart)) ∙ agreed))
+      | inr apart ↦ on_both a b terms (known.begun a b terms (calls_back w.base (acted w.base kn.k mv.new d.offers) frames a b p) (ap (λ (x : End). x.agreed) (sym (end_other w.base.end kn.k mv.new b apart)) ∙ agreed))
     ]
       where
-        on_both : (a b : ℕ) → HaveBegun w a b → HaveBegun new a b
-        on_both a b h = record {
-          own = begun_on (times_of timers) w kn.k mv.new taken d.doing d.may a h.own;
-          theirs = begun_on (times_of timers) w kn.k mv.new taken d.doing d.may b h.theirs;
+        on_both : (a b : ℕ) (terms : Terms) → HaveBegun w a b terms → HaveBegun new a b terms
+        on_both a b terms h = record {
+          own = has_begun_on (times_of timers) w all.sound all.tracked kn.k mv.new taken d.doing d.may a terms h.own;
+          theirs = has_begun_on (times_of timers) w all.sound all.tracked kn.k mv.new taken d.doing d.may b terms h.theirs;
         }
 
     after : Known titles timers new (journal ++ made) (with_entity entities system place) ends

@@ -1,17 +1,22 @@
 -- What the lines of a pair do in a step of an end, and where the halves of all ends stand after it.
-use Rattle.std.proofs.Common.{◌≡◌, ◌≢◌, ◌⊎◌, inl, inr, ℕ, ◌+◌, ◌<◌, true, false, if◌then◌else◌, List, [], ◌++◌, Option, Some, None, Contains, refl, sym, ◌∙◌, ap, subst}
+use Rattle.std.proofs.Common.{◌≡◌, ◌≢◌, ◌⊎◌, inl, inr, ℕ, ◌+◌, ◌-◌, ◌<◌, true, false, if◌then◌else◌, List, [], ◌++◌, Option, Some, None, Contains, refl, sym, ◌∙◌, ap, subst}
 use Rattle.std.specs.Prelude.{option_map}
 use Rattle.std.proofs.lemmas.Bool.{cases_Bool, cases_eq, cond-true, cond-false}
+use Rattle.std.proofs.lemmas.Option.{same_Some}
 use Rattle.osi_journal.specs.Lawful.{Marked, submitted, shown}
 use Rattle.osi_journal.specs.declared.event.Event.{Event as Told}
 use Rattle.tpdu.specs.declared.tpdu.Tpdu.{Tpdu as WireTpdu}
 use Rattle.tpdu.specs.declared.tpdu.Tpdu.TheVariants as wires
 use Rattle.tp4_number.specs.Number.{whole}
+use Rattle.tp4_flow.specs.declared.rules.FlowRules.{FlowRules}
+use Rattle.tp4_flow.specs.declared.rules.Options.{Options}
 use Rattle.tp4_flow.specs.declared.step.Sent.{Sent}
 use Rattle.tp4_conn.specs.declared.base.Base.{Base}
+use Rattle.tp4_conn.specs.declared.halves.Halves.{Halves}
 use Rattle.tp4_conn.specs.declared.stage.Stage.{Stage}
 use Rattle.tp4_conn.specs.declared.stage.Stage.TheVariants as stages
 use Rattle.tp4_conn.specs.declared.timers.Timers.{Timers}
+use Rattle.tp4_conn.specs.Agreeing.{header_of}
 use Rattle.tp4_conn.specs.End.{End as ConnEnd, Moved}
 use Rattle.tp4_conn.specs.Proper.{IsProper, IsProperEvent}
 use Rattle.tp4_conn.specs.Table.{Event, Called, Took, Ticked, stepped}
@@ -22,13 +27,13 @@ use Rattle.tp4_history.specs.Units.{MayTell, TellsNone}
 use Rattle.tp4_history.proofs.Meets.{Meets, Of_entity, Of_partner, meets, swap}
 use Rattle.tp4_history.proofs.Sound.{Sound, one_partner}
 use Rattle.tp4_history.proofs.Tracked.{Tracked, not_begun}
-use Rattle.tp4_moves.specs.Lines.{AreOffered, ArePlain, AreSentIn, AreUntouched, Begun, Flowed, Going, IsIn, IsKnownEvent, IsKnownTpdu, IsTimely, LinesBegin, LinesGoOn, LinesStay, Stands, Still, given, shown_in}
-use Rattle.tp4_moves.specs.Moves.{IsAsked, IsSeenIn, Moves, Sees}
+use Rattle.tp4_moves.specs.Lines.{AreOffered, ArePlain, AreSentIn, AreUntouched, Begun, Flowed, Going, IsIn, IsKnownEvent, IsKnownTpdu, IsSendingAt, IsTimely, LinesBegin, LinesGoOn, LinesStay, Stands, Still, given, shown_in}
+use Rattle.tp4_moves.specs.Moves.{AreOwn, IsAsked, IsSeenIn, Moves, Sees}
 use Rattle.tp4_moves.specs.Seen.{AreOffersOf, no_terms, seen, terms_of}
 use Rattle.tp4_headline.specs.steps.Acting.{Comes}
-use Rattle.tp4_headline.specs.steps.Known.{AreTerms}
+use Rattle.tp4_headline.specs.steps.Known.{AreTerms, HasBegun, piece_by}
 use Rattle.tp4_headline.proofs.ActsSame.{HasHalves, IsUnagreed, step_leaves}
-use Rattle.tp4_headline.proofs.FramesLines.{apart_from, begun_on, end_here, end_other, has_partner, line_other, line_own, line_theirs}
+use Rattle.tp4_headline.proofs.FramesLines.{apart_from, end_here, end_other, has_partner, line_other, line_own, line_theirs}
 
 -- what the rows do to the lines
 pub record Flowing : Type 0 where
@@ -74,15 +79,30 @@ any_terms b (stages.Opened o) terms other own theirs none stands = stands
 any_terms b (stages.Closing c) terms other own theirs none stands = stands
 any_terms b (stages.Frozen when) terms other own theirs none stands = stands
 
--- halves stand in lines that have begun
-begun_in : (b : Base) (stage : Stage) (terms : Terms) (own theirs : Track) → HasHalves stage → Stands terms b stage own theirs → (own.is_begun ≡ true) × (theirs.is_begun ≡ true)
-begun_in b (stages.AkWait w) terms own theirs has stands = (stands.sending.begun, stands.receiving.begun)
-begun_in b (stages.Opened o) terms own theirs has stands = (stands.sending.begun, stands.receiving.begun)
+-- halves stand in a line that has begun
+begun_in : (b : Base) (stage : Stage) (terms : Terms) (own theirs : Track) → HasHalves stage → Stands terms b stage own theirs → own.is_begun ≡ true
+begun_in b (stages.AkWait w) terms own theirs has stands = stands.sending.begun
+begun_in b (stages.Opened o) terms own theirs has stands = stands.sending.begun
 begun_in b (stages.CrWait w) terms own theirs has stands = absurd has
 begun_in b (stages.WaitBeforeClose w) terms own theirs has stands = absurd has
 begun_in b (stages.UserWait since) terms own theirs has stands = absurd has
 begun_in b (stages.Closing c) terms own theirs has stands = absurd has
 begun_in b (stages.Frozen when) terms own theirs has stands = absurd has
+
+-- with pieces of the size agreed on
+size_at : (b : Base) (h : Halves) (options : Options) (own : Track) → AreOwn b h → b.agreed ≡ Some options → IsSendingAt h.sending own → own.size ≡ options.size - header_of options
+size_at b h options own are agreed stands =
+    stands.size ∙ ap (λ (r : FlowRules). r.piece) are.sending ∙ ap (λ (o : Options). o.size - header_of o) (same_Some _ _ (sym are.agreed ∙ agreed))
+
+size_in : (birth : Birth) (took latest : ℕ) (b : Base) (stage : Stage) (terms : Terms) (own theirs : Track) (options : Options) → HasHalves stage → Stands terms b stage own theirs
+    → IsSeenIn birth took latest b stage → b.agreed ≡ Some options → own.size ≡ options.size - header_of options
+size_in birth took latest b (stages.AkWait w) terms own theirs options has stands seen_ agreed = size_at b w.halves options own seen_.halves agreed stands.sending
+size_in birth took latest b (stages.Opened o) terms own theirs options has stands seen_ agreed = size_at b o.halves options own seen_.halves agreed stands.sending
+size_in birth took latest b (stages.CrWait w) terms own theirs options has stands seen_ agreed = absurd has
+size_in birth took latest b (stages.WaitBeforeClose w) terms own theirs options has stands seen_ agreed = absurd has
+size_in birth took latest b (stages.UserWait since) terms own theirs options has stands seen_ agreed = absurd has
+size_in birth took latest b (stages.Closing c) terms own theirs options has stands seen_ agreed = absurd has
+size_in birth took latest b (stages.Frozen when) terms own theirs options has stands seen_ agreed = absurd has
 
 -- an end that has not agreed
 unagreed_in : (birth : Birth) (took latest : ℕ) (b : Base) (stage : Stage) → IsUnagreed stage → IsSeenIn birth took latest b stage → b.agreed ≡ None
@@ -127,13 +147,24 @@ module _ (times : Times) (w : Whole) (s : Sound times w.base) (t : Tracked times
         → Stands terms (stepped whole w.base.clock e event).base (stepped whole w.base.clock e event).stage (done w.track k doing k) (done w.track k doing z)
     pub others : (x z : ℕ) (terms : Terms) (b : Base) (stage : Stage) → x ≢ k → IsPartner w.base x z → b.timers ≡ timers → AreTerms (acted w.base k mv.new offers) x z terms
         → (AreTerms w.base x z terms → Stands terms b stage (w.track x) (w.track z)) → Stands terms b stage (done w.track k doing x) (done w.track k doing z)
-    pub begun : (a : ℕ) (terms : Terms) → IsCaller w.base a k → (mv.new).agreed ≡ Some terms → ((w.base.end k).agreed ≡ Some terms) ⊎ (((done w.track k doing a).is_begun ≡ true) × ((done w.track k doing k).is_begun ≡ true))
+    pub begun : (a : ℕ) (terms : Terms) → IsCaller w.base a k → (mv.new).agreed ≡ Some terms → ((w.base.end k).agreed ≡ Some terms) ⊎ (HasBegun (done w.track k doing a) terms × HasBegun (done w.track k doing k) terms)
 
   agreed_stays : (terms : Terms) → (w.base.end k).agreed ≡ Some terms → (mv.new).agreed ≡ Some terms
   agreed_stays terms is = elim (step_leaves whole now e event).agreed [
     | inl same ↦ mv.sees.agreed ∙ ap (option_map terms_of) same ∙ sym sees.agreed ∙ is
     | inr un ↦ absurd (cc (is, sees.agreed, ap (option_map terms_of) (unagreed_in (w.base.end k).birth (w.base.end k).took (w.base.end k).latest e.base e.stage un.1 sees.state)))
   ]
+
+  -- a called end whose line has begun had agreed
+  was_agreed : (a : ℕ) (terms : Terms) → IsCaller w.base a k → (mv.new).agreed ≡ Some terms → (w.track k).is_begun ≡ true → (w.base.end k).agreed ≡ Some terms
+  was_agreed a terms c agreed begun =
+      let q = t.pair k begun in
+      elim q.is [
+        | inl same ↦
+            (let was : (w.base.end k).agreed ≡ Some q.terms = ap (λ (j : ℕ). (w.base.end j).agreed) same ∙ q.agreed in
+            was ∙ ap Some (same_Some _ _ (sym (agreed_stays q.terms was) ∙ agreed)))
+        | inr other ↦ absurd (cc (c.called, (s.pairs k q.b other).calls))
+      ]
 
   called_stays : (mv.new).birth.is_called ≡ (w.base.end k).birth.is_called
   called_stays = mv.sees.is_called ∙ (step_leaves whole now e event).called ∙ sym sees.is_called
@@ -252,10 +283,7 @@ module _ (times : Times) (w : Whole) (s : Sound times w.base) (t : Tracked times
             others = λ x y terms b stage other q timed_ are old. old (old_terms offered.offers x y terms are);
             begun = λ a terms c agreed. elim (step_leaves whole now e event).agreed [
               | inl leaves ↦ inl (sees.agreed ∙ ap (option_map terms_of) (sym leaves) ∙ sym mv.sees.agreed ∙ agreed)
-              | inr has ↦
-                  (let both = begun_in m.base m.stage (terms_in now_agreed) (w.track k) (w.track z) has.0 l.stands in
-                  let same : a ≡ z = one_partner times w.base s k a z (inr c) p in
-                  inr (ap (λ (j : ℕ). (w.track j).is_begun) same ∙ both.1, both.0))
+              | inr has ↦ inl (was_agreed a terms c agreed (begun_in m.base m.stage (terms_in now_agreed) (w.track k) (w.track z) has.0 l.stands))
             ];
           }
 
@@ -284,9 +312,13 @@ module _ (times : Times) (w : Whole) (s : Sound times w.base) (t : Tracked times
             ];
             begun = λ a terms c agreed.
                 (let same : a ≡ z = one_partner times w.base s k a z (inr c) p in
+                let is : terms_of l.options ≡ terms = same_Some _ _ (sym agrees ∙ agreed) in
                 inr (
-                  ap (λ (j : ℕ). (done w.track k (Start z l.own l.theirs) j).is_begun) same ∙ ap (λ (x : Track). x.is_begun) (line_theirs w.track k z l.own l.theirs) ∙ l.they_start.begun,
-                  ap (λ (x : Track). x.is_begun) (line_own w.track k z l.own l.theirs apart) ∙ l.own_starts.begun,
+                  subst (λ (t_ : Terms). HasBegun (done w.track k (Start z l.own l.theirs) a) t_) is
+                      (subst (λ (j : ℕ). HasBegun (done w.track k (Start z l.own l.theirs) j) (terms_of l.options)) (sym same)
+                      (subst (λ (x : Track). HasBegun x (terms_of l.options)) (sym (line_theirs w.track k z l.own l.theirs)) their_line)),
+                  subst (λ (t_ : Terms). HasBegun (done w.track k (Start z l.own l.theirs) k) t_) is
+                      (subst (λ (x : Track). HasBegun x (terms_of l.options)) (sym (line_own w.track k z l.own l.theirs apart)) own_line),
                 ));
           }
         where
@@ -304,6 +336,21 @@ module _ (times : Times) (w : Whole) (s : Sound times w.base) (t : Tracked times
 
           accepted : Accepted (w.base.end k) mv.new
           accepted = record { called = called; before = sees.agreed ∙ ap (option_map terms_of) asked.unagreed; terms = terms_of l.options; now = agrees }
+
+          untouched : AreUntouched (terms_of l.options) m.base l.theirs l.own
+          untouched = l.untouched m.base refl
+
+          their_line : HasBegun l.theirs (terms_of l.options)
+          their_line = record { begun = l.they_start.begun; size = untouched.sending.size ∙ ap piece_by untouched.terms_are }
+
+          own_line : HasBegun l.own (terms_of l.options)
+          own_line = record {
+            begun = l.own_starts.begun;
+            size = elim (step_leaves whole now e event).agreed [
+              | inl leaves ↦ absurd (cc (leaves, l.agreed, asked.unagreed))
+              | inr has ↦ size_in mv.new.birth mv.new.took mv.new.latest m.base m.stage (terms_in now_agreed) l.own l.theirs l.options has.0 l.stands mv.sees.state l.agreed
+            ];
+          }
 
           other_end : (x y : ℕ) (terms : Terms) (b : Base) (stage : Stage) → x ≡ z → b.timers ≡ timers → terms_of l.options ≡ terms → Stands terms b stage (w.track x) (w.track y) → Stands terms b stage l.theirs l.own
           other_end x y terms b (stages.CrWait r) same timed_ is old =
@@ -344,12 +391,7 @@ module _ (times : Times) (w : Whole) (s : Sound times w.base) (t : Tracked times
                   (subst (λ (j : ℕ). Stands terms b stage (w.track j) (w.track k)) same (subst (λ (j : ℕ). Stands terms b stage (w.track x) (w.track j)) y_is before))))
               | inr no_z ↦ unchanged l.own l.theirs (λ (one other_ : Track). Stands terms b stage one other_) x y other no_z q (old (old_terms offered.offers x y terms are))
             ];
-            begun = λ a terms c agreed.
-                (let same : a ≡ z = one_partner times w.base s k a z (inr c) p in
-                inr (
-                  begun_on times w k mv.new taken (Go z l.own l.theirs) (p, l.own_goes, l.they_go) a (ap (λ (j : ℕ). (w.track j).is_begun) same ∙ l.they_go.begun),
-                  begun_on times w k mv.new taken (Go z l.own l.theirs) (p, l.own_goes, l.they_go) k l.own_goes.begun,
-                ));
+            begun = λ a terms c agreed. inl (was_agreed a terms c agreed l.own_goes.begun);
           }
 
       by_flow : Flowed times (terms_in now_agreed) now taken e.stage event m (w.track k) (w.track z) → Did

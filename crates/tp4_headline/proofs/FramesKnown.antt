@@ -160,7 +160,7 @@ module _ (titles : List (List ℕ)) (timers : Timers) (w : Whole) (journal : Lis
   -- a step in which no end is made
   pub known_on : (new : Whole) (made : List Event) → Written (times_of timers) titles new (journal ++ made) → (f : Frames w.base new.base) (others : List Placed) → AreOwners entities others
       → ((system : ℕ) (entity : Entity) → entity_at others system ≡ Some entity → Holds timers new entity)
-      → ((a b : ℕ) (terms : Terms) → IsCaller new.base a b → (new.base.end b).agreed ≡ Some terms → HaveBegun new a b)
+      → ((a b : ℕ) (terms : Terms) → IsCaller new.base a b → (new.base.end b).agreed ≡ Some terms → HaveBegun new a b terms)
       → Known titles timers new (journal ++ made) others ends
   known_on new made written f others owners holds begun = record {
     written = written;

@@ -1,11 +1,12 @@
 -- What a step of an end leaves of the lines of others.
 use Rattle.std.proofs.Common.{◌≡◌, ◌≢◌, ◌⊎◌, inl, inr, ℕ, zero, suc, ◌<◌, true, Option, refl, sym, ◌∙◌, ap, arith}
 use Rattle.std.proofs.lemmas.Bool.{cases_Bool, cases_eq, cond-true, cond-false, eq-eqb, ne_eqb}
-use Rattle.tp4_history.specs.Ends.{End, Offer, Times}
+use Rattle.tp4_history.specs.Ends.{End, Offer, Terms, Times}
 use Rattle.tp4_history.specs.History.{History, IsPartner, set_end}
 use Rattle.tp4_history.specs.Tracks.{Doing, Go, MayDo, Nothing, Start, Track, Whole, done, set_track}
 use Rattle.tp4_history.proofs.Sound.{Sound}
-use Rattle.tp4_history.proofs.Tracked.{at_track}
+use Rattle.tp4_history.proofs.Tracked.{Tracked, at_track, not_begun}
+use Rattle.tp4_headline.specs.steps.Known.{HasBegun}
 
 -- ---- partners
 
@@ -68,3 +69,22 @@ begun_on times w y new taken (Start z own theirs) may k begun =
 begun_on times w y new taken (Go z own theirs) may k begun =
     at_track (λ (j : ℕ) (to : Track). to.is_begun ≡ true) (set_track w.track y own) z theirs k (ap (λ (t : Track). t.is_begun) may.2.same ∙ may.2.begun)
     (λ _. at_track (λ (j : ℕ) (to : Track). to.is_begun ≡ true) w.track y own k (ap (λ (t : Track). t.is_begun) may.1.same ∙ may.1.begun) (λ _. begun))
+
+-- and keeps the size of its pieces
+size_on : (times : Times) (w : Whole) → Sound times w.base → Tracked times w → (y : ℕ) (new : End) (taken : Option Offer) (doing : Doing) → MayDo times w y new taken doing
+    → (k : ℕ) → (w.track k).is_begun ≡ true → (done w.track y doing k).size ≡ (w.track k).size
+size_on times w s t y new taken Nothing may k begun = refl
+size_on times w s t y new taken (Start z own theirs) may k begun =
+    let none = not_begun times w s t y z new may.0 may.1 in
+    at_track (λ (j : ℕ) (to : Track). (w.track j).is_begun ≡ true → to.size ≡ (w.track j).size) (set_track w.track y own) z theirs k (λ was. absurd (cc (was, none.1)))
+    (λ _. at_track (λ (j : ℕ) (to : Track). (w.track j).is_begun ≡ true → to.size ≡ (w.track j).size) w.track y own k (λ was. absurd (cc (was, none.0))) (λ _ _. refl)) begun
+size_on times w s t y new taken (Go z own theirs) may k begun =
+    at_track (λ (j : ℕ) (to : Track). to.size ≡ (w.track j).size) (set_track w.track y own) z theirs k (ap (λ (x : Track). x.size) may.2.same)
+    (λ _. at_track (λ (j : ℕ) (to : Track). to.size ≡ (w.track j).size) w.track y own k (ap (λ (x : Track). x.size) may.1.same) (λ _. refl))
+
+pub has_begun_on : (times : Times) (w : Whole) → Sound times w.base → Tracked times w → (y : ℕ) (new : End) (taken : Option Offer) (doing : Doing) → MayDo times w y new taken doing
+    → (k : ℕ) (terms : Terms) → HasBegun (w.track k) terms → HasBegun (done w.track y doing k) terms
+has_begun_on times w s t y new taken doing may k terms h = record {
+  begun = begun_on times w y new taken doing may k h.begun;
+  size = size_on times w s t y new taken doing may k h.begun ∙ h.size;
+}

@@ -38,7 +38,7 @@ module _ (titles : List (List ℕ)) (timers : Timers) (w : Whole) (journal : Lis
       let q = partner_back w.base (note (times_of timers) w).base note_frames o.k z p in
       o.stands z terms q (terms_back w.base (note (times_of timers) w).base note_frames o.k z terms o.at.low (pair_low w.base o.k z q).1 are))
 
-  pub note_begun : (a b : ℕ) (terms : Terms) → IsCaller (note (times_of timers) w).base a b → ((note (times_of timers) w).base.end b).agreed ≡ Some terms → HaveBegun (note (times_of timers) w) a b
+  pub note_begun : (a b : ℕ) (terms : Terms) → IsCaller (note (times_of timers) w).base a b → ((note (times_of timers) w).base.end b).agreed ≡ Some terms → HaveBegun (note (times_of timers) w) a b terms
   note_begun a b terms p agreed = let h = known.begun a b terms (calls_back w.base (note (times_of timers) w).base note_frames a b p) agreed in record { own = h.own; theirs = h.theirs }
 
   pub note_written : (made : List Event) → IsAside made → Written (times_of timers) titles (note (times_of timers) w) (journal ++ made)

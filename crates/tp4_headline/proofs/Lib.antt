@@ -19,6 +19,7 @@ pub mod NumbersRead
 pub mod ReferencesMet
 pub mod ReferencesOwn
 pub mod ReferencesHalves
+pub mod ReferencesSizes
 pub mod ReferencesRuns
 pub mod ReferencesLater
 pub mod ReferencesSince

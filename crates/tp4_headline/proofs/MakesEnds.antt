@@ -249,7 +249,7 @@ module _ (titles : List (List ℕ)) (timers : Timers) (w : Whole) (journal : Lis
         })
   ]
 
-  begun_after : (x z : ℕ) (terms : Terms) → IsCaller new.base x z → (new.base.end z).agreed ≡ Some terms → HaveBegun new x z
+  begun_after : (x z : ℕ) (terms : Terms) → IsCaller new.base x z → (new.base.end z).agreed ≡ Some terms → HaveBegun new x z terms
   begun_after x z terms p is = elim (cases_eq z h.count) [
     | inl same ↦ absurd (cc (is, ap (λ (i : ℕ). (new.base.end i).agreed) same, ap (λ (y : Seen). y.agreed) here, n.agreed))
     | inr different ↦

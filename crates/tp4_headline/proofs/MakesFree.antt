@@ -60,7 +60,7 @@ pub record Freed (titles : List (List ℕ)) (timers : Timers) (w : Whole) (journ
   pub restarts : new.base.restarts ≡ []
   pub count : length ends ≡ new.base.count
   pub listed : (k : ℕ) (end : EndAt) → slice_get ends k ≡ Some end → IsListed new.base entities k end
-  pub begun : (a b : ℕ) (terms : Terms) → IsCaller new.base a b → (new.base.end b).agreed ≡ Some terms → HaveBegun new a b
+  pub begun : (a b : ℕ) (terms : Terms) → IsCaller new.base a b → (new.base.end b).agreed ≡ Some terms → HaveBegun new a b terms
   pub there : (one r : ℕ) (entity : Entity) → entity_at entities one ≡ Some entity → (one ≡ system → r ≡ reference → ⊥) → IsThere new entity.own r (end_at entity r)
   pub free : IsFree new.base own reference
 

@@ -231,9 +231,9 @@ module _ (titles : List (List ℕ)) (timers : Timers) (w : Whole) (journal : Lis
 
     confirms : (z : ℕ) (terms : Terms) → IsPartner w.base own.k z → AreTerms w.base own.k z terms → (w.base.end z).agreed ≡ Some o.tpdu.terms
         → ((w.track own.k).is_begun ≡ true) × (o.tpdu.terms ≡ terms)
-    confirms z terms (inl c) said there = ((known.begun own.k z o.tpdu.terms c there).own, said.theirs c.called o.tpdu.terms there)
+    confirms z terms (inl c) said there = ((known.begun own.k z o.tpdu.terms c there).own.begun, said.theirs c.called o.tpdu.terms there)
     confirms z terms (inr c) said there =
-        let here = agreed.both z own.k o.tpdu.terms c there in ((known.begun z own.k o.tpdu.terms c here).theirs, said.own c.called o.tpdu.terms here)
+        let here = agreed.both z own.k o.tpdu.terms c there in ((known.begun z own.k o.tpdu.terms c here).theirs.begun, said.own c.called o.tpdu.terms here)
 
     says : (z : ℕ) (terms : Terms) → IsPartner w.base own.k z → AreTerms w.base own.k z terms → o.tpdu.kind ≡ Cc → ((w.track own.k).is_begun ≡ true) × (o.tpdu.terms ≡ terms)
     says z terms p said kind =

@@ -1,6 +1,8 @@
 -- What comes to an open end stands in the lines of its connection with its number; the laws of numbers say there as what it is read.
-use Rattle.std.proofs.Common.{◌≡◌, [], ◌∷◌, ◌++◌, ℕ, ◌+◌, ◌-◌, ◌<◌, ◌≤◌, true, List, Option, Some, refl, sym, ap, subst, ◌∙◌, arith, Contains}
+use Rattle.std.proofs.Common.{◌≡◌, [], ◌∷◌, ◌++◌, ℕ, ◌+◌, ◌-◌, ◌<◌, ◌≤◌, true, List, length, take, Option, Some, refl, sym, ap, subst, ◌∙◌, arith, Contains}
+use Rattle.std.specs.List.{sum_by}
 use Rattle.osi_base.specs.Link.{Link}
+use Rattle.osi_journal.specs.Lawful.{Marked, expediteds, normals, shown, submitted}
 use Rattle.osi_journal.specs.declared.event.Event.{Event}
 use Rattle.tpdu.specs.declared.tpdu.Format.{Format}
 use Rattle.tpdu.specs.declared.tpdu.Tpdu.{Tpdu as WireTpdu}
@@ -13,6 +15,7 @@ use Rattle.tp4_number.specs.Sender.{Sender}
 use Rattle.tp4_number.specs.Traffic.{Answer, IsFit, Rules}
 use Rattle.tp4_sending.specs.declared.tries.Tries.{Tries}
 use Rattle.tp4_sending.specs.FlowSender.{UrgentSender}
+use Rattle.tp4_sending.specs.Pieces.{count_in}
 use Rattle.tp4_sending.specs.Kept.{urgent_base}
 use Rattle.tp4_conn.specs.declared.halves.Halves.{Halves}
 use Rattle.tp4_conn.specs.declared.timers.Timers.{Timers}
@@ -22,7 +25,7 @@ use Rattle.tp4_history.specs.History.{IsPartner}
 use Rattle.tp4_history.specs.Line.{Clock, Expedites, Flows, Happening, Line, Submit, Runs, empty, next}
 use Rattle.tp4_history.proofs.Outstanding.{IsOutstanding, outstanding_event, outstanding_quiet, urgently_more}
 use Rattle.tp4_history.specs.Tracks.{IsNumbered, Noted, Track, Whole}
-use Rattle.tp4_history.proofs.Lines.{line_sound}
+use Rattle.tp4_history.proofs.Lines.{line_sound, line_urged, line_whole}
 use Rattle.tp4_history.proofs.Meets.{swap}
 use Rattle.tp4_history.proofs.Sound.{one_partner}
 use Rattle.tp4_history.proofs.Tracked.{IsRun, numbered}
@@ -31,13 +34,14 @@ use Rattle.tp4_moves.specs.Lines.{AreHalvesAt}
 use Rattle.tp4_moves.specs.Moves.{times_of}
 use Rattle.tp4_moves.specs.Seen.{IsNumbered as HasNumber, seen}
 use Rattle.tp4_world.specs.World.{World}
-use Rattle.tp4_headline.specs.Numbers.{AreRead, IsNumber, IsOpen, IsRead, IsReadAsAk, IsReadAsDt, IsReadAsEd, IsSentBy}
+use Rattle.tp4_headline.specs.Numbers.{AcknowledgesShown, AreRead, IsNumber, IsOpen, IsRead, IsReadAsAk, IsReadAsDt, IsReadAsEd, IsSentBy}
 use Rattle.tp4_headline.specs.References.{ArePartners, ComesTo, halves_at}
 use Rattle.tp4_headline.specs.steps.Worlds.{Explains, OneInUnit}
 use Rattle.tp4_headline.proofs.FramesKnown.{keeps}
-use Rattle.tp4_headline.proofs.ReferencesHalves.{are_there, known_at, sizes}
+use Rattle.tp4_headline.proofs.ReferencesHalves.{are_there, known_at}
 use Rattle.tp4_headline.proofs.ReferencesMet.{IsMet}
 use Rattle.tp4_headline.proofs.ReferencesOwn.{carried, m, noted, partner, x_is, z}
+use Rattle.tp4_headline.proofs.ReferencesSizes.{sizes}
 
 -- ---- lines
 
@@ -100,6 +104,16 @@ urged timers clock t r = urged_runs t.rules r.long t.size t.tick r.happenings (e
 said_low : (timers : Timers) (clock : ℕ) (t : Track) (r : IsRun (times_of timers) clock t) (a : Answer) → Contains t.line.world.answers a → a.number ≤ t.line.world.receiver.expected
 said_low timers clock t r a there =
     ((line_sound t.rules r.long t.size r.some t.tick t.credit t.places t.room r.credit_low r.room_low r.happenings t.line r.runs).said a there).low
+
+-- what is below the numbers expected was shown
+whole_shown : (timers : Timers) (clock : ℕ) (t : Track) → IsRun (times_of timers) clock t
+    → (count : ℕ) → count ≤ length (normals t.line.submitted) → sum_by (count_in t.size) (take count (normals t.line.submitted)) ≤ t.line.world.receiver.expected
+    → count ≤ length (normals t.line.shown)
+whole_shown timers clock t r = line_whole t.rules r.long t.size r.some t.tick t.credit t.places t.room r.credit_low r.room_low r.happenings t.line r.runs
+
+urged_shown : (timers : Timers) (clock : ℕ) (t : Track) → IsRun (times_of timers) clock t
+    → (length (expediteds t.line.shown) ≡ t.line.urgent.expected) × ((n at : ℕ) → Contains t.line.urgent.answers (n, at) → n < t.line.urgent.expected)
+urged_shown timers clock t r = line_urged t.rules r.long t.size r.some t.tick t.credit t.places t.room r.credit_low r.room_low r.happenings t.line r.runs
 
 module _ {C : Type 0} (link : C → Link (List ℕ)) (titles : List (List ℕ)) (timers : Timers) (w : Whole) (journal : List Event) (world : World C) (explains : Explains link titles timers w journal world)
     (one : OneInUnit) where
@@ -207,10 +221,36 @@ module _ {C : Type 0} (link : C → Link (List ℕ)) (titles : List (List ℕ)) 
         subst (λ (m : ℕ). met.n < m) (theirs_at theirs open_).1.receiving.urgent ((urged timers w.base.clock (w.track k) (kept.tracked.run k n.0)).said met.n met.offer.tick n.1)
     sent_by theirs open_ other_kind is = tt
 
-    pub number : IsNumber journal world (λ j. (w.track (j - 1)).size) x (block_of (agreed_format c.end.base.agreed)) halves t
+    -- the units of y, and those of y that x showed
+    given_is : (w.track k).is_begun ≡ true → submitted y journal ≡ (w.track k).line.submitted
+    given_is begun = ap (λ (j : ℕ). submitted j journal) (sym met.number) ∙ kept.telling.gave k begun
+
+    shown_is : (w.track k).is_begun ≡ true → shown x journal ≡ (w.track k).line.shown
+    shown_is begun = ap (λ (j : ℕ). shown j journal) (sym other_is) ∙ kept.telling.showed k other are begun
+
+    size_is : (w.track k).size ≡ (w.track (y - 1)).size
+    size_is = let same : k ≡ y - 1 = omega (arith, met.number) in ap (λ (j : ℕ). (w.track j).size) same
+
+    acknowledged : (u : WireTpdu) → t ≡ u → AcknowledgesShown (w.track (y - 1)).size (submitted y journal) (shown x journal) met.n u
+    acknowledged (wires.Ak destination number credit subsequence confirmation) is =
+        let n = answer_in credit subsequence (noted_as (wires.Ak destination number credit subsequence confirmation) is refl) in
+        let a : Answer = record { number = met.n; credit = credit; subsequence = subsequence; tick = met.offer.tick } in
+        let low = said_low timers w.base.clock (w.track k) (kept.tracked.run k n.0) a n.1 in
+        subst (λ (s : ℕ). AcknowledgesShown s (submitted y journal) (shown x journal) met.n (wires.Ak destination number credit subsequence confirmation)) size_is
+        (subst (λ (units : List Marked). AcknowledgesShown (w.track k).size units (shown x journal) met.n (wires.Ak destination number credit subsequence confirmation)) (sym (given_is n.0))
+        (subst (λ (units : List Marked). AcknowledgesShown (w.track k).size (w.track k).line.submitted units met.n (wires.Ak destination number credit subsequence confirmation)) (sym (shown_is n.0))
+        (λ count there below. whole_shown timers w.base.clock (w.track k) (kept.tracked.run k n.0) count there (omega (arith, below, low)))))
+    acknowledged (wires.Ea destination number) is =
+        let n = ea_in (noted_as (wires.Ea destination number) is refl) in
+        let u = urged_shown timers w.base.clock (w.track k) (kept.tracked.run k n.0) in
+        subst (λ (units : List Marked). met.n < length (expediteds units)) (sym (shown_is n.0)) (omega (arith, u.0, u.1 met.n met.offer.tick n.1))
+    acknowledged other_kind is = tt
+
+    pub number : IsNumber journal world (λ j. (w.track (j - 1)).size) x y (block_of (agreed_format c.end.base.agreed)) halves t
     number = record {
       n = met.n;
       carries = carried link titles timers w journal world explains one y t c x partners;
+      acknowledges = acknowledged t refl;
       sent = λ theirs is. sent_by theirs is t refl;
       read = read_by t refl;
     }
@@ -218,6 +258,6 @@ module _ {C : Type 0} (link : C → Link (List ℕ)) (titles : List (List ℕ)) 
   pub all_read : AreRead link journal world
   all_read = record {
     size = λ j. (w.track (j - 1)).size;
-    sizes = sizes link titles timers w journal world explains;
+    sizes = sizes link titles timers w journal world explains one;
     each = λ x y t c halves partners has. number x y t c halves partners has;
   }

@@ -1,17 +1,14 @@
 -- The halves of an end that is open stand in the line of the end and in that of its partner.
-use Rattle.std.proofs.Common.{◌≡◌, ◌≢◌, inl, inr, ℕ, ◌+◌, ◌-◌, List, Some, sym, ap, subst, ◌∙◌, arith}
+use Rattle.std.proofs.Common.{◌≡◌, ◌≢◌, inl, inr, ℕ, ◌+◌, List, Some, sym, ap, subst, ◌∙◌}
 use Rattle.std.specs.Prelude.{option_map}
 use Rattle.std.proofs.lemmas.Option.{none-some, same_Some}
 use Rattle.osi_base.specs.Link.{Link}
 use Rattle.osi_journal.specs.declared.event.Event.{Event}
-use Rattle.tp4_flow.specs.declared.rules.FlowRules.{FlowRules}
-use Rattle.tp4_flow.specs.declared.rules.Options.{Options}
 use Rattle.tp4_conn.specs.declared.base.Base.{Base}
 use Rattle.tp4_conn.specs.declared.halves.Halves.{Halves}
 use Rattle.tp4_conn.specs.declared.stage.Stage.{Stage}
 use Rattle.tp4_conn.specs.declared.stage.Stage.TheVariants as stages
 use Rattle.tp4_conn.specs.declared.timers.Timers.{Timers}
-use Rattle.tp4_conn.specs.Agreeing.{header_of}
 use Rattle.tp4_conn.specs.End.{End, agreed_format}
 use Rattle.tp4_entity.specs.Entity.{Entity}
 use Rattle.tp4_history.specs.Ends.{Birth, Terms}
@@ -22,7 +19,7 @@ use Rattle.tp4_moves.specs.Lines.{AreHalvesAt, Stands}
 use Rattle.tp4_moves.specs.Moves.{AreOwn, IsSeenIn, times_of}
 use Rattle.tp4_moves.specs.Seen.{terms_of}
 use Rattle.tp4_world.specs.World.{World}
-use Rattle.tp4_headline.specs.References.{AreSizes, IsEnd, halves_at}
+use Rattle.tp4_headline.specs.References.{IsEnd, halves_at}
 use Rattle.tp4_headline.specs.steps.Known.{AreTerms, IsKnown, IsThere}
 use Rattle.tp4_headline.specs.steps.Worlds.{Explains}
 use Rattle.tp4_headline.proofs.FramesKnown.{keeps, number_at}
@@ -75,10 +72,3 @@ module _ {C : Type 0} (link : C → Link (List ℕ)) (titles : List (List ℕ)) 
   known_at y system entity reference e is =
       let known = subst (IsThere w entity.own reference) is.stands ((explains.known.holds system entity is.there).there reference) in
       (known, sym (number_at titles timers w journal world.entities world.ends explains.known system entity reference known.k is.there known.at) ∙ is.number)
-
-  pub sizes : AreSizes world (λ x. (w.track (x - 1)).size)
-  sizes x system reference entity e h options is has agreed =
-      let kn = known_at x system entity reference e is in
-      let t = are_there entity.own reference e kn.0 h has in
-      let same : t.own.terms ≡ options = same_Some _ _ (sym t.own.agreed ∙ agreed) in
-      ap (λ (k : ℕ). (w.track k).size) (omega (arith, kn.1)) ∙ t.halves.sending.size ∙ ap (λ (r : FlowRules). r.piece) t.own.sending ∙ ap (λ (o : Options). o.size - header_of o) same

@@ -51,7 +51,7 @@ pub no_request : (t : WireTpdu) (n r : ℕ) → destination_of t ≡ Some r → 
 no_request (wires.Cr credit source width calling called size extra version classes ack_time text) n r h = absurd (none-some _ h)
 no_request other n r h = λ e. cc e
 
-is_flow : (t : WireTpdu) (n : ℕ) → has_number (kind_for t) ≡ true → (seen n t).kind ≡ Flow
+pub is_flow : (t : WireTpdu) (n : ℕ) → has_number (kind_for t) ≡ true → (seen n t).kind ≡ Flow
 is_flow (wires.Dt destination last number text) n h = refl
 is_flow (wires.Ed destination last number text) n h = refl
 is_flow (wires.Ak destination number credit subsequence confirmation) n h = refl

@@ -8,8 +8,8 @@ use Rattle.osi_journal.specs.Lawful.{submitted}
 use Rattle.osi_journal.specs.declared.event.Event.{Event}
 use Rattle.tpdu.specs.declared.tpdu.Tpdu.{Tpdu}
 use Rattle.tp4_number.specs.Formats.{block_of}
+use Rattle.tp4_flow.specs.declared.rules.Options.{Options}
 use Rattle.tp4_conn.specs.declared.base.Base.{Base}
-use Rattle.tp4_conn.specs.declared.halves.Halves.{Halves}
 use Rattle.tp4_conn.specs.declared.stage.Stage.{Stage}
 use Rattle.tp4_conn.specs.declared.stage.Stage.TheVariants as stages
 use Rattle.tp4_conn.specs.declared.timers.Timers.{Timers}
@@ -23,10 +23,10 @@ use Rattle.tp4_history.specs.Tracks.{Whole}
 use Rattle.tp4_world.specs.Laws.{world_on_wire}
 use Rattle.tp4_world.specs.World.{World}
 use Rattle.tp4_world.proofs.OnWire.{formats_on, lower_there, upper}
-use Rattle.tp4_headline.specs.References.{AreCarried, AreSizes, Carries, ComesTo, IsMadeBy, IsNotBefore, IsOfPartner, halves_at}
+use Rattle.tp4_headline.specs.References.{AreCarried, AreSizes, Carries, ComesTo, IsEnd, IsMadeBy, IsNotBefore, IsOfPartner}
 use Rattle.tp4_headline.specs.steps.Worlds.{Explains, OneInUnit}
-use Rattle.tp4_headline.proofs.ReferencesHalves.{sizes}
 use Rattle.tp4_headline.proofs.ReferencesOwn.{carried, m, of_partner}
+use Rattle.tp4_headline.proofs.ReferencesSizes.{agreed_at, sizes}
 
 -- ---- an end over wire numbers
 
@@ -65,15 +65,6 @@ fits_on b (stages.Frozen when) tpdu = refl
 
 match_on : (e : End) (from : List ℕ) (tpdu : Tpdu) → is_match (end_on_wire e).base (end_on_wire e).stage from tpdu ≡ is_match e.base e.stage from tpdu
 match_on e from tpdu = ap (λ (b : Bool). pointwise nat_eq e.base.to from && b) (fits_on e.base e.stage tpdu)
-
-halves_up : (stage : Stage) (h : Halves) → halves_at (stage_on_wire stage) ≡ Some h → (up : Halves) × (halves_at stage ≡ Some up)
-halves_up (stages.AkWait w) h is = (w.halves, refl)
-halves_up (stages.Opened o) h is = (o.halves, refl)
-halves_up (stages.CrWait w) h is = absurd (none-some _ is)
-halves_up (stages.WaitBeforeClose w) h is = absurd (none-some _ is)
-halves_up (stages.UserWait since) h is = absurd (none-some _ is)
-halves_up (stages.Closing c) h is = absurd (none-some _ is)
-halves_up (stages.Frozen when) h is = absurd (none-some _ is)
 
 module _ {C : Type 0} (link : C → Link (List ℕ)) (world : World C) where
   -- what comes to an end over wire numbers comes to it over whole ones
@@ -136,21 +127,45 @@ module _ {C : Type 0} (link : C → Link (List ℕ)) (world : World C) where
   pub later_lowered : (journal : List Event) → IsNotBefore link journal world → IsNotBefore link journal (world_on_wire world)
   later_lowered journal holds y tpdu comes = let l = lifted y tpdu comes in subst (IsMadeBy journal y) l.tick (holds y tpdu l.up)
 
-  sizes_lowered : (size : ℕ → ℕ) → AreSizes world size → AreSizes (world_on_wire world) size
-  sizes_lowered size holds x system reference entity end halves options is has agreed =
+  -- an end that stands over wire numbers stands over whole ones, with what it agreed on
+  record IsUpperEnd (x system reference : ℕ) (options : Options) : Type 0 where
+    entity : Entity
+    end : End
+    is_end : IsEnd world x system entity reference end
+    agreed : end.base.agreed ≡ Some options
+
+  upper_at : (x system reference : ℕ) (entity : Entity) (end : End) (options : Options) → IsEnd (world_on_wire world) x system entity reference end → end.base.agreed ≡ Some options
+      → IsUpperEnd x system reference options
+  upper_at x system reference entity end options is agreed =
       let e = upper world.entities system entity is.there in
       let k = upper_end e.entity reference end (subst (λ (y : Entity). end_at y reference ≡ Some end) e.is is.stands) in
-      let up = halves_up k.end.stage halves (ap (λ (y : End). halves_at y.stage) (sym k.is) ∙ has) in
-      holds x system reference e.entity k.end up.0 options (record { there = e.there; stands = k.stands; number = is.number }) up.1 (ap (λ (y : End). y.base.agreed) (sym k.is) ∙ agreed)
+      record {
+        entity = e.entity;
+        end = k.end;
+        is_end = record { there = e.there; stands = k.stands; number = is.number };
+        agreed = ap (λ (y : End). y.base.agreed) (sym k.is) ∙ agreed;
+      }
+
+  sizes_lowered : (journal : List Event) (size : ℕ → ℕ) → AreSizes journal world size → AreSizes journal (world_on_wire world) size
+  sizes_lowered journal size holds = record {
+    own = λ x system reference entity end options is agreed.
+        (let up = upper_at x system reference entity end options is agreed in holds.own x system reference up.entity up.end options up.is_end up.agreed);
+    partner = λ x y system reference entity end options partners is agreed.
+        (let up = upper_at y system reference entity end options is agreed in holds.partner x y system reference up.entity up.end options partners up.is_end up.agreed);
+  }
 
   pub carried_lowered : (journal : List Event) → AreCarried link journal world → AreCarried link journal (world_on_wire world)
   carried_lowered journal holds = record {
     size = holds.size;
-    sizes = sizes_lowered holds.size holds.sizes;
+    sizes = sizes_lowered journal holds.size holds.sizes;
     each = λ x y tpdu comes partners.
         (let l = lifted y tpdu comes in
         let n = holds.each x y tpdu l.up partners in
         (n.0, subst (λ (b : Base). Carries (holds.size x) (block_of (agreed_format b.agreed)) (submitted x journal) n.0 tpdu) l.base n.1));
+    agreed = λ x y tpdu comes partners number.
+        (let l = lifted y tpdu comes in
+        let o = holds.agreed x y tpdu l.up partners number in
+        (o.0, ap (λ (b : Base). b.agreed) (sym l.base) ∙ o.1, o.2));
   }
 
 -- over whole numbers
@@ -161,6 +176,7 @@ module _ {C : Type 0} (link : C → Link (List ℕ)) (one : OneInUnit) (titles :
   pub all_carried : AreCarried link journal world
   all_carried = record {
     size = λ x. (w.track (x - 1)).size;
-    sizes = sizes link titles timers w journal world explains;
+    sizes = sizes link titles timers w journal world explains one;
     each = λ x y tpdu comes partners. ((m link titles timers w journal world explains one y tpdu comes).n, carried link titles timers w journal world explains one y tpdu comes x partners);
+    agreed = agreed_at link titles timers w journal world explains one;
   }

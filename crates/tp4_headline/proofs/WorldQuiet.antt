@@ -112,5 +112,8 @@ after_clock later titles timers w journal made entities ends known idle aside =
       theirs = h.theirs;
     }
 
-    begun : (a b : ℕ) (terms : Terms) → IsCaller new.base a b → (new.base.end b).agreed ≡ Some terms → HaveBegun new a b
-    begun a b terms calls agreed = let h = known.begun a b terms (calls_back w.base new.base frames a b calls) agreed in record { own = h.own; theirs = h.theirs }
+    begun : (a b : ℕ) (terms : Terms) → IsCaller new.base a b → (new.base.end b).agreed ≡ Some terms → HaveBegun new a b terms
+    begun a b terms calls agreed = let h = known.begun a b terms (calls_back w.base new.base frames a b calls) agreed in record {
+      own = record { begun = h.own.begun; size = h.own.size };
+      theirs = record { begun = h.theirs.begun; size = h.theirs.size };
+    }

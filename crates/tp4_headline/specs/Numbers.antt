@@ -1,13 +1,15 @@
 -- As which number an end reads a TPDU that comes to it: the number that it was sent with, or one that is ignored (X.224, class 4: sequencing, explicit
 -- flow control, expedited data). All numbers are whole; on the wire they stand modulo four blocks.
-use Rattle.std.specs.Prelude.{◌≡◌, ◌<◌, ◌≤◌, ℕ, ◌+◌, List, Some}
+use Rattle.std.specs.Prelude.{◌≡◌, ◌<◌, ◌≤◌, ℕ, ◌+◌, List, length, take, Some}
+use Rattle.std.specs.List.{sum_by}
 use Rattle.osi_base.specs.Link.{Link}
-use Rattle.osi_journal.specs.Lawful.{submitted}
+use Rattle.osi_journal.specs.Lawful.{Marked, expediteds, normals, shown, submitted}
 use Rattle.osi_journal.specs.declared.event.Event.{Event}
 use Rattle.tpdu.specs.declared.tpdu.Tpdu.{Tpdu}
 use Rattle.tpdu.specs.declared.tpdu.Tpdu.TheVariants.{Dt, Ed, Ak, Ea}
 use Rattle.tp4_number.specs.Formats.{block_of}
 use Rattle.tp4_number.specs.Number.{near, wire}
+use Rattle.tp4_sending.specs.Pieces.{count_in}
 use Rattle.tp4_sending.specs.declared.tries.Tries.{Tries}
 use Rattle.tp4_conn.specs.declared.halves.Halves.{Halves}
 use Rattle.tp4_conn.specs.End.{End, agreed_format}
@@ -51,6 +53,14 @@ IsSentBy h n (Ak destination number credit subsequence confirmation) = n ≤ h.r
 IsSentBy h n (Ea destination number) = n < h.receiving.receiver.urgent
 IsSentBy h n other = Unit {0}
 
+-- What AK n or EA n acknowledges was shown: of the normal units given, as many from the front as have all their pieces below n; and the expedited unit n.
+-- An end was asked to send `given`, in pieces of that size, and its partner showed `got`
+abbrev pub AcknowledgesShown : ℕ → List Marked → List Marked → ℕ → Tpdu → Type 0
+AcknowledgesShown size given got n (Ak destination number credit subsequence confirmation) =
+    (count : ℕ) → count ≤ length (normals given) → sum_by (count_in size) (take count (normals given)) ≤ n → count ≤ length (normals got)
+AcknowledgesShown size given got n (Ea destination number) = n < length (expediteds got)
+AcknowledgesShown size given got n other = Unit {0}
+
 -- the end of the number x is open, with these halves
 pub record IsOpen {C : Type 0} (last : World C) (x : ℕ) (halves : Halves) : Type 0 where
   pub system : ℕ
@@ -60,15 +70,17 @@ pub record IsOpen {C : Type 0} (last : World C) (x : ℕ) (halves : Halves) : Ty
   pub is_end : IsEnd last x system entity reference end
   pub has : halves_at end.stage ≡ Some halves
 
--- what comes to an open end y has a number n: it carries what its partner x was asked to send, it is what x sent, and y reads it as n, or ignores it
-pub record IsNumber {C : Type 0} (journal : List Event) (last : World C) (size : ℕ → ℕ) (x block : ℕ) (halves : Halves) (tpdu : Tpdu) : Type 0 where
+-- what comes to an open end y has a number n: it carries what its partner x was asked to send, or acknowledges what x has shown, whatever became of x; it is
+-- what x sent, where x is open; and y reads it as n, or ignores it
+pub record IsNumber {C : Type 0} (journal : List Event) (last : World C) (size : ℕ → ℕ) (x y block : ℕ) (halves : Halves) (tpdu : Tpdu) : Type 0 where
   pub n : ℕ
   pub carries : Carries (size x) block (submitted x journal) n tpdu
+  pub acknowledges : AcknowledgesShown (size y) (submitted y journal) (shown x journal) n tpdu
   pub sent : (theirs : Halves) → IsOpen last x theirs → IsSentBy theirs n tpdu
   pub read : IsRead block halves n tpdu
 
 pub record AreRead {C : Type 0} (link : C → Link (List ℕ)) (journal : List Event) (last : World C) : Type 0 where
   pub size : ℕ → ℕ
-  pub sizes : AreSizes last size
+  pub sizes : AreSizes journal last size
   pub each : (x y : ℕ) (tpdu : Tpdu) (comes : ComesTo link last y tpdu) (halves : Halves) → ArePartners journal x y → halves_at comes.end.stage ≡ Some halves
-      → IsNumber journal last size x (block_of (agreed_format comes.end.base.agreed)) halves tpdu
+      → IsNumber journal last size x y (block_of (agreed_format comes.end.base.agreed)) halves tpdu

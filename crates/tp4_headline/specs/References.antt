@@ -11,7 +11,9 @@ use Rattle.osi_journal.specs.RawLawful.{tick_after}
 use Rattle.osi_journal.specs.declared.event.Event.{Event}
 use Rattle.osi_journal.specs.declared.event.Event.TheVariants as events
 use Rattle.osi_script.specs.declared.line.Line.{Line}
+use Rattle.tpdu.specs.Kinds.{has_number}
 use Rattle.tpdu.specs.Values.{TpduAndSum, destination_of}
+use Rattle.tpdu.specs.Writing.{kind_for}
 use Rattle.tpdu.specs.declared.tpdu.Tpdu.{Tpdu}
 use Rattle.tpdu.specs.declared.tpdu.Tpdu.TheVariants.{Dr, Dc, Dt, Ed}
 use Rattle.tp4_number.specs.Formats.{block_of}
@@ -130,14 +132,23 @@ halves_at (AkWait w) = Some w.halves
 halves_at (Opened o) = Some o.halves
 halves_at other = None
 
--- the octets of a piece of an end: the size agreed on, less the header of a DT
-abbrev pub AreSizes : {C : Type 0} → World C → (ℕ → ℕ) → Type 0
-AreSizes last size = (x system reference : ℕ) (entity : Entity) (end : End) (halves : Halves) (options : Options) → IsEnd last x system entity reference end
-    → halves_at end.stage ≡ Some halves → end.base.agreed ≡ Some options → size x ≡ options.size - header_of options
+-- the octets of a piece that are agreed on: the size of a TPDU, less the header of a DT
+abbrev pub piece_of : Options → ℕ
+piece_of options = options.size - header_of options
 
--- a DT or an ED that comes to an end carries what its partner was asked to send
+-- the octets of a piece of each end: what that end agreed on, and what its partner agreed on, whether they are open or not
+pub record AreSizes {C : Type 0} (journal : List Event) (last : World C) (size : ℕ → ℕ) : Type 0 where
+  pub own : (x system reference : ℕ) (entity : Entity) (end : End) (options : Options) → IsEnd last x system entity reference end
+      → end.base.agreed ≡ Some options → size x ≡ piece_of options
+  pub partner : (x y system reference : ℕ) (entity : Entity) (end : End) (options : Options) → ArePartners journal x y → IsEnd last y system entity reference end
+      → end.base.agreed ≡ Some options → size x ≡ piece_of options
+
+-- A DT or an ED that comes to an end carries what its partner was asked to send. What has a number comes only to an end that has agreed, and the pieces
+-- have the size on which that end agreed, whatever became of its partner
 pub record AreCarried {C : Type 0} (link : C → Link (List ℕ)) (journal : List Event) (last : World C) : Type 0 where
   pub size : ℕ → ℕ
-  pub sizes : AreSizes last size
+  pub sizes : AreSizes journal last size
   pub each : (x y : ℕ) (tpdu : Tpdu) (comes : ComesTo link last y tpdu) → ArePartners journal x y
       → (n : ℕ) × Carries (size x) (block_of (agreed_format comes.end.base.agreed)) (submitted x journal) n tpdu
+  pub agreed : (x y : ℕ) (tpdu : Tpdu) (comes : ComesTo link last y tpdu) → ArePartners journal x y → has_number (kind_for tpdu) ≡ true
+      → (options : Options) × (comes.end.base.agreed ≡ Some options) × (size x ≡ piece_of options)

@@ -1,9 +1,11 @@
 -- Joining the pieces of units from the front gives these units: each unit shown takes off its pieces, and what has begun is a front of the next.
 -- The only products are those of a number of pieces and the size of one.
-use Rattle.std.proofs.Common.{◌≡◌, inl, inr, ℕ, suc, ◌+◌, ◌-◌, ◌*◌, ◌/◌, ◌%◌, ◌<◌, ◌≤◌, min, Bool, true, false, nat_lt, nat_le, if◌then◌else◌, List, [], ◌∷◌, ◌++◌, length, get_or, take, drop, Option, Some, None, refl, sym, ◌∙◌, ap, subst, arith, add-zero, append-nil, append_assoc, length-append}
+use Rattle.std.proofs.Common.{◌≡◌, inl, inr, ℕ, zero, suc, ◌+◌, ◌-◌, ◌*◌, ◌/◌, ◌%◌, ◌<◌, ◌≤◌, min, Bool, true, false, nat_lt, nat_le, if◌then◌else◌, List, [], ◌∷◌, ◌++◌, length, get_or, take, drop, Option, Some, None, refl, sym, ◌∙◌, ap, subst, arith, add-zero, append-nil, append_assoc, length-append}
 use Rattle.std.proofs.Math.Nat.{suc-mul, mul-le-mul_right, le_of_mul-le-mul_right}
 use Rattle.std.proofs.Math.Seq.{take-add}
+use Rattle.std.specs.List.{sum_by}
 use Rattle.std.proofs.lemmas.List.{take_all}
+use Rattle.std.proofs.lemmas.List.Sums.{sum_by-cons}
 use Rattle.std.proofs.lemmas.Bool.{cases_lt, cases_eq, lt-ltb, le-ltb, leb-true, leb-false}
 use Rattle.tp4_number.proofs.Past.{if_kept}
 use Rattle.tp4_number.specs.declared.piece.Piece.{Piece}
@@ -74,6 +76,19 @@ front size [] n (s ∷ shown) begun c = absurd c
 front size (unit ∷ units) n (s ∷ shown) begun c =
     let r = front size units (n - count_in size unit) shown begun c.2 in
     (r.0, ap (λ (u : List ℕ). u ∷ units) (sym c.0) ∙ ap (λ (us : List (List ℕ)). s ∷ us) r.1)
+
+-- a unit all of whose pieces are among them was shown
+pub shown_whole : (size : ℕ) → 0 < size → (units : List (List ℕ)) (n : ℕ) (shown : List (List ℕ)) (begun : List ℕ) → Complete size units n shown begun
+    → (m : ℕ) → m ≤ length units → sum_by (count_in size) (take m units) ≤ n → m ≤ length shown
+shown_whole size some units n shown begun c zero low most = omega arith
+shown_whole size some [] n shown begun c (suc m) low most = absurd (omega (arith, low))
+shown_whole size some (unit ∷ units) n [] begun c (suc m) low most =
+    let more : n < count_in size unit = one_more size (length unit) some n c.0 in
+    absurd (omega (arith, more, most, sum_by-cons (count_in size) unit (take m units)))
+shown_whole size some (unit ∷ units) n (s ∷ shown) begun c (suc m) low most =
+    let rest : sum_by (count_in size) (take m units) ≤ n - count_in size unit = omega (arith, most, sum_by-cons (count_in size) unit (take m units), c.1) in
+    let less : m ≤ length shown = shown_whole size some units (n - count_in size unit) shown begun c.2 m (omega (arith, low)) rest in
+    omega (arith, less)
 
 -- one unit more
 pub complete_more : (size : ℕ) (units : List (List ℕ)) (n : ℕ) (shown : List (List ℕ)) (begun unit : List ℕ) → 0 < length unit → Complete size units n shown begun

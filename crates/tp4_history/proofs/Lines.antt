@@ -1,6 +1,7 @@
 -- What is shown at one side of a line is what was submitted at the other. By the law of numbers each piece is held under its own number, so what
 -- comes in order joins to the units; and a new DT goes only where no ED is outstanding, so each expedited unit before it was shown.
-use Rattle.std.proofs.Common.{◌≡◌, ◌⊎◌, inl, inr, ℕ, zero, suc, ◌+◌, ◌-◌, ◌<◌, ◌≤◌, Bool, true, false, ◌==◌, nat_lt, if◌then◌else◌, max, List, [], ◌∷◌, ◌++◌, length, get_or, set, take, drop, replicate, Option, Some, None, refl, sym, ◌∙◌, ap, subst, arith, append-nil, append_assoc, length-append}
+use Rattle.std.proofs.Common.{◌≡◌, ◌⊎◌, inl, inr, ℕ, zero, suc, ◌+◌, ◌-◌, ◌<◌, ◌≤◌, Bool, true, false, ◌==◌, nat_lt, if◌then◌else◌, max, List, [], ◌∷◌, ◌++◌, length, get_or, set, take, drop, replicate, Option, Some, None, refl, sym, ◌∙◌, ap, subst, arith, append-nil, append_assoc, length-append, Contains}
+use Rattle.std.specs.List.{sum_by}
 use Rattle.std.proofs.Math.ListN.{get_or-append}
 use Rattle.std.proofs.lemmas.List.{get_or-append_right, get_or-drop, take-append-drop, take-append-le, length-take-le, take_more}
 use Rattle.std.proofs.lemmas.Bool.{cases_lt, eqb-true}
@@ -12,7 +13,7 @@ use Rattle.tp4_number.specs.Sender.{Sender, sent_next, told}
 use Rattle.tp4_number.specs.declared.blocks.Blocks.{Blocks}
 use Rattle.tp4_number.specs.Window.{Held, placed, slid}
 use Rattle.tp4_number.specs.Receiver.{Inbox, Receiver, judged, in_order, arrived_as, arrival, after_dt, granted}
-use Rattle.tp4_sending.specs.Pieces.{cut_at}
+use Rattle.tp4_sending.specs.Pieces.{count_in, cut_at}
 use Rattle.tp4_number.specs.Traffic.{Rules, IsFit, World, Event, Tick, Open, Send, Resend, Dt_comes, Grant, Acknowledge, Ak_comes, May, after, Leads, start}
 use Rattle.tp4_number.specs.Expedited.{Urgent, UrgentEvent, Ticks, Sends_ed, Resends_ed, Ed_comes, Ea_comes, MayUrgent, urgently, LeadsUrgently, quiet, IsAlone, ed_taken, ea_taken}
 use Rattle.tp4_number.proofs.Accounts.{marked_high}
@@ -22,7 +23,7 @@ use Rattle.tp4_number.proofs.Past.{if_kept, kept_low}
 use Rattle.tp4_number.proofs.Expedited.{all_alone}
 use Rattle.osi_journal.specs.Lawful.{Marked, Normal, Expedited, normals, expediteds, befores, IsQueue}
 use Rattle.tp4_history.specs.Line.{all_normal, Line, Happening, Submit, Clock, Flows, Expedites, IsUnit, CarriesPiece, CarriesUnit, urged_by, Can, next, Runs, empty}
-use Rattle.tp4_history.proofs.Complete.{AllFull, Complete, unit_at, front, complete_more, full_more, cut_more, unit_low, Joins, joins}
+use Rattle.tp4_history.proofs.Complete.{AllFull, Complete, unit_at, front, complete_more, full_more, cut_more, shown_whole, unit_low, Joins, joins}
 use Rattle.tp4_history.proofs.Marks.{normals-append, expediteds-append, normals_all, expediteds_all, befores_low, befores_kept, befores_new}
 use Rattle.tp4_history.proofs.Outstanding.{IsOutstanding, outstanding_event, outstanding_quiet, urgently_more}
 
@@ -415,6 +416,20 @@ module _ (rules : Rules) (fit : IsFit rules) (size : ℕ) (some : 0 < size) (tic
   line_alone happenings l r =
       let f = fine_runs (empty tick credit places room) l happenings r fine_empty in
       all_alone rules tick f.expedites l.urgent fit f.expedites_lead
+
+  -- a normal unit all of whose pieces are below the number expected was shown
+  pub line_whole : (happenings : List Happening) (l : Line) → Runs rules size (empty tick credit places room) happenings l
+      → (m : ℕ) → m ≤ length (normals l.submitted) → sum_by (count_in size) (take m (normals l.submitted)) ≤ l.world.receiver.expected → m ≤ length (normals l.shown)
+  line_whole happenings l r =
+      let f = fine_runs (empty tick credit places room) l happenings r fine_empty in
+      shown_whole size some (normals l.submitted) l.world.receiver.expected (normals l.shown) l.world.receiver.inbox.held.begun f.filled.complete
+
+  -- each ED below the number expected was shown, and no EA tells another one
+  pub line_urged : (happenings : List Happening) (l : Line) → Runs rules size (empty tick credit places room) happenings l
+      → (length (expediteds l.shown) ≡ l.urgent.expected) × ((n at : ℕ) → Contains l.urgent.answers (n, at) → n < l.urgent.expected)
+  line_urged happenings l r =
+      let f = fine_runs (empty tick credit places room) l happenings r fine_empty in
+      (urged_count l f, f.outstanding.said)
 
 -- also after a part of what one DT shows
 pub lawful_front : (submitted front back : List Marked) → IsQueue submitted (front ++ back) → IsQueue submitted front

@@ -1,6 +1,6 @@
 -- A history that explains the ends of a running network: each end that stands at an entity is an end of the history, whose halves stand in the
 -- lines of its connection (X.224, class 4 procedures).
-use Rattle.std.specs.Prelude.{◌≡◌, ℕ, ◌+◌, ◌<◌, ◌≤◌, true, false, List, [], ◌∷◌, ◌++◌, length, slice_get, Option, Some, None, Contains}
+use Rattle.std.specs.Prelude.{◌≡◌, ℕ, ◌+◌, ◌-◌, ◌<◌, ◌≤◌, true, false, if◌then◌else◌, List, [], ◌∷◌, ◌++◌, length, slice_get, Option, Some, None, Contains}
 use Rattle.nsap.specs.Address.{is_same_system}
 use Rattle.osi_journal.specs.declared.event.Event.{Event}
 use Rattle.tpdu.specs.Kinds.{has_number}
@@ -24,7 +24,7 @@ use Rattle.tp4_entity.specs.Step.{call_of, calling, connecting, first_due, ticki
 use Rattle.tp4_history.specs.Ends.{Offer, Terms}
 use Rattle.tp4_history.specs.History.{History, IsCaller, IsFree, IsPartner, Note, Tick}
 use Rattle.tp4_history.specs.Journals.{IsAside, Written}
-use Rattle.tp4_history.specs.Tracks.{Nothing, Whole, onward}
+use Rattle.tp4_history.specs.Tracks.{Nothing, Track, Whole, onward}
 use Rattle.tp4_moves.specs.Lines.{Stands}
 use Rattle.tp4_moves.specs.Moves.{Sees, times_of}
 use Rattle.tp4_moves.specs.Seen.{IsNumbered, seen}
@@ -49,10 +49,19 @@ pub record AreTerms (h : History) (k z : ℕ) (terms : Terms) : Type 0 where
   pub own : (h.end k).birth.is_called ≡ true → (agreed : Terms) → (h.end k).agreed ≡ Some agreed → agreed ≡ terms
   pub theirs : (h.end z).birth.is_called ≡ true → (agreed : Terms) → (h.end z).agreed ≡ Some agreed → agreed ≡ terms
 
+-- the octets of a piece: the size agreed on, less the header of a DT
+abbrev pub piece_by : Terms → ℕ
+piece_by terms = terms.size - ((if terms.is_extended then 8 else 5) + (if terms.is_summed then 4 else 0))
+
+-- the line has begun, on these terms
+pub record HasBegun (t : Track) (terms : Terms) : Type 0 where
+  pub begun : t.is_begun ≡ true
+  pub size : t.size ≡ piece_by terms
+
 -- both lines of the two have begun
-pub record HaveBegun (w : Whole) (k z : ℕ) : Type 0 where
-  pub own : (w.track k).is_begun ≡ true
-  pub theirs : (w.track z).is_begun ≡ true
+pub record HaveBegun (w : Whole) (k z : ℕ) (terms : Terms) : Type 0 where
+  pub own : HasBegun (w.track k) terms
+  pub theirs : HasBegun (w.track z) terms
 
 -- the end of an entity is that one of the history; its halves stand in its line and in that of its partner
 pub record IsKnown (w : Whole) (own : List ℕ) (reference : ℕ) (e : End) : Type 0 where
@@ -93,8 +102,8 @@ pub record Known (titles : List (List ℕ)) (timers : Timers) (w : Whole) (journ
   pub apart : (one other : ℕ) (entity next : Entity) → entity_at entities one ≡ Some entity → entity_at entities other ≡ Some next → entity.own ≡ next.own → one ≡ other
   pub titled : (system : ℕ) (entity : Entity) → entity_at entities system ≡ Some entity
       → (title : List ℕ) × (slice_get titles system ≡ Some title) × (is_same_system title entity.own ≡ true)
-  -- where a called end agreed
-  pub begun : (a b : ℕ) (terms : Terms) → IsCaller w.base a b → (w.base.end b).agreed ≡ Some terms → HaveBegun w a b
+  -- where a called end agreed on these terms
+  pub begun : (a b : ℕ) (terms : Terms) → IsCaller w.base a b → (w.base.end b).agreed ≡ Some terms → HaveBegun w a b terms
 
 -- no end is due
 abbrev pub AreIdle : ℕ → List Placed → Type 0
