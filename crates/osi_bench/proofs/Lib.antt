@@ -21,6 +21,10 @@ pub mod ScriptRuns
 pub mod StormWords
 pub mod Storming
 pub mod Summaries
+pub mod ToldFrames
+pub mod ToldLines
+pub mod ToldNet
+pub mod ToldSystems
 pub mod Totality
 pub mod Values
 pub mod Words

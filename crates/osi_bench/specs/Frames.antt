@@ -1,5 +1,5 @@
 -- The capture of a script: the frames that its lines make.
-use Rattle.std.specs.Prelude.{◌≡◌, ◌≢◌, ◌⊎◌, ℕ, ◌+◌, ◌≤◌, List, [], ◌∷◌, Option, Some, None, length, drop, take, map, flat_map}
+use Rattle.std.specs.Prelude.{◌≡◌, ◌≢◌, ◌⊎◌, ℕ, ◌+◌, ◌≤◌, List, [], ◌∷◌, ◌++◌, Option, Some, None, length, drop, take, map, flat_map}
 use Rattle.std.specs.List.{AllByRecursion, count_by}
 use Rattle.osi_base.specs.declared.status.Status.{Status}
 use Rattle.osi_base.specs.declared.status.Status.TheVariants.{Done, RefusedLine, RefusedWords, ReadFault, WriteFault, NoMemory, RefusedCapture, TooMuch}
@@ -12,10 +12,14 @@ use Rattle.line_loop.specs.Limits.{most_octets, most_read}
 use Rattle.line_loop.specs.Meaning.{Meaning}
 use Rattle.line_loop.specs.Writing.{IsPrefix}
 use Rattle.osi_capture.specs.Capture.{IsCapture}
+use Rattle.osi_capture.specs.Course.{Finishes}
+use Rattle.osi_capture.specs.Show.{Shows, done_line}
 use Rattle.osi_script.specs.declared.fault.LineFault.{LineFault}
 use Rattle.osi_script.specs.declared.fault.LineCause.TheVariants as causes
 use Rattle.osi_script.specs.Grammar.{fault}
+use Rattle.osi_journal.specs.RawLawful.{clock_after}
 use Rattle.osi_journal.specs.declared.event.Event.{Event}
+use Rattle.osi_journal.specs.declared.event.Event.TheVariants as events
 use Rattle.osi_storm.specs.Counted.{is_frame}
 use Rattle.osi_bench.specs.Bench.{Bench, RunsLine, RefusesLine, FillsJournal, bench_meaning, first_bench}
 use Rattle.osi_bench.specs.Top.{ShowsSent, ShowsWhatWasSubmitted}
@@ -126,11 +130,47 @@ pub record IsFramesRun (end : Type 0) (read written : List ℕ) (status : Status
   pub lawful : ShowsWhatWasSubmitted read
   pub within : length read ≤ most_octets + most_read
 
--- the frames of lines are those of one journal of these lines, and what is written of them is a capture, whose records they are
+-- a frame that a `frame` event tells: the tick at which the event stands, the number, the SNPA that it goes to, and its octets in all
+pub record ToldFrame : Type 0 where
+  pub tick : ℕ
+  pub number : ℕ
+  pub snpa : List ℕ
+  pub size : ℕ
+
+-- by an event at that tick
+abbrev pub told_by : ℕ → Event → List ToldFrame
+told_by now (events.Frame number lan system snpa size) = record { tick = now; number = number; snpa = snpa; size = size } ∷ []
+told_by now event = []
+
+-- the frames that events tell, in order, from a tick on
+abbrev pub told_from : ℕ → List Event → List ToldFrame
+told_from now [] = []
+told_from now (event ∷ journal) = told_by now event ++ told_from (clock_after now event) journal
+
+-- the frame was sent at that tick to that SNPA, and is whole; its PDU stands behind 17 octets
+pub record IsTold (number : ℕ) (told : ToldFrame) (frame : SentFrame) : Type 0 where
+  pub number_is : told.number ≡ number
+  pub tick : frame.tick ≡ told.tick
+  pub from : List ℕ
+  pub pdu : List ℕ
+  pub octets : frame.octets ≡ whole_frame told.snpa from pdu
+  pub size : told.size ≡ length pdu + 17
+
+-- the frames are those that were told, one for one and in order, numbered on from there
+abbrev pub AreTold : ℕ → List ToldFrame → List SentFrame → Type 0
+AreTold number [] [] = Unit {0}
+AreTold number [] (frame ∷ frames) = ⊥
+AreTold number (told ∷ others) [] = ⊥
+AreTold number (told ∷ others) (frame ∷ frames) = IsTold number told frame × AreTold (number + 1) others frames
+
+-- the frames of lines are those of one journal of these lines, one for each `frame` event, in order; and what is written of them is a capture, whose
+-- records they are, and of which `decode` shows them
 pub record IsFramesOf (texts : List (List ℕ)) (frames : List SentFrame) (last : Bench) : Type 0 where
   pub journal : List Event
   pub runs : Runs bench_meaning first_bench texts journal last
+  pub told : AreTold 1 (told_from 0 journal) frames
   pub capture : IsCapture (capture_of frames) (map record_of frames)
+  pub decoded : (lines : List ℕ) → Shows (map record_of frames) lines → Finishes (capture_of frames) (lines ++ done_line)
 
 abbrev pub MakesCaptures : Type 0
 MakesCaptures = (texts : List (List ℕ)) (frames : List SentFrame) (last : Bench) → Runs frames_meaning first_bench texts frames last → IsFramesOf texts frames last
