@@ -1,3 +1,4 @@
+pub mod Fifo
 pub mod Laws
 pub mod Run
 pub mod Told

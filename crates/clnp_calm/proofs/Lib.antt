@@ -1,0 +1,15 @@
+pub mod Addresses
+pub mod Arrived
+pub mod Both
+pub mod Carried
+pub mod Departed
+pub mod Gathered
+pub mod Lans
+pub mod Nodes
+pub mod Offered
+pub mod Ports
+pub mod Queues
+pub mod Sent
+pub mod Ticked
+pub mod Told
+pub mod joining

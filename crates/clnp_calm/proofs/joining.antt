@@ -1,0 +1,4 @@
+pub mod Arrivals
+pub mod Fronts
+pub mod Left
+pub mod Sent

@@ -1,0 +1,111 @@
+-- A unit that is cut for one LAN and joined at its far end, segment after segment (X.233, segmentation, reassembly).
+use Rattle.std.specs.Prelude.{◌≡◌, ◌⊎◌, ℕ, ◌≤◌, true, false, List, [], ◌∷◌, length, Some, Ok}
+use Rattle.std.specs.List.{AllByRecursion}
+use Rattle.nsap.specs.Address.{selector_of}
+use Rattle.nsap.specs.declared.port.Hop.{Hop}
+use Rattle.nsap.specs.declared.port.Port.{Port}
+use Rattle.osi_base.specs.declared.unit.Unit.{Unit as CarriedUnit}
+use Rattle.osi_base.specs.declared.unit.Up.TheVariants.{Unit as Came}
+use Rattle.osi_base.specs.declared.unit.Wish.{Wish}
+use Rattle.clnp_options.specs.declared.reason.PduKind.TheVariants.{Dt}
+use Rattle.clnp_header.specs.declared.pdu.Pdu.{Pdu}
+use Rattle.clnp_segment.specs.Store.{Holding}
+use Rattle.clnp_system.specs.Hops.{hop_of}
+use Rattle.clnp_system.specs.Node.{Frame, Node, Reaction}
+use Rattle.clnp_system.specs.Receiving.{Receives}
+use Rattle.clnp_system.specs.Sending.{Sends}
+use Rattle.clnp_system.specs.Setting.{Setting, bound_of, is_group, is_own_system, port_on, room_of}
+use Rattle.clnp_system.specs.Tables.{Tables}
+use Rattle.clnp_system.specs.Written.{HasPdu}
+
+-- the sender's hop for the unit is the port of the other end system on a LAN of both, for whose users it is, within the lifetime
+pub record Faces {N : Type 0} (tables : Tables N) (node : Node N) (now : ℕ) (other : Setting) (unit : CarriedUnit (List ℕ)) (port : Port) : Type 0 where
+  pub hop : Hop
+  pub found : hop_of tables node now unit.to ≡ Some hop
+  pub port_is : hop.port ≡ port
+  pub at : port_on other port.lan ≡ Some port
+  pub single : is_group port.snpa ≡ false
+  pub lives : bound_of other port.lan ≤ node.setup.life
+  pub end : other.end ≡ true
+  pub own : is_own_system other unit.to ≡ true
+  pub selector : (selector_of unit.to ≡ 1) ⊎ (selector_of unit.to ≡ 2)
+
+-- ---- at the sender
+
+-- the unit is sent there in these frames, by no source route
+pub record SendsTo {N : Type 0} (tables : Tables N) (node : Node N) (now : ℕ) (other : Setting) (unit : CarriedUnit (List ℕ)) (port : Port) (frames : List Frame) (after : Node N) : Type 0 where
+  pub faces : Faces tables node now other unit port
+  pub wish : Wish
+  pub plain : wish.path ≡ 0
+  pub sends : Sends tables node now unit wish (Ok frames) after
+
+-- a frame from the own port to that port, within the room of its LAN, with a DT PDU of the unit
+pub record IsFrameTo (setting : Setting) (port : Port) (unit : CarriedUnit (List ℕ)) (frame : Frame) : Type 0 where
+  pub from : port_on setting port.lan ≡ Some frame.from
+  pub to : frame.to ≡ port
+  pub room : length frame.octets ≤ room_of setting port.lan
+  pub pdu : Pdu
+  pub stands : HasPdu frame.octets pdu
+  pub kind : pdu.kind ≡ Dt
+  pub source : pdu.source ≡ unit.from
+  pub destination : pdu.destination ≡ unit.to
+  pub lifetime : pdu.lifetime ≡ setting.life
+
+-- what is sent changes nothing but the clock and the identifiers that are left to give
+pub record KeepsAll {N : Type 0} (old : Node N) (now : ℕ) (new : Node N) : Type 0 where
+  pub setup : new.setup ≡ old.setup
+  pub clock : new.clock ≡ now
+  pub store : new.store ≡ old.store
+  pub neighbours : new.neighbours ≡ old.neighbours
+  pub redirects : new.redirects ≡ old.redirects
+
+-- ---- at the receiver
+
+-- nothing is held, of at most 32 units and 262,144 octets
+pub record IsEmptyStore (store : Holding) : Type 0 where
+  pub held : store.held ≡ []
+  pub units : store.units ≡ 32
+  pub octets : store.octets ≡ 262144
+
+-- nothing comes of a frame but what is then held, and the next frames bring the unit
+pub record IsHeld {N : Type 0} (old : Node N) (now : ℕ) (reaction : Reaction) (new : Node N) (Next : Holding → Type 0) : Type 0 where
+  pub store : Holding
+  pub quiet : reaction ≡ record { ups = []; frames = [] }
+  pub after : new ≡ record old { clock = now; store = store }
+  pub next : Next store
+
+-- the unit comes up, and nothing is held
+pub record IsWhole {N : Type 0} (unit : CarriedUnit (List ℕ)) (old : Node N) (now : ℕ) (reaction : Reaction) (new : Node N) : Type 0 where
+  pub store : Holding
+  pub comes : reaction ≡ record { ups = Came (record { system = old.setup.system; unit = unit }) ∷ []; frames = [] }
+  pub after : new ≡ record old { clock = now; store = store }
+  pub empty : IsEmptyStore store
+
+-- what comes of a frame: the unit with the last one, and before that nothing, while the next ones bring it
+abbrev pub BringsBy : {N : Type 0} → (Holding → Type 0) → CarriedUnit (List ℕ) → List Frame → Node N → ℕ → Reaction → Node N → Type 0
+BringsBy Next unit [] old now reaction new = IsWhole unit old now reaction new
+BringsBy Next unit (frame ∷ frames) old now reaction new = IsHeld old now reaction new Next
+
+-- handed one after another to a system with that setting and that store, these frames bring the unit
+abbrev pub Bring : {N : Type 0} → Tables N → Setting → CarriedUnit (List ℕ) → List Frame → Holding → Type 0
+Bring tables setting unit [] store = ⊥
+Bring {N} tables setting unit (frame ∷ frames) store =
+    (old : Node N) (now : ℕ) (reaction : Reaction) (new : Node N) → old.setup ≡ setting → old.store ≡ store → Receives tables old now frame reaction new
+    → BringsBy (Bring tables setting unit frames) unit frames old now reaction new
+
+-- ---- laws
+
+-- an empty store there: the frames bring the unit
+abbrev pub CutBrings : Type 0 → Type 0
+CutBrings N = (tables : Tables N) (node : Node N) (now : ℕ) (other : Setting) (unit : CarriedUnit (List ℕ)) (port : Port) (frames : List Frame) (after : Node N) (store : Holding)
+    → SendsTo tables node now other unit port frames after → IsEmptyStore store → Bring tables other unit frames store
+
+-- each frame goes from the one port to the other
+abbrev pub CutGoes : Type 0 → Type 0
+CutGoes N = (tables : Tables N) (node : Node N) (now : ℕ) (other : Setting) (unit : CarriedUnit (List ℕ)) (port : Port) (frames : List Frame) (after : Node N)
+    → SendsTo tables node now other unit port frames after → AllByRecursion (IsFrameTo node.setup port unit) frames
+
+-- the sender gives an identifier, and else stays as it was
+abbrev pub CutKeeps : Type 0 → Type 0
+CutKeeps N = (tables : Tables N) (node : Node N) (now : ℕ) (other : Setting) (unit : CarriedUnit (List ℕ)) (port : Port) (frames : List Frame) (after : Node N)
+    → SendsTo tables node now other unit port frames after → KeepsAll node now after

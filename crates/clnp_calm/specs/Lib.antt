@@ -1,0 +1,5 @@
+pub mod Calm
+pub mod Cutting
+pub mod Frames
+pub mod Laws
+pub mod Waiting
