@@ -10,6 +10,7 @@ pub mod Offered
 pub mod Ports
 pub mod Queues
 pub mod Sent
+pub mod Spent
 pub mod Ticked
 pub mod Told
 pub mod joining
