@@ -1,0 +1,5 @@
+pub mod Association
+pub mod Laws
+pub mod Phase
+pub mod Standing
+pub mod Ticking
