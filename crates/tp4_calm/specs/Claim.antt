@@ -1,13 +1,11 @@
 -- What a calm run promises (X.214, queue model): after each `settle` that delivered all, while nothing was dropped, each of two Opened partner
--- ends has shown all that the other submitted, as far as credit and the number rule allow. That is proved here of what has pairs; that a network has
--- them is not.
-use Rattle.std.specs.Prelude.{◌≡◌, ◌⊎◌, ℕ, true, false, List, [], ◌∷◌, ◌++◌, Option, Some, Contains}
+-- ends has shown all that the other submitted, as far as credit and the number rule allow (`AllShown`). Here it is proved of ends that are pairs.
+use Rattle.std.specs.Prelude.{◌≡◌, ◌⊎◌, ℕ, true, false, List, [], ◌∷◌, Option, Some, Contains}
 use Rattle.std.specs.List.{AllByRecursion}
 use Rattle.osi_journal.specs.Lawful.{AreEnds, expediteds, normals, shown, submitted}
-use Rattle.osi_journal.specs.declared.cause.Settled.TheVariants.{Settled, Stopped}
+use Rattle.osi_journal.specs.declared.cause.Settled.TheVariants.{Stopped}
 use Rattle.osi_journal.specs.declared.event.Event.{Event}
 use Rattle.osi_journal.specs.declared.event.Event.TheVariants as events
-use Rattle.osi_script.specs.declared.line.Line.{Line}
 use Rattle.tp4_flow.specs.Half.{Half}
 use Rattle.tp4_sending.specs.FlowSender.{FlowSender}
 use Rattle.tp4_conn.specs.declared.stage.Open.{Open}
@@ -18,7 +16,6 @@ use Rattle.tp4_flow.specs.declared.step.EndEvent.{EndEvent}
 use Rattle.tp4_flow.specs.declared.step.HeldKind.TheVariants.{Dt, Ed}
 use Rattle.tp4_flow.specs.declared.step.What.TheVariants.{Held}
 use Rattle.tp4_conn.specs.declared.call.UserCall.TheVariants.{Accept}
-use Rattle.tp4_calm.specs.Calm.{IsCalmScript}
 use Rattle.tp4_calm.specs.Pair.{Accepts, Asks_called, Happening, IsIdle, Leads, Pair, next}
 use Rattle.tp4_calm.specs.Rest.{HoldsDt, HoldsEd}
 
@@ -46,11 +43,6 @@ IsUndropped (events.DropFrame system) = ⊥
 IsUndropped (events.Dropped system cause) = ⊥
 IsUndropped (events.Settle (Stopped count)) = ⊥
 IsUndropped event = Prim.Unit {0}
-
--- `Runs script journal end_of`: the lines have this journal, and leave these ends
-abbrev pub LosesNothing : (List Line → List Event → (ℕ → Option End) → Type 0) → Type 0
-LosesNothing Runs = (script : List Line) (before : List Event) (count : ℕ) (end_of : ℕ → Option End) → IsCalmScript script
-    → Runs script (before ++ events.Settle (Settled count) ∷ []) end_of → AllByRecursion IsUndropped before → AllShown (before ++ events.Settle (Settled count) ∷ []) end_of
 
 -- ---- what it follows from
 
@@ -82,8 +74,3 @@ pub record IsPairOf (journal : List Event) (calling called : ℕ) (x y : End) : 
 abbrev pub ArePairs : List Event → (ℕ → Option End) → Type 0
 ArePairs journal end_of = (calling called : ℕ) (x y : End) (o q : Open) → AreEnds journal calling called → end_of calling ≡ Some x → end_of called ≡ Some y
     → x.stage ≡ Opened o → y.stage ≡ Opened q → IsPairOf journal calling called x y
-
--- in a calm run, as long as nothing was dropped
-abbrev pub HasPairs : (List Line → List Event → (ℕ → Option End) → Type 0) → Type 0
-HasPairs Runs = (script : List Line) (before : List Event) (count : ℕ) (end_of : ℕ → Option End) → IsCalmScript script
-    → Runs script (before ++ events.Settle (Settled count) ∷ []) end_of → AllByRecursion IsUndropped before → ArePairs (before ++ events.Settle (Settled count) ∷ []) end_of

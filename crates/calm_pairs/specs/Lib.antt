@@ -1,0 +1,3 @@
+pub mod Confirms
+pub mod Pairs
+pub mod steps

@@ -1,0 +1,2 @@
+-- What only carries the proofs: the story of the associations beside a network.
+pub mod Story
