@@ -15,6 +15,3 @@ pub use lifetime::lower_lifetime;
 pub use pdu::{OwnOpt, Pdu, PduRef, SegmentPart};
 pub use reading::read_pdu;
 pub use writing::{header_length, write_pdu};
-
-#[cfg(test)]
-mod tests;

@@ -3,8 +3,6 @@
 
 mod laws;
 mod table;
-#[cfg(test)]
-mod tests;
 
 pub use laws::{next_is_longest, one_next};
 pub use table::{AddRefusal, RouteRow, Table};

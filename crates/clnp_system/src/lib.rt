@@ -11,8 +11,6 @@ mod laws;
 mod report;
 mod sending;
 mod setup;
-#[cfg(test)]
-mod tests;
 mod verdict;
 
 pub use aim::Aim;

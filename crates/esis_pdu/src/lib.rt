@@ -6,8 +6,6 @@ mod fault;
 mod hello;
 mod laws;
 mod reading;
-#[cfg(test)]
-mod tests;
 mod writing;
 
 pub use fault::EsisFault;

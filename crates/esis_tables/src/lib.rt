@@ -7,8 +7,6 @@ mod laws;
 mod neighbours;
 mod redirects;
 mod row;
-#[cfg(test)]
-mod tests;
 
 pub use known::HearRefusal;
 pub use laws::{

@@ -6,8 +6,6 @@ mod delivery;
 mod frame;
 mod setup;
 mod store;
-#[cfg(test)]
-mod tests;
 mod wheel;
 
 pub use bag::LanBag;

@@ -5,8 +5,6 @@
 mod frame;
 mod laws;
 mod reading;
-#[cfg(test)]
-mod tests;
 mod writing;
 
 pub use frame::{FrameRef, HEADER};

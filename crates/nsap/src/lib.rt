@@ -7,8 +7,6 @@ mod octets;
 mod port;
 mod prefix;
 mod snpa;
-#[cfg(test)]
-mod tests;
 mod text;
 
 pub use laws::{is_prefix, text_round_trip};

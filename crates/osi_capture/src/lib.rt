@@ -12,8 +12,6 @@ mod laws;
 mod order;
 mod reader;
 mod record;
-#[cfg(test)]
-mod tests;
 mod text;
 
 pub use decoding::decode;

@@ -19,6 +19,3 @@ pub use event::{Event, Indication, Request};
 pub use journal::{Journal, JournalRefusal};
 pub use laws::{fronts_are_lawful, text_is_injective};
 pub use text::write_event;
-
-#[cfg(test)]
-mod tests;

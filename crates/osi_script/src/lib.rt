@@ -26,6 +26,3 @@ pub use laws::{names_are_known, names_stay_names, one_reading};
 pub use line::{Line, Options, PathKind};
 pub use names::{Built, Names, WHOLE};
 pub use settings::Key;
-
-#[cfg(test)]
-mod tests;

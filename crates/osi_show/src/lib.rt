@@ -16,6 +16,3 @@ pub use address::show_nsap;
 pub use ends::{End, ExtendedEnds};
 pub use frame::show_frame;
 pub use laws::one_show;
-
-#[cfg(test)]
-mod tests;

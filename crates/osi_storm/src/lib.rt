@@ -6,8 +6,6 @@ mod laws;
 mod line;
 mod request;
 mod summary;
-#[cfg(test)]
-mod tests;
 mod text;
 mod words;
 

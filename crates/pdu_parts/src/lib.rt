@@ -12,6 +12,3 @@ pub use field::{address_at, field_at};
 pub use laws::{reads_address, reads_parameters};
 pub use parameter::{ParameterRef, are_parameters, split_parameter};
 pub use writing::{push_field, push_number, push_parameter};
-
-#[cfg(test)]
-mod tests;

@@ -26,6 +26,3 @@ pub use laws::{over_dues, over_lives, over_sendings, over_wires, worked_rows};
 pub use stage::{Answering, Open, Parting, Releasing, Requesting, Stage, State};
 pub use timers::Timers;
 pub use tp4_flow::Options;
-
-#[cfg(test)]
-mod tests;

@@ -13,6 +13,3 @@ mod unit;
 pub use entity::TpEntity;
 pub use laws::{one_answer, one_hearing, over_references, over_wires};
 pub use refusal::{ConnectRefusal, EntityRefusal, TsapRefusal};
-
-#[cfg(test)]
-mod tests;

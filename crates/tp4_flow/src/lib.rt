@@ -12,6 +12,3 @@ pub use laws::over_wires;
 pub use receiving::Receiving;
 pub use rules::{FlowRules, Life, Options, SubmitRefusal};
 pub use step::{EndEvent, GoneCause, HeldKind, Sent, Step, What};
-
-#[cfg(test)]
-mod tests;

@@ -13,6 +13,3 @@ pub use got::Got;
 pub use laws::{near_is_least, over_events, over_urgent_events, rule_opens};
 pub use number::{block, distance};
 pub use piece::Piece;
-
-#[cfg(test)]
-mod tests;

@@ -19,6 +19,3 @@ pub use laws::{
 };
 pub use sending::Sending;
 pub use tries::Tries;
-
-#[cfg(test)]
-mod tests;

@@ -22,6 +22,3 @@ pub use laws::{
 pub use reading::read_first;
 pub use tpdu::{Format, Tpdu, TpduRef};
 pub use writing::write_tpdu;
-
-#[cfg(test)]
-mod tests;

@@ -1,0 +1,15 @@
+//! Tests of the codecs over octets counted by hand, with checksums from outside: addresses, parts of headers, LAN frames, CLNP PDUs, hellos, TPDUs.
+#![tactic(auto)]
+
+#[cfg(test)]
+mod addresses;
+#[cfg(test)]
+mod frames;
+#[cfg(test)]
+mod hellos;
+#[cfg(test)]
+mod parts;
+#[cfg(test)]
+mod pdus;
+#[cfg(test)]
+mod tpdus;

@@ -1,0 +1,11 @@
+//! Tests of the network: LANs, routes, what is known of neighbours, systems.
+#![tactic(auto)]
+
+#[cfg(test)]
+mod lans;
+#[cfg(test)]
+mod neighbours;
+#[cfg(test)]
+mod routes;
+#[cfg(test)]
+mod systems;

@@ -1,0 +1,80 @@
+//! Redirects that are heard, counted by hand.
+
+ghost use Rattle.std.specs.Prelude.{◌≡◌, ◌≤◌, true};
+ghost use Rattle.esis_pdu.specs.Lent.{value_of};
+ghost use Rattle.esis_tables.specs.Told.{IsRedirect};
+
+use super::{Heard, hop};
+use esis_pdu::{HelloRef, read_esis};
+use esis_tables::{HearRefusal, Redirects};
+use nsap::Nsap;
+use osi_base::Tick;
+use std::test::Fail;
+
+/// RDs of 6300 with 20 seconds: to an end system on LAN 1, and to the intermediate system 6301 on LAN 2.
+const TO_AN_END: &[u8] =
+    b"\x82\x14\x01\x00\x06\x00\x14\x00\x00\x02\x63\x00\x06\x02\x00\x00\x00\x00\x01\x00";
+
+const TO_A_ROUTER: &[u8] =
+    b"\x82\x16\x01\x00\x06\x00\x14\x00\x00\x02\x63\x00\x06\x02\x00\x00\x00\x00\x02\x02\x63\x01";
+
+#[test]
+fn a_redirect_tells_the_hop(rt: HostRuntime) -> Result<(), Fail> {
+    let address = Nsap::read("6300")?;
+    let title = Some(Nsap::read("6301")?);
+    let mut table = Redirects::new(rt.alloc());
+    assert_eq!(rt; hear(&mut table, 0, TO_AN_END, 1), Ok(()));
+    assert_eq!(rt; table.find(39, &address), Some(hop(1, None)));
+    assert_eq!(rt; table.find(40, &address), None);
+    assert_eq!(rt; hear(&mut table, 1, TO_A_ROUTER, 2), Ok(()));
+    assert_eq!(rt; table.find(40, &address), Some(hop(2, title)));
+    Ok(())
+}
+
+#[test]
+fn a_257th_address_is_refused(rt: HostRuntime) {
+    let mut table = Redirects::new(rt.alloc());
+    assert_eq!(rt; fill(&mut table), Ok(()));
+    assert_eq!(rt; hear(&mut table, 1, TO_AN_END, 1), Err(HearRefusal::Full));
+    assert_eq!(rt; hear(&mut table, 1, &to(255), 1), Ok(()));
+    table.tick(40);
+    assert_eq!(rt; hear(&mut table, 40, TO_AN_END, 1), Ok(()));
+}
+
+// Hears the RD of these octets, which comes on that LAN.
+fn hear(table: &mut Redirects, now: Tick, octets: &[u8], lan: u8) -> Heard
+    requires { table.old.clock ≤ now }
+    ensures { table.new.clock ≤ now }
+{
+    match read_esis(octets) {
+        Ok(hello) if is_redirect(&hello) => table.hear(now, &hello, lan),
+        _ => Err(HearRefusal::NoMemory),
+    }
+}
+
+fn is_redirect(hello: &HelloRef<'_>) -> bool
+    ensures { result ≡ true → IsRedirect (value_of hello.now) }
+{
+    match hello {
+        HelloRef::Rd { .. } => true,
+        HelloRef::Esh { .. } | HelloRef::Ish { .. } => false,
+    }
+}
+
+// Redirects of 256 addresses, at tick 0.
+fn fill(table: &mut Redirects) -> Heard
+    requires { table.old.clock ≤ 0 }
+    ensures { table.new.clock ≤ 0 }
+{
+    for last in 0..=255 {
+        hear(table, 0, &to(last), 1)?;
+    }
+    Ok(())
+}
+
+// An RD of an address that ends by this octet, with 20 seconds.
+fn to(last: u8) -> [u8; 20] {
+    [
+        0x82, 20, 1, 0, 6, 0, 20, 0, 0, 2, 0, last, 6, 2, 0, 0, 0, 0, 1, 0,
+    ]
+}

@@ -1,0 +1,217 @@
+//! What lines say, or their first fault, as the format of the script states them.
+
+mod rows;
+
+use self::rows::{
+    AFTER_START, BEFORE_START, BUILT, FAULTS, FULL, LATE, LIFE, LINES, ROUTES, SHORT_LIFE,
+};
+use osi_base::Wish;
+use osi_script::{Built, Line, LineRefusal, Names, Options, WHOLE, Word};
+use std::alloc::Global;
+use std::process::Abort;
+use std::test::Fail;
+
+/// The numbers of a line, in the order of its fields; a word that is chosen is 1, and one that is not is 0.
+fn numbers_of(line: &Line) -> (&'static str, [u32; 6]) {
+    match line {
+        Line::Nothing => ("nothing", [0; 6]),
+        Line::Set { key, value } => ("set", [*key as u32, *value, 0, 0, 0, 0]),
+        Line::Lan { name, bound, room } => ("lan", [u32::from(*name), *bound, *room, 0, 0, 0]),
+        Line::Es { name, .. } => ("es", [u32::from(*name), 0, 0, 0, 0, 0]),
+        Line::Is { name, .. } => ("is", [u32::from(*name), 0, 0, 0, 0, 0]),
+        Line::Port { system, lan, .. } => ("port", pair(*system, *lan)),
+        Line::Route {
+            system,
+            next,
+            lan,
+            ..
+        } => (
+            "route",
+            [
+                u32::from(*system),
+                u32::from(*next),
+                u32::from(*lan),
+                0,
+                0,
+                0,
+            ],
+        ),
+        Line::Path { name, kind, .. } => ("path", [u32::from(*name), *kind as u32, 0, 0, 0, 0]),
+        Line::Tsap { system, .. } => ("tsap", pair(*system, 0)),
+        Line::Start => ("start", [0; 6]),
+        Line::Connect {
+            system,
+            to,
+            options,
+            ..
+        } => (
+            "connect",
+            agreed(u32::from(*system), u32::from(*to), *options),
+        ),
+        Line::Accept { end, options, .. } => ("accept", agreed(*end, 0, *options)),
+        Line::Refuse { end, .. } => ("refuse", [*end, 0, 0, 0, 0, 0]),
+        Line::Disconnect { end, .. } => ("disconnect", [*end, 0, 0, 0, 0, 0]),
+        Line::Data { end, .. } => ("data", [*end, 0, 0, 0, 0, 0]),
+        Line::Expedite { end, .. } => ("expedite", [*end, 0, 0, 0, 0, 0]),
+        Line::Window { end, credit } => ("window", [*end, u32::from(*credit), 0, 0, 0, 0]),
+        Line::Unit {
+            system,
+            to,
+            wish,
+            ..
+        } => ("unit", wished(*system, *to, *wish)),
+        Line::Tick => ("tick", [0; 6]),
+        Line::Settle => ("settle", [0; 6]),
+        Line::Deliver { frame, system } => ("deliver", [*frame, u32::from(*system), 0, 0, 0, 0]),
+        Line::Inject { lan, system, .. } => ("inject", pair(*lan, *system)),
+    }
+}
+
+fn pair(first: u8, second: u8) -> [u32; 6] {
+    [u32::from(first), u32::from(second), 0, 0, 0, 0]
+}
+
+fn agreed(first: u32, second: u32, options: Options) -> [u32; 6] {
+    [
+        first,
+        second,
+        u32::from(options.extended),
+        u32::from(options.size),
+        u32::from(options.expedited),
+        u32::from(options.sum),
+    ]
+}
+
+fn wished(system: u8, to: u8, wish: Wish) -> [u32; 6] {
+    [
+        u32::from(system),
+        u32::from(to),
+        u32::from(wish.cut),
+        u32::from(wish.report),
+        u32::from(wish.trace),
+        u32::from(wish.path),
+    ]
+}
+
+/// The octets of a line, in the order of its fields; the numbers of a source route's systems are some too.
+fn octets_of(line: &Line) -> [&[u8]; 3] {
+    match line {
+        Line::Es { title, .. } | Line::Is { title, .. } => [title.octets(), &[], &[]],
+        Line::Port { snpa, .. } => [snpa.octets(), &[], &[]],
+        Line::Route { prefix, .. } => [prefix.octets(), &[], &[]],
+        Line::Path { systems, .. } => [systems.as_slice(), &[], &[]],
+        Line::Tsap { selector, .. } => [selector.as_slice(), &[], &[]],
+        Line::Connect {
+            selector,
+            called,
+            octets,
+            ..
+        } => [selector.as_slice(), called.as_slice(), octets.as_slice()],
+        Line::Accept { octets, .. }
+        | Line::Refuse { octets, .. }
+        | Line::Disconnect { octets, .. }
+        | Line::Data { octets, .. }
+        | Line::Expedite { octets, .. }
+        | Line::Unit { octets, .. }
+        | Line::Inject { octets, .. } => [octets.as_slice(), &[], &[]],
+        Line::Nothing
+        | Line::Set { .. }
+        | Line::Lan { .. }
+        | Line::Start
+        | Line::Window { .. }
+        | Line::Tick
+        | Line::Settle
+        | Line::Deliver { .. } => [&[], &[], &[]],
+    }
+}
+
+/// What a line says, or the column and the cause of its first fault.
+fn answer(alloc: Global, names: &mut Names, line: &[u8]) -> Result<String, Fail> {
+    match names.read_line(line) {
+        Ok(line) => {
+            let (word, numbers) = numbers_of(&line);
+            let mut text = format!(in alloc; "{word} {numbers:?}")?;
+            for octets in octets_of(&line) {
+                text.push_str(" ")?;
+                text.push_str(&hex::encode(alloc, octets)?)?;
+            }
+            Ok(text)
+        }
+        Err(LineRefusal::Fault(fault)) => {
+            Ok(format!(in alloc; "{} {}", fault.column, fault.cause.text())?)
+        }
+        Err(LineRefusal::NoMemory) => Err(Fail::new("no memory")),
+    }
+}
+
+/// The rows have their answers: what a line says, or its fault. A row with no answer is a line that is read.
+fn check(rt: &impl Abort, alloc: Global, names: &mut Names, rows: &str) -> Result<(), Fail> {
+    for row in rows.split('\n') {
+        match row.split_once(" | ") {
+            Some((line, wanted)) => {
+                let answer = answer(alloc, names, line.as_bytes())?;
+                assert_eq!(rt; answer.trim_end(), wanted, "at {row}");
+            }
+            None => assert!(rt; names.read_line(row.as_bytes()).is_ok(), "{row}"),
+        }
+    }
+    Ok(())
+}
+
+#[test]
+fn a_line_has_its_answer(rt: HostRuntime) -> Result<(), Fail> {
+    for rows in [LINES, FULL, LIFE, SHORT_LIFE, LATE] {
+        let mut names = Names::new(rt.alloc(), WHOLE);
+        check(&rt, rt.alloc(), &mut names, rows)?;
+    }
+    let mut names = Names::new(rt.alloc(), WHOLE);
+    for rows in [FAULTS, BEFORE_START, "start", AFTER_START] {
+        check(&rt, rt.alloc(), &mut names, rows)?;
+    }
+    Ok(())
+}
+
+#[test]
+fn a_system_has_256_routes(rt: HostRuntime) -> Result<(), Fail> {
+    let mut names = Names::new(rt.alloc(), WHOLE);
+    check(&rt, rt.alloc(), &mut names, ROUTES)?;
+    for octet in 0..=255u8 {
+        let route = format!(in rt.alloc(); "route a {octet:02x} r x")?;
+        check(&rt, rt.alloc(), &mut names, &route)?;
+    }
+    let more = "route a ff r x | 9 repeat\nroute a 4900 r x | 1 many\nroute r 4900 a x";
+    check(&rt, rt.alloc(), &mut names, more)
+}
+
+#[test]
+fn a_line_has_at_most_40000_octets(rt: HostRuntime) -> Result<(), Fail> {
+    let mut names = Names::new(rt.alloc(), WHOLE);
+    let mut line = "#".repeat(rt.alloc(), 40_000)?;
+    for (more, wanted) in [
+        ("", "nothing [0, 0, 0, 0, 0, 0]"),
+        ("\u{7f}", "40001 long"),
+        ("#", "40001 long"),
+    ] {
+        line.push_str(more)?;
+        let answer = answer(rt.alloc(), &mut names, line.as_bytes())?;
+        assert_eq!(rt; answer.trim_end(), wanted);
+    }
+    Ok(())
+}
+
+#[test]
+fn a_line_that_is_not_built_names_no_line(rt: HostRuntime) -> Result<(), Fail> {
+    let built = Built {
+        words: &[
+            Word::Lan,
+            Word::Es,
+            Word::Tsap,
+            Word::Start,
+            Word::Unit,
+            Word::Tick,
+        ],
+        lans: 1,
+        wishes: false,
+    };
+    check(&rt, rt.alloc(), &mut Names::new(rt.alloc(), built), BUILT)
+}

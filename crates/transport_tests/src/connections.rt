@@ -1,0 +1,269 @@
+//! Each row of each state, for each TPDU and each call, by hand.
+
+ghost use Rattle.std.specs.Prelude.{◌≡◌, ◌≤◌, IfOk};
+ghost use Rattle.tpdu.specs.Values.{tpdu_of};
+ghost use Rattle.tpdu.specs.Writing.{IsAllowed, kind_for};
+ghost use Rattle.tpdu.specs.declared.kind.Kind.TheVariants.{Cr};
+ghost use Rattle.tpdu.specs.declared.tpdu.Format.TheVariants.{Normal};
+ghost use Rattle.tp4_conn.specs.Calls.{IsCall};
+ghost use Rattle.tp4_conn.specs.End.{IsSize, IsTimed, agreed_format};
+
+mod rows;
+mod script;
+mod shown;
+mod table;
+mod tpdus;
+mod words;
+
+use nsap::Nsap;
+use osi_base::{Bytes, Tick};
+use script::SCRIPT;
+use shown::{show_event, show_tpdu};
+use std::alloc::Global;
+use std::process::Abort;
+use std::test::Fail;
+use tp4_conn::{ConnectCall, Connection, Options, State, Timers, UserCall};
+use tp4_flow::Step;
+use tpdu::TpduRef;
+use tpdus::tpdu;
+use words::{bytes, number, options, pair, word};
+
+/// An end, what its last line told and sent, and its clock.
+#[derive(Drop)]
+struct Play {
+    alloc: Global,
+    end: Connection,
+    out: Step,
+    now: Tick,
+    ghost clock: { end.base.clock ≤ now },
+    ghost low: { now ≤ 4000000000 },
+}
+
+#[test]
+fn each_row_of_each_state(rt: HostRuntime) -> Result<(), Fail> {
+    let alloc = rt.alloc();
+    let mut play = Play::begin(alloc)?;
+    for line in SCRIPT.lines() {
+        if !line.is_empty() && !line.starts_with('#') {
+            play_line(&rt, &mut play, line)?;
+        }
+    }
+    Ok(())
+}
+
+fn play_line(rt: &impl Abort, play: &mut Play, line: &str) -> Result<(), Fail> {
+    let (call, want) = line.split_once(" = ").ok_or("a line has what comes of it")?;
+    let got = play.run(call)?;
+    assert_eq!(rt; got.as_str(), want, "{line}");
+    Ok(())
+}
+
+impl Play {
+    /// An end that calls.
+    fn begin(alloc: Global) -> Result<Play, Fail> {
+        let mut out = Step::new(alloc);
+        let options = options(&["", "normal", "1024", "exp", "sum"])?;
+        let end = Connection::connect(
+            alloc,
+            0,
+            call(alloc, options, Bytes::of(Vec::new(alloc)))?,
+            &mut out,
+        )?;
+        Ok(Play {
+            alloc,
+            end,
+            out,
+            now: 0,
+        })
+    }
+
+    /// What comes of a call.
+    fn run(&mut self, call: &str) -> Result<String, Fail> {
+        let words: Vec<&str> = call.split(' ').collect(self.alloc)?;
+        self.out = Step::new(self.alloc);
+        let answer = self.act(&words)?;
+        self.shown(&answer)
+    }
+
+    /// What a line does, and its answer.
+    fn act(&mut self, words: &[&str]) -> Result<String, Fail> {
+        match word(words, 0) {
+            "connect" => self.connect(words),
+            "incoming" => self.incoming(words),
+            "calledby" => self.called_by(words),
+            "tick" => self.tick(words),
+            "tpdu" => self.take(words, 0x0b, true),
+            "bare" => self.take(words, 0x0b, false),
+            "alien" => self.take(words, 0x0c, true),
+            _ => self.ask(words),
+        }
+    }
+
+    fn connect(&mut self, words: &[&str]) -> Result<String, Fail> {
+        let call = call(
+            self.alloc,
+            options(words)?,
+            bytes(self.alloc, word(words, 5))?,
+        )?;
+        self.end = Connection::connect(self.alloc, 0, call, &mut self.out)?;
+        self.now = 0;
+        Ok(String::new(self.alloc))
+    }
+
+    fn incoming(&mut self, words: &[&str]) -> Result<String, Fail> {
+        let octets = bytes(self.alloc, word(words, 5))?;
+        self.end = called(
+            self.alloc,
+            options(words)?,
+            octets.as_slice(),
+            &mut self.out,
+        )?;
+        self.now = 0;
+        Ok(String::new(self.alloc))
+    }
+
+    /// Whether the partner's end of that reference called it.
+    fn called_by(&self, words: &[&str]) -> Result<String, Fail> {
+        if self.end.is_called_by(&system(0x0b)?, pair(words, 1)?) {
+            return Ok(format!(in self.alloc; "yes ")?);
+        }
+        Ok(format!(in self.alloc; "no ")?)
+    }
+
+    fn tick(&mut self, words: &[&str]) -> Result<String, Fail> {
+        self.now = number(words, 1)?.max(self.now).min(4_000_000_000);
+        self.end.tick(self.now, &mut self.out)?;
+        Ok(String::new(self.alloc))
+    }
+
+    /// A TPDU from a system, where it matches.
+    fn take(&mut self, words: &[&str], from: u8, sum: bool) -> Result<String, Fail> {
+        let octets = bytes(self.alloc, words.last().copied().unwrap_or("-"))?;
+        let tpdu = tpdu(words, self.end.format(), sum, octets.as_slice())?;
+        if !self.end.matches(&system(from)?, &tpdu) {
+            return Ok(format!(in self.alloc; "unknown ")?);
+        }
+        self.end.on_tpdu(self.now, &tpdu, &mut self.out)?;
+        Ok(String::new(self.alloc))
+    }
+
+    fn ask(&mut self, words: &[&str]) -> Result<String, Fail> {
+        let call = user_call(self.alloc, words)?;
+        match self.end.user(self.now, call, &mut self.out) {
+            Ok(()) => Ok(String::new(self.alloc)),
+            Err(why) => Ok(format!(in self.alloc; "no {why:?} ")?),
+        }
+    }
+
+    /// The answer, the state, the due tick, the events and the TPDUs.
+    fn shown(&self, answer: &str) -> Result<String, Fail> {
+        let alloc = self.alloc;
+        let mut text = format!(in alloc; "{answer}{}", state_word(self.end.state()))?;
+        if let Some(due) = self.end.next_due() {
+            text.push_str(format!(in alloc; " {due}")?.as_str())?;
+        }
+        for event in self.out.events() {
+            text.push_str(show_event(alloc, event)?.as_str())?;
+        }
+        for sent in self.out.tpdus() {
+            text.push_str(show_tpdu(alloc, sent)?.as_str())?;
+        }
+        Ok(text)
+    }
+}
+
+fn state_word(state: State) -> &'static str {
+    match state {
+        State::CrWait => "crwait",
+        State::WaitBeforeClose => "waitbeforeclose",
+        State::UserWait => "userwait",
+        State::AkWait => "akwait",
+        State::Opened => "opened",
+        State::Closing => "closing",
+        State::Frozen => "frozen",
+    }
+}
+
+/// A lifetime of 32 ticks, T1 of 8, 4 sendings, W of 20, I of 60 and a credit of 8: a reference is frozen for 156 ticks.
+const TIMERS: Timers = Timers {
+    life: 32,
+    t1: 8,
+    sendings: 4,
+    window: 20,
+    inactive: 60,
+    credit: 8,
+};
+
+fn system(octet: u8) -> Result<Nsap, Fail> {
+    Ok(Nsap::of(&[0x49, octet, 1]).ok_or("an address")?)
+}
+
+fn call(alloc: Global, options: Options, octets: Bytes) -> Result<ConnectCall, Fail>
+    ensures { IfOk result (λ call. (call.options ≡ options) × IsTimed call.rules) }
+{
+    Ok(ConnectCall {
+        own: 1,
+        from: system(0x0a)?,
+        from_selector: bytes(alloc, "aa")?,
+        to: system(0x0b)?,
+        to_selector: bytes(alloc, "bb")?,
+        options,
+        octets,
+        rules: TIMERS,
+    })
+}
+
+/// An end that the CR of the end 7 of the partner calls.
+fn called(
+    alloc: Global,
+    options: Options,
+    octets: &[u8],
+    out: &mut Step,
+) -> Result<Connection, Fail>
+    requires { IsSize options.size }
+    ensures { IfOk result (λ end. end.base.clock ≡ 0) }
+{
+    let cr = request(options, octets)?;
+    let end = Connection::incoming(alloc, 0, 1, system(0x0b)?, &cr, TIMERS, out)?;
+    Ok(end)
+}
+
+/// The CR.
+#[tactic(auto, using(tp4_conn::proofs::Sizes::known_size))]
+fn request<'a>(options: Options, octets: &'a [u8]) -> Result<TpduRef<'a>, Fail>
+    requires { IsSize options.size }
+    ensures kind { IfOk result (λ cr. kind_for (tpdu_of cr) ≡ Cr) }
+    ensures allowed { IfOk result (λ cr. IsAllowed Normal (tpdu_of cr)) }
+{
+    if 32 < octets.len() {
+        return Err(Fail::from("a CR has 32 octets of data at most"));
+    }
+    Ok(TpduRef::Cr {
+        credit: 8,
+        source: 7,
+        format: options.format,
+        calling: b"\xaa",
+        called: b"\xbb",
+        size: options.size,
+        extra: u8::from(options.expedited) + if options.sum { 0 } else { 2 },
+        version: None,
+        classes: None,
+        ack_time: None,
+        sum: true,
+        octets,
+    })
+}
+
+/// The call of a line.
+fn user_call(alloc: Global, words: &[&str]) -> Result<UserCall, Fail>
+    ensures { IfOk result IsCall }
+{
+    match word(words, 0) {
+        "accept" => Ok(UserCall::Accept(options(words)?, bytes(alloc, word(words, 5))?)),
+        "refuse" => Ok(UserCall::Refuse(bytes(alloc, word(words, 1))?)),
+        "normal" => Ok(UserCall::Normal(bytes(alloc, word(words, 1))?)),
+        "urgent" => Ok(UserCall::Urgent(bytes(alloc, word(words, 1))?)),
+        "window" => Ok(UserCall::Window(pair(words, 1)?.min(255))),
+        _ => Ok(UserCall::Disconnect(bytes(alloc, word(words, 1))?)),
+    }
+}

@@ -1,0 +1,290 @@
+//! An entity of address 490b01 that takes connections at the selector `bb`, call by call.
+
+ghost use Rattle.std.specs.Prelude.{◌≡◌, ◌≤◌, IfOk};
+ghost use Rattle.tp4_conn.specs.Calls.{IsCall};
+ghost use Rattle.tp4_conn.specs.End.{IsSize};
+
+mod script;
+
+use nsap::Nsap;
+use osi_base::{Bytes, Tick};
+use script::SCRIPT;
+use std::alloc::Global;
+use std::process::Abort;
+use std::test::Fail;
+use tp4_conn::{ConnectCall, Options, Timers, UserCall};
+use tp4_entity::{EntityRefusal, TpEntity};
+use tp4_flow::{EndEvent, Sent, Step, What};
+use tpdu::{Format, write_tpdu};
+
+/// A lifetime of 32 ticks, T1 of 8, 4 sendings, W of 20, I of 60 and a credit of 8: a reference is frozen for 156 ticks.
+const TIMERS: Timers = Timers {
+    life: 32,
+    t1: 8,
+    sendings: 4,
+    window: 20,
+    inactive: 60,
+    credit: 8,
+};
+
+/// An entity, what its last line told and sent, and its clock.
+#[derive(Drop)]
+struct Play {
+    alloc: Global,
+    entity: TpEntity,
+    out: Step,
+    now: Tick,
+    ghost clock: { entity.clock ≤ now },
+    ghost low: { now ≤ 4000000000 },
+}
+
+#[test]
+fn each_call_by_hand(rt: HostRuntime) -> Result<(), Fail> {
+    let alloc = rt.alloc();
+    let mut play = Play::begin(alloc, 64)?;
+    for line in SCRIPT.lines() {
+        if !line.starts_with('#') {
+            play_line(&rt, &mut play, line)?;
+        }
+    }
+    Ok(())
+}
+
+fn play_line(rt: &impl Abort, play: &mut Play, line: &str) -> Result<(), Fail> {
+    let (call, want) = line.split_once(" =").ok_or("a line has what comes of it")?;
+    let words: Vec<&str> = call.split(' ').collect(play.alloc)?;
+    play.out = Step::new(play.alloc);
+    let answer = play.act(&words)?;
+    let got = play.shown(&answer)?;
+    assert_eq!(rt; got.as_str(), want.trim(), "{line}");
+    Ok(())
+}
+
+impl Play {
+    /// An entity with so many references.
+    fn begin(alloc: Global, references: u16) -> Result<Play, Fail> {
+        let mut entity = TpEntity::new(alloc, address("490b01")?, references.clamp(1, 64), TIMERS)?;
+        let _ = entity.register(b"\xbb");
+        Ok(Play {
+            alloc,
+            entity,
+            out: Step::new(alloc),
+            now: 0,
+        })
+    }
+
+    /// What a line does, and its answer.
+    fn act(&mut self, words: &[&str]) -> Result<String, Fail> {
+        match word(words, 0) {
+            "start" => self.start(words),
+            "register" => self.register(words),
+            "at" => self.pass(words),
+            "unit" => self.hear(words),
+            "call" => self.call(words),
+            "tick" => self.tick(),
+            "spend" => self.spend(),
+            "free" => self.free(words),
+            "state" => self.state(words),
+            "own" => Ok(format!(in self.alloc; "{}", self.entity.own())?),
+            _ => self.ask(words),
+        }
+    }
+
+    fn start(&mut self, words: &[&str]) -> Result<String, Fail> {
+        *self = Play::begin(self.alloc, pair(words, 1)?)?;
+        Ok(String::new(self.alloc))
+    }
+
+    fn register(&mut self, words: &[&str]) -> Result<String, Fail> {
+        let selector = bytes(self.alloc, word(words, 1))?;
+        match self.entity.register(selector.as_slice()) {
+            Ok(()) => Ok(String::new(self.alloc)),
+            Err(why) => Ok(format!(in self.alloc; "no {why:?}")?),
+        }
+    }
+
+    fn pass(&mut self, words: &[&str]) -> Result<String, Fail> {
+        let tick: u32 = word(words, 1).parse()?;
+        self.now = tick.max(self.now).min(4_000_000_000);
+        Ok(String::new(self.alloc))
+    }
+
+    fn hear(&mut self, words: &[&str]) -> Result<String, Fail> {
+        let octets = bytes(self.alloc, word(words, 2))?;
+        self.entity.on_unit(
+            self.now,
+            address(word(words, 1))?,
+            octets.as_slice(),
+            &mut self.out,
+        )?;
+        Ok(String::new(self.alloc))
+    }
+
+    fn call(&mut self, words: &[&str]) -> Result<String, Fail> {
+        let call = connect_call(self.alloc, bytes(self.alloc, word(words, 1))?)?;
+        match self.entity.connect(self.now, call, &mut self.out) {
+            Ok(reference) => Ok(format!(in self.alloc; "{reference}")?),
+            Err(why) => Ok(format!(in self.alloc; "no {why:?}")?),
+        }
+    }
+
+    fn ask(&mut self, words: &[&str]) -> Result<String, Fail> {
+        let call = user_call(self.alloc, words)?;
+        match self
+            .entity
+            .user(self.now, pair(words, 1)?, call, &mut self.out)
+        {
+            Ok(()) => Ok(String::new(self.alloc)),
+            Err(why) => Ok(format!(in self.alloc; "no {}", refusal_word(self.alloc, why)?)?),
+        }
+    }
+
+    fn tick(&mut self) -> Result<String, Fail> {
+        let was_due = self.entity.tick_next(self.now, &mut self.out)?;
+        Ok(format!(in self.alloc; "{was_due}")?)
+    }
+
+    /// 64 ends call, and each is refused.
+    fn spend(&mut self) -> Result<String, Fail> {
+        for reference in 1..=64 {
+            let call = connect_call(self.alloc, Bytes::of(Vec::new(self.alloc)))?;
+            self.entity.connect(self.now, call, &mut self.out)?;
+            let refusal = [6, 0x80, 0, reference, 0, 0, 3];
+            self.entity
+                .on_unit(self.now, address("490a01")?, &refusal, &mut self.out)?;
+        }
+        self.out = Step::new(self.alloc);
+        Ok(String::new(self.alloc))
+    }
+
+    fn free(&mut self, words: &[&str]) -> Result<String, Fail> {
+        let is_free = self.entity.is_free(self.now, pair(words, 1)?);
+        Ok(format!(in self.alloc; "{is_free}")?)
+    }
+
+    fn state(&mut self, words: &[&str]) -> Result<String, Fail> {
+        match self.entity.state_of(pair(words, 1)?) {
+            Some(state) => Ok(format!(in self.alloc; "{state:?}")?),
+            None => Ok(format!(in self.alloc; "none")?),
+        }
+    }
+
+    /// The answer, the events and the TPDUs.
+    fn shown(&self, answer: &str) -> Result<String, Fail> {
+        let alloc = self.alloc;
+        let mut text = format!(in alloc; "{answer}")?;
+        for event in self.out.events() {
+            text.push_str(show_event(alloc, event)?.as_str())?;
+        }
+        for sent in self.out.tpdus() {
+            text.push_str(show_sent(alloc, sent)?.as_str())?;
+        }
+        Ok(format!(in alloc; "{}", text.trim())?)
+    }
+}
+
+/// An event with its reference, where it has one.
+fn show_event(alloc: Global, event: &EndEvent) -> Result<String, Fail> {
+    let reference = event.reference;
+    match &event.what {
+        What::Incoming { .. } => Ok(format!(in alloc; " incoming {reference}")?),
+        What::Accept { .. } => Ok(format!(in alloc; " accept {reference}")?),
+        What::Got(_) => Ok(format!(in alloc; " got {reference}")?),
+        What::Gone(..) => Ok(format!(in alloc; " gone {reference}")?),
+        What::BadTpdu(cause, place) => Ok(format!(in alloc; " badtpdu {cause:?} {place}")?),
+        What::Unknown(kind) => Ok(format!(in alloc; " unknown {kind:?}")?),
+        _ => Ok(format!(in alloc; " other {reference}")?),
+    }
+}
+
+/// The address that a TPDU goes to, and its octets.
+fn show_sent(alloc: Global, sent: &Sent) -> Result<String, Fail> {
+    let octets = write_tpdu(alloc, &sent.tpdu, sent.format, sent.sum)?;
+    let digits = hex::encode(alloc, octets)?;
+    Ok(format!(in alloc; " {}:{digits}", sent.to)?)
+}
+
+fn refusal_word(alloc: Global, why: EntityRefusal) -> Result<String, Fail> {
+    match why {
+        EntityRefusal::NoSuchEnd => Ok(format!(in alloc; "NoSuchEnd")?),
+        EntityRefusal::Call(why) => Ok(format!(in alloc; "{why:?}")?),
+    }
+}
+
+const OPTIONS: Options = Options {
+    format: Format::Normal,
+    size: 1024,
+    expedited: true,
+    sum: true,
+};
+
+#[tactic(auto, using(tp4_conn::proofs::Sizes::size_known))]
+fn connect_call(alloc: Global, octets: Bytes) -> Result<ConnectCall, Fail>
+    ensures { IfOk result (λ call. IsSize call.options.size) }
+{
+    Ok(ConnectCall {
+        own: 0,
+        from: address("490b01")?,
+        from_selector: bytes(alloc, "aa")?,
+        to: address("490a01")?,
+        to_selector: bytes(alloc, "bb")?,
+        options: OPTIONS,
+        octets,
+        rules: TIMERS,
+    })
+}
+
+/// The call of a line.
+#[tactic(auto, using(tp4_conn::proofs::Sizes::size_known))]
+fn user_call(alloc: Global, words: &[&str]) -> Result<UserCall, Fail>
+    ensures { IfOk result IsCall }
+{
+    let octets = Bytes::of(Vec::new(alloc));
+    match word(words, 0) {
+        "accept" => Ok(UserCall::Accept(options(word(words, 2)), octets)),
+        "refuse" => Ok(UserCall::Refuse(octets)),
+        _ => Ok(UserCall::Disconnect(octets)),
+    }
+}
+
+#[tactic(auto, using(tp4_conn::proofs::Sizes::size_known))]
+fn options(format: &str) -> Options
+    ensures { IsSize result.size }
+{
+    let format = match format {
+        "extended" => Format::Extended,
+        _ => Format::Normal,
+    };
+    Options { format, ..OPTIONS }
+}
+
+fn address(digits: &str) -> Result<Nsap, Fail> {
+    match Nsap::read(digits) {
+        Ok(address) => Ok(address),
+        Err(_) => Err(Fail::from("an address")),
+    }
+}
+
+/// The word at that place.
+fn word<'a>(words: &[&'a str], at: usize) -> &'a str {
+    match words.get(at) {
+        Some(word) => *word,
+        None => "-",
+    }
+}
+
+fn pair(words: &[&str], at: usize) -> Result<u16, Fail> {
+    Ok(word(words, at).parse()?)
+}
+
+/// The octets of hexadecimal digits, none for `-`, or so many octets 07 of a number behind a star.
+fn bytes(alloc: Global, digits: &str) -> Result<Bytes, Fail> {
+    if let Some(count) = digits.strip_prefix('*') {
+        let count: u16 = count.parse()?;
+        return Ok(Bytes::of(vec![in alloc; 7; usize::from(count)]?));
+    }
+    if digits == "-" {
+        return Ok(Bytes::of(Vec::new(alloc)));
+    }
+    Ok(Bytes::of(hex::decode(alloc, digits)?))
+}

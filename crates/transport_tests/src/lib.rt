@@ -1,0 +1,13 @@
+//! Tests of transport: numbers, the halves of a connection, its ends row by row of the state tables, the ends of a system.
+#![tactic(auto)]
+
+#[cfg(test)]
+mod connections;
+#[cfg(test)]
+mod entities;
+#[cfg(test)]
+mod numbers;
+#[cfg(test)]
+mod receiving;
+#[cfg(test)]
+mod sending;
