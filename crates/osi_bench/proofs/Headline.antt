@@ -61,7 +61,7 @@ none_after first [] other next all is = absurd (cc)
 none_after first (title ∷ titles) zero next all is = let same : title ≡ next = cc in subst (λ (t : List ℕ). is_same_system first t ≡ false) same all.0
 none_after first (title ∷ titles) (suc other) next all is = none_after first titles other next all.1 is
 
-distinct : (titles : List (List ℕ)) → AreTitlesApart titles → AreDistinct titles
+pub distinct : (titles : List (List ℕ)) → AreTitlesApart titles → AreDistinct titles
 distinct [] apart one other title next is at same = absurd (cc)
 distinct (first ∷ titles) apart zero zero title next is at same = refl
 distinct (first ∷ titles) apart zero (suc other) title next is at same =
@@ -72,7 +72,7 @@ distinct (first ∷ titles) apart (suc one) zero title next is at same =
     absurd (same_title first title (none_after first titles one title apart.0 is) (ap system_part here ∙ sym same))
 distinct (first ∷ titles) apart (suc one) (suc other) title next is at same = ap (λ (n : ℕ). suc n) (distinct titles apart.1 one other title next is at same)
 
-untouched : (setup : SetUp) → AllByRecursion (IsUntouched (timers_of setup.life setup.limits)) (entities_of setup)
+pub untouched : (setup : SetUp) → AllByRecursion (IsUntouched (timers_of setup.life setup.limits)) (entities_of setup)
 untouched setup = of_systems (IsUntouched (timers_of setup.life setup.limits)) setup.life setup.limits 0 setup.systems (λ place system is. record { timers_are = refl; clock = refl })
 
 -- ---- the run

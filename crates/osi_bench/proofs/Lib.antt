@@ -1,5 +1,11 @@
 pub mod Agreement
 pub mod Begun
+pub mod Calm
+pub mod CalmDrawn
+pub mod CalmNames
+pub mod CalmNet
+pub mod CalmRows
+pub mod CalmRun
 pub mod Captured
 pub mod Capturing
 pub mod Courses

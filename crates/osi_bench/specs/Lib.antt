@@ -1,4 +1,5 @@
 pub mod Bench
+pub mod Calm
 pub mod Frames
 pub mod Storm
 pub mod Text

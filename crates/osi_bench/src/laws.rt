@@ -1,6 +1,7 @@
 //! What holds of every run of the network, for all scripts.
 
 ghost use Rattle.std.specs.Prelude.{◌≡◌, List, ℕ};
+ghost use Rattle.osi_bench.specs.Calm.{ServesCalmScripts};
 ghost use Rattle.osi_bench.specs.Bench.{bench_lines, bench_meaning, first_bench};
 ghost use Rattle.line_loop.specs.Total.{AsksSomething};
 ghost use Rattle.line_loop.specs.Exact.{OneCourse, AsksOne};
@@ -69,3 +70,12 @@ pub fn one_outcome()
     ensures course { OneCourse bench_meaning }
     ensures asks { AsksOne bench_meaning }
 {}
+
+/// After a calm script nothing is missing, as long as nothing was dropped: each two partner ends that are both Opened have shown all that the
+/// other was asked to send, but for want of credit or by the number rule; a connect request has its indication by the `settle` behind it,
+/// word for word, where its selector is registered and a reference free, and no end of that caller is there; and an accept has its confirm.
+pub fn calm_scripts_are_served()
+    ensures { ServesCalmScripts }
+{
+    tp4_world::whole_run::<ClnpNet<LanBag>>();
+}

@@ -14,8 +14,8 @@ mod top;
 mod world;
 
 pub use laws::{
-    ends_are_lawful, frames_make_captures, generated_scripts_run, one_journal, one_outcome,
-    raw_units_are_lawful, script_runs, some_outcome,
+    calm_scripts_are_served, ends_are_lawful, frames_make_captures, generated_scripts_run,
+    one_journal, one_outcome, raw_units_are_lawful, script_runs, some_outcome,
 };
 pub use top::{Transcript, osi, run_in_memory};
 
