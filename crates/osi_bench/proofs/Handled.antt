@@ -16,11 +16,11 @@ use Rattle.osi_bench.specs.World.{HasNoInject, WorldRun, WorldRuns, WorldStep, t
 use Rattle.osi_bench.specs.declared.world.World.{World}
 
 -- the lines that ran are what the texts say, and the network ran them
-record Ran (first : Bench) (texts : List (List ℕ)) (script : List Line) (journal : List Event) (last : Bench) : Type 0 where
-  says : Says first.names texts script last.names
-  runs : WorldRuns first.world script journal last.world
+pub record Ran (first : Bench) (texts : List (List ℕ)) (script : List Line) (journal : List Event) (last : Bench) : Type 0 where
+  pub says : Says first.names texts script last.names
+  pub runs : WorldRuns first.world script journal last.world
 
-ran : (first : Bench) (texts : List (List ℕ)) (journal : List Event) (last : Bench) (runs : Runs bench_meaning first texts journal last) → Ran first texts (lines_run first texts journal last runs) journal last
+pub ran : (first : Bench) (texts : List (List ℕ)) (journal : List Event) (last : Bench) (runs : Runs bench_meaning first texts journal last) → Ran first texts (lines_run first texts journal last runs) journal last
 ran first [] journal last runs = record { says = ap (λ (b : Bench). b.names) runs.1; runs = (runs.0, ap (λ (b : Bench). b.world) runs.1) }
 ran first (text ∷ texts) journal last runs =
     let one : RunsLine first text runs.0 runs.1 = runs.3 in

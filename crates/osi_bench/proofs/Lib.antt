@@ -24,6 +24,7 @@ pub mod Octets
 pub mod Placing
 pub mod Proper
 pub mod ScriptRuns
+pub mod Served
 pub mod StormWords
 pub mod Storming
 pub mod Summaries

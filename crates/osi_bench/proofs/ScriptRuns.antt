@@ -22,7 +22,7 @@ use Rattle.osi_script.specs.Grammar.{line_read}
 use Rattle.osi_script.specs.Script.{Says}
 use Rattle.osi_journal.specs.RawLawful.{RawLawful}
 use Rattle.osi_bench.specs.World.{life_of, titles_of, WorldRuns, WorldStep}
-use Rattle.osi_bench.specs.Top.{IsRun, IsScriptRun, RanScript, texts_in, RefusedRun, IsFilledRun, OverRun, TooMuchRun, AskedRun, OutcomeRun, ShowsSent, ShowsWhatWasSubmitted, IsTranscript}
+use Rattle.osi_bench.specs.Top.{IsRun, IsScriptRun, RanScript, texts_in, RefusedRun, IsFilledRun, OverRun, TooMuchRun, AskedRun, OutcomeRun, ServesWhereCalm, ShowsSent, ShowsWhatWasSubmitted, IsTranscript}
 use Rattle.osi_bench.proofs.Lawful.{raw_lawful}
 
 -- the lines that the texts say, with what they did
@@ -177,9 +177,9 @@ pub shows_sent : (read : List ℕ) → ShowsSent read
 shows_sent read front journal last begins run = ran_script front journal last run
 
 pub transcript : (end : Type 0) (read written : List ℕ) (status : Status) → Outcome bench_meaning end first_bench read written status → length read ≤ most_octets + most_read
-    → ((octets : List ℕ) → ShowsWhatWasSubmitted octets) → IsTranscript end read written status
-transcript end read written status told within lawful =
-    record { outcome = told; run = outcome_run end read written status told; sent = λ front journal last begins run. ran_script front journal last run; lawful = lawful read; within = within }
+    → ((octets : List ℕ) → ShowsWhatWasSubmitted octets) → ((octets : List ℕ) → ServesWhereCalm octets) → IsTranscript end read written status
+transcript end read written status told within lawful calm =
+    record { outcome = told; run = outcome_run end read written status told; sent = λ front journal last begins run. ran_script front journal last run; lawful = lawful read; calm = calm read; within = within }
 
 -- what the program does for a run that ended with this status, or where memory ran out in its place
 abbrev pub Gives : Status → Status → Type 0
@@ -194,11 +194,11 @@ module _ {S K : Type 0} (left : S → Option (List ℕ)) (held : K → Option (L
   from_first : RanOver bench_meaning left held source sink first_bench now_source now_sink status
   from_first = subst (λ (bench : Bench). RanOver bench_meaning left held source sink bench now_source now_sink status) fresh ran
 
-  pub gives_transcript : ((octets : List ℕ) → ShowsWhatWasSubmitted octets) → (answer : Status) → Gives status answer
+  pub gives_transcript : ((octets : List ℕ) → ShowsWhatWasSubmitted octets) → ((octets : List ℕ) → ServesWhereCalm octets) → (answer : Status) → Gives status answer
       → (read : List ℕ) × (written : List ℕ) × Took (left source) read (left now_source) × Put (held sink) written (held now_sink) × IsTranscript (IsAtEnd (left now_source)) read written answer
-  gives_transcript lawful answer gives =
+  gives_transcript lawful calm answer gives =
       let h = from_first in
-      (h.0, h.1, h.2, h.3, transcript (IsAtEnd (left now_source)) h.0 h.1 answer (given (IsAtEnd (left now_source)) h.0 h.1 status answer gives h.4) h.5 lawful)
+      (h.0, h.1, h.2, h.3, transcript (IsAtEnd (left now_source)) h.0 h.1 answer (given (IsAtEnd (left now_source)) h.0 h.1 status answer gives h.4) h.5 lawful calm)
 
   pub gives_exact : (all text : List ℕ) (asked : Status) → left source ≡ Some all → AsksFor bench_meaning first_bench all text asked → (answer : Status) → Gives status answer
       → ((answer ≡ asked) × Put (held sink) text (held now_sink)) ⊎ IsFailure answer

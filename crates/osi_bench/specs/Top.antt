@@ -14,7 +14,10 @@ use Rattle.line_loop.specs.Outcome.{Asks, Outcome}
 use Rattle.osi_script.specs.declared.fault.LineFault.{LineFault}
 use Rattle.osi_script.specs.Known.{nothing_declared}
 use Rattle.osi_script.specs.Script.{Says}
-use Rattle.osi_bench.specs.World.{HasNoInject, life_of, titles_of, WorldRun}
+use Rattle.tp4_calm.specs.Calm.{IsCalmScript}
+use Rattle.osi_bench.specs.Calm.{Serves}
+use Rattle.osi_bench.specs.World.{Ends, HasNoInject, life_of, titles_of, WorldRun}
+use Rattle.osi_bench.specs.declared.world.World.TheVariants.{Running}
 use Rattle.osi_journal.specs.Lawful.{Lawful}
 use Rattle.osi_journal.specs.RawLawful.{RawLawful}
 use Rattle.line_loop.specs.Writing.{IsPrefix}
@@ -160,12 +163,24 @@ abbrev pub ShowsWhatWasSubmitted : List ℕ → Type 0
 ShowsWhatWasSubmitted octets = (front : List ℕ) (journal : List Event) (last : Bench) → IsPrefix front octets
     → (run : IsRun front journal last) → HasNoInject (lines_handled front journal last run) → Lawful (titles_of last.world) journal
 
+-- the lines ran whole: none went past a limit
+abbrev pub RanWhole : (octets : List ℕ) (journal : List Event) (last : Bench) → IsRun octets journal last → Type 0
+RanWhole octets journal last (inl read) = Unit {0}
+RanWhole octets journal last (inr (inl whole)) = Unit {0}
+RanWhole octets journal last (inr (inr past)) = ⊥
+
+-- whatever front of the octets was run whole: where its lines are a calm script, nothing is missing after them, as long as nothing was dropped
+abbrev pub ServesWhereCalm : List ℕ → Type 0
+ServesWhereCalm octets = (front : List ℕ) (journal : List Event) (last : Bench) → IsPrefix front octets → (run : IsRun front journal last) → RanWhole front journal last run
+    → (titles : List (List ℕ)) (ends : Ends) → last.world ≡ Running titles ends → IsCalmScript (lines_handled front journal last run) → Serves last.names journal titles ends
+
 -- of the octets read, what was written is told as the status says, and tells the run of the network for the lines of the
 -- script; whatever part of the octets was run, each raw unit that is shown was sent, and each end shows what its partner submitted,
--- unless a frame was injected; and no more was read than an input may have, and one read more
+-- unless a frame was injected; where the lines are calm, nothing is missing; and no more was read than an input may have, and one read more
 pub record IsTranscript (end : Type 0) (read written : List ℕ) (status : Status) : Type 0 where
   pub outcome : Outcome bench_meaning end first_bench read written status
   pub run : OutcomeRun end read written status outcome
   pub sent : ShowsSent read
   pub lawful : ShowsWhatWasSubmitted read
+  pub calm : ServesWhereCalm read
   pub within : length read ≤ most_octets + most_read

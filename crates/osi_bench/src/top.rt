@@ -18,7 +18,7 @@ ghost use Rattle.line_loop.specs.Writing.{IsPrefix, IsWritten};
 
 use crate::bench::Bench;
 use crate::frames::write_capture;
-use crate::laws::ends_are_lawful;
+use crate::laws::{calm_scripts_are_served, ends_are_lawful};
 use crate::storm::write_storm;
 use crate::text::usage;
 use line_loop::{drive, write_last};
@@ -128,6 +128,7 @@ pub fn osi<S: Source, K: Sink>(
 {
     if is_run(words) {
         ends_are_lawful();
+        calm_scripts_are_served();
         drive(alloc, Bench::new(alloc), source, sink)
     } else if is_frames(words) {
         write_capture(alloc, source, sink)

@@ -1,5 +1,6 @@
 use Rattle.std.proofs.Common.{◌≡◌, rules, map, string_bytes, refl, subst, sym, ◌∙◌}
 use Rattle.osi_bench.proofs.Handled.{shows_submitted}
+use Rattle.osi_bench.proofs.Served.{serves_where_calm}
 use Rattle.osi_bench.proofs.ScriptRuns.{gives_transcript, gives_exact, gives_complete}
 use Rattle.osi_storm.specs.declared.request.Storm.{Storm}
 use Rattle.osi_base.specs.Ends.{Put}
@@ -12,7 +13,7 @@ pub returns-then-is_run-clause-run : goal.returns-then-is_run-clause-run
 returns-then-is_run-clause-run g c is =
     gives_transcript g.S.Source.left g.K.Sink.held
     c.args.source.now c.args.sink.now c.new.result c.drive.new.source c.drive.new.sink c.drive.result c.new.ensures c.drive.ensures.outcome
-    (shows_submitted c.ends_are_lawful.ensures) _ (search rules)
+    (shows_submitted c.ends_are_lawful.ensures) (serves_where_calm c.calm_scripts_are_served.ensures) _ (search rules)
 
 pub returns-then-is_run-clause-exact : goal.returns-then-is_run-clause-exact
 returns-then-is_run-clause-exact g c is all text asked tells asks =
