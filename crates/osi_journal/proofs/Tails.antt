@@ -27,3 +27,18 @@ pub told_by : (texts wanted : List (List ℕ)) (old new : List ℕ) (result : Re
     → texts ≡ wanted → OnOk result (new ≡ old ++ line texts) → OnOk result (new ≡ old ++ line wanted)
 told_by texts wanted old new (Ok done) is h = h ∙ ap (λ (t : List (List ℕ)). old ++ line t) is
 told_by texts wanted old new (Err refusal) is h = h
+
+-- a field with the octet behind it, and then the rest
+pub behind : (field : List ℕ) (mark : ℕ) (given old mid new rest : List ℕ) (result : Result Unit NoMemory)
+    → given ≡ field → mid ≡ old ++ (given ++ mark ∷ []) → OnOk result (new ≡ mid ++ rest) → OnOk result (new ≡ old ++ (field ++ mark ∷ rest))
+behind field mark given old mid new rest (Ok done) same is h =
+    h ∙ ap (λ (m : List ℕ). m ++ rest) is
+    ∙ append_assoc old (given ++ mark ∷ []) rest
+    ∙ ap (λ (l : List ℕ). old ++ l) (append_assoc given (mark ∷ []) rest)
+    ∙ ap (λ (f : List ℕ). old ++ (f ++ mark ∷ rest)) same
+behind field mark given old mid new rest (Err refusal) same is h = h
+
+-- the last text, by one that is equal
+pub ended : (given text old new : List ℕ) (result : Result Unit NoMemory) → given ≡ text → OnOk result (new ≡ old ++ given) → OnOk result (new ≡ old ++ text)
+ended given text old new (Ok done) same h = h ∙ ap (λ (t : List ℕ). old ++ t) same
+ended given text old new (Err refusal) same h = h

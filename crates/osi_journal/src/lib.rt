@@ -5,6 +5,7 @@ mod boxed;
 mod cause;
 mod ends;
 mod event;
+mod fields;
 mod journal;
 mod laws;
 mod networks;

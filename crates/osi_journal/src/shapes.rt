@@ -5,6 +5,7 @@ ghost use Rattle.osi_script.specs.Tags.{tags_of};
 ghost use Rattle.osi_journal.specs.Told.{Word, Number, System, Octets, Digits};
 ghost use Rattle.osi_journal.specs.steps.Written.{piece_text, Appends};
 
+use crate::fields::{push_hex, push_name, push_number, push_octets};
 use crate::pieces::{Piece, write};
 use crate::words::number;
 use osi_base::{Address, Bytes, NoMemory};
@@ -20,7 +21,8 @@ pub fn write_count(
 ) -> Result<(), NoMemory>
     ensures { Appends names.now (Word word.now ∷ Number count ∷ []) out.old.items out.new.items result }
 {
-    write(&[Piece::Word(word), number(count)], names, out)
+    push_name(word.as_bytes(), b' ', out)?;
+    push_number(count, b'\n', out)
 }
 
 /// A word and a system.
@@ -63,11 +65,9 @@ pub fn write_answer(
 ) -> Result<(), NoMemory>
     ensures { Appends names.now (Word word.now ∷ Number count ∷ System system ∷ []) out.old.items out.new.items result }
 {
-    write(
-        &[Piece::Word(word), number(count), Piece::System(system)],
-        names,
-        out,
-    )
+    push_name(word.as_bytes(), b' ', out)?;
+    push_number(count, b' ', out)?;
+    push_name(names.system_name(system), b'\n', out)
 }
 
 /// A word, an end and octets.
@@ -80,15 +80,9 @@ pub fn write_octets(
 ) -> Result<(), NoMemory>
     ensures { Appends names.now (Word word.now ∷ Number end ∷ Octets octets.now ∷ []) out.old.items out.new.items result }
 {
-    write(
-        &[
-            Piece::Word(word),
-            number(end),
-            Piece::Octets(octets.as_slice()),
-        ],
-        names,
-        out,
-    )
+    push_name(word.as_bytes(), b' ', out)?;
+    push_number(end, b' ', out)?;
+    push_octets(octets.as_slice(), b'\n', out)
 }
 
 /// A word, a system, an address and octets.
@@ -102,16 +96,10 @@ pub fn write_raw<'a>(
 ) -> Result<(), NoMemory>
     ensures { Appends names.now (Word word.now ∷ System system ∷ Digits address.now ∷ Octets octets.now ∷ []) out.old.items out.new.items result }
 {
-    write(
-        &[
-            Piece::Word(word),
-            Piece::System(system),
-            Piece::Digits(address.as_slice()),
-            Piece::Octets(octets.as_slice()),
-        ],
-        names,
-        out,
-    )
+    push_name(word.as_bytes(), b' ', out)?;
+    push_name(names.system_name(system), b' ', out)?;
+    push_hex(address.as_slice(), b' ', out)?;
+    push_octets(octets.as_slice(), b'\n', out)
 }
 
 /// Two words and a system.
