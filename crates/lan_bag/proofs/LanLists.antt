@@ -1,10 +1,10 @@
 -- What is looked for among the ports on a LAN is found among any ports that have the same ones on the LAN.
-use Rattle.std.proofs.Common.{◌≡◌, ℕ, ◌<◌, ◌≤◌, ◌++◌, length, map, get_or, length-append, Bool, true, false, ◌&&◌, ◌==◌, if◌then◌else◌, List, [], ◌∷◌, Option, Some, None, refl, sym, ◌∙◌, ap, subst, inl, inr, arith, All}
+use Rattle.std.proofs.Common.{◌≡◌, ℕ, ◌<◌, ◌≤◌, ◌++◌, length, get_or, length-append, Bool, true, false, ◌&&◌, ◌==◌, if◌then◌else◌, List, [], ◌∷◌, Option, Some, None, refl, sym, ◌∙◌, ap, subst, inl, inr, arith, All}
 use Rattle.std.specs.List.{list_any}
 use Rattle.std.proofs.Math.ListN.{get_or-append}
 use Rattle.std.proofs.Math.Seq.{get_or-append_seam}
 use Rattle.std.proofs.lemmas.Bool.{cases_Bool, cases_lt}
-use Rattle.std.proofs.lemmas.List.{get_or-map, length-map}
+use Rattle.std.proofs.lemmas.List.{get_or_default}
 use Rattle.std.proofs.lemmas.List.Elements.{All-nil, All-cons, All-head, All-tail, All-filter}
 use Rattle.std.proofs.lemmas.Map.Views.{any-filter_same}
 use Rattle.nsap.specs.declared.port.Port.{Port}
@@ -13,7 +13,7 @@ use Rattle.lan_bag.specs.declared.setup.Lan.{Lan}
 use Rattle.lan_bag.specs.Rows.{same_port, same_snpa, sender_of, is_on, has_sent, goes_to, is_one_of, is_named_by}
 use Rattle.lan_bag.specs.Frames.{Frame}
 use Rattle.lan_bag.specs.steps.Openings.{is_open_to, is_open_at}
-use Rattle.lan_bag.proofs.Openings.{IsLeastAmong}
+use Rattle.lan_bag.proofs.Openings.{IsLeastAmong, any_less}
 use Rattle.lan_bag.specs.steps.Setting.{AreOfLans, rows_on}
 
 pub any_on : (test : PortRow → Bool) (lan : ℕ) → ((row : PortRow) → test row ≡ true → (row.port.lan == lan) ≡ true) → (some all : List PortRow) → rows_on some lan ≡ rows_on all lan → list_any test some ≡ list_any test all
@@ -71,6 +71,14 @@ first : (a b : Bool) → (a && b) ≡ true → a ≡ true
 first true b h = refl
 first false b h = cc
 
+second_shut : (a b : Bool) → b ≡ false → (a && b) ≡ false
+second_shut true b h = h
+second_shut false b h = refl
+
+first_shut : (a b : Bool) → a ≡ false → (a && b) ≡ false
+first_shut true b h = cc
+first_shut false b h = refl
+
 pub on_alike : (system lan : ℕ) (some all : List PortRow) → rows_on some lan ≡ rows_on all lan → is_on some system lan ≡ is_on all system lan
 on_alike system lan some all same = any_on (λ row. row.system == system && row.port.lan == lan) lan (λ row h. second (row.system == system) (row.port.lan == lan) h) some all same
 
@@ -91,26 +99,32 @@ open_alike clock lans rows frame some all same =
     any_on (is_open_at clock lans rows frame) frame.unit.to.lan (on_lan clock lans rows frame) some all same
 
 -- a list that stands among the lists
-pub rows_listed : {V : Type 0} (rows_of : V → List PortRow) (lists : List V) (rows : List PortRow) (lan : ℕ) (found : V) → lan < length lists → found ≡ get_or lists lan found → AreOfLans (map rows_of lists) rows → rows_on (rows_of found) lan ≡ rows_on rows lan
-rows_listed rows_of lists rows lan found lt at listed =
-    let here : rows_of found ≡ rows_on rows lan =
-    ap rows_of at ∙ (sym (get_or-map rows_of lists lan found [] lt) ∙ listed lan (omega (arith, length-map lists rows_of))) in
+pub rows_listed : (lists : List (List PortRow)) (rows : List PortRow) (lan : ℕ) (found : List PortRow) → lan < length lists → found ≡ get_or lists lan found → AreOfLans lists rows → rows_on found lan ≡ rows_on rows lan
+rows_listed lists rows lan found lt at listed =
+    let here : found ≡ rows_on rows lan = at ∙ (get_or_default lists lan found [] lt ∙ listed lan lt) in
     ap (λ (r : List PortRow). rows_on r lan) here ∙ on_twice rows lan
 
 -- one list more
-pub listed_more : {V : Type 0} (rows_of : V → List PortRow) (lists : List V) (rows : List PortRow) (found : V) → rows_of found ≡ rows_on rows (length lists) → AreOfLans (map rows_of lists) rows → AreOfLans (map rows_of (lists ++ found ∷ [])) rows
-listed_more rows_of lists rows found is listed lan lt =
+pub listed_more : (lists : List (List PortRow)) (rows : List PortRow) (found : List PortRow) → found ≡ rows_on rows (length lists) → AreOfLans lists rows → AreOfLans (lists ++ found ∷ []) rows
+listed_more lists rows found is listed lan lt =
     elim (cases_lt lan (length lists)) [
-      | inl before ↦
-          get_or-map rows_of (lists ++ found ∷ []) lan found [] (omega (arith, length-map (lists ++ found ∷ []) rows_of, lt))
-          ∙ (ap rows_of (get_or-append lists (found ∷ []) found lan before)
-          ∙ (sym (get_or-map rows_of lists lan found [] before) ∙ listed lan (omega (arith, length-map lists rows_of))))
+      | inl before ↦ get_or-append lists (found ∷ []) [] lan before ∙ listed lan before
       | inr after ↦
-          let last : lan ≡ length lists = omega (arith, length-map (lists ++ found ∷ []) rows_of, length-append lists (found ∷ []), lt) in
-          get_or-map rows_of (lists ++ found ∷ []) lan found [] (omega (arith, length-map (lists ++ found ∷ []) rows_of, lt))
-          ∙ (ap rows_of (ap (λ (k : ℕ). get_or (lists ++ found ∷ []) k found) last ∙ get_or-append_seam lists found [] found)
-          ∙ (is ∙ ap (rows_on rows) (sym last)))
+          let last : lan ≡ length lists = omega (arith, length-append lists (found ∷ []), lt) in
+          ap (λ (k : ℕ). get_or (lists ++ found ∷ []) k []) last
+          ∙ (get_or-append_seam lists found [] [] ∙ (is ∙ ap (rows_on rows) (sym last)))
     ]
+
+-- where no port is named among those on its LAN, none at all is one of a destination
+pub none_named : (to : Port) (some all : List PortRow) → rows_on some to.lan ≡ rows_on all to.lan → list_any (λ row. is_named_by row to.snpa) some ≡ false → list_any (is_one_of to) all ≡ false
+none_named to some all same none =
+    sym (any_on (is_one_of to) to.lan (λ row h. first (row.port.lan == to.lan) (is_named_by row to.snpa) h) some all same)
+    ∙ any_less (λ (row : PortRow). is_named_by row to.snpa) (is_one_of to) (λ row e. second_shut (row.port.lan == to.lan) (is_named_by row to.snpa) e) some none
+
+-- where no port is one of its destination, a frame is open at none
+pub none_reached : (clock : ℕ) (lans : List Lan) (rows all : List PortRow) (frame : Frame) → list_any (is_one_of frame.unit.to) all ≡ false → list_any (is_open_at clock lans rows frame) all ≡ false
+none_reached clock lans rows all frame none =
+    any_less (is_one_of frame.unit.to) (is_open_at clock lans rows frame) (λ row e. first_shut (is_one_of frame.unit.to row) (is_open_to clock lans rows frame row.system) e) all none
 
 -- the least at the ports on its LAN is the least at all
 pub least_on : (clock : ℕ) (lans : List Lan) (rows : List PortRow) (frame : Frame) (some : List PortRow) (least : Option ℕ) → rows_on some frame.unit.to.lan ≡ rows_on rows frame.unit.to.lan → IsLeastAmong clock lans rows frame some least → IsLeastAmong clock lans rows frame rows least

@@ -69,7 +69,7 @@ or_parts true b e = cc
 or_parts false b e = (refl, e)
 
 -- what was closed to all stays closed to all
-any_less : {X : Type 0} (p q : X → Bool) → ((x : X) → p x ≡ false → q x ≡ false) → (xs : List X) → list_any p xs ≡ false → list_any q xs ≡ false
+pub any_less : {X : Type 0} (p q : X → Bool) → ((x : X) → p x ≡ false → q x ≡ false) → (xs : List X) → list_any p xs ≡ false → list_any q xs ≡ false
 any_less p q less [] h = refl
 any_less p q less (x ∷ xs) h =
     let parts = or_parts (p x) (list_any p xs) h in

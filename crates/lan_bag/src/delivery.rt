@@ -68,7 +68,8 @@ fn is_free(clock: Tick, setup: &Setup, frame: Option<&Sent>) -> bool
 fn has_free_port(clock: Tick, setup: &Setup, sent: &Sent) -> bool
     ensures { result ≡ list_any (is_open_at clock setup.now.lans setup.now.rows sent.now) setup.now.rows }
 {
-    is_free_among(setup.rows_on(sent.to().lan), clock, setup, sent)
+    let to = sent.to();
+    setup.may_reach(&to) && is_free_among(setup.rows_on(to.lan), clock, setup, sent)
 }
 
 /// The same, for some port among these.

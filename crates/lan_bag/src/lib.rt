@@ -4,6 +4,7 @@
 mod bag;
 mod delivery;
 mod frame;
+mod listed;
 mod setup;
 mod store;
 mod wheel;

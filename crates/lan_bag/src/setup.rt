@@ -1,9 +1,11 @@
 //! The LANs and which system has which port (IEEE 802.3; ISO 9542, subnetwork addresses).
 
-ghost use Rattle.std.specs.Prelude.{◌≡◌, IfOk, map};
-ghost use Rattle.lan_bag.specs.Rows.{bound_on, room_on, is_on, sender_of, has_sent, goes_to, is_one_of, group_of_kind};
+ghost use Rattle.std.specs.Prelude.{◌≡◌, IfOk, false};
+ghost use Rattle.std.specs.List.{list_any};
+ghost use Rattle.lan_bag.specs.Rows.{bound_on, room_on, is_on, sender_of, has_sent, goes_to, is_named_by, is_one_of, group_of_kind};
 ghost use Rattle.lan_bag.specs.steps.Setting.{AreOfLans, rows_on};
 
+use crate::listed::Listed;
 use nsap::{Port, Snpa};
 use osi_base::NoMemory;
 use std::alloc::Global;
@@ -46,19 +48,18 @@ pub struct PortRow {
 pub struct Setup {
     lans: Vec<Lan>,
     rows: Vec<PortRow>,
-    lists: Vec<Vec<PortRow>>,
+    lists: Vec<Listed>,
 }
 
 // The ports on each LAN that is listed are in its list.
 impl Model for Setup {
-    ghost use Rattle.std.specs.Prelude.{map};
     ghost use Rattle.lan_bag.specs.steps.Setting.{AreOfLans, Setting};
 
     ghost Value = { Setting };
 
     ghost view = { λ s. record { lans = s.lans.items; rows = s.rows.items } };
 
-    ghost invariant = { λ s. AreOfLans (map (λ list. list.items) s.lists.items) s.rows.items };
+    ghost invariant = { λ s. AreOfLans s.lists.items s.rows.items };
 }
 
 impl Setup {
@@ -76,8 +77,18 @@ impl Setup {
         ensures { rows_on result.now lan ≡ rows_on self.now.rows lan }
     {
         match self.lists.get(usize::from(lan)) {
-            Some(list) => list,
+            Some(list) => list.rows(),
             None => &self.rows,
+        }
+    }
+
+    /// Whether a frame to a destination may come to some port; false only where it goes to none.
+    pub fn may_reach(&self, to: &Port) -> bool
+        ensures { result ≡ false → list_any (is_one_of to.now) self.now.rows ≡ false }
+    {
+        match self.lists.get(usize::from(to.lan)) {
+            Some(list) => list.may_name(&to.snpa),
+            None => true,
         }
     }
 
@@ -129,16 +140,23 @@ impl Setup {
 }
 
 impl PortRow {
-    /// Whether the port is one of a destination: it has the SNPA, or is of the kind of the group.
+    /// Whether the port is one of a destination.
     pub fn is_one_of(&self, to: &Port) -> bool
         ensures { result ≡ is_one_of to.now self.now }
     {
-        self.port.lan == to.lan && (self.port.snpa == to.snpa || group_of(self.end) == to.snpa)
+        self.port.lan == to.lan && self.is_named_by(&to.snpa)
+    }
+
+    /// Whether the port has the SNPA, or is of the kind of the group.
+    pub fn is_named_by(&self, snpa: &Snpa) -> bool
+        ensures { result ≡ is_named_by self.now snpa.now }
+    {
+        self.port.snpa == *snpa || group_of(self.end) == *snpa
     }
 }
 
 /// The group of a kind of system.
-fn group_of(end: bool) -> Snpa
+pub fn group_of(end: bool) -> Snpa
     ensures { result ≡ group_of_kind end }
 {
     Snpa::of(if end {
@@ -186,12 +204,12 @@ fn goes_to(rows: &[PortRow], system: u8, to: &Port) -> bool
 
 /// The ports on each LAN.
 #[tactic(auto, using(crate::proofs::LanLists::listed_more))]
-fn lists_of(alloc: Global, lans: usize, rows: &[PortRow]) -> Result<Vec<Vec<PortRow>>, NoMemory>
-    ensures { IfOk result (λ lists. AreOfLans (map (λ list. list.items) lists.items) rows.now) }
+fn lists_of(alloc: Global, lans: usize, rows: &[PortRow]) -> Result<Vec<Listed>, NoMemory>
+    ensures { IfOk result (λ lists. AreOfLans lists.items rows.now) }
 {
     let mut lists = Vec::new(alloc);
     for lan in 0..lans {
-        lists.push(list_of(alloc, lan, rows)?)?;
+        lists.push(Listed::of(list_of(alloc, lan, rows)?))?;
     }
     Ok(lists)
 }

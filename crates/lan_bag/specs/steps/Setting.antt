@@ -1,8 +1,9 @@
 -- The LANs and the ports, as they are kept.
-use Rattle.std.specs.Prelude.{◌≡◌, ℕ, ◌<◌, ◌==◌, List, [], length, get_or}
-use Rattle.std.specs.List.{filter}
+use Rattle.std.specs.Prelude.{◌≡◌, ℕ, ◌<◌, ◌==◌, Bool, true, false, List, [], length, get_or}
+use Rattle.std.specs.List.{filter, list_any}
 use Rattle.lan_bag.specs.declared.setup.Lan.{Lan}
 use Rattle.lan_bag.specs.declared.setup.PortRow.{PortRow}
+use Rattle.lan_bag.specs.Rows.{is_named_by, group_of_kind}
 
 -- the LANs and the ports
 pub record Setting : Type 0 where
@@ -16,3 +17,8 @@ rows_on rows lan = filter (λ row. row.port.lan == lan) rows
 -- each list has the ports on the LAN of its place
 abbrev pub AreOfLans : List (List PortRow) → List PortRow → Type 0
 AreOfLans lists rows = (lan : ℕ) → lan < length lists → get_or lists lan [] ≡ rows_on rows lan
+
+-- the answers are whether the group of end systems names some of the ports, and whether that of intermediate systems does
+pub record IsListed (rows : List PortRow) (has_end has_intermediate : Bool) : Type 0 where
+  pub ends : has_end ≡ list_any (λ row. is_named_by row (group_of_kind true)) rows
+  pub intermediates : has_intermediate ≡ list_any (λ row. is_named_by row (group_of_kind false)) rows

@@ -9,6 +9,6 @@ returns-in-Some c =
     let lists : c.deref.result.now ≡ c.self.inside.lists.items = c.deref.ensures.value in
     let lt : c.args.lan < length c.self.inside.lists.items = omega (arith, c.in-Some.ensures.lookup.3.0, ap length lists, c.from.ensures) in
     let at : c.in-Some.list.now ≡ get_or c.self.inside.lists.items c.args.lan c.in-Some.list.now = cc c.in-Some.ensures.lookup.1 in
-    ap (λ (rows : List PortRow). rows_on rows c.args.lan) c.deref-in-Some.ensures.value
-    ∙ (rows_listed (λ list. list.items) c.self.inside.lists.items c.self.inside.rows.items c.args.lan c.in-Some.list.now lt at c.self.invariant
+    ap (λ (rows : List PortRow). rows_on rows c.args.lan) c.rows.ensures
+    ∙ (rows_listed c.self.inside.lists.items c.self.inside.rows.items c.args.lan c.in-Some.list.now lt at c.self.invariant
     ∙ ap (λ (s : Setting). rows_on s.rows c.args.lan) c.self.view_is)
