@@ -38,6 +38,13 @@ behind field mark given old mid new rest (Ok done) same is h =
     ∙ ap (λ (f : List ℕ). old ++ (f ++ mark ∷ rest)) same
 behind field mark given old mid new rest (Err refusal) same is h = h
 
+-- a text, and then the rest
+pub headed : (text given old mid new rest : List ℕ) (result : Result Unit NoMemory)
+    → given ≡ text → mid ≡ old ++ given → OnOk result (new ≡ mid ++ rest) → OnOk result (new ≡ old ++ (text ++ rest))
+headed text given old mid new rest (Ok done) same is h =
+    h ∙ ap (λ (m : List ℕ). m ++ rest) is ∙ append_assoc old given rest ∙ ap (λ (t : List ℕ). old ++ (t ++ rest)) same
+headed text given old mid new rest (Err refusal) same is h = h
+
 -- the last text, by one that is equal
 pub ended : (given text old new : List ℕ) (result : Result Unit NoMemory) → given ≡ text → OnOk result (new ≡ old ++ given) → OnOk result (new ≡ old ++ text)
 ended given text old new (Ok done) same h = h ∙ ap (λ (t : List ℕ). old ++ t) same

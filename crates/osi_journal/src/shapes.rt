@@ -3,25 +3,25 @@
 ghost use Rattle.std.specs.Prelude.{◌∷◌, []};
 ghost use Rattle.osi_script.specs.Tags.{tags_of};
 ghost use Rattle.osi_journal.specs.Told.{Word, Number, System, Octets, Digits};
-ghost use Rattle.osi_journal.specs.steps.Written.{piece_text, Appends};
+ghost use Rattle.osi_journal.specs.steps.Written.{piece_text, Appends, Heads};
 
-use crate::fields::{push_hex, push_name, push_number, push_octets};
+use crate::fields::{push, push_hex, push_name, push_number, push_octets};
 use crate::pieces::{Piece, write};
 use crate::words::number;
 use osi_base::{Address, Bytes, NoMemory};
 use osi_script::Names;
 
-/// A word and a number.
+/// A number behind a word and a blank.
 #[inline(always)]
 pub fn write_count(
-    word: &'static str,
+    head: &'static str,
     count: u32,
     names: &Names,
     out: &mut Vec<u8>,
 ) -> Result<(), NoMemory>
-    ensures { Appends names.now (Word word.now ∷ Number count ∷ []) out.old.items out.new.items result }
+    ensures { Heads names.now head.now (Number count ∷ []) out.old.items out.new.items result }
 {
-    push_name(word.as_bytes(), b' ', out)?;
+    push(head.as_bytes(), out)?;
     push_number(count, b'\n', out)
 }
 
@@ -54,49 +54,49 @@ pub fn write_told(
     )
 }
 
-/// A word, a number and a system.
+/// A number and a system behind a word and a blank.
 #[inline(always)]
 pub fn write_answer(
-    word: &'static str,
+    head: &'static str,
     count: u32,
     system: u8,
     names: &Names,
     out: &mut Vec<u8>,
 ) -> Result<(), NoMemory>
-    ensures { Appends names.now (Word word.now ∷ Number count ∷ System system ∷ []) out.old.items out.new.items result }
+    ensures { Heads names.now head.now (Number count ∷ System system ∷ []) out.old.items out.new.items result }
 {
-    push_name(word.as_bytes(), b' ', out)?;
+    push(head.as_bytes(), out)?;
     push_number(count, b' ', out)?;
     push_name(names.system_name(system), b'\n', out)
 }
 
-/// A word, an end and octets.
+/// An end and octets behind a word and a blank.
 pub fn write_octets(
-    word: &'static str,
+    head: &'static str,
     end: u32,
     octets: &Bytes,
     names: &Names,
     out: &mut Vec<u8>,
 ) -> Result<(), NoMemory>
-    ensures { Appends names.now (Word word.now ∷ Number end ∷ Octets octets.now ∷ []) out.old.items out.new.items result }
+    ensures { Heads names.now head.now (Number end ∷ Octets octets.now ∷ []) out.old.items out.new.items result }
 {
-    push_name(word.as_bytes(), b' ', out)?;
+    push(head.as_bytes(), out)?;
     push_number(end, b' ', out)?;
     push_octets(octets.as_slice(), b'\n', out)
 }
 
-/// A word, a system, an address and octets.
+/// A system, an address and octets behind a word and a blank.
 pub fn write_raw<'a>(
-    word: &'static str,
+    head: &'static str,
     system: u8,
     address: &'a Address,
     octets: &'a Bytes,
     names: &Names,
     out: &mut Vec<u8>,
 ) -> Result<(), NoMemory>
-    ensures { Appends names.now (Word word.now ∷ System system ∷ Digits address.now ∷ Octets octets.now ∷ []) out.old.items out.new.items result }
+    ensures { Heads names.now head.now (System system ∷ Digits address.now ∷ Octets octets.now ∷ []) out.old.items out.new.items result }
 {
-    push_name(word.as_bytes(), b' ', out)?;
+    push(head.as_bytes(), out)?;
     push_name(names.system_name(system), b' ', out)?;
     push_hex(address.as_slice(), b' ', out)?;
     push_octets(octets.as_slice(), b'\n', out)

@@ -24,7 +24,7 @@ pub fn write_event(event: &Event, names: &Names, out: &mut Vec<u8>) -> Result<()
     ensures { OnOk result (out.new.items ≡ out.old.items ++ event_text (tags_of names.now) event.now) }
 {
     match event {
-        Event::Tick { now } => write_count("tick", *now, names, out),
+        Event::Tick { now } => write_count("tick ", *now, names, out),
         Event::Connect(request) => write_connect(request.get(), names, out),
         Event::Incoming(heard) => write_incoming(heard.get(), names, out),
         Event::Accept {
@@ -37,12 +37,12 @@ pub fn write_event(event: &Event, names: &Names, out: &mut Vec<u8>) -> Result<()
             options,
             octets,
         } => write_agreed("confirm", *end, *options, octets, names, out),
-        Event::Data { end, octets } => write_octets("data", *end, octets, names, out),
-        Event::Got { end, octets } => write_octets("got", *end, octets, names, out),
-        Event::Expedite { end, octets } => write_octets("expedite", *end, octets, names, out),
-        Event::Urgent { end, octets } => write_octets("urgent", *end, octets, names, out),
-        Event::Refuse { end, octets } => write_octets("refuse", *end, octets, names, out),
-        Event::Disconnect { end, octets } => write_octets("disconnect", *end, octets, names, out),
+        Event::Data { end, octets } => write_octets("data ", *end, octets, names, out),
+        Event::Got { end, octets } => write_octets("got ", *end, octets, names, out),
+        Event::Expedite { end, octets } => write_octets("expedite ", *end, octets, names, out),
+        Event::Urgent { end, octets } => write_octets("urgent ", *end, octets, names, out),
+        Event::Refuse { end, octets } => write_octets("refuse ", *end, octets, names, out),
+        Event::Disconnect { end, octets } => write_octets("disconnect ", *end, octets, names, out),
         Event::Gone { end, cause, octets } => write_gone(*end, *cause, octets, names, out),
         Event::Window { end, credit } => write_window(*end, *credit, names, out),
         Event::Held {
@@ -51,12 +51,12 @@ pub fn write_event(event: &Event, names: &Names, out: &mut Vec<u8>) -> Result<()
             number,
         } => write_held(*end, *expedited, *number, names, out),
         Event::No { cause } => write_refused(*cause, names, out),
-        Event::Sent { system, to, octets } => write_raw("sent", *system, to, octets, names, out),
+        Event::Sent { system, to, octets } => write_raw("sent ", *system, to, octets, names, out),
         Event::Unit {
             system,
             from,
             octets,
-        } => write_raw("unit", *system, from, octets, names, out),
+        } => write_raw("unit ", *system, from, octets, names, out),
         Event::Frame {
             number,
             lan,
@@ -72,19 +72,23 @@ pub fn write_event(event: &Event, names: &Names, out: &mut Vec<u8>) -> Result<()
             names,
             out,
         ),
-        Event::Deliver { number, system } => write_answer("deliver", *number, *system, names, out),
-        Event::NoSuch { number, system } => write_answer("nosuch", *number, *system, names, out),
-        Event::Late { number, system } => write_answer("late", *number, *system, names, out),
+        Event::Deliver { number, system } => write_answer("deliver ", *number, *system, names, out),
+        Event::NoSuch { number, system } => write_answer("nosuch ", *number, *system, names, out),
+        Event::Late { number, system } => write_answer("late ", *number, *system, names, out),
         Event::NotThere { number, system } => write_answer(
-            "notthere", *number, *system, names, out,
+            "notthere ",
+            *number,
+            *system,
+            names,
+            out,
         ),
-        Event::NotOurs { number, system } => write_answer("notours", *number, *system, names, out),
+        Event::NotOurs { number, system } => write_answer("notours ", *number, *system, names, out),
         Event::Settle {
             answer: Settled::Settled(count),
-        } => write_count("settled", *count, names, out),
+        } => write_count("settled ", *count, names, out),
         Event::Settle {
             answer: Settled::Stopped(count),
-        } => write_count("stopped", *count, names, out),
+        } => write_count("stopped ", *count, names, out),
         Event::Inject { system } => write_system("inject", *system, names, out),
         Event::InjectNotThere { system } => write_marked("inject", "notthere", *system, names, out),
         Event::Discard {
@@ -124,6 +128,6 @@ pub fn write_event(event: &Event, names: &Names, out: &mut Vec<u8>) -> Result<()
             names,
             out,
         ),
-        Event::Strays { count } => write_count("strays", *count, names, out),
+        Event::Strays { count } => write_count("strays ", *count, names, out),
     }
 }

@@ -28,3 +28,7 @@ tail (field ∷ fields) = 32 ∷ (field ++ tail fields)
 -- the line of the cells is appended
 abbrev pub Appends : Declared → List Cell → List ℕ → List ℕ → Result Unit NoMemory → Type 0
 Appends names cells old new result = OnOk result (new ≡ old ++ line (map (cell_text (tags_of names)) cells))
+
+-- a text and behind it the line of the cells are appended
+abbrev pub Heads : Declared → List ℕ → List Cell → List ℕ → List ℕ → Result Unit NoMemory → Type 0
+Heads names head cells old new result = OnOk result (new ≡ old ++ (head ++ line (map (cell_text (tags_of names)) cells)))
