@@ -11,16 +11,22 @@ use osi_journal::{Event, Refused};
 pub const RAW: u8 = 2;
 
 /// Tells what came up: a note, or a raw unit. Units for other selectors are not shown.
+#[inline(always)]
 pub fn tell(up: Up<Nsap>, events: &mut Vec<Event>) -> Result<(), NoMemory>
     ensures { OnOk result (events.new.items ≡ events.old.items ++ up_events up) }
 {
     match up {
         Up::Unit(arrival) => show(arrival, events),
-        Up::Note(note) => {
-            events.push(note_event(note))?;
-            Ok(())
-        }
+        Up::Note(note) => tell_note(note, events),
     }
+}
+
+/// Tells a note.
+fn tell_note(note: Note, events: &mut Vec<Event>) -> Result<(), NoMemory>
+    ensures { OnOk result (events.new.items ≡ events.old.items ++ note_event note ∷ []) }
+{
+    events.push(note_event(note))?;
+    Ok(())
 }
 
 /// Shows a raw unit that came to a system.
@@ -39,6 +45,7 @@ fn show(arrival: Arrival<Nsap>, events: &mut Vec<Event>) -> Result<(), NoMemory>
     Ok(())
 }
 
+#[inline(never)]
 fn note_event(note: Note) -> Event
     ensures { result ≡ note_event note }
 {
