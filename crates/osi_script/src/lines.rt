@@ -121,6 +121,7 @@ impl Names {
     }
 
     /// The fields one after another, each once.
+    #[inline(never)]
     fn read_fields(
         &self,
         past: u32,

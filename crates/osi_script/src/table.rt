@@ -198,5 +198,6 @@ pub fn word_of(words: &[Word], field: &str) -> Option<Word>
 fn is_named(word: Word, field: &str) -> bool
     ensures { result ≡ is_word (row_of word).text field.now }
 {
-    field == row_of(word).text
+    let text = row_of(word).text;
+    field.len() == text.len() && field == text
 }
