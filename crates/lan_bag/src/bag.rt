@@ -10,16 +10,13 @@ use crate::delivery::{answer_to, first_system, judge, open_after, open_while_liv
 use crate::frame::{Sent, up_of};
 use crate::setup::{Lan, PortRow, Setup};
 use crate::store::Store;
+use crate::waiting::Waiting;
 use crate::wheel::Wheel;
 use lan_frame::HEADER;
 use nsap::Port;
 use osi_base::{Carrier, Injected, NoMemory, Note, Offered, Picked, Tick, Unit, Up, Wish};
 use std::alloc::Global;
-use std::collections::VecDeque;
 use std::marker::Model;
-
-/// What waits to be taken up.
-type Ups = VecDeque<Up<Port>>;
 
 /// LANs that deliver a frame unaltered, to the systems that it goes to, while it is not late.
 #[derive(Drop)]
@@ -30,7 +27,7 @@ pub struct LanBag {
     frames: Store,
     wheel: Wheel,
     fresh_at: u32,
-    waiting: Ups,
+    waiting: Waiting,
     honest: bool,
     strays: u32,
 }
@@ -47,7 +44,7 @@ impl Model for LanBag {
       lans = a.setup.lans;
       rows = a.setup.rows;
       frames = a.frames;
-      waiting = a.waiting.items;
+      waiting = a.waiting;
       honest = a.honest;
       strays = a.strays;
     } };
@@ -72,7 +69,7 @@ impl LanBag {
             frames: Store::new(alloc),
             wheel: Wheel::new(alloc)?,
             fresh_at: 0,
-            waiting: VecDeque::new(alloc),
+            waiting: Waiting::new(alloc),
             honest: true,
             strays: 0,
         })
@@ -149,7 +146,7 @@ impl LanBag {
             return Ok(());
         };
         let arrival = sent.arrival(self.alloc, system)?;
-        self.waiting.push_back(Up::Unit(arrival))?;
+        self.waiting.push(Up::Unit(arrival))?;
         self.frames.mark(pick, system)?;
         let fresh_at = self.fresh_at;
         self.fresh_at = open_after(self.clock, &self.setup, &self.frames, fresh_at, pick);
@@ -165,7 +162,7 @@ impl LanBag {
         }
         let up = up_of(self.alloc, lan, system, octets)?;
         let strays = strays_in(self.clock, &self.setup, &self.frames, &up);
-        self.waiting.push_back(up)?;
+        self.waiting.push(up)?;
         self.honest = false;
         self.strays = self.strays.saturating_add(strays);
         Ok(Injected::Taken)
@@ -194,9 +191,14 @@ impl LanBag {
 }
 
 /// Tells of a frame that a system sends.
-fn tell(sender: Option<u8>, number: u32, unit: &Unit<Port>, ups: &mut Ups) -> Result<(), NoMemory>
+fn tell(
+    sender: Option<u8>,
+    number: u32,
+    unit: &Unit<Port>,
+    waiting: &mut Waiting,
+) -> Result<(), NoMemory>
     requires { length unit.now.octets ≤ 1497 }
-    ensures { OnOk result (ups.new.items ≡ ups.old.items ++ frame_note number sender unit.now) }
+    ensures { OnOk result (waiting.new ≡ waiting.old ++ frame_note number sender unit.now) }
 {
     if let Some(system) = sender {
         let mut snpa = [0; 6];
@@ -208,7 +210,7 @@ fn tell(sender: Option<u8>, number: u32, unit: &Unit<Port>, ups: &mut Ups) -> Re
             snpa,
             length: (unit.octets.as_slice().len() + HEADER) as u32,
         };
-        ups.push_back(Up::Note(note))?;
+        waiting.push(Up::Note(note))?;
     }
     Ok(())
 }
@@ -253,7 +255,7 @@ impl Carrier for LanBag {
     }
 
     fn next_up(&mut self) -> Option<Up<Port>> {
-        self.waiting.pop_front()
+        self.waiting.pop()
     }
 
     fn tick(&mut self) -> Result<(), NoMemory> {

@@ -6,6 +6,7 @@ ghost use Rattle.lan_bag.specs.Frames.{is_live, has_taken, marked, is_of};
 ghost use Rattle.lan_bag.specs.Reading.{ups_of};
 
 use crate::setup::Setup;
+use crate::takers::Takers;
 use lan_frame::{HEADER, read_frame, write_frame};
 use nsap::Port;
 use osi_base::{Arrival, Bytes, NoMemory, Note, Tick, Unit, Up};
@@ -19,7 +20,7 @@ pub struct Sent {
     from: Port,
     to: Port,
     whole: Vec<u8>,
-    taken: Vec<u8>,
+    taken: Takers,
 }
 
 // The octets are those of the whole frame.
@@ -30,7 +31,7 @@ impl Model for Sent {
 
     ghost Value = { Frame };
 
-    ghost view = { λ s. record { tick = s.tick; unit = record { from = s.from; to = s.to; octets = drop 17 s.whole.items }; taken = s.taken.items } };
+    ghost view = { λ s. record { tick = s.tick; unit = record { from = s.from; to = s.to; octets = drop 17 s.whole.items }; taken = s.taken } };
 
     ghost invariant = { λ s. IsWhole s.to.snpa s.from.snpa s.whole.items };
 }
@@ -47,7 +48,7 @@ impl Sent {
             from: unit.from,
             to: unit.to,
             whole: write_frame(alloc, &unit.to.snpa, &unit.from.snpa, pdu)?,
-            taken: Vec::new(alloc),
+            taken: Takers::new(alloc),
         })
     }
 
@@ -83,7 +84,7 @@ impl Sent {
     pub fn was_taken(&self, system: u8) -> bool
         ensures { result ≡ has_taken self.now system }
     {
-        self.taken.iter().any(|taker| *taker == system)
+        self.taken.has(system)
     }
 
     /// The whole 802.3 frame.

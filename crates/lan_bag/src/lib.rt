@@ -7,6 +7,8 @@ mod frame;
 mod listed;
 mod setup;
 mod store;
+mod takers;
+mod waiting;
 mod wheel;
 
 pub use bag::LanBag;

@@ -7,7 +7,7 @@ use Rattle.lan_bag.proofs.bag.LanBag.next_pair.Goals as goal
 
 pub returns-in_err-sent : goal.returns-in_err-sent
 returns-in_err-sent c =
-    let bag : Bag = record { clock = c.self.inside.clock; lans = c.self.inside.setup.lans; rows = c.self.inside.setup.rows; frames = c.self.inside.frames; waiting = c.self.inside.waiting.items; honest = c.self.inside.honest; strays = c.self.inside.strays } in
+    let bag : Bag = record { clock = c.self.inside.clock; lans = c.self.inside.setup.lans; rows = c.self.inside.setup.rows; frames = c.self.inside.frames; waiting = c.self.inside.waiting; honest = c.self.inside.honest; strays = c.self.inside.strays } in
     subst (λ (pair : Option (ℕ × ℕ)). IsLeastFresh (link_of c.args.self.now) pair) (sym c.from_residual.ensures)
     (subst (λ (b : Bag). IsLeastFresh (link_of b) None) c.self.view_is
     (none_fresh bag c.self.inside.fresh_at c.self.invariant.first
@@ -15,7 +15,7 @@ returns-in_err-sent c =
 
 pub returns-in_err-system : goal.returns-in_err-system
 returns-in_err-system c =
-    let bag : Bag = record { clock = c.self.inside.clock; lans = c.self.inside.setup.lans; rows = c.self.inside.setup.rows; frames = c.self.inside.frames; waiting = c.self.inside.waiting.items; honest = c.self.inside.honest; strays = c.self.inside.strays } in
+    let bag : Bag = record { clock = c.self.inside.clock; lans = c.self.inside.setup.lans; rows = c.self.inside.setup.rows; frames = c.self.inside.frames; waiting = c.self.inside.waiting; honest = c.self.inside.honest; strays = c.self.inside.strays } in
     subst (λ (pair : Option (ℕ × ℕ)). IsLeastFresh (link_of c.args.self.now) pair) (sym c.from_residual-in_err-system.ensures)
     (subst (λ (b : Bag). IsLeastFresh (link_of b) None) c.self.view_is
     (none_fresh bag c.self.inside.fresh_at c.self.invariant.first
@@ -27,6 +27,6 @@ overflow_add-result c = omega (arith, stands_within c.self.inside.frames c.self.
 
 pub returns : goal.returns
 returns c =
-    let bag : Bag = record { clock = c.self.inside.clock; lans = c.self.inside.setup.lans; rows = c.self.inside.setup.rows; frames = c.self.inside.frames; waiting = c.self.inside.waiting.items; honest = c.self.inside.honest; strays = c.self.inside.strays } in
+    let bag : Bag = record { clock = c.self.inside.clock; lans = c.self.inside.setup.lans; rows = c.self.inside.setup.rows; frames = c.self.inside.frames; waiting = c.self.inside.waiting; honest = c.self.inside.honest; strays = c.self.inside.strays } in
     subst (λ (b : Bag). IsLeastFresh (link_of b) (Some (c.self.inside.fresh_at + 1, c.in_ok-system.system))) c.self.view_is
     (least_fresh bag c.self.inside.fresh_at c.in_ok-sent.sent.now c.in_ok-system.system c.self.invariant.first (sym c.in_ok-sent.ensures.frame) c.in_ok-system.ensures)
