@@ -32,10 +32,25 @@ impl SystemSetup {
         ensures { IfOk result (λ frames. CutFrames self.now to pdu (option_map (λ list. list.items) frames)) }
     {
         cut_written();
-        match pieces(alloc, pdu, self.room(to.lan))? {
+        let room = self.room(to.lan);
+        if pdu_length(&pdu) <= room as usize {
+            return Ok(Some(self.whole(alloc, to, &pdu)?));
+        }
+        match pieces(alloc, pdu, room)? {
             Some(pdus) => Ok(Some(self.frames(alloc, to, &pdus)?)),
             None => Ok(None),
         }
+    }
+
+    /// The frame of a PDU alone, from the own port on the LAN.
+    fn whole(&self, alloc: Global, to: Port, pdu: &Pdu) -> Result<Vec<Unit<Port>>, NoMemory>
+        requires port { IsSome (port_on self.now to.lan) }
+        requires written { MayBeWritten pdu.now }
+        ensures { IfOk result (λ frames. AreFrames self.now to (pdu.now ∷ []) frames.items) }
+    {
+        let mut frames = Vec::with_capacity(alloc, 1)?;
+        frames.push(self.frame(alloc, to, pdu)?)?;
+        Ok(frames)
     }
 
     /// A frame for each PDU, in order, from the own port on the LAN.
@@ -173,29 +188,17 @@ fn title_octets(title: &Option<Nsap>) -> usize
     }
 }
 
-/// The pieces of a PDU for a room; one that fits is its one piece. None exactly where it does not fit and may not be cut.
+/// The pieces of a PDU for a room. None exactly where it does not fit and may not be cut.
 fn pieces(alloc: Global, pdu: Pdu, room: u32) -> Result<Option<Vec<Pdu>>, NoMemory>
     requires least { 264 ≤ room }
     requires written { MayBeWritten pdu }
     ensures { IfOk result (λ pdus. Cuts pdu room pdu.segment (option_map (λ list. list.items) pdus)) }
 {
-    if pdu_length(&pdu) <= room as usize {
-        return Ok(Some(alone(alloc, pdu)?));
-    }
     match cut(alloc, &pdu, room) {
         Ok(pdus) => Ok(Some(pdus)),
         Err(CutRefusal::NotPermitted) => Ok(None),
         Err(CutRefusal::NoMemory) => Err(NoMemory),
     }
-}
-
-/// The PDU alone.
-fn alone(alloc: Global, pdu: Pdu) -> Result<Vec<Pdu>, NoMemory>
-    ensures { IfOk result (λ pdus. pdus.items ≡ pdu ∷ []) }
-{
-    let mut pdus = Vec::new(alloc);
-    pdus.push(pdu)?;
-    Ok(pdus)
 }
 
 /// The octets of a PDU, header and data.
