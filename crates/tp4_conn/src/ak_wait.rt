@@ -63,7 +63,7 @@ fn open(
     ensures sound { IfOk result (λ stage. IsSound base.now stage) }
 {
     let mut halves = wait.halves;
-    halves.sending.open(base.clock, out)?;
+    halves.get_mut().sending.open(base.clock, out)?;
     let open = Open {
         took: base.clock,
         acked: base.clock,
@@ -112,11 +112,11 @@ pub(crate) fn on_call(
 {
     match call {
         UserCall::Normal(unit) => {
-            wait.halves.submit(base.clock, unit, out)?;
+            wait.halves.get_mut().submit(base.clock, unit, out)?;
             Ok(Stage::AkWait(wait))
         }
         UserCall::Urgent(unit) => {
-            wait.halves.urge(base.clock, unit, out)?;
+            wait.halves.get_mut().urge(base.clock, unit, out)?;
             Ok(Stage::AkWait(wait))
         }
         UserCall::Disconnect(octets) => base.disconnect(alloc, octets, wait.first, out),

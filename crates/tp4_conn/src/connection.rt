@@ -175,7 +175,7 @@ impl Connection {
                     Some(flow.took + timers.inactive),
                     Some(flow.acked + timers.window),
                 ),
-                flow.halves.sending.next_due(),
+                flow.halves.get().sending.next_due(),
             ),
             Stage::Closing(close) => sooner(
                 Some(close.from + timers.span()),

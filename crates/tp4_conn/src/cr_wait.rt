@@ -96,8 +96,8 @@ fn open(
     let mut halves = base.halves(alloc, options)?;
     let octets = copied(alloc, octets)?;
     base.tell(What::Confirm { options, octets }, out)?;
-    halves.sending.open(base.clock, out)?;
-    halves.receiving.acknowledge(out)?;
+    halves.get_mut().sending.open(base.clock, out)?;
+    halves.get().receiving.acknowledge(out)?;
     Ok(Stage::Opened(Open {
         took: base.clock,
         acked: base.clock,

@@ -1,6 +1,9 @@
 //! The two halves of the flow of an end that has agreed (X.224, class 4: flow control, expedited data).
 
 ghost use Rattle.std.specs.Prelude.{◌≡◌, ◌≤◌, IfOk, OnOk};
+ghost use Rattle.std.specs.Borrow.{Lends, sem};
+ghost use Rattle.tp4_conn.specs.contracts.halves.BoxedHalves.{the_row};
+ghost use Rattle.tp4_conn.specs.contracts.halves.Halves.{the_row as halves_row};
 ghost use Rattle.tp4_sending.specs.FlowSender.{Keeps, Sends, at, submitted, urged};
 ghost use Rattle.tp4_conn.specs.Agreeing.{flow_rules, halves_of};
 ghost use Rattle.tp4_conn.specs.End.{IsTimed, IsSize};
@@ -8,6 +11,7 @@ ghost use Rattle.tp4_conn.specs.End.{IsTimed, IsSize};
 use crate::{Base, Options};
 use osi_base::{Bytes, NoMemory, Tick};
 use std::alloc::Global;
+use std::marker::Model;
 use tp4_flow::{FlowRules, Receiving, Step};
 use tp4_sending::Sending;
 use tpdu::Format;
@@ -19,20 +23,60 @@ pub struct Halves {
     pub receiving: Receiving,
 }
 
+/// The halves, which stay where they are while their end is moved. Contracts see it as the halves themselves.
+#[derive(Drop)]
+pub struct BoxedHalves {
+    inner: Box<Halves>,
+}
+
+impl Model for BoxedHalves {
+    ghost use Rattle.tp4_conn.specs.declared.halves.Halves.{Halves};
+
+    ghost Value = { Halves };
+
+    ghost view = { λ b. b.inner.value };
+}
+
+impl BoxedHalves {
+    /// These halves.
+    pub fn new(alloc: Global, halves: Halves) -> Result<BoxedHalves, NoMemory>
+        ensures { IfOk result (λ boxed. boxed ≡ halves) }
+    {
+        let inner = Box::new(alloc, halves)?;
+        Ok(BoxedHalves { inner })
+    }
+
+    /// The halves, lent.
+    pub fn get(&self) -> &Halves
+        ensures { result.now ≡ self.now }
+    {
+        &self.inner
+    }
+
+    /// The halves, lent to be changed.
+    pub fn get_mut(&mut self) -> &mut Halves
+        ensures* writes_back { sem 𝓛 (Lends the_row halves_row self.entry result (λ halves. halves)) }
+        ensures value { result.now ≡ self.old }
+    {
+        self.inner.as_mut()
+    }
+}
+
 impl Base {
     /// The halves of an end that has agreed.
     #[tactic(auto, using(crate::proofs::Credits::granted_low, crate::proofs::Sizes::size_least, crate::proofs::Sizes::size_most))]
-    pub(crate) fn halves(&self, alloc: Global, options: Options) -> Result<Halves, NoMemory>
+    pub(crate) fn halves(&self, alloc: Global, options: Options) -> Result<BoxedHalves, NoMemory>
         requires timers { IsTimed self.now.timers }
         requires size { IsSize options.size }
         requires credit { self.now.credit ≤ 15 }
         ensures { IfOk result (λ halves. halves ≡ halves_of self.now options) }
     {
         let rules = self.rules(options);
-        Ok(Halves {
+        let halves = Halves {
             sending: Sending::new(alloc, rules, self.credit)?,
             receiving: Receiving::new(alloc, rules, self.timers.credit)?,
-        })
+        };
+        BoxedHalves::new(alloc, halves)
     }
 
     /// How the halves work.

@@ -21,7 +21,7 @@ mod wait_before_close;
 pub use base::Base;
 pub use call::{CallRefusal, ConnectCall, UserCall};
 pub use connection::Connection;
-pub use halves::Halves;
+pub use halves::{BoxedHalves, Halves};
 pub use laws::{over_dues, over_lives, over_sendings, over_wires, worked_rows};
 pub use stage::{Answering, Open, Parting, Releasing, Requesting, Stage, State};
 pub use timers::Timers;

@@ -37,7 +37,7 @@ pub(crate) fn on_tpdu(
 {
     match *tpdu {
         TpduRef::Cc { .. } => {
-            flow.halves.receiving.acknowledge(out)?;
+            flow.halves.get().receiving.acknowledge(out)?;
             flow.acked = base.clock;
             Ok(Stage::Opened(flow))
         }
@@ -53,7 +53,12 @@ pub(crate) fn on_tpdu(
             number,
             octets,
             ..
-        } => match flow.halves.receiving.on_dt(number, last, octets, out)? {
+        } => match flow
+            .halves
+            .get_mut()
+            .receiving
+            .on_dt(number, last, octets, out)?
+        {
             Got::TooLarge => base.fail(alloc, GoneCause::Protocol, 133, base.clock, out),
             Got::Kept | Got::Old | Got::Outside => {
                 flow.acked = base.clock;
@@ -64,7 +69,7 @@ pub(crate) fn on_tpdu(
             if !base.is_expedited() {
                 return base.fail(alloc, GoneCause::Protocol, 133, base.clock, out);
             }
-            flow.halves.receiving.on_ed(number, octets, out)?;
+            flow.halves.get_mut().receiving.on_ed(number, octets, out)?;
             Ok(Stage::Opened(flow))
         }
         TpduRef::Ak {
@@ -74,12 +79,16 @@ pub(crate) fn on_tpdu(
             ..
         } => {
             flow.halves
+                .get_mut()
                 .sending
                 .on_ak(base.clock, number, credit, subsequence, out)?;
             Ok(Stage::Opened(flow))
         }
         TpduRef::Ea { number, .. } => {
-            flow.halves.sending.on_ea(base.clock, number, out)?;
+            flow.halves
+                .get_mut()
+                .sending
+                .on_ea(base.clock, number, out)?;
             Ok(Stage::Opened(flow))
         }
         TpduRef::Cr { .. } => Ok(Stage::Opened(flow)),
@@ -102,14 +111,14 @@ pub(crate) fn on_tick(
     if is_past(flow.took, base.timers.inactive, base.clock) {
         return base.fail(alloc, GoneCause::Inactive, 128, base.clock, out);
     }
-    match flow.halves.sending.tick(base.clock, out)? {
+    match flow.halves.get_mut().sending.tick(base.clock, out)? {
         Life::Exhausted => return base.fail(alloc, GoneCause::Exhausted, 128, base.clock, out),
         Life::Goes => {}
     }
     if !is_past(flow.acked, base.timers.window, base.clock) {
         return Ok(Stage::Opened(flow));
     }
-    flow.halves.receiving.acknowledge(out)?;
+    flow.halves.get().receiving.acknowledge(out)?;
     flow.acked = base.clock;
     Ok(Stage::Opened(flow))
 }
@@ -129,11 +138,11 @@ pub(crate) fn on_call(
 {
     match call {
         UserCall::Normal(unit) => {
-            flow.halves.submit(base.clock, unit, out)?;
+            flow.halves.get_mut().submit(base.clock, unit, out)?;
             Ok(Stage::Opened(flow))
         }
         UserCall::Urgent(unit) => {
-            flow.halves.urge(base.clock, unit, out)?;
+            flow.halves.get_mut().urge(base.clock, unit, out)?;
             Ok(Stage::Opened(flow))
         }
         UserCall::Window(credit) => grant(base, flow, credit, out),
@@ -150,11 +159,11 @@ fn grant(base: &Base, mut flow: Open, credit: u16, out: &mut Step) -> Result<Sta
     ensures step { IfOk result (λ stage. Does (opened_window base.now flow credit) base.now stage out.old out.new) }
     ensures sound { IfOk result (λ stage. IsSound base.now stage) }
 {
-    let before = flow.halves.receiving.credit();
-    let after = flow.halves.receiving.grant(credit);
+    let before = flow.halves.get().receiving.credit();
+    let after = flow.halves.get_mut().receiving.grant(credit);
     base.tell(What::Window(after), out)?;
     if after != before {
-        flow.halves.receiving.acknowledge(out)?;
+        flow.halves.get().receiving.acknowledge(out)?;
         flow.acked = base.clock;
     }
     Ok(Stage::Opened(flow))

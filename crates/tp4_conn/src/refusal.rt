@@ -61,8 +61,8 @@ fn sending_of(stage: &Stage) -> Option<&Sending>
     ensures { option_copied result ≡ sending_of stage.now }
 {
     match stage {
-        Stage::AkWait(wait) => Some(&wait.halves.sending),
-        Stage::Opened(flow) => Some(&flow.halves.sending),
+        Stage::AkWait(wait) => Some(&wait.halves.get().sending),
+        Stage::Opened(flow) => Some(&flow.halves.get().sending),
         Stage::CrWait(_)
         | Stage::WaitBeforeClose(_)
         | Stage::UserWait { .. }

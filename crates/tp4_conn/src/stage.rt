@@ -3,7 +3,7 @@
 ghost use Rattle.std.specs.Prelude.{◌≡◌};
 ghost use Rattle.tp4_conn.specs.Calls.{state_of};
 
-use crate::Halves;
+use crate::BoxedHalves;
 use osi_base::{Bytes, Tick};
 use tp4_sending::Tries;
 
@@ -46,7 +46,7 @@ pub struct Answering {
     pub octets: Bytes,
     pub first: Tick,
     pub tries: Tries,
-    pub halves: Halves,
+    pub halves: BoxedHalves,
 }
 
 /// When the last matching TPDU was taken and the last AK sent, each since Opened where there was none; and the halves.
@@ -54,7 +54,7 @@ pub struct Answering {
 pub struct Open {
     pub took: Tick,
     pub acked: Tick,
-    pub halves: Halves,
+    pub halves: BoxedHalves,
 }
 
 /// The reason and the octets of a DR, the tick from which its time counts, and its last sending.
