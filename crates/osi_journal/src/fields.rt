@@ -48,10 +48,19 @@ pub fn push_snpa(snpa: &[u8; 6], mark: u8, out: &mut Vec<u8>) -> Result<(), NoMe
     push(&text, out)
 }
 
-/// Appends octets in hexadecimal.
-#[inline(always)]
+/// Appends octets in hexadecimal, with the octet behind them.
 pub fn push_hex(octets: &[u8], mark: u8, out: &mut Vec<u8>) -> Result<(), NoMemory>
     ensures { OnOk result (out.new.items ≡ out.old.items ++ (encode_lower octets.now ++ mark ∷ [])) }
+{
+    push_pairs(octets, out)?;
+    out.push(mark)?;
+    Ok(())
+}
+
+/// Appends octets in hexadecimal, in lower case.
+#[inline(always)]
+pub fn push_pairs(octets: &[u8], out: &mut Vec<u8>) -> Result<(), NoMemory>
+    ensures { OnOk result (out.new.items ≡ out.old.items ++ encode_lower octets.now) }
 {
     let before = out.len();
     let Some(after) = octets
@@ -63,7 +72,6 @@ pub fn push_hex(octets: &[u8], mark: u8, out: &mut Vec<u8>) -> Result<(), NoMemo
     };
     out.resize(after, 0)?;
     fill_hex(octets, &mut out.as_mut_slice()[before..]);
-    out.push(mark)?;
     Ok(())
 }
 
