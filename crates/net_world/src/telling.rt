@@ -17,6 +17,22 @@ pub fn tell(up: Up<Nsap>, events: &mut Vec<Event>) -> Result<(), NoMemory>
 {
     match up {
         Up::Unit(arrival) => show(arrival, events),
+        Up::Note(Note::Frame {
+            number,
+            lan,
+            system,
+            snpa,
+            length,
+        }) => {
+            events.push(Event::Frame {
+                number,
+                lan,
+                system,
+                snpa,
+                length,
+            })?;
+            Ok(())
+        }
         Up::Note(note) => tell_note(note, events),
     }
 }
@@ -45,7 +61,6 @@ fn show(arrival: Arrival<Nsap>, events: &mut Vec<Event>) -> Result<(), NoMemory>
     Ok(())
 }
 
-#[inline(never)]
 fn note_event(note: Note) -> Event
     ensures { result ≡ note_event note }
 {
