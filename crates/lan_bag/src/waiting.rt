@@ -57,8 +57,13 @@ impl Waiting {
         ensures first { self.old ≡ after_first result self.new }
         ensures none { result ≡ None → self.old ≡ [] }
     {
+        if self.first.is_none() {
+            return None;
+        }
         let first = self.first.take();
-        self.first = self.others.pop_front();
+        if let Some(next) = self.others.pop_front() {
+            self.first = Some(next);
+        }
         first
     }
 }
