@@ -1,7 +1,7 @@
 //! The receiving window: pieces by their distance from the number expected, in a ring (X.224, class 4:
 //! sequencing; segmentation and reassembling).
 
-ghost use Rattle.std.specs.Prelude.{◌≡◌, ◌<◌, ◌≤◌, ◌+◌, ◌∷◌, ◌++◌, [], Some, None, length, replicate, get_or, IfOk, IsSome, option_copied, if◌then◌else◌};
+ghost use Rattle.std.specs.Prelude.{◌≡◌, ◌<◌, ◌≤◌, ◌+◌, ◌∷◌, ◌++◌, [], Some, None, length, replicate, get_or, IfOk, IsSome, OnErr, OnOk, option_copied, if◌then◌else◌};
 ghost use Rattle.tp4_number.specs.Window.{is_held, placed, joined, slid, is_larger, begun_by};
 ghost use Rattle.tp4_flow.specs.Told.{gots};
 ghost use Rattle.tp4_flow.specs.steps.Shown.{Passes};
@@ -127,7 +127,7 @@ impl Window {
         let Some(Some(piece)) = self.places.push_back(None) else {
             return Ok(());
         };
-        self.begun.extend_from_slice(piece.octets.as_slice())?;
+        join(&mut self.begun, piece.octets)?;
         if piece.last {
             let unit = mem::replace(&mut self.begun, Vec::new(self.alloc));
             out.event(EndEvent {
@@ -137,4 +137,17 @@ impl Window {
         }
         Ok(())
     }
+}
+
+/// Octets go to the unit that has begun; one that begins with them takes them as they are.
+fn join(begun: &mut Vec<u8>, octets: Bytes) -> Result<(), NoMemory>
+    ensures ok { OnOk result (begun.new.items ≡ begun.old.items ++ octets) }
+    ensures err { OnErr result (begun.new.items ≡ begun.old.items) }
+{
+    if begun.is_empty() {
+        *begun = octets.into_vec();
+    } else {
+        begun.extend_from_slice(octets.as_slice())?;
+    }
+    Ok(())
 }
