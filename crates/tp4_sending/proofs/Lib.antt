@@ -10,5 +10,6 @@ pub mod Leasts
 pub mod Queues
 pub mod Resendings
 pub mod Settles
+pub mod Singles
 pub mod Thens
 pub mod Weights

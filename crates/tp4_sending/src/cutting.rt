@@ -34,11 +34,18 @@ pub(crate) fn piece_at(units: &VecDeque<Bytes>, size: u16, number: u64) -> Optio
 }
 
 /// How many pieces a unit has.
+#[tactic(auto, using(crate::proofs::Singles::one_piece))]
 pub(crate) fn count_in(octets: &[u8], size: u16) -> u64
     requires { 0 < size }
     ensures { result ≡ count_in size octets.now }
 {
-    (octets.len() as u64).div_ceil(u64::from(size))
+    let count = octets.len() as u64;
+    let size = u64::from(size);
+    // Most units are one piece, for which nothing has to be divided.
+    if 0 < count && count <= size {
+        return 1;
+    }
+    count.div_ceil(size)
 }
 
 /// A piece of a unit.
