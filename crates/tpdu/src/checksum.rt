@@ -18,6 +18,14 @@ struct TwoSums {
     second: u16,
 }
 
+/// A sum below twice the modulus, modulo 255.
+fn reduced(sum: u16) -> u16
+    requires { sum < 510 }
+    ensures { result ≡ sum % 255 }
+{
+    if sum < MODULUS { sum } else { sum - MODULUS }
+}
+
 fn two_sums(octets: &[u8]) -> TwoSums
     ensures first { result.first ≡ sum octets.now % 255 }
     ensures second { result.second ≡ place_sum 1 octets.now % 255 }
@@ -28,8 +36,8 @@ fn two_sums(octets: &[u8]) -> TwoSums
     };
     let mut left = octets;
     while let [before @ .., octet] = left {
-        let first = (sums.first + u16::from(*octet)) % MODULUS;
-        let second = (sums.second + first) % MODULUS;
+        let first = reduced(sums.first + u16::from(*octet));
+        let second = reduced(sums.second + first);
         sums = TwoSums { first, second };
         left = before;
     }
