@@ -18,6 +18,3 @@ pub use laws::{
     one_journal, one_outcome, raw_units_are_lawful, script_runs, some_outcome,
 };
 pub use top::{Transcript, osi, run_in_memory};
-
-#[cfg(test)]
-mod tests;

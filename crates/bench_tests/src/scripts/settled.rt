@@ -2,7 +2,7 @@
 
 use super::connected::{ACCEPTED_SHOWN, CALLED_SHOWN, CONNECTED, INDICATED, STARTED};
 use super::{SET_UP, expect};
-use crate::run_in_memory;
+use osi_bench::run_in_memory;
 use std::alloc::Global;
 use std::test::Fail;
 

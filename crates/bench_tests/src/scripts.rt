@@ -2,8 +2,8 @@
 
 ghost use Rattle.std.specs.Prelude.{◌≤◌};
 
-use super::*;
 use osi_base::{MemSink, MemSource, PlainSink, PlainSource, Source, Status};
+use osi_bench::{osi, run_in_memory};
 use std::alloc::Global;
 use std::process::Abort;
 use std::test::Fail;
