@@ -13,7 +13,7 @@ get_within [] i h = absurd (omega (arith, h))
 get_within (x ∷ xs) zero h = (x, refl)
 get_within (x ∷ xs) (suc i) h = get_within xs i (omega (arith, h))
 
-get_map : (octets : List ℕ) (i : ℕ) (slot : Option ℕ) → slice_get (map Some octets) i ≡ Some slot → (octet : ℕ) × (slot ≡ Some octet) × (slice_get octets i ≡ Some octet)
+pub get_map : (octets : List ℕ) (i : ℕ) (slot : Option ℕ) → slice_get (map Some octets) i ≡ Some slot → (octet : ℕ) × (slot ≡ Some octet) × (slice_get octets i ≡ Some octet)
 get_map [] i slot h = absurd cc
 get_map (octet ∷ octets) zero slot h = (octet, cc, refl)
 get_map (octet ∷ octets) (suc i) slot h = get_map octets i slot h
@@ -126,12 +126,12 @@ same_octets (x ∷ octets) (y ∷ unit) len h =
     let same : x ≡ y = cc in
     ap (λ (o : ℕ). o ∷ octets) same ∙ ap (λ (xs : List ℕ). y ∷ xs) (same_octets octets unit (omega (arith, len)) (λ i octet is. h (suc i) octet is))
 
-map_get : (octets : List ℕ) (i octet : ℕ) → slice_get octets i ≡ Some octet → slice_get (map Some octets) i ≡ Some (Some octet)
+pub map_get : (octets : List ℕ) (i octet : ℕ) → slice_get octets i ≡ Some octet → slice_get (map Some octets) i ≡ Some (Some octet)
 map_get [] i octet h = absurd cc
 map_get (x ∷ octets) zero octet h = let e : x ≡ octet = cc in ap (λ (o : ℕ). Some (Some o)) e
 map_get (x ∷ octets) (suc i) octet h = map_get octets i octet h
 
-map_length : (octets : List ℕ) → length (map {B = Option ℕ} Some octets) ≡ length octets
+pub map_length : (octets : List ℕ) → length (map {B = Option ℕ} Some octets) ≡ length octets
 map_length [] = refl
 map_length (x ∷ octets) = ap (λ (n : ℕ). suc n) (map_length octets)
 

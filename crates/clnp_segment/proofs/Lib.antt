@@ -1,3 +1,4 @@
+mod Alone
 mod Cuttings
 mod Deliveries
 mod Determined

@@ -2,7 +2,7 @@
 
 ghost use Rattle.std.specs.Prelude.{◌≡◌, ◌≤◌, ◌+◌, length, count_by, is_some, IfOk};
 ghost use Rattle.clnp_segment.specs.Joining.{Filled, IsUnit, nothing_of};
-ghost use Rattle.clnp_segment.specs.steps.Places.{Compares, Judges, segment_of, with_segment};
+ghost use Rattle.clnp_segment.specs.steps.Places.{Compares, Judges, is_alone, segment_of, with_segment};
 
 use crate::places::Places;
 use osi_base::NoMemory;
@@ -16,6 +16,16 @@ pub struct SegmentRef<'a> {
     pub octets: &'a [u8],
     pub header: usize,
     pub total: u16,
+}
+
+impl SegmentRef<'_> {
+    /// Whether it is the whole unit.
+    pub fn is_unit(&self) -> bool
+        requires { self.now.offset + (self.now.header + length self.now.octets.now) ≤ self.now.total }
+        ensures { result ≡ is_alone (segment_of self.now) }
+    {
+        self.offset == 0 && self.header + self.octets.len() == usize::from(self.total)
+    }
 }
 
 /// What a segment does to what is held of its unit.

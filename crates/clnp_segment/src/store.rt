@@ -195,6 +195,24 @@ impl Store {
         ensures clock { IsAt self.old self.old.clock self.new }
     {
         let segment = incoming.segment();
+        if segment.is_unit() {
+            let octets = Vec::from_slice(self.alloc, segment.octets)?;
+            return Ok(Joined::Whole(Bytes::of(octets)));
+        }
+        self.hold_first(incoming)
+    }
+
+    /// Takes a segment of a unit of which nothing is held, by what is then held of it.
+    fn hold_first(&mut self, incoming: &Incoming<'_>) -> Result<Joined, NoMemory>
+        requires none { position (has_key (incoming_of incoming.now).key) self.old.held ≡ None }
+        requires segment { FitsIn incoming.now.pdu.now incoming.now.part }
+        requires left { incoming.now.left ≤ 255 }
+        requires end { self.old.clock ≤ 4000000000 }
+        ensures takes { IfOk result (λ answer. TakesAt self.old self.old.clock (incoming_of incoming.now) self.old.held None [] answer self.new) }
+        ensures within { IsWithin self.new }
+        ensures clock { IsAt self.old self.old.clock self.new }
+    {
+        let segment = incoming.segment();
         let deadline = self.clock + incoming.left;
         let mut unit = HeldUnit::new(self.alloc, deadline, incoming)?;
         match unit.judge(&segment) {

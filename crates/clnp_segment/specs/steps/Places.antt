@@ -1,5 +1,5 @@
 -- Places for octets: what is written into them, and what octets do to them.
-use Rattle.std.specs.Prelude.{◌≡◌, ℕ, ◌+◌, Bool, false, not, ◌||◌, ◌==◌, List, [], ◌∷◌, count_by, is_some, length, slice_get, slice_set, Option, Some, None, true}
+use Rattle.std.specs.Prelude.{◌≡◌, ℕ, ◌+◌, Bool, false, not, ◌&&◌, ◌||◌, ◌==◌, List, [], ◌∷◌, count_by, is_some, length, slice_get, slice_set, Option, Some, None, true}
 use Rattle.clnp_segment.specs.Joining.{Clash, Filled, Held, Segment, Together, filled_places}
 use Rattle.clnp_segment.specs.declared.held.SegmentRef.{SegmentRef}
 use Rattle.clnp_segment.specs.declared.held.Verdict.{Verdict}
@@ -36,6 +36,10 @@ written slots at (octet ∷ octets) = written (slice_set slots at (Some octet)) 
 -- the segment that is lent
 abbrev pub segment_of : SegmentRef → Segment
 segment_of segment = record { offset = segment.offset; octets = segment.octets.now; header = segment.header; total = segment.total }
+
+-- the segment is the whole unit
+abbrev pub is_alone : Segment → Bool
+is_alone segment = segment.offset == 0 && segment.header + length segment.octets == segment.total
 
 -- what is held with the octets of the segment
 abbrev pub with_segment : Held → Segment → Held
