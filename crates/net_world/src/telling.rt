@@ -17,13 +17,15 @@ pub fn tell(up: Up<Nsap>, events: &mut Vec<Event>) -> Result<(), NoMemory>
 {
     match up {
         Up::Unit(arrival) => show(arrival, events),
-        Up::Note(Note::Frame {
-            number,
-            lan,
-            system,
-            snpa,
-            length,
-        }) => {
+        Up::Note(
+            Note::Frame {
+                number,
+                lan,
+                system,
+                snpa,
+                length,
+            },
+        ) => {
             events.push(Event::Frame {
                 number,
                 lan,
