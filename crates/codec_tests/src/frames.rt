@@ -22,7 +22,7 @@ fn a_frame_is_written_and_read_with_padding_behind_it(rt: HostRuntime) -> Result
     let to = Snpa::of([0x02, 0x00, 0x00, 0x00, 0x00, 0x0b]);
     let from = Snpa::of([0x02, 0x00, 0x00, 0x00, 0x00, 0x0a]);
     let pdu = [0x81; 18];
-    let mut octets = write_frame(rt.alloc(), &to, &from, &pdu)?;
+    let mut octets = write_frame(&to, &from, pdu.to_vec(rt.alloc())?)?;
     let header = b"\x02\0\0\0\0\x0b\x02\0\0\0\0\x0a\x00\x15\xfe\xfe\x03";
     assert_eq!(rt; &octets[..17], header.as_slice());
     assert_eq!(rt; octets.len(), 35);

@@ -94,10 +94,6 @@ on_lan : (clock : ℕ) (lans : List Lan) (rows : List PortRow) (frame : Frame) (
 on_lan clock lans rows frame row h =
     first (row.port.lan == frame.unit.to.lan) (is_named_by row frame.unit.to.snpa) (first (is_one_of frame.unit.to row) (is_open_to clock lans rows frame row.system) h)
 
-pub open_alike : (clock : ℕ) (lans : List Lan) (rows : List PortRow) (frame : Frame) (some all : List PortRow) → rows_on some frame.unit.to.lan ≡ rows_on all frame.unit.to.lan → list_any (is_open_at clock lans rows frame) some ≡ list_any (is_open_at clock lans rows frame) all
-open_alike clock lans rows frame some all same =
-    any_on (is_open_at clock lans rows frame) frame.unit.to.lan (on_lan clock lans rows frame) some all same
-
 -- a list that stands among the lists
 pub rows_listed : (lists : List (List PortRow)) (rows : List PortRow) (lan : ℕ) (found : List PortRow) → lan < length lists → found ≡ get_or lists lan found → AreOfLans lists rows → rows_on found lan ≡ rows_on rows lan
 rows_listed lists rows lan found lt at listed =

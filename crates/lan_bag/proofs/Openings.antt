@@ -12,7 +12,7 @@ use Rattle.lan_bag.specs.declared.setup.Lan.{Lan}
 use Rattle.lan_bag.specs.declared.setup.PortRow.{PortRow}
 use Rattle.lan_bag.specs.Rows.{is_one_of, goes_to}
 use Rattle.lan_bag.specs.Frames.{Frame, kept, has_taken, is_live, is_taken, picked_of, kept_at, marked, marked_at, marked_frame}
-use Rattle.lan_bag.specs.steps.Openings.{is_open_to, is_open_at, is_open, IsClosedTo, IsFirstOpen, IsLeastOpen, lesser_of}
+use Rattle.lan_bag.specs.steps.Openings.{is_open_to, is_open_at, is_open, IsClosedTo, IsFirstOpen, IsFreshAt, IsLeastAt, IsLeastOpen, IsPairAt, lesser_of}
 use Rattle.lan_bag.specs.steps.Places.{set_same, set_other, kept_places, marked_by, takes_in, takes_at}
 use Rattle.lan_bag.specs.Bag.{Bag, link_of, took_by}
 use Rattle.osi_base.specs.Link.{is_fresh, IsUpTo, IsLeastFresh}
@@ -134,7 +134,7 @@ closed_ticked clock lans rows frames place f k lt =
 
 -- the first open frame stays the first where another changes, and where it is not late after a tick
 
-pub first_pushed : (clock : ℕ) (lans : List Lan) (rows : List PortRow) (frames : List (Option Frame)) (place number : ℕ) (slot : Option Frame) → IsFirstOpen clock lans rows frames place → place + 1 ≢ number → number ≡ length frames + 1 → IsFirstOpen clock lans rows (frames ++ slot ∷ []) place
+first_pushed : (clock : ℕ) (lans : List Lan) (rows : List PortRow) (frames : List (Option Frame)) (place number : ℕ) (slot : Option Frame) → IsFirstOpen clock lans rows frames place → place + 1 ≢ number → number ≡ length frames + 1 → IsFirstOpen clock lans rows (frames ++ slot ∷ []) place
 first_pushed clock lans rows frames place number slot f other is =
     let inside : place < length frames = omega (arith, f.within) in
     record {
@@ -153,7 +153,7 @@ marked_first clock lans rows frames place i system (Some frame) f other closed =
       ∙ f.here (omega (arith, lt, length-set frames i (Some (marked frame system))));
 }
 
-pub first_marked : (clock : ℕ) (lans : List Lan) (rows : List PortRow) (frames : List (Option Frame)) (place number system : ℕ) → IsFirstOpen clock lans rows frames place → place + 1 ≢ number → IsFirstOpen clock lans rows (marked_at frames number system) place
+first_marked : (clock : ℕ) (lans : List Lan) (rows : List PortRow) (frames : List (Option Frame)) (place number system : ℕ) → IsFirstOpen clock lans rows frames place → place + 1 ≢ number → IsFirstOpen clock lans rows (marked_at frames number system) place
 first_marked clock lans rows frames place zero system f other = f
 first_marked clock lans rows frames place (suc i) system f other =
     marked_first clock lans rows frames place i system (kept (slice_get frames i)) f (λ same. other (omega (arith, same)))
@@ -184,7 +184,7 @@ stays_open clock lans rows (Some frame) h kept = by_live (is_live (clock + 1) la
         (λ row e. stays_open_to clock lans rows frame row.system live e) rows h
     by_live false live some = cc
 
-pub first_ticked : (clock : ℕ) (lans : List Lan) (rows : List PortRow) (frames : List (Option Frame)) (place : ℕ) → IsFirstOpen clock lans rows frames place → IsSome (kept (slice_get (map (kept_at (clock + 1) lans) frames) place)) → IsFirstOpen (clock + 1) lans rows (map (kept_at (clock + 1) lans) frames) place
+first_ticked : (clock : ℕ) (lans : List Lan) (rows : List PortRow) (frames : List (Option Frame)) (place : ℕ) → IsFirstOpen clock lans rows frames place → IsSome (kept (slice_get (map (kept_at (clock + 1) lans) frames) place)) → IsFirstOpen (clock + 1) lans rows (map (kept_at (clock + 1) lans) frames) place
 first_ticked clock lans rows frames place f some = record {
   within = omega (arith, f.within, length-map frames (kept_at (clock + 1) lans));
   before = closed_ticked clock lans rows frames place f;
@@ -193,10 +193,6 @@ first_ticked clock lans rows frames place f some = record {
       ∙ stays_open clock lans rows (kept (slice_get frames place)) (f.here (omega (arith, lt, length-map frames (kept_at (clock + 1) lans))))
       (subst IsSome (kept_places (clock + 1) lans frames place) some);
 }
-
--- the first open one at equal frames
-pub first_same : (clock : ℕ) (lans : List Lan) (rows : List PortRow) (frames other : List (Option Frame)) (place : ℕ) → IsFirstOpen clock lans rows frames place → other ≡ frames → IsFirstOpen clock lans rows other place
-first_same clock lans rows frames other place h e = subst (λ (fs : List (Option Frame)). IsFirstOpen clock lans rows fs place) (sym e) h
 
 -- the system may take what stands there, and has not
 abbrev open_in : ℕ → List Lan → List PortRow → Option Frame → ℕ → Bool
@@ -238,29 +234,13 @@ none_open clock lans rows frame h [] = refl
 none_open clock lans rows frame h (row ∷ some_rows) =
     ap (λ (b : Bool). b || list_any (λ (r : PortRow). is_open_to clock lans rows frame r.system) some_rows) (h row.system) ∙ none_open clock lans rows frame h some_rows
 
--- a frame is open to a system exactly where it is open at some port
-pub any_open : (clock : ℕ) (lans : List Lan) (rows : List PortRow) (frame : Frame) → list_any (λ (row : PortRow). is_open_at clock lans rows frame row) rows ≡ is_open clock lans rows (Some frame)
-any_open clock lans rows frame =
-    elim (cases_Bool (list_any (λ (row : PortRow). is_open_at clock lans rows frame row) rows)) [
-      | inl some ↦ elim (cases_Bool (is_open clock lans rows (Some frame))) [
-        | inl open_to ↦ some ∙ sym open_to
-        | inr closed ↦
-            any_less (λ (row : PortRow). is_open_to clock lans rows frame row.system) (λ (row : PortRow). is_open_at clock lans rows frame row)
-            (λ row e. shut_at (is_one_of frame.unit.to row) (is_open_to clock lans rows frame row.system) e) rows closed
-            ∙ sym closed
-      ]
-      | inr none ↦
-          none
-          ∙ sym (none_open clock lans rows frame (none_at clock lans rows frame (none_each (λ (row : PortRow). is_open_at clock lans rows frame row) rows none)) rows)
-    ]
-
 open_within : (clock : ℕ) (lans : List Lan) (rows : List PortRow) (frames : List (Option Frame)) (k system : ℕ) → open_in clock lans rows (kept (slice_get frames k)) system ≡ true → k < length frames
 open_within clock lans rows [] k system h = cc
 open_within clock lans rows (frame ∷ frames) zero system h = omega arith
 open_within clock lans rows (frame ∷ frames) (suc k) system h = omega (arith, open_within clock lans rows frames k system h)
 
 -- where nothing is at the first open place, no pair is fresh
-pub none_fresh : (bag : Bag) (place : ℕ) → IsFirstOpen bag.clock bag.lans bag.rows bag.frames place → is_open bag.clock bag.lans bag.rows (kept (slice_get bag.frames place)) ≡ false → IsLeastFresh (link_of bag) None
+none_fresh : (bag : Bag) (place : ℕ) → IsFirstOpen bag.clock bag.lans bag.rows bag.frames place → is_open bag.clock bag.lans bag.rows (kept (slice_get bag.frames place)) ≡ false → IsLeastFresh (link_of bag) None
 none_fresh bag place f shut zero system = refl
 none_fresh bag place f shut (suc k) system =
     elim (cases_Bool (is_fresh (link_of bag) (suc k) system)) [
@@ -274,7 +254,7 @@ none_fresh bag place f shut (suc k) system =
     ]
 
 -- the first open frame, and the least system that it is open to, are the least fresh pair
-pub least_fresh : (bag : Bag) (place : ℕ) (frame : Frame) (least : ℕ) → IsFirstOpen bag.clock bag.lans bag.rows bag.frames place → kept (slice_get bag.frames place) ≡ Some frame → IsLeastOpen bag.clock bag.lans bag.rows frame (Some least) → IsLeastFresh (link_of bag) (Some (place + 1, least))
+least_fresh : (bag : Bag) (place : ℕ) (frame : Frame) (least : ℕ) → IsFirstOpen bag.clock bag.lans bag.rows bag.frames place → kept (slice_get bag.frames place) ≡ Some frame → IsLeastOpen bag.clock bag.lans bag.rows frame (Some least) → IsLeastFresh (link_of bag) (Some (place + 1, least))
 least_fresh bag place frame least f at l = (one_fresh, upward)
   where
     one : suc place ≡ place + 1
@@ -302,7 +282,7 @@ least_fresh bag place frame least f at l = (one_fresh, upward)
         ]
 
 -- a frame that is open to no system is no open one
-pub shut : (clock : ℕ) (lans : List Lan) (rows : List PortRow) (frame : Frame) → IsLeastOpen clock lans rows frame None → is_open clock lans rows (Some frame) ≡ false
+shut : (clock : ℕ) (lans : List Lan) (rows : List PortRow) (frame : Frame) → IsLeastOpen clock lans rows frame None → is_open clock lans rows (Some frame) ≡ false
 shut clock lans rows frame h = none_open clock lans rows frame h rows
 
 opens : (a b : Bool) → (a && b) ≡ true → b ≡ true
@@ -352,8 +332,119 @@ take_rows (row ∷ rows) (suc i) h = ap (λ (rs : List PortRow). row ∷ rs) (ta
 pub closed_same : (clock : ℕ) (lans : List Lan) (rows : List PortRow) (frames other : List (Option Frame)) (place : ℕ) → IsClosedTo clock lans rows frames place → other ≡ frames → IsClosedTo clock lans rows other place
 closed_same clock lans rows frames other place h e = subst (λ (fs : List (Option Frame)). IsClosedTo clock lans rows fs place) (sym e) h
 
--- what stands somewhere stands within
-pub stands_within : (frames : List (Option Frame)) (place : ℕ) (frame : Frame) → Some frame ≡ kept (slice_get frames place) → place < length frames
-stands_within [] place frame h = cc
-stands_within (first ∷ frames) zero frame h = omega arith
-stands_within (first ∷ frames) (suc place) frame h = omega (arith, stands_within frames place frame h)
+-- a frame that is open at no port is open to no system
+pub open_nowhere : (clock : ℕ) (lans : List Lan) (rows : List PortRow) (frame : Frame) → list_any (is_open_at clock lans rows frame) rows ≡ false → IsLeastOpen clock lans rows frame None
+open_nowhere clock lans rows frame h = none_at clock lans rows frame (none_each (λ (row : PortRow). is_open_at clock lans rows frame row) rows h)
+
+-- the first frame that is open, as it is looked for
+
+shut_slot : (clock : ℕ) (lans : List Lan) (rows : List PortRow) (slot : Option Frame) → IsLeastAt clock lans rows slot None → is_open clock lans rows slot ≡ false
+shut_slot clock lans rows None h = refl
+shut_slot clock lans rows (Some frame) h = shut clock lans rows frame h
+
+open_slot_to : (clock : ℕ) (lans : List Lan) (rows : List PortRow) (slot : Option Frame) (least : ℕ) → IsLeastAt clock lans rows slot (Some least) → open_in clock lans rows slot least ≡ true
+open_slot_to clock lans rows None least h = cc
+open_slot_to clock lans rows (Some frame) least h = h.0
+
+open_some : (clock : ℕ) (lans : List Lan) (rows : List PortRow) (slot : Option Frame) (least : ℕ) → IsLeastAt clock lans rows slot (Some least) → is_open clock lans rows slot ≡ true
+open_some clock lans rows slot least h =
+    elim (cases_Bool (is_open clock lans rows slot)) [
+      | inl opened ↦ opened
+      | inr closed ↦ let no = closed_to clock lans rows slot least closed in let yes = open_slot_to clock lans rows slot least h in cc
+    ]
+
+pub closed_more : (clock : ℕ) (lans : List Lan) (rows : List PortRow) (frames : List (Option Frame)) (place : ℕ) → IsClosedTo clock lans rows frames place → IsLeastAt clock lans rows (kept (slice_get frames place)) None → IsClosedTo clock lans rows frames (place + 1)
+closed_more clock lans rows frames place closed h k lt =
+    elim (eqb_tells k place) [
+      | inl same ↦ ap (λ (j : ℕ). is_open clock lans rows (kept (slice_get frames j))) same.1 ∙ shut_slot clock lans rows (kept (slice_get frames place)) h
+      | inr other ↦ let ne : k ≢ place = other.1 in closed k (omega (arith, lt))
+    ]
+
+pub fresh_here : (clock : ℕ) (lans : List Lan) (rows : List PortRow) (frames : List (Option Frame)) (place least : ℕ) → place < length frames → IsClosedTo clock lans rows frames place → IsLeastAt clock lans rows (kept (slice_get frames place)) (Some least) → IsFreshAt clock lans rows frames place (Some (place + 1, least))
+fresh_here clock lans rows frames place least lt closed h = record {
+  first = record { within = omega (arith, lt); before = closed; here = λ _. open_some clock lans rows (kept (slice_get frames place)) least h };
+  pair = (refl, h);
+}
+
+nothing_past : {X : Type 0} (xs : List X) (k : ℕ) → length xs ≤ k → slice_get xs k ≡ None
+nothing_past [] k h = refl
+nothing_past (x ∷ xs) zero h = absurd (omega arith)
+nothing_past (x ∷ xs) (suc k) h = nothing_past xs k (omega arith)
+
+pub fresh_nowhere : (clock : ℕ) (lans : List Lan) (rows : List PortRow) (frames : List (Option Frame)) (place : ℕ) → place ≤ length frames → length frames ≤ place → IsClosedTo clock lans rows frames place → IsFreshAt clock lans rows frames place None
+fresh_nowhere clock lans rows frames place within past closed = record {
+  first = record { within = within; before = closed; here = λ lt. absurd (omega (arith, lt, past)) };
+  pair = subst (λ (slot : Option (Option Frame)). IsPairAt clock lans rows place (kept slot) None) (sym (nothing_past frames place past)) refl;
+}
+
+-- what changes do to the first frame that is open, with its pair
+
+pub fresh_pushed : (clock : ℕ) (lans : List Lan) (rows : List PortRow) (frames : List (Option Frame)) (place number : ℕ) (next : Option (ℕ × ℕ)) (slot : Option Frame) → IsFreshAt clock lans rows frames place next → place + 1 ≢ number → number ≡ length frames + 1 → IsFreshAt clock lans rows (frames ++ slot ∷ []) place next
+fresh_pushed clock lans rows frames place number next slot f other is =
+    let inside : place < length frames = omega (arith, f.first.within) in
+    record {
+      first = first_pushed clock lans rows frames place number slot f.first other is;
+      pair = subst (λ (o : Option (Option Frame)). IsPairAt clock lans rows place (kept o) next) (sym (push_kept frames slot place inside)) f.pair;
+    }
+
+other_marked : (frames : List (Option Frame)) (place i system : ℕ) (o : Option Frame) → place ≢ i → slice_get (marked_frame frames i system o) place ≡ slice_get frames place
+other_marked frames place i system None other = refl
+other_marked frames place i system (Some frame) other = set_other frames (Some (marked frame system)) i place other
+
+other_still : (frames : List (Option Frame)) (place number system : ℕ) → place + 1 ≢ number → slice_get (marked_at frames number system) place ≡ slice_get frames place
+other_still frames place zero system other = refl
+other_still frames place (suc i) system other = other_marked frames place i system (kept (slice_get frames i)) (λ same. other (omega (arith, same)))
+
+pub fresh_marked : (clock : ℕ) (lans : List Lan) (rows : List PortRow) (frames : List (Option Frame)) (place number system : ℕ) (next : Option (ℕ × ℕ)) → IsFreshAt clock lans rows frames place next → place + 1 ≢ number → IsFreshAt clock lans rows (marked_at frames number system) place next
+fresh_marked clock lans rows frames place number system next f other = record {
+  first = first_marked clock lans rows frames place number system f.first other;
+  pair = subst (λ (o : Option (Option Frame)). IsPairAt clock lans rows place (kept o) next) (sym (other_still frames place number system other)) f.pair;
+}
+
+-- while a frame is live, its systems stay the same
+same_open_to : (clock : ℕ) (lans : List Lan) (rows : List PortRow) (frame : Frame) (system : ℕ) → is_live (clock + 1) lans frame ≡ true → is_open_to (clock + 1) lans rows frame system ≡ is_open_to clock lans rows frame system
+same_open_to clock lans rows frame system live =
+    elim (cases_Bool (is_open_to clock lans rows frame system)) [
+      | inl opened ↦ stays_open_to clock lans rows frame system live opened ∙ sym opened
+      | inr closed ↦ less_sooner clock lans rows frame system closed ∙ sym closed
+    ]
+
+least_ticked : (clock : ℕ) (lans : List Lan) (rows : List PortRow) (frame : Frame) (least : Option ℕ) → is_live (clock + 1) lans frame ≡ true → IsLeastOpen clock lans rows frame least → IsLeastOpen (clock + 1) lans rows frame least
+least_ticked clock lans rows frame None live h = λ system. same_open_to clock lans rows frame system live ∙ h system
+least_ticked clock lans rows frame (Some least) live h = (
+  same_open_to clock lans rows frame least live ∙ h.0,
+  λ system opened. h.1 system (sym (same_open_to clock lans rows frame system live) ∙ opened),
+)
+
+least_kept : (clock : ℕ) (lans : List Lan) (rows : List PortRow) (slot : Option Frame) (least : Option ℕ) → IsSome (kept_at (clock + 1) lans slot) → IsLeastAt clock lans rows slot least → IsLeastAt (clock + 1) lans rows (kept_at (clock + 1) lans slot) least
+least_kept clock lans rows None least some h = cc
+least_kept clock lans rows (Some frame) least some h = by_live (is_live (clock + 1) lans frame) refl some
+  where
+    by_live : (b : Bool) → is_live (clock + 1) lans frame ≡ b → IsSome (if b then Some frame else None) → IsLeastAt (clock + 1) lans rows (if b then Some frame else None) least
+    by_live true live some_frame = least_ticked clock lans rows frame least live h
+    by_live false late some_frame = cc
+
+pair_kept : (clock : ℕ) (lans : List Lan) (rows : List PortRow) (place : ℕ) (slot : Option Frame) (next : Option (ℕ × ℕ)) → IsSome (kept_at (clock + 1) lans slot) → IsPairAt clock lans rows place slot next → IsPairAt (clock + 1) lans rows place (kept_at (clock + 1) lans slot) next
+pair_kept clock lans rows place slot None some h = least_kept clock lans rows slot None some h
+pair_kept clock lans rows place slot (Some pair) some h = (h.0, least_kept clock lans rows slot (Some pair.1) some h.1)
+
+pub fresh_ticked : (clock : ℕ) (lans : List Lan) (rows : List PortRow) (frames : List (Option Frame)) (place : ℕ) (next : Option (ℕ × ℕ)) → IsFreshAt clock lans rows frames place next → IsSome (kept (slice_get (map (kept_at (clock + 1) lans) frames) place)) → IsFreshAt (clock + 1) lans rows (map (kept_at (clock + 1) lans) frames) place next
+fresh_ticked clock lans rows frames place next f some = record {
+  first = first_ticked clock lans rows frames place f.first some;
+  pair = subst (λ (slot : Option Frame). IsPairAt (clock + 1) lans rows place slot next) (sym (kept_places (clock + 1) lans frames place))
+      (pair_kept clock lans rows place (kept (slice_get frames place)) next (subst IsSome (kept_places (clock + 1) lans frames place) some) f.pair);
+}
+
+-- the same at equal frames
+pub fresh_same : (clock : ℕ) (lans : List Lan) (rows : List PortRow) (frames other : List (Option Frame)) (place : ℕ) (next : Option (ℕ × ℕ)) → IsFreshAt clock lans rows frames place next → other ≡ frames → IsFreshAt clock lans rows other place next
+fresh_same clock lans rows frames other place next h e = subst (λ (fs : List (Option Frame)). IsFreshAt clock lans rows fs place next) (sym e) h
+
+-- the pair is the least fresh one
+pub pair_fresh : (bag : Bag) (place : ℕ) (next : Option (ℕ × ℕ)) → IsFreshAt bag.clock bag.lans bag.rows bag.frames place next → IsLeastFresh (link_of bag) next
+pair_fresh bag place None f = none_fresh bag place f.first (shut_slot bag.clock bag.lans bag.rows (kept (slice_get bag.frames place)) f.pair)
+pair_fresh bag place (Some pair) f =
+    subst (λ (number : ℕ). IsLeastFresh (link_of bag) (Some (number, pair.1))) (sym f.pair.0) (at_slot (kept (slice_get bag.frames place)) refl f.pair.1)
+  where
+    at_slot : (slot : Option Frame) → kept (slice_get bag.frames place) ≡ slot → IsLeastAt bag.clock bag.lans bag.rows slot (Some pair.1) → IsLeastFresh (link_of bag) (Some (place + 1, pair.1))
+    at_slot None at h = cc
+    at_slot (Some frame) at h = least_fresh bag place frame pair.1 f.first at h

@@ -6,7 +6,7 @@ ghost use Rattle.lan_bag.specs.Rows.{IsSetUp, sender_of};
 ghost use Rattle.lan_bag.specs.Bag.{frame_note};
 ghost use Rattle.lan_bag.specs.Frames.{live_frame, octets_of, offered, frame_of, strays_of};
 
-use crate::delivery::{answer_to, first_system, judge, open_after, open_while_live};
+use crate::delivery::{Fresh, answer_to, judge, open_after, open_while_live};
 use crate::frame::{Sent, up_of};
 use crate::setup::{Lan, PortRow, Setup};
 use crate::store::Store;
@@ -26,13 +26,13 @@ pub struct LanBag {
     setup: Setup,
     frames: Store,
     wheel: Wheel,
-    fresh_at: u32,
+    fresh: Fresh,
     waiting: Waiting,
     honest: bool,
     strays: u32,
 }
 
-// The first frame that a system may take and has not taken is at `fresh_at`, and the place of each frame is in the wheel.
+// The first frame that a system may take and has not taken is that of `fresh`, and the place of each frame is in the wheel.
 impl Model for LanBag {
     ghost use Rattle.lan_bag.specs.Bag.{Bag};
     ghost use Rattle.lan_bag.specs.steps.Standing.{IsStanding};
@@ -49,13 +49,13 @@ impl Model for LanBag {
       strays = a.strays;
     } };
 
-    ghost invariant = { λ a. IsStanding a.clock a.setup a.frames a.fresh_at a.wheel a.honest a.strays };
+    ghost invariant = { λ a. IsStanding a.clock a.setup a.frames a.fresh.place a.fresh.pair a.wheel a.honest a.strays };
 }
 
 impl LanBag {
     ghost use Rattle.osi_base.specs.Calls.{Offer, Choose, Inject, Tick as OneTick};
     ghost use Rattle.osi_base.specs.Link.{IsLeastFresh};
-    ghost use Rattle.lan_bag.specs.Bag.{new_bag, BagStep, after_offer, after_pick, link_of};
+    ghost use Rattle.lan_bag.specs.Bag.{new_bag, BagStep, after_offer, after_pick, link_of, picked_in};
 
     /// These LANs, numbered from 0, with no frame, at clock 0.
     pub fn new(alloc: Global, lans: &[Lan], ports: &[PortRow]) -> Result<LanBag, NoMemory>
@@ -68,7 +68,10 @@ impl LanBag {
             setup: Setup::new(alloc, lans, ports)?,
             frames: Store::new(alloc),
             wheel: Wheel::new(alloc)?,
-            fresh_at: 0,
+            fresh: Fresh {
+                place: 0,
+                pair: None,
+            },
             waiting: Waiting::new(alloc),
             honest: true,
             strays: 0,
@@ -99,12 +102,12 @@ impl LanBag {
     }
 
     /// Offers the frame of a unit.
-    fn send(&mut self, unit: &Unit<Port>, wish: Wish) -> Result<Offered, NoMemory>
-        ensures { IfOk result (λ answer. BagStep self.old (Offer unit.now wish answer) self.new) }
+    fn send(&mut self, unit: Unit<Port>, wish: Wish) -> Result<Offered, NoMemory>
+        ensures { IfOk result (λ answer. BagStep self.old (Offer unit wish answer) self.new) }
     {
         let _ = wish;
         let sender = self.setup.system_of(&unit.from);
-        let answer = answer_to(&self.setup, &self.frames, sender, unit);
+        let answer = answer_to(&self.setup, &self.frames, sender, &unit);
         if answer == Offered::Taken {
             self.keep(sender, unit)?;
         }
@@ -112,18 +115,18 @@ impl LanBag {
     }
 
     /// Keeps the frame of a unit of a system that is taken, and tells of it.
-    fn keep(&mut self, sender: Option<u8>, unit: &Unit<Port>) -> Result<(), NoMemory>
-        requires sender { sender ≡ sender_of self.old.rows unit.now.from }
-        requires taken { WasTaken ≡ offered self.old.lans self.old.rows self.old.frames unit.now }
-        ensures { OnOk result (self.new ≡ after_offer self.old unit.now WasTaken) }
+    fn keep(&mut self, sender: Option<u8>, unit: Unit<Port>) -> Result<(), NoMemory>
+        requires sender { sender ≡ sender_of self.old.rows unit.from }
+        requires taken { WasTaken ≡ offered self.old.lans self.old.rows self.old.frames unit }
+        ensures { OnOk result (self.new ≡ after_offer self.old unit WasTaken) }
     {
-        let sent = Sent::new(self.alloc, self.clock, unit)?;
         let place = self.frames.count();
-        tell(sender, place + 1, unit, &mut self.waiting)?;
+        tell(sender, place + 1, &unit, &mut self.waiting)?;
         self.wheel.list(self.setup.bound(unit.to.lan), place)?;
+        let sent = Sent::new(self.alloc, self.clock, unit)?;
         self.frames.push(sent)?;
-        let fresh_at = self.fresh_at;
-        self.fresh_at = open_after(self.clock, &self.setup, &self.frames, fresh_at, place + 1);
+        let fresh = self.fresh;
+        self.fresh = open_after(self.clock, &self.setup, &self.frames, fresh, place + 1);
         Ok(())
     }
 
@@ -131,11 +134,21 @@ impl LanBag {
     fn deliver(&mut self, pick: u32, system: u8) -> Result<Picked, NoMemory>
         ensures { IfOk result (λ answer. BagStep self.old (Choose pick system answer) self.new) }
     {
-        let answer = judge(self.clock, &self.setup, &self.frames, pick, system);
+        let answer = self.answer_for(pick, system);
         if answer == Picked::Taken {
             self.arrive(pick, system)?;
         }
         Ok(answer)
+    }
+
+    /// The answer to a choice; the fresh pair may be taken.
+    fn answer_for(&self, pick: u32, system: u8) -> Picked
+        ensures { result ≡ picked_in self.now pick system }
+    {
+        match self.fresh.pair {
+            Some((number, least)) if number == pick && least == system => Picked::Taken,
+            _ => judge(self.clock, &self.setup, &self.frames, pick, system),
+        }
     }
 
     /// A frame that may be taken arrives, and is marked.
@@ -148,8 +161,8 @@ impl LanBag {
         let arrival = sent.arrival(self.alloc, system)?;
         self.waiting.push(Up::Unit(arrival))?;
         self.frames.mark(pick, system)?;
-        let fresh_at = self.fresh_at;
-        self.fresh_at = open_after(self.clock, &self.setup, &self.frames, fresh_at, pick);
+        let fresh = self.fresh;
+        self.fresh = open_after(self.clock, &self.setup, &self.frames, fresh, pick);
         Ok(())
     }
 
@@ -176,17 +189,15 @@ impl LanBag {
         let due = self.wheel.turn();
         self.clock += 1;
         self.frames.give_up(self.clock, &self.setup, &due);
-        let fresh_at = self.fresh_at;
-        self.fresh_at = open_while_live(self.clock, &self.setup, &self.frames, fresh_at);
+        let fresh = self.fresh;
+        self.fresh = open_while_live(self.clock, &self.setup, &self.frames, fresh);
     }
 
     /// The least pair that a choice would take and has not taken.
     fn next_pair(&self) -> Option<(u32, u8)>
         ensures { IsLeastFresh (link_of self.now) result }
     {
-        let sent = self.frames.at(self.fresh_at)?;
-        let system = first_system(self.clock, &self.setup, sent)?;
-        Some((self.fresh_at + 1, system))
+        self.fresh.pair
     }
 }
 
@@ -240,7 +251,7 @@ impl Carrier for LanBag {
         ensures link { IfOk result (λ answer. Offers (link_of self.old) unit answer (link_of self.new)) }
         ensures steps { IfOk result (λ answer. BagStep self.old (Offer unit wish answer) self.new) }
     {
-        self.send(&unit, wish)
+        self.send(unit, wish)
     }
 
     fn choose(&mut self, pick: u32, system: u8) -> Result<Picked, NoMemory> {

@@ -1,16 +1,24 @@
 //! Which answers offers and choices get, and which frame comes next (IEEE 802.3).
 
-ghost use Rattle.std.specs.Prelude.{◌≡◌, ◌≢◌, ◌≤◌, ◌+◌, length, IsSome, Some, option_copied, slice_get};
-ghost use Rattle.std.specs.List.{list_any};
+ghost use Rattle.std.specs.Prelude.{◌≡◌, ◌≢◌, ◌≤◌, ◌+◌, length, IsSome, option_copied, slice_get};
 ghost use Rattle.lan_bag.specs.Rows.{sender_of};
 ghost use Rattle.lan_bag.specs.Frames.{kept, offered, picked, picked_of};
-ghost use Rattle.lan_bag.specs.steps.Openings.{is_open_at, is_open, IsClosedTo, IsFirstOpen, IsLeastOpen, lesser_of};
+ghost use Rattle.lan_bag.specs.steps.Openings.{is_open_at, IsClosedTo, IsFreshAt, IsLeastAt, IsLeastOpen, lesser_of};
 
 use crate::frame::Sent;
 use crate::setup::{PortRow, Setup};
 use crate::store::Store;
 use nsap::Port;
 use osi_base::{DropCause, Offered, Picked, Tick, Unit};
+
+/// The first frame that a system may take and has not taken.
+#[derive(Clone, Copy)]
+pub struct Fresh {
+    /// Its place, and where there is none how many frames were numbered.
+    pub place: u32,
+    /// Its number, and the least system that may take it and has not.
+    pub pair: Option<(u32, u8)>,
+}
 
 /// The answer to an offer of a unit of a system: the first cause that applies.
 pub fn answer_to(setup: &Setup, frames: &Store, sender: Option<u8>, unit: &Unit<Port>) -> Offered
@@ -54,31 +62,6 @@ fn judge_system(setup: &Setup, sent: &Sent, system: u8) -> Picked
     }
 }
 
-/// Whether some system may take a frame, and has not.
-fn is_free(clock: Tick, setup: &Setup, frame: Option<&Sent>) -> bool
-    ensures { result ≡ is_open clock setup.now.lans setup.now.rows (option_copied frame.entry) }
-{
-    match frame {
-        Some(sent) => has_free_port(clock, setup, sent),
-        None => false,
-    }
-}
-
-/// Whether a frame goes to some port whose system may take it, and has not.
-fn has_free_port(clock: Tick, setup: &Setup, sent: &Sent) -> bool
-    ensures { result ≡ list_any (is_open_at clock setup.now.lans setup.now.rows sent.now) setup.now.rows }
-{
-    let to = sent.to();
-    setup.may_reach(&to) && is_free_among(setup.rows_on(to.lan), clock, setup, sent)
-}
-
-/// The same, for some port among these.
-fn is_free_among(rows: &[PortRow], clock: Tick, setup: &Setup, sent: &Sent) -> bool
-    ensures { result ≡ list_any (is_open_at clock setup.now.lans setup.now.rows sent.now) rows.now }
-{
-    rows.iter().any(|row| is_free_at(clock, setup, sent, row))
-}
-
 /// Whether a frame goes to the port of a row, and its system may take it, and has not.
 fn is_free_at(clock: Tick, setup: &Setup, sent: &Sent, row: &PortRow) -> bool
     ensures { result ≡ is_open_at clock setup.now.lans setup.now.rows sent.now row.now }
@@ -89,48 +72,73 @@ fn is_free_at(clock: Tick, setup: &Setup, sent: &Sent, row: &PortRow) -> bool
         && judge_system(setup, sent, row.system) == Picked::Taken
 }
 
-/// The place of the first frame, from that place on, that a system may take and has not taken.
-fn first_open(clock: Tick, setup: &Setup, frames: &Store, from: u32) -> u32
+/// The first frame, from that place on, that a system may take and has not taken.
+fn first_open(clock: Tick, setup: &Setup, frames: &Store, from: u32) -> Fresh
     requires within { from ≤ length frames.now }
     requires closed { IsClosedTo clock setup.now.lans setup.now.rows frames.now from }
-    ensures { IsFirstOpen clock setup.now.lans setup.now.rows frames.now result }
+    ensures { IsFreshAt clock setup.now.lans setup.now.rows frames.now result.place result.pair }
 {
     let mut place = from;
-    while place < frames.count() && !is_free(clock, setup, frames.at(place)) {
+    while place < frames.count() {
+        if let Some(system) = first_system_at(clock, setup, frames.at(place)) {
+            let pair = Some((place + 1, system));
+            return Fresh { place, pair };
+        }
         place += 1;
     }
-    place
+    Fresh { place, pair: None }
 }
 
-/// The same where the first that can be taken was at a place, and since then at most the frame of a number came or was taken.
-pub fn open_after(clock: Tick, setup: &Setup, frames: &Store, from: u32, number: u32) -> u32
-    requires within { from ≤ length frames.now }
-    requires closed { IsClosedTo clock setup.now.lans setup.now.rows frames.now from }
-    requires others { from + 1 ≢ number → IsFirstOpen clock setup.now.lans setup.now.rows frames.now from }
-    ensures { IsFirstOpen clock setup.now.lans setup.now.rows frames.now result }
+/// The same where it was known, and since then at most the frame of a number came or was taken.
+pub fn open_after(clock: Tick, setup: &Setup, frames: &Store, fresh: Fresh, number: u32) -> Fresh
+    requires within { fresh.place ≤ length frames.now }
+    requires closed { IsClosedTo clock setup.now.lans setup.now.rows frames.now fresh.place }
+    requires others { fresh.place + 1 ≢ number → IsFreshAt clock setup.now.lans setup.now.rows frames.now fresh.place fresh.pair }
+    ensures { IsFreshAt clock setup.now.lans setup.now.rows frames.now result.place result.pair }
 {
-    if u64::from(from) + 1 == u64::from(number) {
-        first_open(clock, setup, frames, from)
+    if u64::from(fresh.place) + 1 == u64::from(number) {
+        first_open(clock, setup, frames, fresh.place)
     } else {
-        from
+        fresh
     }
 }
 
-/// The same where the first that can be taken was at a place, and since then the frames that are late were given up.
-pub fn open_while_live(clock: Tick, setup: &Setup, frames: &Store, from: u32) -> u32
-    requires within { from ≤ length frames.now }
-    requires closed { IsClosedTo clock setup.now.lans setup.now.rows frames.now from }
-    requires stands { IsSome (kept (slice_get frames.now from)) → IsFirstOpen clock setup.now.lans setup.now.rows frames.now from }
-    ensures { IsFirstOpen clock setup.now.lans setup.now.rows frames.now result }
+/// The same where it was known, and since then the frames that are late were given up.
+pub fn open_while_live(clock: Tick, setup: &Setup, frames: &Store, fresh: Fresh) -> Fresh
+    requires within { fresh.place ≤ length frames.now }
+    requires closed { IsClosedTo clock setup.now.lans setup.now.rows frames.now fresh.place }
+    requires stands { IsSome (kept (slice_get frames.now fresh.place)) → IsFreshAt clock setup.now.lans setup.now.rows frames.now fresh.place fresh.pair }
+    ensures { IsFreshAt clock setup.now.lans setup.now.rows frames.now result.place result.pair }
 {
-    match frames.at(from) {
-        Some(_) => from,
-        None => first_open(clock, setup, frames, from),
+    match frames.at(fresh.place) {
+        Some(_) => fresh,
+        None => first_open(clock, setup, frames, fresh.place),
     }
 }
 
-/// The least system that may take a frame, and has not.
-pub fn first_system(clock: Tick, setup: &Setup, sent: &Sent) -> Option<u8>
+/// The least system that may take the frame that stands at a place, and has not.
+fn first_system_at(clock: Tick, setup: &Setup, frame: Option<&Sent>) -> Option<u8>
+    ensures { IsLeastAt clock setup.now.lans setup.now.rows (option_copied frame.entry) result }
+{
+    match frame {
+        Some(sent) => first_system(clock, setup, sent),
+        None => None,
+    }
+}
+
+/// The least system that may take a frame, and has not; no port is looked at where it goes to none.
+fn first_system(clock: Tick, setup: &Setup, sent: &Sent) -> Option<u8>
+    ensures { IsLeastOpen clock setup.now.lans setup.now.rows sent.now result }
+{
+    if setup.may_reach(&sent.to()) {
+        first_system_on(clock, setup, sent)
+    } else {
+        None
+    }
+}
+
+/// The least system of the ports on its LAN that may take a frame, and has not.
+fn first_system_on(clock: Tick, setup: &Setup, sent: &Sent) -> Option<u8>
     ensures { IsLeastOpen clock setup.now.lans setup.now.rows sent.now result }
 {
     let mut least = None;

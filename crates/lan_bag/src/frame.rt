@@ -38,16 +38,16 @@ impl Model for Sent {
 
 impl Sent {
     /// The frame of a unit, sent at that tick, which no system took yet.
-    pub fn new(alloc: Global, tick: Tick, unit: &Unit<Port>) -> Result<Sent, NoMemory>
-        requires { length unit.now.octets ≤ 1497 }
-        ensures { IfOk result (λ sent. sent ≡ record { tick = tick; unit = unit.now; taken = [] }) }
+    pub fn new(alloc: Global, tick: Tick, unit: Unit<Port>) -> Result<Sent, NoMemory>
+        requires { length unit.octets ≤ 1497 }
+        ensures { IfOk result (λ sent. sent ≡ record { tick = tick; unit = unit; taken = [] }) }
     {
-        let pdu = unit.octets.as_slice();
+        let pdu = unit.octets.into_vec();
         Ok(Sent {
             tick,
             from: unit.from,
             to: unit.to,
-            whole: write_frame(alloc, &unit.to.snpa, &unit.from.snpa, pdu)?,
+            whole: write_frame(&unit.to.snpa, &unit.from.snpa, pdu)?,
             taken: Takers::new(alloc),
         })
     }

@@ -1,2 +1,3 @@
 mod Framing
 pub mod Header
+mod Put

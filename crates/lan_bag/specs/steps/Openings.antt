@@ -1,5 +1,5 @@
 -- The frames that a system can take and has not: the first of them, and the least system that can take it.
-use Rattle.std.specs.Prelude.{◌≡◌, ℕ, ◌<◌, ◌≤◌, Bool, true, false, not, ◌&&◌, nat_lt, if◌then◌else◌, List, length, Option, Some, None, slice_get}
+use Rattle.std.specs.Prelude.{◌≡◌, ℕ, ◌+◌, ◌<◌, ◌≤◌, Bool, true, false, not, ◌&&◌, nat_lt, if◌then◌else◌, List, length, Option, Some, None, slice_get}
 use Rattle.std.specs.List.{list_any}
 use Rattle.lan_bag.specs.declared.setup.Lan.{Lan}
 use Rattle.lan_bag.specs.declared.setup.PortRow.{PortRow}
@@ -42,3 +42,18 @@ IsLeastOpen clock lans rows frame None = (system : ℕ) → is_open_to clock lan
 IsLeastOpen clock lans rows frame (Some least) =
     (is_open_to clock lans rows frame least ≡ true)
     × ((system : ℕ) → is_open_to clock lans rows frame system ≡ true → least ≤ system)
+
+-- the same of what stands at a place
+abbrev pub IsLeastAt : ℕ → List Lan → List PortRow → Option Frame → Option ℕ → Type 0
+IsLeastAt clock lans rows None least = least ≡ None
+IsLeastAt clock lans rows (Some frame) least = IsLeastOpen clock lans rows frame least
+
+-- the number of what stands at a place, and the least system that can take it and has not; none exactly where there is none
+abbrev pub IsPairAt : ℕ → List Lan → List PortRow → ℕ → Option Frame → Option (ℕ × ℕ) → Type 0
+IsPairAt clock lans rows place slot None = IsLeastAt clock lans rows slot None
+IsPairAt clock lans rows place slot (Some pair) = (pair.0 ≡ place + 1) × IsLeastAt clock lans rows slot (Some pair.1)
+
+-- the first frame that a system can take and has not taken is at that place, and the pair is its own
+pub record IsFreshAt (clock : ℕ) (lans : List Lan) (rows : List PortRow) (frames : List (Option Frame)) (place : ℕ) (next : Option (ℕ × ℕ)) : Type 0 where
+  pub first : IsFirstOpen clock lans rows frames place
+  pub pair : IsPairAt clock lans rows place (kept (slice_get frames place)) next

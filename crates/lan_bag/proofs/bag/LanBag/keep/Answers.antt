@@ -1,49 +1,59 @@
-use Rattle.std.proofs.Common.{◌≡◌, ℕ, ◌+◌, ◌<◌, ◌++◌, ap, ◌∷◌, [], List, Option, Some, sym, subst}
+use Rattle.std.proofs.Common.{◌≡◌, ℕ, ◌+◌, ◌<◌, ◌++◌, ap, ◌∷◌, [], List, Option, Some, refl, sym, subst}
 use Rattle.osi_base.specs.declared.unit.Offered.TheVariants.{Taken as WasTaken}
 use Rattle.lan_bag.specs.Frames.{offered, Frame}
-use Rattle.lan_bag.specs.steps.Openings.{IsFirstOpen}
+use Rattle.lan_bag.specs.steps.Openings.{IsFreshAt}
 use Rattle.lan_bag.specs.steps.Wheel.{listed}
 use Rattle.lan_bag.specs.Bag.{Bag}
 use Rattle.lan_bag.proofs.Offers.{taken_fits, bounds_fit}
-use Rattle.lan_bag.proofs.Openings.{closed_pushed, closed_same, first_pushed, first_same}
+use Rattle.lan_bag.proofs.Openings.{closed_pushed, closed_same, fresh_pushed, fresh_same}
 use Rattle.lan_bag.proofs.Wheels.{due_listed, due_offered, due_same}
 use Rattle.lan_bag.proofs.bag.LanBag.keep.Goals as goal
 
 pub tell-requires : goal.tell-requires
 tell-requires c =
-    taken_fits c.self.inside.setup.lans c.self.inside.setup.rows c.self.inside.frames c.args.unit.now
-    (subst (λ (bag : Bag). WasTaken ≡ offered bag.lans bag.rows bag.frames c.args.unit.now) (sym c.self.view_is) c.requires.taken)
+    taken_fits c.self.inside.setup.lans c.self.inside.setup.rows c.self.inside.frames c.args.unit
+    (subst (λ (bag : Bag). WasTaken ≡ offered bag.lans bag.rows bag.frames c.args.unit) (sym c.self.view_is) c.requires.taken)
     c.self.invariant.lans_fit
 
 pub open_after-self-inside-requires-clause-closed : goal.open_after-self-inside-requires-clause-closed
 open_after-self-inside-requires-clause-closed c =
-    closed_same c.self.inside.clock c.self.inside.setup.lans c.self.inside.setup.rows (c.self.inside.frames ++ Some c.in_ok-sent.sent ∷ []) c.push.new.self c.self.inside.fresh_at
-    (closed_pushed c.self.inside.clock c.self.inside.setup.lans c.self.inside.setup.rows c.self.inside.frames c.self.inside.fresh_at (Some c.in_ok-sent.sent) c.self.invariant.first)
+    closed_same c.self.inside.clock c.self.inside.setup.lans c.self.inside.setup.rows (c.self.inside.frames ++ Some c.in_ok-sent.sent ∷ []) c.push.new.self c.self.inside.fresh.place
+    (closed_pushed c.self.inside.clock c.self.inside.setup.lans c.self.inside.setup.rows c.self.inside.frames c.self.inside.fresh.place (Some c.in_ok-sent.sent) c.self.invariant.fresh.first)
     c.in_ok-push.ensures.ok
 
 pub open_after-self-inside-requires-clause-others : goal.open_after-self-inside-requires-clause-others
 open_after-self-inside-requires-clause-others c other =
-    first_same c.self.inside.clock c.self.inside.setup.lans c.self.inside.setup.rows (c.self.inside.frames ++ Some c.in_ok-sent.sent ∷ []) c.push.new.self c.self.inside.fresh_at
-    (first_pushed c.self.inside.clock c.self.inside.setup.lans c.self.inside.setup.rows c.self.inside.frames c.self.inside.fresh_at (c.count-place.result + 1) (Some c.in_ok-sent.sent) c.self.invariant.first other (ap (λ (n : ℕ). n + 1) c.count-place.ensures))
+    fresh_same c.self.inside.clock c.self.inside.setup.lans c.self.inside.setup.rows (c.self.inside.frames ++ Some c.in_ok-sent.sent ∷ []) c.push.new.self c.self.inside.fresh.place c.self.inside.fresh.pair
+    (fresh_pushed c.self.inside.clock c.self.inside.setup.lans c.self.inside.setup.rows c.self.inside.frames c.self.inside.fresh.place (c.count-place.result + 1) c.self.inside.fresh.pair (Some c.in_ok-sent.sent) c.self.invariant.fresh other (ap (λ (n : ℕ). n + 1) c.count-place.ensures))
     c.in_ok-push.ensures.ok
 
 pub invariant_of-self-in_err-push : goal.invariant_of-self-in_err-push
 invariant_of-self-in_err-push c = record {
   lans_fit = c.self.invariant.lans_fit;
   strays = c.self.invariant.strays;
-  first = subst (λ (frames : List (Option Frame)). IsFirstOpen c.self.inside.clock c.self.inside.setup.lans c.self.inside.setup.rows frames c.self.inside.fresh_at) (sym c.in_err-push.ensures.err) c.self.invariant.first;
+  fresh = subst (λ (frames : List (Option Frame)). IsFreshAt c.self.inside.clock c.self.inside.setup.lans c.self.inside.setup.rows frames c.self.inside.fresh.place c.self.inside.fresh.pair) (sym c.in_err-push.ensures.err) c.self.invariant.fresh;
   due = due_same c.self.inside.clock c.self.inside.setup.lans c.self.inside.frames c.push.new.self (listed c.self.inside.wheel c.bound.result c.count-place.result) c.list.new.self
       (due_listed c.self.inside.clock c.self.inside.setup.lans c.self.inside.frames c.self.inside.wheel c.bound.result c.count-place.result c.self.invariant.due)
       c.in_err-push.ensures.err c.in_ok-list.ensures.ok;
+}
+
+pub invariant_of-self-in_err-sent : goal.invariant_of-self-in_err-sent
+invariant_of-self-in_err-sent c = record {
+  lans_fit = c.self.invariant.lans_fit;
+  strays = c.self.invariant.strays;
+  fresh = c.self.invariant.fresh;
+  due = due_same c.self.inside.clock c.self.inside.setup.lans c.self.inside.frames c.self.inside.frames (listed c.self.inside.wheel c.bound.result c.count-place.result) c.list.new.self
+      (due_listed c.self.inside.clock c.self.inside.setup.lans c.self.inside.frames c.self.inside.wheel c.bound.result c.count-place.result c.self.invariant.due)
+      refl c.in_ok-list.ensures.ok;
 }
 
 pub invariant_of-self-2 : goal.invariant_of-self-2
 invariant_of-self-2 c = record {
   lans_fit = c.self.invariant.lans_fit;
   strays = c.self.invariant.strays;
-  first = c.open_after-self-inside.ensures;
-  due = due_offered c.self.inside.clock c.self.inside.setup.lans c.self.inside.frames c.push.new.self c.self.inside.wheel c.list.new.self c.in_ok-sent.sent c.args.unit.now c.bound.result c.count-place.result
+  fresh = c.open_after-self-inside.ensures;
+  due = due_offered c.self.inside.clock c.self.inside.setup.lans c.self.inside.frames c.push.new.self c.self.inside.wheel c.list.new.self c.in_ok-sent.sent c.args.unit c.bound.result c.count-place.result
       c.self.invariant.due c.in_ok-sent.ensures c.bound.ensures c.count-place.ensures
-      (subst (λ (bound : ℕ). bound < 17) (sym c.bound.ensures) (bounds_fit c.self.inside.setup.lans c.args.unit.now.to.lan c.self.invariant.lans_fit))
+      (subst (λ (bound : ℕ). bound < 17) (sym c.bound.ensures) (bounds_fit c.self.inside.setup.lans c.args.unit.to.lan c.self.invariant.lans_fit))
       c.list.ensures.span c.in_ok-list.ensures.ok c.in_ok-push.ensures.ok;
 }

@@ -2,22 +2,22 @@ use Rattle.std.proofs.Common.{◌+◌, ◌∙◌, map, List, Option, slice_get, 
 use Rattle.std.specs.Prelude.{IsSome}
 use Rattle.lan_bag.specs.Frames.{Frame, kept, kept_at}
 use Rattle.lan_bag.specs.steps.Wheel.{list_at, turned}
-use Rattle.lan_bag.proofs.Openings.{closed_ticked, closed_same, first_ticked, first_same}
+use Rattle.lan_bag.proofs.Openings.{closed_ticked, closed_same, fresh_ticked, fresh_same}
 use Rattle.lan_bag.proofs.Wheels.{due_ticked, due_same, late_listed, late_same}
 use Rattle.lan_bag.proofs.bag.LanBag.pass.Goals as goal
 
 pub open_while_live-self-inside-requires-clause-closed : goal.open_while_live-self-inside-requires-clause-closed
 open_while_live-self-inside-requires-clause-closed c =
-    closed_same (c.self.inside.clock + 1) c.self.inside.setup.lans c.self.inside.setup.rows (map (kept_at (c.self.inside.clock + 1) c.self.inside.setup.lans) c.self.inside.frames) c.give_up.new.self c.self.inside.fresh_at
-    (closed_ticked c.self.inside.clock c.self.inside.setup.lans c.self.inside.setup.rows c.self.inside.frames c.self.inside.fresh_at c.self.invariant.first)
+    closed_same (c.self.inside.clock + 1) c.self.inside.setup.lans c.self.inside.setup.rows (map (kept_at (c.self.inside.clock + 1) c.self.inside.setup.lans) c.self.inside.frames) c.give_up.new.self c.self.inside.fresh.place
+    (closed_ticked c.self.inside.clock c.self.inside.setup.lans c.self.inside.setup.rows c.self.inside.frames c.self.inside.fresh.place c.self.invariant.fresh.first)
     c.give_up.ensures
 
 pub open_while_live-self-inside-requires-clause-stands : goal.open_while_live-self-inside-requires-clause-stands
 open_while_live-self-inside-requires-clause-stands c some =
     let late : List (Option Frame) = map (kept_at (c.self.inside.clock + 1) c.self.inside.setup.lans) c.self.inside.frames in
-    first_same (c.self.inside.clock + 1) c.self.inside.setup.lans c.self.inside.setup.rows late c.give_up.new.self c.self.inside.fresh_at
-    (first_ticked c.self.inside.clock c.self.inside.setup.lans c.self.inside.setup.rows c.self.inside.frames c.self.inside.fresh_at c.self.invariant.first
-    (subst (λ (frames : List (Option Frame)). IsSome (kept (slice_get frames c.self.inside.fresh_at))) c.give_up.ensures some))
+    fresh_same (c.self.inside.clock + 1) c.self.inside.setup.lans c.self.inside.setup.rows late c.give_up.new.self c.self.inside.fresh.place c.self.inside.fresh.pair
+    (fresh_ticked c.self.inside.clock c.self.inside.setup.lans c.self.inside.setup.rows c.self.inside.frames c.self.inside.fresh.place c.self.inside.fresh.pair c.self.invariant.fresh
+    (subst (λ (frames : List (Option Frame)). IsSome (kept (slice_get frames c.self.inside.fresh.place))) c.give_up.ensures some))
     c.give_up.ensures
 
 pub give_up-requires : goal.give_up-requires
@@ -30,7 +30,7 @@ pub invariant_of-self : goal.invariant_of-self
 invariant_of-self c = record {
   lans_fit = c.self.invariant.lans_fit;
   strays = c.self.invariant.strays;
-  first = c.open_while_live-self-inside.ensures;
+  fresh = c.open_while_live-self-inside.ensures;
   due = due_same (c.self.inside.clock + 1) c.self.inside.setup.lans (map (kept_at (c.self.inside.clock + 1) c.self.inside.setup.lans) c.self.inside.frames) c.give_up.new.self (turned c.self.inside.wheel) c.turn-due.new.self
       (due_ticked c.self.inside.clock c.self.inside.setup.lans c.self.inside.frames c.self.inside.wheel c.self.invariant.due)
       c.give_up.ensures c.turn-due.ensures.rest;

@@ -7,13 +7,13 @@ use Rattle.lan_bag.proofs.frame.Sent.new.Goals as goal
 
 pub invariant_of-result : goal.invariant_of-result
 invariant_of-result c =
-    let most : length c.as_slice-pdu.result.now ≤ 1497 = grind (arith, common_steps) in
-    is_whole c.args.unit.now.to.snpa c.args.unit.now.from.snpa c.as_slice-pdu.result.now c.in_ok-write_frame.field-0.items
+    let most : length c.into_vec-pdu.result.items ≤ 1497 = grind (arith, common_steps) in
+    is_whole c.args.unit.to.snpa c.args.unit.from.snpa c.into_vec-pdu.result.items c.in_ok-write_frame.field-0.items
     c.in_ok-write_frame.ensures.whole c.in_ok-write_frame.ensures.to c.in_ok-write_frame.ensures.from most
 
 pub returns : goal.returns
 returns c =
-    let rest : drop 17 c.in_ok-write_frame.field-0.items ≡ c.as_slice-pdu.result.now =
+    let rest : drop 17 c.in_ok-write_frame.field-0.items ≡ c.into_vec-pdu.result.items =
     ap (λ (xs : List ℕ). drop 17 xs) c.in_ok-write_frame.ensures.whole
-    ∙ header_dropped c.args.unit.now.to.snpa c.args.unit.now.from.snpa c.as_slice-pdu.result.now c.in_ok-write_frame.ensures.to c.in_ok-write_frame.ensures.from in
+    ∙ header_dropped c.args.unit.to.snpa c.args.unit.from.snpa c.into_vec-pdu.result.items c.in_ok-write_frame.ensures.to c.in_ok-write_frame.ensures.from in
     grind (arith, common_steps, rest)
