@@ -16,6 +16,9 @@ use osi_base::{HeaderRefusal, fletcher_seal};
 use pdu_parts::{push_field, push_number, push_parameter};
 use std::alloc::{AllocError, Global};
 
+/// Room behind a written PDU for the octets that a LAN puts before it: 14 of the MAC header and 3 of the LLC PDU.
+pub const HEADROOM: usize = 17;
+
 /// The octets of the PDU: in the grammar where the grammar allows the value, and else its fields as they are.
 ///
 /// A checksum in use has no octet that is 0. In an ER PDU the bits MS and E/R are 0. TooLong exactly where the header
@@ -34,7 +37,7 @@ pub fn write_pdu(alloc: Global, pdu: &Pdu) -> Result<Vec<u8>, HeaderRefusal>
         return Err(HeaderRefusal::TooLong);
     }
     let whole = header + body.len();
-    let mut octets = Vec::with_capacity(alloc, whole)?;
+    let mut octets = Vec::with_capacity(alloc, whole + HEADROOM)?;
     push_header(&mut octets, pdu, header as u8, whole as u16)?;
     seal(&mut octets, pdu.checksum_used);
     octets.extend_from_slice(body)?;

@@ -7,6 +7,7 @@ ghost use Rattle.clnp_system.specs.Setting.{own_address, port_on};
 
 use crate::framing::{hello_octets, sender};
 use crate::setup::SystemSetup;
+use clnp_header::HEADROOM;
 use esis_pdu::Hello;
 use nsap::{Nsap, Port, Snpa};
 use osi_base::{Items, NoMemory, Tick, Unit};
@@ -63,7 +64,7 @@ impl SystemSetup {
                 lan: port.lan,
                 snpa: hearers,
             };
-            frames.push(self.unit(to, Vec::from_slice(alloc, &octets)?))?;
+            frames.push(self.unit(to, copy_of(alloc, &octets)?))?;
         }
         Ok(frames)
     }
@@ -146,4 +147,13 @@ impl SystemSetup {
         let frame = self.hello_frame(alloc, sender(from, at), &hello)?;
         Ok(Some(frame))
     }
+}
+
+/// The octets of a hello once more, with room for the header of a frame.
+fn copy_of(alloc: Global, octets: &[u8]) -> Result<Vec<u8>, NoMemory>
+    ensures { IfOk result (λ copy. copy.items ≡ octets.now) }
+{
+    let mut copy = Vec::with_capacity(alloc, octets.len() + HEADROOM)?;
+    copy.extend_from_slice(octets)?;
+    Ok(copy)
 }

@@ -18,7 +18,7 @@ loop-port-preserved c =
     let ports = c.args.ports.now in
     let i = c.loop-port.port-index in
     let at : slice_get ports i ≡ Some c.port-item.result = slice_get_read ports (length ports) i c.port-item.result refl c.loop-port-test.true c.port-item.is in
-    let octets = c.unit.ensures.octets ∙ c.in_ok-from_slice.ensures.items ∙ c.deref.ensures.value in
+    let octets = c.unit.ensures.octets ∙ c.in_ok-copy_of.ensures ∙ c.deref.ensures.value in
     let to : Port = record { lan = c.port-item.result.lan; snpa = c.hearers-hearers.result } in
     let is : IsHelloFrame c.args.self.now to c.args.hello.now c.unit.result = record {
       goes = record { from = sym c.unit.ensures.from; to_is = c.unit.ensures.to };
