@@ -94,6 +94,9 @@ impl NetEntity {
         ensures value { result ≡ find_row self.now.redirects.rows now address.now }
         ensures near { IfSome result (IsNear self.now.setup) }
     {
+        if self.redirects.is_empty() {
+            return None;
+        }
         self.redirects.find(now, address)
     }
 
@@ -103,6 +106,9 @@ impl NetEntity {
         ensures value { result ≡ find_row self.now.neighbours.rows now address.now }
         ensures near { IfSome result (IsNear self.now.setup) }
     {
+        if self.neighbours.is_empty() {
+            return None;
+        }
         self.neighbours.find(now, address)
     }
 

@@ -2,7 +2,7 @@
 //!
 //! Profile: a table has at most 256 rows, and each prefix at most once.
 
-ghost use Rattle.std.specs.Prelude.{◌≡◌, ◌<◌, ◌≤◌, ◌↔◌, [], ◌∷◌, ◌++◌, true, false, length, Err, OnOk, OnErr};
+ghost use Rattle.std.specs.Prelude.{◌≡◌, ◌<◌, ◌≤◌, ◌↔◌, [], ◌∷◌, ◌++◌, true, false, length, option_copied, Err, OnOk, OnErr};
 ghost use Rattle.clnp_route.specs.declared.table.AddRefusal.TheVariants.{Duplicate, Full};
 ghost use Rattle.clnp_route.specs.Routes.{has_prefix, IsNext, next_hop};
 ghost use Rattle.clnp_route.specs.steps.Best.{IsBest, is_better};
@@ -133,21 +133,21 @@ fn next_in(rows: &[RouteRow], address: &Nsap) -> Option<Hop>
 }
 
 // The row of the longest prefix that covers the address.
-fn best_row(rows: &[RouteRow], address: &Nsap) -> Option<RouteRow>
-    ensures { IsBest rows.now address.now result }
+fn best_row<'a>(rows: &'a [RouteRow], address: &Nsap) -> Option<&'a RouteRow>
+    ensures { IsBest rows.now address.now (option_copied result) }
 {
     let mut best = None;
     for row in rows {
-        if is_better(row, &best, address) {
-            best = Some(*row);
+        if is_better(row, best, address) {
+            best = Some(row);
         }
     }
     best
 }
 
 // Whether the row covers the address, with a longer prefix than the best one so far.
-fn is_better(row: &RouteRow, best: &Option<RouteRow>, address: &Nsap) -> bool
-    ensures { result ≡ is_better row.now best.now address.now }
+fn is_better(row: &RouteRow, best: Option<&RouteRow>, address: &Nsap) -> bool
+    ensures { result ≡ is_better row.now (option_copied best.entry) address.now }
 {
     let longer = match best {
         Some(best) => best.prefix.octets().len() < row.prefix.octets().len(),

@@ -2,7 +2,7 @@
 //!
 //! Profile: a table has at most 256 rows.
 
-ghost use Rattle.std.specs.Prelude.{◌≡◌, ◌<◌, ◌≤◌, [], ◌∷◌, ◌++◌, false, Err, OnOk, OnErr, IfOk, length, position, take, option_copied, nat_eq};
+ghost use Rattle.std.specs.Prelude.{◌≡◌, ◌<◌, ◌≤◌, ◌↔◌, [], ◌∷◌, ◌++◌, false, Err, IsTrue, OnOk, OnErr, IfOk, length, position, take, option_copied, nat_eq};
 ghost use Rattle.std.specs.List.{All, filter};
 ghost use Rattle.std.specs.Cmp.Lexicographic.{pointwise};
 ghost use Rattle.esis_tables.specs.declared.known.HearRefusal.TheVariants.{Full};
@@ -80,6 +80,13 @@ impl Known {
         } else {
             None
         }
+    }
+
+    /// Whether no address has a row.
+    pub fn is_empty(&self) -> bool
+        ensures { IsTrue result ↔ (self.now.rows ≡ []) }
+    {
+        self.rows.is_empty()
     }
 
     /// The hop to the known intermediate system of least title.

@@ -1,6 +1,6 @@
 //! The systems that are known by their hellos (ISO 9542, record configuration function, flush old configuration function).
 
-ghost use Rattle.std.specs.Prelude.{◌≡◌, ◌<◌, ◌≤◌, Err, IfOk, List, OnOk, OnErr};
+ghost use Rattle.std.specs.Prelude.{◌≡◌, ◌<◌, ◌≤◌, Err, IfOk, List, OnOk, OnErr, ◌↔◌, [], IsTrue};
 ghost use Rattle.esis_pdu.specs.Lent.{listed, value_of};
 ghost use Rattle.esis_tables.specs.declared.known.HearRefusal.TheVariants.{Full};
 ghost use Rattle.esis_tables.specs.Told.{IsConfiguration, IsRouter, Told, known_hop, told_of};
@@ -40,6 +40,13 @@ impl Neighbours {
             alloc,
             known: Known::new(alloc),
         }
+    }
+
+    /// Whether no address has a row.
+    pub fn is_empty(&self) -> bool
+        ensures { IsTrue result ↔ (self.now.rows ≡ []) }
+    {
+        self.known.is_empty()
     }
 
     /// The hop to an address; None exactly where the latest hello that named it is known no longer, or none did.

@@ -1,6 +1,6 @@
 //! The better hops that an end system was told (ISO 9542, record redirect function, flush old redirect function).
 
-ghost use Rattle.std.specs.Prelude.{◌≡◌, ◌<◌, ◌≤◌, Err, List, OnOk, OnErr};
+ghost use Rattle.std.specs.Prelude.{◌≡◌, ◌<◌, ◌≤◌, Err, List, OnOk, OnErr, ◌↔◌, [], IsTrue};
 ghost use Rattle.esis_pdu.specs.Lent.{value_of};
 ghost use Rattle.esis_tables.specs.declared.known.HearRefusal.TheVariants.{Full};
 ghost use Rattle.esis_tables.specs.Told.{IsRedirect, Told, known_hop, on_lan, told_of};
@@ -38,6 +38,13 @@ impl Redirects {
         Redirects {
             known: Known::new(alloc),
         }
+    }
+
+    /// Whether no address has a row.
+    pub fn is_empty(&self) -> bool
+        ensures { IsTrue result ↔ (self.now.rows ≡ []) }
+    {
+        self.known.is_empty()
     }
 
     /// The hop to an address; None exactly where the latest redirect that named it is known no longer, or none did.
