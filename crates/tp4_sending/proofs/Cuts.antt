@@ -1,7 +1,5 @@
 -- The piece of a number is in the first unit, or among those of the units behind it.
 use Rattle.std.proofs.Common.{◌≡◌, ℕ, zero, suc, ◌+◌, ◌-◌, ◌≤◌, nat_lt, if◌then◌else◌, List, [], ◌∷◌, length, drop, slice_get, refl, ◌∙◌, ap, arith, Some, None}
-use Rattle.std.specs.List.{sum_by}
-use Rattle.std.proofs.lemmas.List.Sums.{sum_by-cons}
 use Rattle.tp4_sending.specs.Pieces.{cut_at, cut_of, count_in}
 
 pub cut_here : (size : ℕ) (units : List (List ℕ)) (at next left : ℕ) (unit : List ℕ) → slice_get units at ≡ Some unit → next ≡ at + 1
@@ -21,21 +19,3 @@ cut_past size [] zero left h = refl
 cut_past size [] (suc at) left h = refl
 cut_past size (unit ∷ units) zero left h = absurd (omega (arith, h))
 cut_past size (unit ∷ units) (suc at) left h = cut_past size units at left (omega (arith, h))
-
--- the octets of the units from one on
-pub octets_here : (units : List (List ℕ)) (at next : ℕ) (unit : List ℕ) → slice_get units at ≡ Some unit → next ≡ at + 1
-    → sum_by length (drop at units) ≡ length unit + sum_by length (drop next units)
-octets_here [] at next unit e n = cc
-octets_here (first ∷ units) zero zero unit e n = absurd (omega (arith, n))
-octets_here (first ∷ units) zero (suc next) unit e n =
-    let same : first ≡ unit = cc in
-    let none : 0 ≡ next = omega (arith, n) in
-    sum_by-cons length first units ∙ ap (λ (u : List ℕ). length u + sum_by length units) same ∙ ap (λ (k : ℕ). length unit + sum_by length (drop k units)) none
-octets_here (first ∷ units) (suc at) zero unit e n = absurd (omega (arith, n))
-octets_here (first ∷ units) (suc at) (suc next) unit e n = octets_here units at next unit e (omega (arith, n))
-
-pub octets_past : (units : List (List ℕ)) (at : ℕ) → length units ≤ at → sum_by length (drop at units) ≡ 0
-octets_past [] zero h = refl
-octets_past [] (suc at) h = refl
-octets_past (unit ∷ units) zero h = absurd (omega (arith, h))
-octets_past (unit ∷ units) (suc at) h = octets_past units at (omega (arith, h))

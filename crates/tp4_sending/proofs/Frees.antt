@@ -20,6 +20,9 @@ freed_here size n first count unit units c h =
     ap (λ (b : Bool). if b then freed_by size n (first + count_in size unit) units else record { units = unit ∷ units; first = first })
     (lt-leb _ _ (omega (arith, c, h)))
 
+pub octets_on : (unit : List ℕ) (units : List (List ℕ)) → sum_by length (unit ∷ units) ≡ length unit + sum_by length units
+octets_on unit units = sum_by-cons length unit units
+
 -- what is left is no more
 pub record Left (n : ℕ) (old : List (List ℕ)) (q : Queue) : Type 0 where
   pub first : q.first ≤ n

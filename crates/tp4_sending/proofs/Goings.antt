@@ -1,5 +1,5 @@
 -- The DTs that may go, one after another: what went, and then what may still go, is the whole.
-use Rattle.std.proofs.Common.{◌≡◌, ℕ, zero, suc, ◌+◌, ◌-◌, ◌<◌, ◌≤◌, Bool, true, false, nat_lt, if◌then◌else◌, ◌&&◌, not, List, [], ◌∷◌, ◌++◌, append_assoc, append-nil, refl, sym, ◌∙◌, ap, subst, arith, Option, Some, None}
+use Rattle.std.proofs.Common.{◌≡◌, ℕ, zero, suc, ◌+◌, ◌-◌, ◌<◌, ◌≤◌, Bool, true, false, nat_lt, if◌then◌else◌, ◌&&◌, not, List, [], ◌∷◌, ◌++◌, append_assoc, append-nil, refl, sym, ◌∙◌, ap, subst, arith, Some}
 use Rattle.std.specs.Prelude.{is_some}
 use Rattle.std.specs.List.{sum_by}
 use Rattle.std.proofs.lemmas.List.Sums.{sum_by-cons}
@@ -8,8 +8,6 @@ use Rattle.std.proofs.lemmas.Bool.Decides.{nat_tests}
 use Rattle.tp4_flow.specs.Told.{Told}
 use Rattle.tp4_sending.specs.FlowSender.{FlowSender, Sendings, Sends, nothing, before, dts_of, has_next, rule_allows, sent_normal, one_normal, held_normal, normals, all_normals, Keeps}
 use Rattle.tp4_sending.specs.Pieces.{cut_at, cut_of, count_in, end_of, Queue}
-use Rattle.tp4_sending.specs.declared.cutting.PieceRef.{PieceRef}
-use Rattle.tp4_sending.specs.steps.Lent.{piece_of}
 
 -- exactly the numbers below the end have a piece
 pub pieces_end : (size : ℕ) (units : List (List ℕ)) (k : ℕ) → is_some (cut_at size units k) ≡ nat_lt k (sum_by (count_in size) units)
@@ -28,10 +26,6 @@ piece_there size queue n low = pieces_end size queue.units (n - queue.first) ∙
   where
     same : nat_lt (n - queue.first) (sum_by (count_in size) queue.units) ≡ nat_lt n (end_of size queue)
     same = grind (arith, nat_tests)
-
-pub lent_there : (piece : Option PieceRef) → is_some (piece_of piece) ≡ is_some piece
-lent_there None = refl
-lent_there (Some piece) = refl
 
 pub record Going (old : FlowSender) (was : Told) (s : FlowSender) (is : Told) : Type 0 where
   pub sender : (all_normals s).sender ≡ (all_normals old).sender

@@ -12,4 +12,5 @@ pub mod Resendings
 pub mod Settles
 pub mod Singles
 pub mod Thens
+pub mod Totals
 pub mod Weights

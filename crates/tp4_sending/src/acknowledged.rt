@@ -46,7 +46,13 @@ impl Sending {
         self.credit = credit;
         self.subsequence = subsequence;
         self.next = next;
-        free(&mut self.units, &mut self.first, self.rules.piece, n);
+        free(
+            &mut self.units,
+            &mut self.first,
+            &mut self.waiting,
+            self.rules.piece,
+            n,
+        );
     }
 
     /// Whether the ED of that wire number is outstanding.

@@ -1,6 +1,7 @@
 //! The pieces of units (X.224, segmentation and reassembling).
 
-ghost use Rattle.std.specs.Prelude.{◌≡◌, ◌<◌, ◌≤◌, ℕ, Option, Some, None};
+ghost use Rattle.std.specs.Prelude.{◌≡◌, ◌<◌, ◌≤◌, ℕ, Option, Some, None, length};
+ghost use Rattle.std.specs.List.{sum_by};
 ghost use Rattle.tp4_sending.specs.Pieces.{count_in, cut_at, cut_of, freed};
 ghost use Rattle.tp4_sending.specs.steps.Lent.{piece_of};
 
@@ -69,18 +70,28 @@ fn cut(octets: &[u8], size: u16, number: u64) -> PieceRef<'_>
     }
 }
 
-/// The units all of whose pieces are below a number go; `first` is the number of the first piece of the first.
-#[tactic(auto, using(crate::proofs::Frees::freed_on, crate::proofs::Frees::freed_here))]
-pub(crate) fn free(units: &mut VecDeque<Bytes>, first: &mut u64, size: u16, n: u64)
+/// The units all of whose pieces are below a number go; `first` is the number of the first piece of the first, and `octets` are those
+/// of the units.
+#[tactic(auto, using(crate::proofs::Frees::freed_on, crate::proofs::Frees::freed_here, crate::proofs::Frees::octets_on))]
+pub(crate) fn free(
+    units: &mut VecDeque<Bytes>,
+    first: &mut u64,
+    octets: &mut u64,
+    size: u16,
+    n: u64,
+)
     requires some { 0 < size }
     requires low { first.old ≤ n }
-    ensures { record { units = units.new.items; first = first.new } ≡ freed size n (record { units = units.old.items; first = first.old }) }
+    requires octets { octets.old ≡ sum_by length units.old.items }
+    ensures octets { octets.new ≡ sum_by length units.new.items }
+    ensures freed { record { units = units.new.items; first = first.new } ≡ freed size n (record { units = units.old.items; first = first.old }) }
 {
     while let Some(unit) = units.front() {
         let count = count_in(unit.as_slice(), size);
         if n - *first < count {
             return;
         }
+        *octets -= unit.as_slice().len() as u64;
         let _ = units.pop_front();
         *first += count;
     }

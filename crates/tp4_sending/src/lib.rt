@@ -6,7 +6,6 @@ mod acknowledged;
 mod cutting;
 mod due;
 mod laws;
-mod refusal;
 mod resends;
 mod sending;
 mod sends;

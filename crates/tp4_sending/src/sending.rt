@@ -10,8 +10,8 @@ ghost use Rattle.tp4_flow.specs.declared.rules.SubmitRefusal.TheVariants.{NoMemo
 ghost use Rattle.tp4_sending.specs.FlowSender.{fresh, at, opened, submitted, urged, is_taken, acknowledged, is_outstanding, urgent_done, life_of, ticked, due_of, refusal, urgent_refusal, Sends, Keeps, Stays};
 ghost use Rattle.tp4_sending.specs.Kept.{IsRules, most_granted};
 
+use crate::cutting::count_in;
 use crate::due::sooner;
-use crate::refusal::octets_in;
 use crate::tries::Tries;
 use crate::urgent::UrgentSending;
 use circular_buffer::HeapCircularBuffer;
@@ -37,14 +37,20 @@ pub struct Sending {
     pub(crate) window: HeapCircularBuffer<Tries>,
     pub(crate) units: VecDeque<Bytes>,
     pub(crate) first: u64,
+    /// The number behind the last piece of the units.
+    pub(crate) end: u64,
+    /// The octets of the units.
+    pub(crate) waiting: u64,
     pub(crate) noted: Option<u64>,
     pub(crate) urgent: UrgentSending,
 }
 
-// Numbers stand in order and grow no faster than ticks, and the window has those from base on up to next.
+// Numbers stand in order and grow no faster than ticks, the window has those from base on up to next, and the pieces and the octets
+// of the units are counted.
 impl Model for Sending {
     ghost use Rattle.tp4_sending.specs.FlowSender.{FlowSender};
     ghost use Rattle.tp4_sending.specs.Kept.{IsSending};
+    ghost use Rattle.tp4_sending.specs.steps.Total.{IsTotal};
 
     ghost Value = { FlowSender };
 
@@ -68,7 +74,7 @@ impl Model for Sending {
       queue = record { units = a.units.items; first = a.first };
       noted = a.noted;
       urgent = record { next = a.urgent.next; blocks = a.urgent.blocks; units = a.urgent.units.items; out = a.urgent.out; noted = a.urgent.noted };
-    }) };
+    }) × IsTotal a.rules.piece a.end a.waiting (record { units = a.units.items; first = a.first }) };
 }
 
 /// The most units that wait, normal or expedited.
@@ -94,6 +100,8 @@ impl Sending {
             window: HeapCircularBuffer::with_capacity(alloc, 16)?,
             units: VecDeque::new(alloc),
             first: 0,
+            end: 0,
+            waiting: 0,
             noted: None,
             urgent: UrgentSending::none(alloc),
         })
@@ -280,13 +288,17 @@ impl Sending {
     }
 
     /// A unit joins its queue.
-    #[tactic(auto, using(crate::proofs::Queues::queued))]
+    #[tactic(auto, using(crate::proofs::Queues::queued, crate::proofs::Totals::queued_total, crate::proofs::Totals::counts_low))]
     fn queue(&mut self, unit: Vec<u8>) -> Result<(), NoMemory>
         requires { refusal self.old (length unit.items) ≡ None }
         ensures ok { OnOk result (self.new ≡ record self.old { queue = record self.old.queue { units = self.old.queue.units ++ unit.items ∷ [] } }) }
         ensures kept { Keeps self.old self.new self.old.clock }
     {
+        let octets = unit.len() as u64;
+        let pieces = count_in(unit.as_slice(), self.rules.piece);
         self.units.push_back(Bytes::of(unit))?;
+        self.end += pieces;
+        self.waiting += octets;
         Ok(())
     }
 
@@ -324,7 +336,7 @@ impl Sending {
         if 16_384 < octets {
             return Some(SubmitRefusal::TooLong);
         }
-        if MOST_UNITS <= self.units.len() || 131_072 < octets_in(&self.units) + octets as u64 {
+        if MOST_UNITS <= self.units.len() || 131_072 < self.waiting + octets as u64 {
             return Some(SubmitRefusal::QueueFull);
         }
         None

@@ -98,11 +98,10 @@ impl Sending {
     }
 
     /// Whether there is a next piece, within the credit.
-    #[tactic(auto, using(crate::proofs::Goings::piece_there, crate::proofs::Goings::lent_there))]
     pub(crate) fn has_next(&self) -> bool
         ensures { result ≡ has_next self.now }
     {
-        self.next < self.base + u64::from(self.credit) && self.piece_of(self.next).is_some()
+        self.next < self.base + u64::from(self.credit) && self.next < self.end
     }
 
     /// The piece of a number.
