@@ -8,7 +8,7 @@ use Rattle.std.specs.List.{position}
 use Rattle.tp4_entity.specs.Entity.{Entity}
 use Rattle.tp4_entity.specs.Step.{is_due}
 use Rattle.tp4_entity.specs.steps.Places.{AreIdle}
-use Rattle.tp4_entity.proofs.PlaceLaws.{Place, no_position, position_is, some_same}
+use Rattle.tp4_entity.proofs.PlaceLaws.{Place, position_is, some_same}
 
 -- each of them
 pub idle_at : (now count : ℕ) (places : List Place) → AreIdle now count places → (at : ℕ) (place : Place) → at < count → slice_get places at ≡ Some place → is_due now place ≡ false
@@ -28,9 +28,6 @@ idle_more now at places place are h is = let next : suc at ≡ at + 1 = omega ar
 
 pub idle_then : (now at : ℕ) (places : List Place) (place : Place) → AreIdle now at places → slice_get places at ≡ Some place → is_due now place ≡ true → position (is_due now) places ≡ Some at
 idle_then now at places place are h is = position_is (is_due now) places at place (λ k one low get. idle_at now at places are k one low get) h is
-
-pub idle_all : (now at : ℕ) (places : List Place) → AreIdle now at places → length places ≤ at → position (is_due now) places ≡ None
-idle_all now at places are past = no_position (is_due now) places (λ k one low get. idle_at now at places are k one (omega (arith, low, past)) get)
 
 -- those before the first end that is due, and its place where it is due no more
 set : (now at : ℕ) (places : List Place) (new : Place) → AreIdle now at places → is_due now new ≡ false → AreIdle now (suc at) (slice_set places at new)

@@ -1,4 +1,5 @@
 pub mod Answered
+pub mod Empty
 pub mod Formats
 pub mod Hearings
 pub mod Idle

@@ -161,6 +161,7 @@ fn take_place(
     requires allowed { IsAllowed (format_of place.old) (tpdu_of tpdu.now) }
     ensures step { OnOk result (Places (takes_at wire now from.now (seen tpdu.now) place.old) place.new out.old out.new) }
     ensures kept { (timers : Timers) (reference : ℕ) → IsPlace timers now reference place.old → IsPlace timers now reference place.new }
+    ensures none { place.old ≡ None → place.new ≡ None }
 {
     match place {
         Some(end) if end.matches(from, tpdu) => end.on_tpdu(now, tpdu, out),

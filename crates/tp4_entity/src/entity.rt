@@ -39,20 +39,22 @@ pub struct TpEntity {
     pub(crate) selectors: Vec<Bytes>,
     pub(crate) ends: Vec<Option<Connection>>,
     pub(crate) idle: usize,
+    pub(crate) used: usize,
 }
 
 // The timers are in their ranges, there are 1 to 64 references, and each end has its reference, these timers and no later clock;
-// none of the first `idle` ends is due.
+// none of the first `idle` ends is due, and behind the first `used` places no end stands.
 impl Model for TpEntity {
     ghost use Rattle.tp4_entity.specs.Entity.{Entity};
-    ghost use Rattle.tp4_entity.specs.steps.Places.{AreIdle, IsEntity};
+    ghost use Rattle.tp4_entity.specs.steps.Places.{AreIdle, IsEntity, IsUsed};
 
     ghost Value = { Entity };
 
     ghost view = { λ a. record { own = a.own; timers = a.timers; clock = a.clock; selectors = a.selectors.items; ends = a.ends.items } };
 
     ghost invariant = { λ a. IsEntity (record { own = a.own; timers = a.timers; clock = a.clock; selectors = a.selectors.items; ends = a.ends.items })
-        × AreIdle a.clock a.idle a.ends.items };
+        × AreIdle a.clock a.idle a.ends.items
+        × IsUsed a.used a.ends.items };
 }
 
 impl TpEntity {
@@ -77,6 +79,7 @@ impl TpEntity {
             selectors: Vec::new(alloc),
             ends,
             idle: 0,
+            used: 0,
         })
     }
 
@@ -212,7 +215,7 @@ impl TpEntity {
         ensures clock { self.new.clock ≤ now }
     {
         self.wake(now);
-        let Some(place) = due_place(&self.ends, self.idle, now) else {
+        let Some(place) = due_place(&self.ends, self.idle, self.used, now) else {
             return Ok(false);
         };
         self.tick_at(place, out)?;

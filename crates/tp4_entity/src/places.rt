@@ -9,7 +9,7 @@ ghost use Rattle.tp4_entity.specs.References.{is_free_place};
 ghost use Rattle.tp4_entity.specs.Step.{end_refusal, is_due};
 ghost use Rattle.tp4_entity.specs.declared.refusal.EntityRefusal.{EntityRefusal};
 ghost use Rattle.tp4_entity.specs.declared.refusal.EntityRefusal.TheVariants.{Call};
-ghost use Rattle.tp4_entity.specs.steps.Places.{AreBehind, AreIdle, IsBehind, IsPlace, Places, calls_at, is_memory, ticks_at};
+ghost use Rattle.tp4_entity.specs.steps.Places.{AreBehind, AreEmpty, AreIdle, IsBehind, IsPlace, Places, calls_at, is_memory, ticks_at};
 
 use crate::EntityRefusal;
 use osi_base::{NoMemory, Tick};
@@ -72,12 +72,19 @@ pub(crate) fn free_place(places: &[Option<Connection>], now: Tick) -> Option<usi
     None
 }
 
-/// The first place whose end is due, where none is among the first `idle` places.
-pub(crate) fn due_place(places: &[Option<Connection>], idle: usize, now: Tick) -> Option<usize>
-    requires { AreIdle now idle places.now }
+/// The first place whose end is due, where none is among the first `idle` places, and no end stands behind the first `used`.
+pub(crate) fn due_place(
+    places: &[Option<Connection>],
+    idle: usize,
+    used: usize,
+    now: Tick,
+) -> Option<usize>
+    requires idle { AreIdle now idle places.now }
+    requires within { used ≤ length places.now }
+    requires empty { AreEmpty used places.now }
     ensures { result ≡ position (is_due now) places.now }
 {
-    for at in idle..places.len() {
+    for at in idle..used {
         if is_due(&places[at], now) {
             return Some(at);
         }
@@ -121,6 +128,7 @@ pub(crate) fn call_place(
     ensures why { IfErr result (λ why. why ≢ Call EndOutOfMemory → end_refusal call place.old ≡ Some why) }
     ensures same { IfErr result (λ why. why ≢ Call EndOutOfMemory → (place.new ≡ place.old) × (out.new ≡ out.old)) }
     ensures kept { (timers : Timers) (reference : ℕ) → IsPlace timers now reference place.old → IsPlace timers now reference place.new }
+    ensures none { place.old ≡ None → place.new ≡ None }
 {
     match place {
         Some(end) => call_end(end, now, call, out),
@@ -172,6 +180,7 @@ pub(crate) fn tick_place(
     ensures step { OnOk result (Places (ticks_at wire now place.old) place.new out.old out.new) }
     ensures later { OnOk result (is_due now place.new ≡ false) }
     ensures kept { (timers : Timers) (reference : ℕ) → IsPlace timers now reference place.old → IsPlace timers now reference place.new }
+    ensures none { place.old ≡ None → place.new ≡ None }
 {
     if let Some(end) = place {
         end.tick(now, out)?;

@@ -62,6 +62,7 @@ impl TpEntity {
         ensures { self.new ≡ with_end self.old (place + 1) (Some end) }
     {
         self.idle = 0;
+        self.used = self.used.max(place + 1);
         self.ends[place] = Some(end);
     }
 

@@ -58,6 +58,18 @@ AreIdle now zero places = Unit {0}
 AreIdle now (suc count) [] = Unit {0}
 AreIdle now (suc count) (place ∷ places) = (is_due now place ≡ false) × AreIdle now count places
 
+-- no end stands behind so many first places
+abbrev pub AreEmpty : ℕ → List (Option End) → Type 0
+AreEmpty zero [] = Unit {0}
+AreEmpty zero (place ∷ places) = (place ≡ None) × AreEmpty zero places
+AreEmpty (suc count) [] = Unit {0}
+AreEmpty (suc count) (place ∷ places) = AreEmpty count places
+
+-- there are so many places, and behind them no end stands
+pub record IsUsed (count : ℕ) (places : List (Option End)) : Type 0 where
+  pub within : count ≤ length places
+  pub empty : AreEmpty count places
+
 -- the format that the end at a place agreed on
 abbrev pub format_of : Option End → Format
 format_of None = Normal

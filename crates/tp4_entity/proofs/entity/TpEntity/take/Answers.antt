@@ -4,6 +4,7 @@ use Rattle.std.proofs.lemmas.Result.{on_ok_weaker}
 use Rattle.tpdu.specs.Values.{seen, tpdu_of}
 use Rattle.tpdu.specs.Writing.{IsAllowed}
 use Rattle.tp4_entity.specs.steps.Places.{format_of}
+use Rattle.tp4_entity.proofs.Empty.{used_set}
 use Rattle.tp4_entity.proofs.PlaceLaws.{Place, end_is, entity_at, entity_set, past_from, place_behind, take_done, take_none}
 use Rattle.tp4_entity.proofs.entity.TpEntity.take.Goals as goal
 
@@ -28,6 +29,7 @@ invariant_of-self-2 c =
       entity_set _ at (at + 1) c.take_place.new.place c.self.invariant.0
           (c.take_place.ensures.kept c.self.inside.timers (at + 1) (entity_at _ at c.in-Some.place.now c.self.invariant.0 there)) refl,
       tt,
+      used_set c.self.inside.used at c.self.inside.ends.items c.in-Some.place.now c.take_place.new.place c.self.invariant.2 there c.take_place.ensures.none,
     )
 
 pub returns-in_default-clause-step : goal.returns-in_default-clause-step

@@ -1,5 +1,6 @@
 use Rattle.std.proofs.Common.{◌+◌, refl, arith}
 use Rattle.std.proofs.lemmas.Option.{slice_get_past, slice_get_read}
+use Rattle.tp4_entity.proofs.Empty.{used_set}
 use Rattle.tp4_entity.proofs.Idle.{idle_ticked}
 use Rattle.tp4_entity.proofs.PlaceLaws.{entity_at, entity_set, past_from, place_behind, tick_done, tick_none}
 use Rattle.tp4_entity.proofs.Ticks.{fewer_so, none_so}
@@ -16,6 +17,7 @@ invariant_of-self-in_err-tick_place c =
       entity_set _ c.args.place (c.args.place + 1) c.tick_place.new.place c.self.invariant.0
           (c.tick_place.ensures.kept c.self.inside.timers (c.args.place + 1) (entity_at _ c.args.place c.in-Some.slot.now c.self.invariant.0 there)) refl,
       tt,
+      used_set c.self.inside.used c.args.place c.self.inside.ends.items c.in-Some.slot.now c.tick_place.new.place c.self.invariant.2 there c.tick_place.ensures.none,
     )
 
 pub invariant_of-self-2 : goal.invariant_of-self-2
@@ -24,6 +26,7 @@ invariant_of-self-2 c =
       entity_set _ c.args.place (c.args.place + 1) c.tick_place.new.place c.self.invariant.0
           (c.tick_place.ensures.kept c.self.inside.timers (c.args.place + 1) (entity_at _ c.args.place c.in-Some.slot.now c.self.invariant.0 there)) refl,
       idle_ticked _ c.args.self.now c.args.place c.tick_place.new.place c.self.view_is c.requires.first c.in_ok-tick_place.ensures.later,
+      used_set c.self.inside.used c.args.place c.self.inside.ends.items c.in-Some.slot.now c.tick_place.new.place c.self.invariant.2 there c.tick_place.ensures.none,
     )
 
 pub returns-in_default-clause-step : goal.returns-in_default-clause-step

@@ -2,6 +2,7 @@ use Rattle.std.proofs.Common.{◌≡◌, ◌+◌, ◌-◌, ◌∙◌, false, ref
 use Rattle.std.proofs.lemmas.Option.{slice_get_read}
 use Rattle.tp4_entity.specs.Entity.{Entity}
 use Rattle.tp4_entity.specs.steps.Places.{is_memory}
+use Rattle.tp4_entity.proofs.Empty.{used_set}
 use Rattle.tp4_entity.proofs.PlaceLaws.{call_done, entity_over, entity_at, entity_now_set, is_not_memory, place_behind, refusal_at}
 use Rattle.tp4_entity.proofs.entity.TpEntity.user.Goals as goal
 
@@ -16,8 +17,11 @@ pub invariant_of-self-in-Ok : goal.invariant_of-self-in-Ok
 invariant_of-self-in-Ok c =
     let at = c.from.result - 1 in
     let there = slice_get_read c.self.inside.ends.items _ at c.in-Some.place.now c.self.inside.ends.ok.0 (c.in-Some.ensures.variant.0 refl) c.in-Some.ensures.value in
-    let clock = ap (λ (e : Entity). e.clock) c.self.view_is in
-    (entity_now_set _ c.args.now at c.in-Some.place.now c.call_place.new.place (omega (arith, clock, c.requires.clock)) c.self.invariant.0 there (c.in-Ok.ensures.kept c.self.inside.timers (at + 1)), tt)
+    let clock = ap (λ (e : Entity). e.clock) c.self.view_is in (
+      entity_now_set _ c.args.now at c.in-Some.place.now c.call_place.new.place (omega (arith, clock, c.requires.clock)) c.self.invariant.0 there (c.in-Ok.ensures.kept c.self.inside.timers (at + 1)),
+      tt,
+      used_set c.self.inside.used at c.self.inside.ends.items c.in-Some.place.now c.call_place.new.place c.self.invariant.2 there c.in-Ok.ensures.none,
+    )
 
 pub invariant_of-self-in-Err : goal.invariant_of-self-in-Err
 invariant_of-self-in-Err c =
@@ -28,6 +32,7 @@ invariant_of-self-in-Err c =
       entity_over _ c.clock_after-self-inside.result (is_memory c.in-Err.why) c.args.now at c.in-Some.place.now c.call_place.new.place (omega (arith, clock, c.requires.clock)) c.self.invariant.0 there
           (c.in-Err.ensures.kept c.self.inside.timers (at + 1)) same c.clock_after-self-inside.ensures,
       tt,
+      used_set c.self.inside.used at c.self.inside.ends.items c.in-Some.place.now c.call_place.new.place c.self.invariant.2 there c.in-Err.ensures.none,
     )
 
 pub returns-in-Ok-clause-allowed : goal.returns-in-Ok-clause-allowed

@@ -11,4 +11,5 @@ invariant_of-self c =
     let later : c.self.inside.clock ≤ c.args.now = omega (arith, same, c.requires) in (
       entity_later _ c.args.now later c.self.invariant.0,
       subst (λ idle. AreIdle c.args.now idle c.self.inside.ends.items) (sym c.idle_after-self-inside.ensures) (idle_later c.self.inside.clock c.args.now c.self.inside.idle c.self.inside.ends.items c.self.invariant.1),
+      c.self.invariant.2,
     )
