@@ -30,7 +30,7 @@ pub fn is_name(field: &str) -> bool
             first.is_ascii_lowercase()
                 && are_letters_or_digits(others)
                 && others.len() <= 7
-                && !(field == "frame")
+                && !(others.len() == 4 && field == "frame")
         }
     }
 }
@@ -141,7 +141,7 @@ pub fn prefix(field: &str) -> Result<Prefix, LineCause>
 pub fn octets(alloc: Global, field: &str) -> Result<Bytes, FieldRefusal>
     ensures { Found (octets_of field.now) result }
 {
-    if field == "-" {
+    if matches!(field.as_bytes(), [b'-']) {
         return Ok(Bytes::of(Vec::new(alloc)));
     }
     if field.is_empty() || field.len() % 2 != 0 {
@@ -241,23 +241,15 @@ const fn wish(cut: bool, report: bool, trace: bool) -> Wish
 pub fn flags(field: &str) -> Result<Wish, LineCause>
     ensures { result ≡ flags_of field.now }
 {
-    if field == "-" {
-        Ok(wish(false, false, false))
-    } else if field == "s" {
-        Ok(wish(true, false, false))
-    } else if field == "e" {
-        Ok(wish(false, true, false))
-    } else if field == "r" {
-        Ok(wish(false, false, true))
-    } else if field == "se" {
-        Ok(wish(true, true, false))
-    } else if field == "sr" {
-        Ok(wish(true, false, true))
-    } else if field == "er" {
-        Ok(wish(false, true, true))
-    } else if field == "ser" {
-        Ok(wish(true, true, true))
-    } else {
-        Err(LineCause::Syntax)
+    match field.as_bytes() {
+        [b'-'] => Ok(wish(false, false, false)),
+        [b's'] => Ok(wish(true, false, false)),
+        [b'e'] => Ok(wish(false, true, false)),
+        [b'r'] => Ok(wish(false, false, true)),
+        [b's', b'e'] => Ok(wish(true, true, false)),
+        [b's', b'r'] => Ok(wish(true, false, true)),
+        [b'e', b'r'] => Ok(wish(false, true, true)),
+        [b's', b'e', b'r'] => Ok(wish(true, true, true)),
+        _ => Err(LineCause::Syntax),
     }
 }

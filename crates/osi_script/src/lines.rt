@@ -1,6 +1,6 @@
 //! What a line says, or its first fault.
 
-ghost use Rattle.std.specs.Prelude.{◌≡◌, ◌≤◌, ◌<◌, not, length, position, IfSome, IsSomeAnd};
+ghost use Rattle.std.specs.Prelude.{◌≡◌, ◌≤◌, ◌<◌, not, length, position, IfSome};
 ghost use Rattle.std.specs.List.{list_all};
 ghost use Rattle.osi_script.specs.Field.{is_printable};
 ghost use Rattle.osi_script.specs.Grammar.{fault, count_fault, line_for, is_idle};
@@ -75,10 +75,7 @@ impl Names {
         requires printable { position (λ octet. not (is_printable octet)) octets.now ≡ None }
         ensures { Reads (text_read self.old octets.now) self.old result self.new }
     {
-        let Some(text) = text_of(octets) else {
-            unreachable!();
-        };
-        self.read_text(text)
+        self.read_text(text_of(octets))
     }
 
     /// A line of printable characters.
@@ -306,12 +303,11 @@ fn is_printable(octet: u8) -> bool
 }
 
 /// Printable characters as text.
-fn text_of(octets: &[u8]) -> Option<&str>
+#[tactic(auto, using(crate::proofs::Printing::printable_is_text))]
+fn text_of(octets: &[u8]) -> &str
     requires { position (λ octet. not (is_printable octet)) octets.now ≡ None }
-    ensures { IsSomeAnd result (λ text. text.now ≡ octets.now) }
+    ensures { result.now ≡ octets.now }
 {
-    match str::from_utf8(octets) {
-        Ok(text) => Some(text),
-        Err(_) => None,
-    }
+    // SAFETY: printable octets are ASCII, and so UTF-8.
+    unsafe { str::from_utf8_unchecked(octets) }
 }

@@ -81,7 +81,7 @@ impl Names {
     fn path_of(&self, field: &str) -> Result<u8, LineCause>
         ensures { result ≡ path_of self.now field.now }
     {
-        if field == "-" {
+        if matches!(field.as_bytes(), [b'-']) {
             return Ok(0);
         }
         if !field::is_name(field) {
@@ -93,6 +93,8 @@ impl Names {
         }
     }
 
+    // The set-up alone asks for keys and their values, and other fields pay nothing for them.
+    #[inline(never)]
     fn unset_key(&self, field: &str) -> Result<Key, LineCause>
         ensures { result ≡ unset_key self.now.settings (key_of field.now) }
     {
@@ -103,8 +105,9 @@ impl Names {
         }
     }
 
+    #[inline(never)]
     #[tactic(auto, unfolding(crate::specs::Reading::value_of))]
-    fn value_of(&self, key: Key, field: &str) -> Result<u32, LineCause>
+    fn setting_of(&self, key: Key, field: &str) -> Result<u32, LineCause>
         ensures { result ≡ value_of self.now.settings key field.now }
     {
         match field::number(settings::least_of(key), settings::most_of(key), field) {
@@ -245,7 +248,7 @@ impl Names {
         let options = &mut parts.options;
         match form {
             Plain::Key => put(&mut parts.key, self.unset_key(field)),
-            Plain::Value => put(&mut parts.number, self.value_of(parts.key, field)),
+            Plain::Value => put(&mut parts.number, self.setting_of(parts.key, field)),
             Plain::Number { least, most } => put(
                 &mut parts.number,
                 field::number(least, most, field),

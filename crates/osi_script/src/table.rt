@@ -198,6 +198,16 @@ pub fn word_of(words: &[Word], field: &str) -> Option<Word>
 fn is_named(word: Word, field: &str) -> bool
     ensures { result ≡ is_word (row_of word).text field.now }
 {
-    let text = row_of(word).text;
-    field.len() == text.len() && field == text
+    are_alike(field.as_bytes(), row_of(word).text.as_bytes())
+}
+
+/// Whether the octets are the same. Most words differ in the first.
+fn are_alike(field: &[u8], text: &[u8]) -> bool
+    ensures { result ≡ is_word text.now field.now }
+{
+    match (field, text) {
+        ([first, others @ ..], [head, tail @ ..]) => *first == *head && others == tail,
+        ([], []) => true,
+        _ => false,
+    }
 }
