@@ -2,3 +2,4 @@ mod Indices
 mod Parts
 mod Passing
 mod Places
+mod Waiting

@@ -7,7 +7,7 @@ ghost use Rattle.clnp_system.specs.Node.{reaction_of};
 ghost use Rattle.clnp_system.specs.Tables.{rows_tables};
 ghost use Rattle.clnp_step.specs.Handling.{Handles, TicksAll};
 ghost use Rattle.clnp_step.specs.Step.{counted, strays_in};
-ghost use Rattle.clnp_net.specs.steps.Telling.{AreBehind, HandsOut, Reacts, Tells};
+ghost use Rattle.clnp_net.specs.steps.Telling.{AreBehind, HandlesWaiting, HandsOut, Reacts, Tells};
 
 use crate::afloat::Afloat;
 use crate::frames::{Ups, offer_frames, pass_notes};
@@ -144,12 +144,11 @@ impl<C: Carrier<Addr = Port> + Drop> ClnpNet<C> {
         let now = self.link.now();
         let before = self.waiting.len();
         let answer = self.link.choose(pick, system)?;
-        let ups = gather(self.alloc, &mut self.link)?;
-        handle(
+        handle_waiting(
+            self.alloc,
             &mut self.link,
             &mut self.systems,
             now,
-            ups,
             &mut self.waiting,
         )?;
         self.strays = strays_after(
@@ -175,12 +174,11 @@ impl<C: Carrier<Addr = Port> + Drop> ClnpNet<C> {
         let before = self.waiting.len();
         self.floating.index_all()?;
         let answer = self.link.inject(lan, system, octets)?;
-        let ups = gather(self.alloc, &mut self.link)?;
-        handle(
+        handle_waiting(
+            self.alloc,
             &mut self.link,
             &mut self.systems,
             now,
-            ups,
             &mut self.waiting,
         )?;
         self.strays = strays_after(
@@ -307,6 +305,27 @@ fn hand_out<C: Carrier<Addr = Port>>(
         }
         NetSent::Dropped(cause) => Ok(Offered::Dropped(cause)),
     }
+}
+
+/// What waits below is taken up, all of it, and then handled. What waits alone is put into no list.
+fn handle_waiting<C: Carrier<Addr = Port>>(
+    alloc: Global,
+    link: &mut C,
+    systems: &mut Systems,
+    now: Tick,
+    waiting: &mut Ups,
+) -> Result<(), NoMemory>
+    requires behind { AreBehind now systems.old }
+    requires low { now ≤ 4000000000 }
+    ensures { OnOk result (HandlesWaiting C.link C.steps now link.old systems.old waiting.old.items link.new systems.new waiting.new.items) }
+{
+    let Some(up) = link.next_up() else {
+        return Ok(());
+    };
+    let others = gather(alloc, link)?;
+    handle_up(link, systems, now, up, waiting)?;
+    handle(link, systems, now, others, waiting)?;
+    Ok(())
 }
 
 /// What came up below is handled, one after another.

@@ -21,7 +21,7 @@ use Rattle.clnp_system.specs.Receiving.{Receives}
 use Rattle.clnp_system.specs.Sending.{Sends}
 use Rattle.clnp_system.specs.Tables.{rows_tables}
 use Rattle.clnp_system.specs.Ticking.{NodeTicks}
-use Rattle.clnp_step.specs.Handling.{Changes, OffersFrames, notes_of}
+use Rattle.clnp_step.specs.Handling.{Changes, Handles, OffersFrames, notes_of}
 use Rattle.clnp_step.specs.Step.{is_source}
 
 -- these were added behind what waited
@@ -50,6 +50,13 @@ pub record Reacts {C : Type 0} (link : C → Link Port) (steps : C → Call Port
 -- no system's clock is ahead
 abbrev pub AreBehind : {N : Type 0} → ℕ → List (Node N) → Type 0
 AreBehind now nodes = AllByRecursion (λ node. node.clock ≤ now) nodes
+
+-- all that waited below was taken up, and then handled
+pub record HandlesWaiting {C : Type 0} (link : C → Link Port) (steps : C → Call Port → C → Type 0) (now : ℕ) (old : C) (nodes : List (Node Rows)) (before : List (Up (List ℕ))) (new : C) (changed : List (Node Rows)) (after : List (Up (List ℕ))) : Type 0 where
+  pub ups : List (Up Port)
+  pub mid : C
+  pub gathers : Gathers link steps old ups mid
+  pub handles : Tells before after (λ told. Handles link steps rows_tables now mid nodes ups new changed told)
 
 -- one system of those ticks
 pub record TicksAt (now place system : ℕ) (nodes : List (Node Rows)) (reaction : Reaction) (changed : List (Node Rows)) : Type 0 where

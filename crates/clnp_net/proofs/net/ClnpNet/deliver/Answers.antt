@@ -12,8 +12,8 @@ invariant_of-self-2 g c = λ _.
       c.self.invariant c.if-self.false,
       arrived g.C.Carrier.link g.C.Carrier.steps
           (network_of c.self.inside.link c.self.inside.systems c.self.inside.floating c.self.inside.waiting.items c.self.inside.strays c.self.inside.life) (Choose c.args.pick c.args.system c.in_ok-answer.answer) c.now-now.result c.strays_after-self-inside.result
-          c.choose.new.self c.in_ok-ups.ups.items c.gather.new.carrier c.handle.new.link c.handle.new.systems c.handle.new.waiting.items c.len-before.result
-          c.now-now.ensures (c.len-before.ensures ∙ c.self.inside.waiting.ok.0) c.in_ok-answer.ensures.steps c.in_ok-ups.ensures c.in_ok-handle.ensures (rw (← c.honest.ensures) c.strays_after-self-inside.ensures),
+          c.choose.new.self c.in_ok-handle_waiting.ensures.ups c.in_ok-handle_waiting.ensures.mid c.handle_waiting.new.link c.handle_waiting.new.systems c.handle_waiting.new.waiting.items c.len-before.result
+          c.now-now.ensures (c.len-before.ensures ∙ c.self.inside.waiting.ok.0) c.in_ok-answer.ensures.steps c.in_ok-handle_waiting.ensures.gathers c.in_ok-handle_waiting.ensures.handles (rw (← c.honest.ensures) c.strays_after-self-inside.ensures),
     )
 
 pub returns : goal.returns
@@ -21,6 +21,6 @@ returns g c = rw (← c.self.view_is) (
   c.self.invariant c.if-self.false,
   arrived g.C.Carrier.link g.C.Carrier.steps
       (network_of c.self.inside.link c.self.inside.systems c.self.inside.floating c.self.inside.waiting.items c.self.inside.strays c.self.inside.life) (Choose c.args.pick c.args.system c.in_ok-answer.answer) c.now-now.result c.strays_after-self-inside.result
-      c.choose.new.self c.in_ok-ups.ups.items c.gather.new.carrier c.handle.new.link c.handle.new.systems c.handle.new.waiting.items c.len-before.result
-      c.now-now.ensures (c.len-before.ensures ∙ c.self.inside.waiting.ok.0) c.in_ok-answer.ensures.steps c.in_ok-ups.ensures c.in_ok-handle.ensures (rw (← c.honest.ensures) c.strays_after-self-inside.ensures),
+      c.choose.new.self c.in_ok-handle_waiting.ensures.ups c.in_ok-handle_waiting.ensures.mid c.handle_waiting.new.link c.handle_waiting.new.systems c.handle_waiting.new.waiting.items c.len-before.result
+      c.now-now.ensures (c.len-before.ensures ∙ c.self.inside.waiting.ok.0) c.in_ok-answer.ensures.steps c.in_ok-handle_waiting.ensures.gathers c.in_ok-handle_waiting.ensures.handles (rw (← c.honest.ensures) c.strays_after-self-inside.ensures),
 )
