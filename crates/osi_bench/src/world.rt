@@ -4,7 +4,9 @@ ghost use Rattle.std.specs.Prelude.{◌≡◌, [], length, IfOk, OnOk};
 ghost use Rattle.tp4_number.specs.Number.{wire};
 ghost use Rattle.tp4_world.specs.Run.{RunsLine};
 ghost use Rattle.osi_bench.specs.World.{NetDoes, StartsUp, WorldStep, first_world, is_start, link_of_net, strays_in, strays_of};
+ghost use Rattle.osi_bench.specs.declared.world.World.TheVariants.{SettingUp};
 ghost use Rattle.osi_bench.specs.steps.Known.{CanRun, RunsAt};
+ghost use Rattle.osi_setup.specs.SetUp.{SetUp as Said};
 
 use crate::asking::connect_call;
 use clnp_net::ClnpNet;
@@ -74,6 +76,25 @@ pub fn step(
 {
     match world {
         World::Running(titles, ends) => run_line(ends, titles.as_slice(), line, events),
+        World::SettingUp(_) => set_up(alloc, world, line, events),
+    }
+}
+
+/// A line of a set-up. It is apart, so that a line of a running network has no room for a new network to clear.
+#[inline(never)]
+fn set_up(
+    alloc: Global,
+    world: &mut World,
+    line: Line,
+    events: &mut Vec<Event>,
+) -> Result<(), NoMemory>
+    requires none { events.old.items ≡ [] }
+    requires set_up { (setup : Said) × (world.old ≡ SettingUp setup) }
+    requires known { CanRun world.old line }
+    ensures { OnOk result (WorldStep world.old line events.new.items world.new) }
+{
+    match world {
+        World::Running(..) => unreachable!(),
         World::SettingUp(setup) => {
             if !is_start(&line) {
                 return setup.add(line);

@@ -1,8 +1,8 @@
 use Rattle.std.proofs.Common.{rules}
 use Rattle.osi_bench.proofs.Agreement.{start_step}
-use Rattle.osi_bench.proofs.world.step.Goals as goal
+use Rattle.osi_bench.proofs.world.set_up.Goals as goal
 
-pub returns-in_ok-world-in-SettingUp : goal.returns-in_ok-world-in-SettingUp
-returns-in_ok-world-in-SettingUp c =
+pub returns : goal.returns
+returns c =
     start_step c.args.world.now c.in-SettingUp.setup c.replace-setup.result c.args.line c.start.new.events.items c.in_ok-world-in-SettingUp.field-0 (search rules) c.replace-setup.ensures.value (search rules)
     c.in_ok-world-in-SettingUp.ensures
