@@ -240,7 +240,7 @@ open_within clock lans rows (frame ∷ frames) zero system h = omega arith
 open_within clock lans rows (frame ∷ frames) (suc k) system h = omega (arith, open_within clock lans rows frames k system h)
 
 -- where nothing is at the first open place, no pair is fresh
-none_fresh : (bag : Bag) (place : ℕ) → IsFirstOpen bag.clock bag.lans bag.rows bag.frames place → is_open bag.clock bag.lans bag.rows (kept (slice_get bag.frames place)) ≡ false → IsLeastFresh (link_of bag) None
+pub none_fresh : (bag : Bag) (place : ℕ) → IsFirstOpen bag.clock bag.lans bag.rows bag.frames place → is_open bag.clock bag.lans bag.rows (kept (slice_get bag.frames place)) ≡ false → IsLeastFresh (link_of bag) None
 none_fresh bag place f shut zero system = refl
 none_fresh bag place f shut (suc k) system =
     elim (cases_Bool (is_fresh (link_of bag) (suc k) system)) [
@@ -254,7 +254,7 @@ none_fresh bag place f shut (suc k) system =
     ]
 
 -- the first open frame, and the least system that it is open to, are the least fresh pair
-least_fresh : (bag : Bag) (place : ℕ) (frame : Frame) (least : ℕ) → IsFirstOpen bag.clock bag.lans bag.rows bag.frames place → kept (slice_get bag.frames place) ≡ Some frame → IsLeastOpen bag.clock bag.lans bag.rows frame (Some least) → IsLeastFresh (link_of bag) (Some (place + 1, least))
+pub least_fresh : (bag : Bag) (place : ℕ) (frame : Frame) (least : ℕ) → IsFirstOpen bag.clock bag.lans bag.rows bag.frames place → kept (slice_get bag.frames place) ≡ Some frame → IsLeastOpen bag.clock bag.lans bag.rows frame (Some least) → IsLeastFresh (link_of bag) (Some (place + 1, least))
 least_fresh bag place frame least f at l = (one_fresh, upward)
   where
     one : suc place ≡ place + 1
@@ -282,7 +282,7 @@ least_fresh bag place frame least f at l = (one_fresh, upward)
         ]
 
 -- a frame that is open to no system is no open one
-shut : (clock : ℕ) (lans : List Lan) (rows : List PortRow) (frame : Frame) → IsLeastOpen clock lans rows frame None → is_open clock lans rows (Some frame) ≡ false
+pub shut : (clock : ℕ) (lans : List Lan) (rows : List PortRow) (frame : Frame) → IsLeastOpen clock lans rows frame None → is_open clock lans rows (Some frame) ≡ false
 shut clock lans rows frame h = none_open clock lans rows frame h rows
 
 opens : (a b : Bool) → (a && b) ≡ true → b ≡ true
