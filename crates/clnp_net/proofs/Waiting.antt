@@ -41,7 +41,7 @@ module _ {C : Type 0} (link : C → Link Port) (steps : C → Call Port → C �
     handles_first old nodes (Noted note) mid between here ups new after rest h k = (
       rest,
       subst (λ (c : C). Handles link steps rows_tables now c nodes ups new after rest) h.1.0
-      (subst (λ (ns : List (Node Rows)). Handles link steps rows_tables now mid ns ups new after rest) h.1.1 k),
+          (subst (λ (ns : List (Node Rows)). Handles link steps rows_tables now mid ns ups new after rest) h.1.1 k),
       ap (λ (xs : List (Up (List ℕ))). xs ++ rest) (h.2 ∙ ap (λ (xs : List (Up (List ℕ))). Noted note ∷ xs) h.1.2),
     )
     handles_first old nodes (Came arrival) mid between here ups new after rest h k = (
@@ -53,9 +53,9 @@ module _ {C : Type 0} (link : C → Link Port) (steps : C → Call Port → C �
       h.5,
       h.6,
       subst (λ (c : C). Handles link steps rows_tables now c h.2 ups new after rest) h.7.0
-      (subst (λ (ns : List (Node Rows)). Handles link steps rows_tables now mid ns ups new after rest) h.7.1 k),
+          (subst (λ (ns : List (Node Rows)). Handles link steps rows_tables now mid ns ups new after rest) h.7.1 k),
       ap (λ (xs : List (Up (List ℕ))). xs ++ rest) (h.8 ∙ ap (λ (xs : List (Up (List ℕ))). h.0.ups ++ (h.3 ++ xs)) h.7.2)
-      ∙ append_assoc h.0.ups (h.3 ++ []) rest ∙ ap (λ (xs : List (Up (List ℕ))). h.0.ups ++ xs) (append_assoc h.3 [] rest),
+          ∙ append_assoc h.0.ups (h.3 ++ []) rest ∙ ap (λ (xs : List (Up (List ℕ))). h.0.ups ++ xs) (append_assoc h.3 [] rest),
     )
 
     pub none_waits : (old new : C) (nodes : List (Node Rows)) (before : List (Up (List ℕ))) → steps old (NextUp None) new → TakesUp (link old) None (link new)
