@@ -28,7 +28,7 @@ pub fn write_frame(to: &Snpa, from: &Snpa, pdu: Vec<u8>) -> Result<Vec<u8>, NoMe
     let length = (LLC.len() + pdu.len()) as u16;
     let header = header_of(to.octets(), from.octets(), length);
     let mut whole = pdu;
-    whole.extend_from_slice(&header)?;
+    whole.extend_from_slice(&[0; HEADER])?;
     put_first(&mut whole, &header);
     Ok(whole)
 }
