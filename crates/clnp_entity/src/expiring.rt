@@ -1,7 +1,7 @@
 //! A tick of a system (X.233, reassembly function; ISO 9542, configuration timer, flush old configuration function, flush old redirect
 //! function, report configuration function).
 
-ghost use Rattle.std.specs.Prelude.{◌≡◌, ◌≤◌, IfOk, map};
+ghost use Rattle.std.specs.Prelude.{◌≡◌, ◌++◌, ◌≤◌, IfOk, map};
 ghost use Rattle.clnp_system.specs.Node.{reaction_of};
 ghost use Rattle.clnp_system.specs.Tables.{rows_tables};
 ghost use Rattle.clnp_system.specs.Ticking.{ExpiresAll, NodeTicks, ReportsEach, discarded_unit, expiry_note};
@@ -32,9 +32,9 @@ impl NetEntity {
     {
         let expired = self.flush(now)?;
         let ups = self.notes(&expired)?;
-        let mut frames = self.reports(now, &expired)?;
-        let mut hellos = self.setup.hellos(self.alloc, now)?;
-        frames.append(&mut hellos)?;
+        let reports = self.reports(now, &expired)?;
+        let hellos = self.setup.hellos(self.alloc, now)?;
+        let frames = joined(reports, hellos)?;
         Ok(Handled { ups, frames })
     }
 
@@ -89,6 +89,18 @@ fn expire_all(alloc: Global, store: &mut Store, now: Tick) -> Result<Vec<Expired
         expired.push(unit)?;
     }
     Ok(expired)
+}
+
+/// These frames, and others behind them. Where there are none, the others are not moved.
+fn joined(frames: Vec<Unit<Port>>, mut others: Vec<Unit<Port>>) -> Result<Vec<Unit<Port>>, NoMemory>
+    ensures { IfOk result (λ all. all.items ≡ frames.items ++ others.items) }
+{
+    if frames.is_empty() {
+        return Ok(others);
+    }
+    let mut all = frames;
+    all.append(&mut others)?;
+    Ok(all)
 }
 
 /// The note of a unit that was given up.
