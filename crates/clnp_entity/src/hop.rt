@@ -29,6 +29,7 @@ impl NetEntity {
     }
 
     /// The hop to an address.
+    #[inline(always)]
     pub(crate) fn hop_of(&self, now: Tick, address: &Nsap) -> Option<Hop>
         requires { self.now.clock ≤ now }
         ensures value { result ≡ hop_of rows_tables self.now now address.now }
@@ -45,6 +46,7 @@ impl NetEntity {
 
     /// The hop to an address by what is known: of an end system a redirect, a neighbour, a row or a router, of another one a
     /// neighbour or a row.
+    #[inline(always)]
     fn found_hop(&self, now: Tick, address: &Nsap) -> Option<Hop>
         requires { self.now.clock ≤ now }
         ensures value { result ≡ found_hop rows_tables self.now now address.now }

@@ -25,6 +25,7 @@ use pdu_parts::{address_at, checksum_in};
 /// The PDU at the front of the octets; octets past its segment length are ignored.
 ///
 /// The first fault in the order of the header's fields. The header that is lent has the octets up to the data.
+#[inline(always)]
 pub fn read_pdu(octets: &[u8]) -> Result<PduRef<'_>, Fault>
     ensures ok { IfOk result (λ pdu. (rest : List ℕ) × BeginsWith IsPdu octets.now (value_of pdu) rest) }
     ensures header { IfOk result (λ pdu. pdu.header.now ≡ take (header_length (value_of pdu)) octets.now) }

@@ -329,6 +329,7 @@ fn handle_waiting<C: Carrier<Addr = Port>>(
 }
 
 /// What came up below is handled, one after another.
+#[inline(never)]
 fn handle<C: Carrier<Addr = Port>>(
     link: &mut C,
     systems: &mut Systems,
@@ -348,6 +349,7 @@ fn handle<C: Carrier<Addr = Port>>(
 }
 
 /// A note is told, and a frame is handed to its system.
+#[inline(always)]
 fn handle_up<C: Carrier<Addr = Port>>(
     link: &mut C,
     systems: &mut Systems,
@@ -374,6 +376,7 @@ fn handle_up<C: Carrier<Addr = Port>>(
 }
 
 /// A system takes a frame: what it tells and hands up waits, and its frames are offered.
+#[inline(always)]
 fn meet<C: Carrier<Addr = Port>>(
     link: &mut C,
     systems: &mut Systems,

@@ -20,6 +20,7 @@ use std::alloc::Global;
 
 impl SystemSetup {
     /// The frames of a PDU, cut for the room of the LAN. None exactly where it does not fit and may not be cut.
+    #[inline(always)]
     pub(crate) fn cut_frames(
         &self,
         alloc: Global,
@@ -67,6 +68,7 @@ impl SystemSetup {
     }
 
     /// The frame of a PDU, from the own port on the LAN.
+    #[inline(always)]
     pub(crate) fn frame(&self, alloc: Global, to: Port, pdu: &Pdu) -> Result<Unit<Port>, NoMemory>
         requires port { IsSome (port_on self.now to.lan) }
         requires written { MayBeWritten pdu.now }

@@ -50,6 +50,7 @@ pub fn judge(clock: Tick, setup: &Setup, frames: &Store, pick: u32, system: u8) 
 }
 
 /// The answer to a choice of a live frame.
+#[inline(always)]
 fn judge_system(setup: &Setup, sent: &Sent, system: u8) -> Picked
     ensures { result ≡ picked_of setup.now.rows system sent.now }
 {

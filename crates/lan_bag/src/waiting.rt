@@ -41,6 +41,7 @@ impl Waiting {
     }
 
     /// One more waits, behind the others.
+    #[inline(always)]
     pub fn push(&mut self, up: Up<Port>) -> Result<(), NoMemory>
         ensures { OnOk result (self.new ≡ self.old ++ up ∷ []) }
     {
@@ -53,6 +54,7 @@ impl Waiting {
     }
 
     /// The first of what waits, which is taken up.
+    #[inline(always)]
     pub fn pop(&mut self) -> Option<Up<Port>>
         ensures first { self.old ≡ after_first result self.new }
         ensures none { result ≡ None → self.old ≡ [] }

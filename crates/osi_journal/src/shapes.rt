@@ -86,6 +86,7 @@ pub fn write_octets(
 }
 
 /// A system, an address and octets behind a word and a blank.
+#[inline(always)]
 pub fn write_raw<'a>(
     head: &'static str,
     system: u8,

@@ -84,6 +84,7 @@ impl Names {
     }
 
     /// The number of the system with this name.
+    #[inline(always)]
     pub fn system_at(&self, name: &str) -> Option<u8>
         ensures number { result ≡ system_at self.now.systems name.now }
         ensures there { IfSome result (λ number. number < length self.now.systems) }

@@ -19,6 +19,7 @@ use tp4_flow::{GoneCause, Step};
 use tpdu::TpduRef;
 
 /// A TPDU came.
+#[cold]
 #[tactic(auto, unfolding(crate::specs::AkWait::ak_wait_tpdu))]
 pub(crate) fn on_tpdu(
     alloc: Global,
@@ -73,6 +74,7 @@ fn open(
 }
 
 /// A tick of the clock.
+#[cold]
 #[tactic(auto, unfolding(crate::specs::AkWait::ak_wait_tick))]
 pub(crate) fn on_tick(
     alloc: Global,
@@ -99,6 +101,7 @@ pub(crate) fn on_tick(
 }
 
 /// A call of the user.
+#[cold]
 pub(crate) fn on_call(
     alloc: Global,
     base: &Base,

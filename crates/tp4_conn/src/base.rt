@@ -276,6 +276,7 @@ impl Base {
     }
 
     /// Gone for a cause; one DR; Closing.
+    #[cold]
     pub(crate) fn fail(
         &self,
         alloc: Global,
@@ -292,6 +293,7 @@ impl Base {
     }
 
     /// Gone by a DR: its reason and octets; a DC where its source is not 0; Frozen.
+    #[cold]
     pub(crate) fn part(
         &self,
         source: u16,

@@ -15,6 +15,7 @@ use tp4_flow::Step;
 use tpdu::TpduRef;
 
 /// A TPDU came.
+#[cold]
 #[tactic(auto, unfolding(crate::specs::Closing::closing_tpdu))]
 pub(crate) fn on_tpdu(base: &Base, close: Releasing, tpdu: &TpduRef<'_>, out: &Step) -> Stage
     requires end { IsEnd base.now (Closing close) }
@@ -34,6 +35,7 @@ pub(crate) fn on_tpdu(base: &Base, close: Releasing, tpdu: &TpduRef<'_>, out: &S
 }
 
 /// A tick of the clock.
+#[cold]
 #[tactic(auto, unfolding(crate::specs::Closing::closing_tick))]
 pub(crate) fn on_tick(
     alloc: Global,

@@ -28,6 +28,7 @@ fn is_within(proposed: Options, options: Options) -> bool
 }
 
 /// A TPDU came.
+#[cold]
 #[tactic(auto, using(crate::proofs::Sizes::size_known), unfolding(crate::specs::CrWait::cr_wait_tpdu))]
 pub(crate) fn on_tpdu(
     alloc: Global,
@@ -106,6 +107,7 @@ fn open(
 }
 
 /// A tick of the clock.
+#[cold]
 #[tactic(auto, unfolding(crate::specs::CrWait::cr_wait_tick))]
 pub(crate) fn on_tick(
     alloc: Global,

@@ -153,6 +153,7 @@ pub(crate) fn on_call(
 }
 
 /// The user wants this credit.
+#[cold]
 fn grant(base: &Base, mut flow: Open, credit: u16, out: &mut Step) -> Result<Stage, NoMemory>
     requires end { IsEnd base.now (Opened flow) }
     requires credit { credit ≤ 255 }

@@ -32,6 +32,7 @@ fn agreed_by(proposed: Options, asked: Options) -> Options
 }
 
 /// The user accepts.
+#[cold]
 #[tactic(auto, using(crate::proofs::Sizes::size_lesser), unfolding(crate::specs::UserWait::user_wait_accept))]
 pub(crate) fn accept(
     alloc: Global,
@@ -80,6 +81,7 @@ fn send_refusal(alloc: Global, base: &Base, octets: &[u8], out: &mut Step) -> Re
 }
 
 /// The user refuses.
+#[cold]
 #[tactic(auto, unfolding(crate::specs::UserWait::user_wait_refuse))]
 pub(crate) fn refuse(
     alloc: Global,
@@ -95,6 +97,7 @@ pub(crate) fn refuse(
 }
 
 /// A tick of the clock.
+#[cold]
 #[tactic(auto, unfolding(crate::specs::UserWait::user_wait_tick, crate::specs::UserWait::user_wait_refuse))]
 pub(crate) fn on_tick(
     alloc: Global,

@@ -15,6 +15,7 @@ use tp4_flow::Step;
 use tpdu::TpduRef;
 
 /// A TPDU came.
+#[cold]
 #[tactic(auto, unfolding(crate::specs::WaitBeforeClose::wait_before_close_tpdu))]
 pub(crate) fn on_tpdu(
     alloc: Global,
@@ -48,6 +49,7 @@ pub(crate) fn on_tpdu(
 }
 
 /// A tick of the clock.
+#[cold]
 #[tactic(auto, unfolding(crate::specs::WaitBeforeClose::wait_before_close_tick))]
 pub(crate) fn on_tick(
     alloc: Global,

@@ -36,6 +36,7 @@ pub struct SectionsRef<'a> {
 }
 
 /// The TPDU of a front and its sections.
+#[inline(always)]
 pub fn tpdu_at<'a>(head: &HeadRef<'a>, sections: &SectionsRef<'a>, sum: bool) -> TpduRef<'a>
     requires { length sections.now.fixed.now ≡ fixed_count head.now.kind sections.now.format }
     ensures { IsOf head.now.kind head.now.code sections.now head.now.body.now sum result }
