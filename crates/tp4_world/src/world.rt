@@ -54,6 +54,7 @@ impl<C: Carrier<Addr = Nsap> + Drop> Model for TpWorld<C> {
     ghost invariant = { λ w. w.stopped ≡ false → IsSound C.link (world_of w.carrier w.transport.entities.items w.transport.ends) };
 }
 
+// The calls of most lines are apart, so that who makes one of them has no room for the values of all to clear.
 impl<C: Carrier<Addr = Nsap> + Drop> TpWorld<C> {
     /// The network starts: tick 0, and what waits is told.
     ///
@@ -110,6 +111,7 @@ impl<C: Carrier<Addr = Nsap> + Drop> TpWorld<C> {
     /// A user of a system asks for a connection. The own reference, the address and the timers of the call are set here.
     ///
     /// At NoMemory, and where the system has no transport entity, the run ends.
+    #[inline(never)]
     pub fn connect(
         &mut self,
         system: u8,
@@ -171,6 +173,7 @@ impl<C: Carrier<Addr = Nsap> + Drop> TpWorld<C> {
     /// refused before all else. The titles are those of the two systems.
     ///
     /// At NoMemory the run ends.
+    #[inline(never)]
     pub fn unit(
         &mut self,
         system: u8,
@@ -233,6 +236,7 @@ impl<C: Carrier<Addr = Nsap> + Drop> TpWorld<C> {
     /// A system of a LAN gets octets that no system sent, and what comes of it is told.
     ///
     /// At NoMemory the run ends.
+    #[inline(never)]
     pub fn inject(
         &mut self,
         lan: u8,
@@ -258,6 +262,7 @@ impl<C: Carrier<Addr = Nsap> + Drop> TpWorld<C> {
     /// One tick passes; what it brings up is told, and then each due end ticks.
     ///
     /// At NoMemory the run ends.
+    #[inline(never)]
     pub fn tick(&mut self, events: &mut Vec<Event>) -> Result<(), NoMemory>
         requires low { (C.link self.old.carrier).clock < 4000000000 }
         requires none { events.old.items ≡ [] }
@@ -279,6 +284,7 @@ impl<C: Carrier<Addr = Nsap> + Drop> TpWorld<C> {
     /// Delivers the least pair that was not taken, again and again, until none is left or there were as many as there may be.
     ///
     /// At NoMemory the run ends.
+    #[inline(never)]
     pub fn settle(&mut self, events: &mut Vec<Event>) -> Result<(), NoMemory>
         requires none { events.old.items ≡ [] }
         ensures { OnOk result (Settles C.link C.steps wire 0 self.old events.new.items self.new) }
