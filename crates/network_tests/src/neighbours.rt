@@ -7,9 +7,9 @@ ghost use Rattle.esis_tables.specs.Told.{IsConfiguration};
 
 use esis_pdu::{HelloRef, read_esis};
 use esis_tables::{HearRefusal, Neighbours};
-use nsap::{Hop, Nsap, Port, Snpa};
+use nsap::{Hop, Nsap, NsapFault, Port, Snpa};
 use osi_base::Tick;
-use std::test::Fail;
+use std::process::Abort;
 
 type Heard = Result<(), HearRefusal>;
 
@@ -48,66 +48,54 @@ fn a_257th_address_is_refused(rt: HostRuntime) {
 }
 
 #[test]
-fn an_address_is_known_for_its_holding_time(rt: HostRuntime) -> Result<(), Fail> {
-    let address = Nsap::read("6300")?;
+fn an_address_is_known_for_its_holding_time(rt: HostRuntime) {
     let mut table = Neighbours::new(rt.alloc());
-    assert_eq!(rt; table.find(3, &address), None);
-    assert_eq!(rt; hear(&mut table, 3, ONE, 1), Ok(()));
-    assert_eq!(rt; table.find(42, &address), Some(hop(1, None)));
-    assert_eq!(rt; table.find(43, &address), None);
-    Ok(())
+    finds(&rt, &table, 3, None);
+    hears(&rt, &mut table, 3, ONE, 1);
+    finds(&rt, &table, 42, Some(hop(1, None)));
+    finds(&rt, &table, 43, None);
 }
 
 #[test]
-fn a_shorter_holding_time_counts(rt: HostRuntime) -> Result<(), Fail> {
-    let address = Nsap::read("6300")?;
+fn a_shorter_holding_time_counts(rt: HostRuntime) {
     let mut table = Neighbours::new(rt.alloc());
-    assert_eq!(rt; hear(&mut table, 0, ONE, 1), Ok(()));
-    assert_eq!(rt; hear(&mut table, 2, SHORTER, 1), Ok(()));
-    assert_eq!(rt; table.find(3, &address), Some(hop(1, None)));
-    assert_eq!(rt; table.find(4, &address), None);
-    Ok(())
+    hears(&rt, &mut table, 0, ONE, 1);
+    hears(&rt, &mut table, 2, SHORTER, 1);
+    finds(&rt, &table, 3, Some(hop(1, None)));
+    finds(&rt, &table, 4, None);
 }
 
 #[test]
-fn a_holding_time_of_0_makes_nothing_known(rt: HostRuntime) -> Result<(), Fail> {
-    let address = Nsap::read("6300")?;
+fn a_holding_time_of_0_makes_nothing_known(rt: HostRuntime) {
     let mut table = Neighbours::new(rt.alloc());
-    assert_eq!(rt; hear(&mut table, 0, ONE, 1), Ok(()));
-    assert_eq!(rt; hear(&mut table, 0, NO_TIME, 1), Ok(()));
-    assert_eq!(rt; table.find(0, &address), None);
-    Ok(())
+    hears(&rt, &mut table, 0, ONE, 1);
+    hears(&rt, &mut table, 0, NO_TIME, 1);
+    finds(&rt, &table, 0, None);
 }
 
 #[test]
-fn an_address_moves_to_another_port(rt: HostRuntime) -> Result<(), Fail> {
-    let address = Nsap::read("6300")?;
+fn an_address_moves_to_another_port(rt: HostRuntime) {
     let mut table = Neighbours::new(rt.alloc());
-    assert_eq!(rt; hear(&mut table, 0, ONE, 1), Ok(()));
-    assert_eq!(rt; hear(&mut table, 1, ONE, 2), Ok(()));
-    assert_eq!(rt; table.find(1, &address), Some(hop(2, None)));
-    Ok(())
+    hears(&rt, &mut table, 0, ONE, 1);
+    hears(&rt, &mut table, 1, ONE, 2);
+    finds(&rt, &table, 1, Some(hop(2, None)));
 }
 
 #[test]
-fn the_router_of_least_title_is_told(rt: HostRuntime) -> Result<(), Fail> {
+fn the_router_of_least_title_is_told(rt: HostRuntime) {
     let mut table = Neighbours::new(rt.alloc());
-    assert_eq!(rt; hear(&mut table, 0, ONE, 4), Ok(()));
-    assert_eq!(rt; table.any_router(0), None);
-    assert_eq!(rt; hear(&mut table, 0, MIDDLE, 2), Ok(()));
-    assert_eq!(rt; hear(&mut table, 0, LEAST, 1), Ok(()));
-    assert_eq!(rt; hear(&mut table, 0, GREATEST, 3), Ok(()));
-    for (now, lan, title) in [(9, 1, "63"), (10, 2, "6301"), (20, 3, "6302")] {
-        assert_eq!(rt;
-            table.any_router(now),
-            Some(hop(lan, Some(Nsap::read(title)?)))
-        );
-    }
-    assert_eq!(rt; table.any_router(40), None);
-    Ok(())
+    hears(&rt, &mut table, 0, ONE, 4);
+    assert_eq!(rt; router(&table, 0), None);
+    hears(&rt, &mut table, 0, MIDDLE, 2);
+    hears(&rt, &mut table, 0, LEAST, 1);
+    hears(&rt, &mut table, 0, GREATEST, 3);
+    is_routed(&rt, &table, 9, 1, "63");
+    is_routed(&rt, &table, 10, 2, "6301");
+    is_routed(&rt, &table, 20, 3, "6302");
+    assert_eq!(rt; router(&table, 40), None);
 }
 
-// A hop by a port of that LAN.
+/// A hop by a port of that LAN.
 fn hop(lan: u8, title: Option<Nsap>) -> Hop {
     let snpa = Snpa::of([2, 0, 0, 0, 0, lan]);
     Hop {
@@ -116,7 +104,44 @@ fn hop(lan: u8, title: Option<Nsap>) -> Hop {
     }
 }
 
-// Hears the ESH or ISH of these octets, which comes from a port of that LAN.
+/// The hop to an address.
+fn find(table: &Neighbours, now: Tick, address: &str) -> Result<Option<Hop>, NsapFault>
+    requires { table.now.clock ≤ now }
+{
+    Ok(table.find(now, &Nsap::read(address)?))
+}
+
+/// The hop to the intermediate system of least title.
+fn router(table: &Neighbours, now: Tick) -> Option<Hop>
+    requires { table.now.clock ≤ now }
+{
+    table.any_router(now)
+}
+
+/// Asserts that these octets are heard.
+fn hears(rt: &impl Abort, table: &mut Neighbours, now: Tick, octets: &[u8], lan: u8)
+    requires { table.old.clock ≤ now }
+    ensures { table.new.clock ≤ now }
+{
+    assert_eq!(*rt; hear(table, now, octets, lan), Ok(()), "at {now}");
+}
+
+/// Asserts what the hop to 6300 is.
+fn finds(rt: &impl Abort, table: &Neighbours, now: Tick, hop: Option<Hop>)
+    requires { table.now.clock ≤ now }
+{
+    assert_eq!(*rt; find(table, now, "6300"), Ok(hop), "at {now}");
+}
+
+/// Asserts that the intermediate system of least title is this one, on that LAN.
+fn is_routed(rt: &impl Abort, table: &Neighbours, now: Tick, lan: u8, title: &str)
+    requires { table.now.clock ≤ now }
+{
+    let title = Nsap::read(title).expect(rt, "a title");
+    assert_eq!(*rt; router(table, now), Some(hop(lan, Some(title))));
+}
+
+/// Hears the ESH or ISH of these octets, which comes from a port of that LAN.
 fn hear(table: &mut Neighbours, now: Tick, octets: &[u8], lan: u8) -> Heard
     requires { table.old.clock ≤ now }
     ensures { table.new.clock ≤ now }
@@ -127,6 +152,7 @@ fn hear(table: &mut Neighbours, now: Tick, octets: &[u8], lan: u8) -> Heard
     }
 }
 
+/// Whether it is an ESH or an ISH.
 fn is_configuration(hello: &HelloRef<'_>) -> bool
     ensures { result ≡ true → IsConfiguration (value_of hello.now) }
 {
@@ -136,7 +162,7 @@ fn is_configuration(hello: &HelloRef<'_>) -> bool
     }
 }
 
-// So many addresses, at tick 0.
+/// So many addresses, at tick 0.
 fn fill(table: &mut Neighbours, count: u8) -> Heard
     requires { table.old.clock ≤ 0 }
     ensures { table.new.clock ≤ 0 }

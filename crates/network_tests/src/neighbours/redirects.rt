@@ -7,9 +7,9 @@ ghost use Rattle.esis_tables.specs.Told.{IsRedirect};
 use super::{Heard, hop};
 use esis_pdu::{HelloRef, read_esis};
 use esis_tables::{HearRefusal, Redirects};
-use nsap::Nsap;
+use nsap::{Hop, Nsap, NsapFault};
 use osi_base::Tick;
-use std::test::Fail;
+use std::process::Abort;
 
 /// RDs of 6300 with 20 seconds: to an end system on LAN 1, and to the intermediate system 6301 on LAN 2.
 const TO_AN_END: &[u8] =
@@ -19,16 +19,14 @@ const TO_A_ROUTER: &[u8] =
     b"\x82\x16\x01\x00\x06\x00\x14\x00\x00\x02\x63\x00\x06\x02\x00\x00\x00\x00\x02\x02\x63\x01";
 
 #[test]
-fn a_redirect_tells_the_hop(rt: HostRuntime) -> Result<(), Fail> {
-    let address = Nsap::read("6300")?;
-    let title = Some(Nsap::read("6301")?);
+fn a_redirect_tells_the_hop(rt: HostRuntime) {
+    let title = Nsap::read("6301").expect(&rt, "a title");
     let mut table = Redirects::new(rt.alloc());
-    assert_eq!(rt; hear(&mut table, 0, TO_AN_END, 1), Ok(()));
-    assert_eq!(rt; table.find(39, &address), Some(hop(1, None)));
-    assert_eq!(rt; table.find(40, &address), None);
-    assert_eq!(rt; hear(&mut table, 1, TO_A_ROUTER, 2), Ok(()));
-    assert_eq!(rt; table.find(40, &address), Some(hop(2, title)));
-    Ok(())
+    hears(&rt, &mut table, 0, TO_AN_END, 1);
+    finds(&rt, &table, 39, Some(hop(1, None)));
+    finds(&rt, &table, 40, None);
+    hears(&rt, &mut table, 1, TO_A_ROUTER, 2);
+    finds(&rt, &table, 40, Some(hop(2, Some(title))));
 }
 
 #[test]
@@ -41,7 +39,29 @@ fn a_257th_address_is_refused(rt: HostRuntime) {
     assert_eq!(rt; hear(&mut table, 40, TO_AN_END, 1), Ok(()));
 }
 
-// Hears the RD of these octets, which comes on that LAN.
+/// The hop to an address.
+fn find(table: &Redirects, now: Tick, address: &str) -> Result<Option<Hop>, NsapFault>
+    requires { table.now.clock ≤ now }
+{
+    Ok(table.find(now, &Nsap::read(address)?))
+}
+
+/// Asserts that these octets are heard.
+fn hears(rt: &impl Abort, table: &mut Redirects, now: Tick, octets: &[u8], lan: u8)
+    requires { table.old.clock ≤ now }
+    ensures { table.new.clock ≤ now }
+{
+    assert_eq!(*rt; hear(table, now, octets, lan), Ok(()), "at {now}");
+}
+
+/// Asserts what the hop to 6300 is.
+fn finds(rt: &impl Abort, table: &Redirects, now: Tick, hop: Option<Hop>)
+    requires { table.now.clock ≤ now }
+{
+    assert_eq!(*rt; find(table, now, "6300"), Ok(hop), "at {now}");
+}
+
+/// Hears the RD of these octets, which comes on that LAN.
 fn hear(table: &mut Redirects, now: Tick, octets: &[u8], lan: u8) -> Heard
     requires { table.old.clock ≤ now }
     ensures { table.new.clock ≤ now }
@@ -52,6 +72,7 @@ fn hear(table: &mut Redirects, now: Tick, octets: &[u8], lan: u8) -> Heard
     }
 }
 
+/// Whether it is an RD.
 fn is_redirect(hello: &HelloRef<'_>) -> bool
     ensures { result ≡ true → IsRedirect (value_of hello.now) }
 {
@@ -61,7 +82,7 @@ fn is_redirect(hello: &HelloRef<'_>) -> bool
     }
 }
 
-// Redirects of 256 addresses, at tick 0.
+/// Redirects of 256 addresses, at tick 0.
 fn fill(table: &mut Redirects) -> Heard
     requires { table.old.clock ≤ 0 }
     ensures { table.new.clock ≤ 0 }
@@ -72,7 +93,7 @@ fn fill(table: &mut Redirects) -> Heard
     Ok(())
 }
 
-// An RD of an address that ends by this octet, with 20 seconds.
+/// An RD of an address that ends by this octet, with 20 seconds.
 fn to(last: u8) -> [u8; 20] {
     [
         0x82, 20, 1, 0, 6, 0, 20, 0, 0, 2, 0, last, 6, 2, 0, 0, 0, 0, 1, 0,
