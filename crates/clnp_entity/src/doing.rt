@@ -123,7 +123,7 @@ impl NetEntity {
             to: pdu.destination,
             octets,
         };
-        let mut ups = Vec::new(self.alloc);
+        let mut ups = Vec::with_capacity(self.alloc, 1)?;
         ups.push(Up::Unit(Arrival {
             system: self.setup.system,
             unit,

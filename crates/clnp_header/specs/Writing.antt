@@ -19,6 +19,10 @@ header_length pdu =
 abbrev pub pdu_length : Pdu → ℕ
 pdu_length pdu = header_length pdu + length pdu.body
 
+-- the PDU with other data
+abbrev pub with_body : Pdu → List ℕ → Pdu
+with_body pdu body = record pdu { body = body }
+
 -- how many octets they are, where they are 254 at most, and else none
 abbrev pub IsShort : ℕ → Option ℕ → Type 0
 IsShort length result = MatchOption result (254 < length) (λ count. (count ≡ length) × (count ≤ 254))
@@ -41,13 +45,16 @@ pub record IsWritable (pdu : Pdu) : Type 0 where
 
 -- ---- the octets
 
--- the fixed part with the flags, and a checksum of zeros
-abbrev pub plain_fixed_part : Pdu → List ℕ
-plain_fixed_part pdu = fixed_part (header_length pdu) pdu.lifetime (written_flags pdu.kind pdu.segment pdu.report) (pdu_length pdu) 0 0
+-- the fixed part with the flags, that length of the PDU, and a checksum of zeros
+abbrev pub fixed_part_of : Pdu → ℕ → List ℕ
+fixed_part_of pdu whole = fixed_part (header_length pdu) pdu.lifetime (written_flags pdu.kind pdu.segment pdu.report) whole 0 0
 
--- the header with a checksum of zeros: that fixed part, the addresses, the segmentation part, and the options as they are
+-- the header with that length of the PDU and a checksum of zeros: that fixed part, the addresses, the segmentation part, and the options as they are
+abbrev pub header_of : Pdu → ℕ → List ℕ
+header_of pdu whole = fixed_part_of pdu whole ++ variable_part pdu (spelled (parameters pdu.options))
+
 abbrev pub plain_header : Pdu → List ℕ
-plain_header pdu = plain_fixed_part pdu ++ variable_part pdu (spelled (parameters pdu.options))
+plain_header pdu = header_of pdu (pdu_length pdu)
 
 -- the checksum was written where it is used, and else nothing
 abbrev pub SealsIf : Bool → List ℕ → List ℕ → Type 0

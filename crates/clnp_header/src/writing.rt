@@ -5,7 +5,7 @@ ghost use Rattle.pdu_parts.specs.Field.{IsAddress};
 ghost use Rattle.pdu_parts.specs.Parameter.{spelled};
 ghost use Rattle.clnp_header.specs.Grammar.{IsPdu, segment_part};
 ghost use Rattle.clnp_header.specs.Values.{parameters};
-ghost use Rattle.clnp_header.specs.Writing.{IsShort, IsTooLong, IsWritable, IsWritten, SealsIf, header_length as length_of_header, pdu_length, plain_fixed_part, plain_header};
+ghost use Rattle.clnp_header.specs.Writing.{IsShort, IsTooLong, IsWritable, IsWritten, SealsIf, fixed_part_of, header_length as length_of_header, header_of, pdu_length, with_body};
 
 use crate::flags::flags_octet;
 use crate::pdu::{
@@ -29,10 +29,19 @@ pub fn write_pdu(alloc: Global, pdu: &Pdu) -> Result<Vec<u8>, HeaderRefusal>
     ensures length { IfOk result (λ octets. length octets.items ≡ pdu_length pdu.now) }
     ensures too_long { (result ≡ Err HeaderRefusal.TooLong) ↔ IsTooLong pdu.now }
 {
+    write_pdu_with(alloc, pdu, pdu.body.as_slice())
+}
+
+/// The octets of the PDU with these data in place of its own, as [`write_pdu`] gives them.
+pub fn write_pdu_with(alloc: Global, pdu: &Pdu, body: &[u8]) -> Result<Vec<u8>, HeaderRefusal>
+    ensures ok { IfOk result (λ octets. IsWritable (with_body pdu.now body.now) → IsPdu octets.items (with_body pdu.now body.now)) }
+    ensures written { IfOk result (λ octets. IsWritten (with_body pdu.now body.now) octets.items) }
+    ensures length { IfOk result (λ octets. length octets.items ≡ pdu_length (with_body pdu.now body.now)) }
+    ensures too_long { (result ≡ Err HeaderRefusal.TooLong) ↔ IsTooLong (with_body pdu.now body.now) }
+{
     let Some(header) = header_length(pdu) else {
         return Err(HeaderRefusal::TooLong);
     };
-    let body = pdu.body.as_slice();
     if body.len() > LONGEST_PDU - header {
         return Err(HeaderRefusal::TooLong);
     }
@@ -71,11 +80,10 @@ fn length_with(before: usize, options: &[OwnOpt]) -> Option<usize>
     Some(count)
 }
 
-/// Appends the header, with a checksum that is not used.
+/// Appends the header of so many octets of a PDU of so many, with a checksum that is not used.
 fn push_header(octets: &mut Vec<u8>, pdu: &Pdu, header: u8, whole: u16) -> Result<(), AllocError>
     requires header { header ≡ length_of_header pdu.now }
-    requires whole { whole ≡ pdu_length pdu.now }
-    ensures parts { OnOk result (octets.new.items ≡ octets.old.items ++ plain_header pdu.now) }
+    ensures parts { OnOk result (octets.new.items ≡ octets.old.items ++ header_of pdu.now whole) }
     ensures addresses { OnOk result (IsAddress pdu.now.destination × IsAddress pdu.now.source) }
 {
     push_fixed_part(octets, pdu, header, whole)?;
@@ -93,8 +101,7 @@ fn push_fixed_part(
     whole: u16,
 ) -> Result<(), AllocError>
     requires header { header ≡ length_of_header pdu.now }
-    requires whole { whole ≡ pdu_length pdu.now }
-    ensures { OnOk result (octets.new.items ≡ octets.old.items ++ plain_fixed_part pdu.now) }
+    ensures { OnOk result (octets.new.items ≡ octets.old.items ++ fixed_part_of pdu.now whole) }
 {
     let [high, low] = whole.to_be_bytes();
     let flags = flags_octet(pdu.kind, &pdu.segment, pdu.report);

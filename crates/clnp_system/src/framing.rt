@@ -1,7 +1,7 @@
 //! The frames that a system sends (X.233, PDU composition; ISO 9542, request redirect).
 
 ghost use Rattle.std.specs.Prelude.{◌≡◌, ◌≤◌, ◌∷◌, [], All, IfOk, IsSome, Some, length, option_map, option_to_list};
-ghost use Rattle.clnp_header.specs.Writing.{header_length as length_of_header, pdu_length as length_of_pdu};
+ghost use Rattle.clnp_header.specs.Writing.{header_length as length_of_header, pdu_length as length_of_pdu, with_body};
 ghost use Rattle.clnp_segment.specs.Cutting.{Cuts};
 ghost use Rattle.esis_pdu.specs.Hellos.{IsEsis, size_of, title_field};
 ghost use Rattle.esis_pdu.specs.Hellos.{IsWritten as IsWrittenHello};
@@ -11,7 +11,7 @@ ghost use Rattle.clnp_system.specs.Setting.{IsSetting, port_on};
 ghost use Rattle.clnp_system.specs.Written.{AreFrames, CutFrames, IsHelloFrame, IsPduFrame, MayBeWritten};
 
 use crate::setup::SystemSetup;
-use clnp_header::{Pdu, header_length, write_pdu};
+use clnp_header::{Pdu, header_length, write_pdu_with};
 use clnp_segment::{CutRefusal, cut, cut_written};
 use esis_pdu::{Hello, write_esis};
 use nsap::{Hop, Nsap, Port};
@@ -19,8 +19,31 @@ use osi_base::{Bytes, HeaderRefusal, NoMemory, Unit};
 use std::alloc::Global;
 
 impl SystemSetup {
-    /// The frames of a PDU, cut for the room of the LAN. None exactly where it does not fit and may not be cut.
+    /// The frames of a PDU with these data in place of its own, which are copied only where they are cut.
+    ///
+    /// None exactly where it does not fit the room of the LAN and may not be cut.
     #[inline(always)]
+    pub(crate) fn frames_with(
+        &self,
+        alloc: Global,
+        to: Port,
+        pdu: Pdu,
+        body: &[u8],
+    ) -> Result<Option<Vec<Unit<Port>>>, NoMemory>
+        requires setting { IsSetting self.now }
+        requires port { IsSome (port_on self.now to.lan) }
+        requires written { MayBeWritten (with_body pdu body.now) }
+        ensures { IfOk result (λ frames. CutFrames self.now to (with_body pdu body.now) (option_map (λ list. list.items) frames)) }
+    {
+        if length_with(&pdu, body) <= self.room(to.lan) as usize {
+            return Ok(Some(self.whole(alloc, to, &pdu, body)?));
+        }
+        let mut pdu = pdu;
+        pdu.body = Bytes::of(Vec::from_slice(alloc, body)?);
+        self.cut_frames(alloc, to, pdu)
+    }
+
+    /// The frames of a PDU, cut for the room of the LAN. None exactly where it does not fit and may not be cut.
     pub(crate) fn cut_frames(
         &self,
         alloc: Global,
@@ -35,7 +58,7 @@ impl SystemSetup {
         cut_written();
         let room = self.room(to.lan);
         if pdu_length(&pdu) <= room as usize {
-            return Ok(Some(self.whole(alloc, to, &pdu)?));
+            return Ok(Some(self.whole(alloc, to, &pdu, pdu.body.as_slice())?));
         }
         match pieces(alloc, pdu, room)? {
             Some(pdus) => Ok(Some(self.frames(alloc, to, &pdus)?)),
@@ -43,14 +66,20 @@ impl SystemSetup {
         }
     }
 
-    /// The frame of a PDU alone, from the own port on the LAN.
-    fn whole(&self, alloc: Global, to: Port, pdu: &Pdu) -> Result<Vec<Unit<Port>>, NoMemory>
+    /// The frame of a PDU with these data alone, from the own port on the LAN.
+    fn whole(
+        &self,
+        alloc: Global,
+        to: Port,
+        pdu: &Pdu,
+        body: &[u8],
+    ) -> Result<Vec<Unit<Port>>, NoMemory>
         requires port { IsSome (port_on self.now to.lan) }
-        requires written { MayBeWritten pdu.now }
-        ensures { IfOk result (λ frames. AreFrames self.now to (pdu.now ∷ []) frames.items) }
+        requires written { MayBeWritten (with_body pdu.now body.now) }
+        ensures { IfOk result (λ frames. AreFrames self.now to (with_body pdu.now body.now ∷ []) frames.items) }
     {
         let mut frames = Vec::with_capacity(alloc, 1)?;
-        frames.push(self.frame(alloc, to, pdu)?)?;
+        frames.push(self.frame_with(alloc, to, pdu, body)?)?;
         Ok(frames)
     }
 
@@ -68,13 +97,28 @@ impl SystemSetup {
     }
 
     /// The frame of a PDU, from the own port on the LAN.
-    #[inline(always)]
     pub(crate) fn frame(&self, alloc: Global, to: Port, pdu: &Pdu) -> Result<Unit<Port>, NoMemory>
         requires port { IsSome (port_on self.now to.lan) }
         requires written { MayBeWritten pdu.now }
         ensures { IfOk result (λ frame. IsPduFrame self.now to pdu.now frame) }
     {
-        match write_pdu(alloc, pdu) {
+        self.frame_with(alloc, to, pdu, pdu.body.as_slice())
+    }
+
+    /// The frame of a PDU with these data in place of its own, from the own port on the LAN.
+    #[inline(always)]
+    fn frame_with(
+        &self,
+        alloc: Global,
+        to: Port,
+        pdu: &Pdu,
+        body: &[u8],
+    ) -> Result<Unit<Port>, NoMemory>
+        requires port { IsSome (port_on self.now to.lan) }
+        requires written { MayBeWritten (with_body pdu.now body.now) }
+        ensures { IfOk result (λ frame. IsPduFrame self.now to (with_body pdu.now body.now) frame) }
+    {
+        match write_pdu_with(alloc, pdu, body) {
             Ok(octets) => Ok(self.unit(to, octets)),
             Err(HeaderRefusal::TooLong) => unreachable!(),
             Err(HeaderRefusal::NoMemory) => Err(NoMemory),
@@ -208,5 +252,13 @@ pub(crate) fn pdu_length(pdu: &Pdu) -> usize
     requires { length_of_header pdu.now ≤ 254 }
     ensures { result ≡ length_of_pdu pdu.now }
 {
-    header_length(pdu).unwrap() + pdu.body.as_slice().len()
+    length_with(pdu, pdu.body.as_slice())
+}
+
+/// The octets of a PDU with these data in place of its own.
+pub(crate) fn length_with(pdu: &Pdu, body: &[u8]) -> usize
+    requires { length_of_header pdu.now ≤ 254 }
+    ensures { result ≡ length_of_pdu (with_body pdu.now body.now) }
+{
+    header_length(pdu).unwrap() + body.len()
 }

@@ -4,11 +4,12 @@ ghost use Rattle.std.specs.Prelude.{◌≡◌, ◌≤◌, ◌∷◌, ◌++◌, I
 ghost use Rattle.std.specs.List.{AllByRecursion};
 ghost use Rattle.pdu_parts.specs.Field.{IsAddress};
 ghost use Rattle.clnp_options.specs.Titles.{entries};
+ghost use Rattle.clnp_header.specs.Writing.{with_body};
 ghost use Rattle.clnp_system.specs.Sending.{first_pdu, first_segment, pdu_with, recording_options, route_options};
 ghost use Rattle.clnp_system.specs.Setting.{IsAddressed, IsSetting, path_of, port_on};
 ghost use Rattle.clnp_system.specs.Written.{CutFrames, MayBeWritten};
 
-use crate::framing::pdu_length;
+use crate::framing::length_with;
 use crate::setup::{Path, SystemSetup};
 use clnp_header::{OwnOpt, Pdu, PduKind, SegmentPart};
 use clnp_options::{RECORDING, SOURCE_ROUTING};
@@ -40,10 +41,10 @@ impl SystemSetup {
         ensures { IfOk result (λ frames. CutFrames self.now hop.now.port (first_pdu self.now unit.now wish id) (option_map (λ list. list.items) frames)) }
     {
         let pdu = self.first_pdu(alloc, unit, wish, id)?;
-        self.cut_frames(alloc, hop.port, pdu)
+        self.frames_with(alloc, hop.port, pdu, unit.octets.as_slice())
     }
 
-    /// The initial PDU of a unit, with that identifier where it may be cut.
+    /// The initial PDU of a unit, with that identifier where it may be cut, and without the unit's octets.
     fn first_pdu(
         &self,
         alloc: Global,
@@ -53,17 +54,17 @@ impl SystemSetup {
     ) -> Result<Pdu, NoMemory>
         requires setting { IsSetting self.now }
         requires unit { length unit.now.octets ≤ 16384 }
-        ensures value { IfOk result (λ pdu. pdu ≡ first_pdu self.now unit.now wish id) }
-        ensures writable { IfOk result MayBeWritten }
+        ensures value { IfOk result (λ pdu. with_body pdu unit.now.octets ≡ first_pdu self.now unit.now wish id) }
+        ensures writable { IfOk result (λ pdu. MayBeWritten (with_body pdu unit.now.octets)) }
     {
         addressed(unit);
         let mut pdu = self.pdu_with(alloc, unit, wish, id)?;
-        let total = pdu_length(&pdu) as u16;
+        let total = length_with(&pdu, unit.octets.as_slice()) as u16;
         pdu.segment = first_segment(wish.cut, id, total);
         Ok(pdu)
     }
 
-    /// The initial PDU of a unit, with a total length of 0.
+    /// The initial PDU of a unit, with a total length of 0, and without the unit's octets.
     fn pdu_with(
         &self,
         alloc: Global,
@@ -71,11 +72,10 @@ impl SystemSetup {
         wish: Wish,
         id: u16,
     ) -> Result<Pdu, NoMemory>
-        ensures value { IfOk result (λ pdu. pdu ≡ pdu_with self.now unit.now wish id 0) }
+        ensures value { IfOk result (λ pdu. with_body pdu unit.now.octets ≡ pdu_with self.now unit.now wish id 0) }
         ensures routed { IfOk result (λ _. IfSome (path_of self.now wish.path) IsAddressed) }
     {
         let options = self.first_options(alloc, wish)?;
-        let body = Vec::from_slice(alloc, unit.octets.as_slice())?;
         Ok(Pdu {
             kind: PduKind::Dt,
             destination: unit.to,
@@ -85,7 +85,7 @@ impl SystemSetup {
             report: wish.report,
             segment: first_segment(wish.cut, id, 0),
             options: Items::of(options),
-            body: Bytes::of(body),
+            body: Bytes::of(Vec::new(alloc)),
         })
     }
 

@@ -1,19 +1,20 @@
 -- What is looked for among the ports on a LAN is found among any ports that have the same ones on the LAN.
-use Rattle.std.proofs.Common.{◌≡◌, ℕ, ◌<◌, ◌≤◌, ◌++◌, length, get_or, length-append, Bool, true, false, ◌&&◌, ◌==◌, if◌then◌else◌, List, [], ◌∷◌, Option, Some, None, refl, sym, ◌∙◌, ap, subst, inl, inr, arith, All}
+use Rattle.std.proofs.Common.{◌≡◌, ℕ, ◌<◌, ◌≤◌, ◌++◌, length, get_or, length-append, Bool, true, false, not, ◌&&◌, ◌||◌, ◌==◌, if◌then◌else◌, List, [], ◌∷◌, Option, Some, None, refl, sym, ◌∙◌, ap, subst, inl, inr, arith, All}
 use Rattle.std.specs.List.{list_any}
 use Rattle.std.proofs.Math.ListN.{get_or-append}
 use Rattle.std.proofs.Math.Seq.{get_or-append_seam}
-use Rattle.std.proofs.lemmas.Bool.{cases_Bool, cases_lt}
+use Rattle.std.proofs.lemmas.Bool.{cases_Bool, cases_lt, eq-eqb}
 use Rattle.std.proofs.lemmas.List.{get_or_default}
 use Rattle.std.proofs.lemmas.List.Elements.{All-nil, All-cons, All-head, All-tail, All-filter}
 use Rattle.std.proofs.lemmas.Map.Views.{any-filter_same}
+use Rattle.osi_base.specs.declared.unit.Picked.TheVariants.{Taken as WasPicked, NotThere, NotOurs}
 use Rattle.nsap.specs.declared.port.Port.{Port}
 use Rattle.lan_bag.specs.declared.setup.PortRow.{PortRow}
 use Rattle.lan_bag.specs.declared.setup.Lan.{Lan}
 use Rattle.lan_bag.specs.Rows.{same_port, same_snpa, sender_of, is_on, has_sent, goes_to, is_one_of, is_named_by}
-use Rattle.lan_bag.specs.Frames.{Frame}
-use Rattle.lan_bag.specs.steps.Openings.{is_open_to, is_open_at}
-use Rattle.lan_bag.proofs.Openings.{IsLeastAmong, any_less}
+use Rattle.lan_bag.specs.Frames.{Frame, has_taken, is_live, is_taken}
+use Rattle.lan_bag.specs.steps.Openings.{is_free_to, is_open_to, is_open_at}
+use Rattle.lan_bag.proofs.Openings.{IsLeastAmong, any_less, none_each}
 use Rattle.lan_bag.specs.steps.Setting.{AreOfLans, rows_on}
 
 pub any_on : (test : PortRow → Bool) (lan : ℕ) → ((row : PortRow) → test row ≡ true → (row.port.lan == lan) ≡ true) → (some all : List PortRow) → rows_on some lan ≡ rows_on all lan → list_any test some ≡ list_any test all
@@ -75,7 +76,7 @@ second_shut : (a b : Bool) → b ≡ false → (a && b) ≡ false
 second_shut true b h = h
 second_shut false b h = refl
 
-first_shut : (a b : Bool) → a ≡ false → (a && b) ≡ false
+pub first_shut : (a b : Bool) → a ≡ false → (a && b) ≡ false
 first_shut true b h = cc
 first_shut false b h = refl
 
@@ -116,6 +117,36 @@ pub none_named : (to : Port) (some all : List PortRow) → rows_on some to.lan �
 none_named to some all same none =
     sym (any_on (is_one_of to) to.lan (λ row h. first (row.port.lan == to.lan) (is_named_by row to.snpa) h) some all same)
     ∙ any_less (λ (row : PortRow). is_named_by row to.snpa) (is_one_of to) (λ row e. second_shut (row.port.lan == to.lan) (is_named_by row to.snpa) e) some none
+
+-- what holds at a place of a list holds at some
+any_at : (test : PortRow → Bool) (rows : List PortRow) (k : ℕ) (d : PortRow) → k < length rows → test (get_or rows k d) ≡ true → list_any test rows ≡ true
+any_at test rows k d lt h =
+    elim (cases_Bool (list_any test rows)) [
+      | inl some ↦ some
+      | inr none ↦ let shut : test (get_or rows k d) ≡ false = none_each test rows none k d lt in cc
+    ]
+
+-- one of a destination is there, and gets what goes to it
+free_open : (live there one sent took : Bool) → live ≡ true → there ≡ true → one ≡ true → (live && is_taken (if not there then NotThere else if sent || not one then NotOurs else WasPicked) && not took) ≡ (not took && not sent)
+free_open true true true true true l t o = refl
+free_open true true true true false l t o = refl
+free_open true true true false true l t o = refl
+free_open true true true false false l t o = refl
+free_open true true false sent took l t o = cc
+free_open true false one sent took l t o = cc
+free_open false there one sent took l t o = cc
+
+-- a live frame that goes to a port on its LAN is open there exactly where its system is free to take it
+pub open_free : (clock : ℕ) (lans : List Lan) (rows : List PortRow) (frame : Frame) (some : List PortRow) (k : ℕ) (row : PortRow) → rows_on some frame.unit.to.lan ≡ rows_on rows frame.unit.to.lan → k < length some → row ≡ get_or some k row → is_live clock lans frame ≡ true → is_one_of frame.unit.to row ≡ true → is_open_at clock lans rows frame row ≡ is_free_to rows frame row.system
+open_free clock lans rows frame some k row same lt at live one =
+    ap (λ (b : Bool). b && is_open_to clock lans rows frame row.system) one
+    ∙ free_open (is_live clock lans frame) (is_on rows row.system frame.unit.to.lan) (goes_to rows frame.unit.to row.system) (has_sent rows row.system frame.unit.from) (has_taken frame row.system) live
+    (sym (on_alike row.system frame.unit.to.lan some rows same) ∙ any_at (λ r. r.system == row.system && r.port.lan == frame.unit.to.lan) some k row lt (here (λ r. r.port.lan == frame.unit.to.lan) (first (row.port.lan == frame.unit.to.lan) (is_named_by row frame.unit.to.snpa) one)))
+    (sym (goes_alike row.system frame.unit.to some rows same) ∙ any_at (λ r. r.system == row.system && is_one_of frame.unit.to r) some k row lt (here (is_one_of frame.unit.to) one))
+  where
+    here : (test : PortRow → Bool) → test row ≡ true → ((get_or some k row).system == row.system && test (get_or some k row)) ≡ true
+    here test h =
+        subst (λ (r : PortRow). (r.system == row.system && test r) ≡ true) at (ap (λ (b : Bool). b && test row) (eq-eqb row.system row.system refl) ∙ h)
 
 -- where no port is one of its destination, a frame is open at none
 pub none_reached : (clock : ℕ) (lans : List Lan) (rows all : List PortRow) (frame : Frame) → list_any (is_one_of frame.unit.to) all ≡ false → list_any (is_open_at clock lans rows frame) all ≡ false

@@ -216,7 +216,7 @@ shut_at : (a b : Bool) → b ≡ false → (a && b) ≡ false
 shut_at true b h = h
 shut_at false b h = refl
 
-none_each : {X : Type 0} (p : X → Bool) (xs : List X) → list_any p xs ≡ false → All (λ (x : X). p x ≡ false) xs
+pub none_each : {X : Type 0} (p : X → Bool) (xs : List X) → list_any p xs ≡ false → All (λ (x : X). p x ≡ false) xs
 none_each p [] h = All-nil (λ x. p x ≡ false)
 none_each p (x ∷ xs) h =
     let both = or_parts (p x) (list_any p xs) h in

@@ -3,10 +3,10 @@
 ghost use Rattle.std.specs.Prelude.{◌≡◌, ◌≢◌, ◌≤◌, ◌+◌, length, IsSome, option_copied, slice_get};
 ghost use Rattle.lan_bag.specs.Rows.{sender_of};
 ghost use Rattle.lan_bag.specs.Frames.{kept, offered, picked, picked_of};
-ghost use Rattle.lan_bag.specs.steps.Openings.{is_open_at, IsClosedTo, IsFreshAt, IsLeastAt, IsLeastOpen, lesser_of};
+ghost use Rattle.lan_bag.specs.steps.Openings.{is_free_to, IsClosedTo, IsFreshAt, IsLeastAt, IsLeastOpen, lesser_of};
 
 use crate::frame::Sent;
-use crate::setup::{PortRow, Setup};
+use crate::setup::Setup;
 use crate::store::Store;
 use nsap::Port;
 use osi_base::{DropCause, Offered, Picked, Tick, Unit};
@@ -50,7 +50,6 @@ pub fn judge(clock: Tick, setup: &Setup, frames: &Store, pick: u32, system: u8) 
 }
 
 /// The answer to a choice of a live frame.
-#[inline(always)]
 fn judge_system(setup: &Setup, sent: &Sent, system: u8) -> Picked
     ensures { result ≡ picked_of setup.now.rows system sent.now }
 {
@@ -61,16 +60,6 @@ fn judge_system(setup: &Setup, sent: &Sent, system: u8) -> Picked
     } else {
         Picked::Taken
     }
-}
-
-/// Whether a frame goes to the port of a row, and its system may take it, and has not.
-fn is_free_at(clock: Tick, setup: &Setup, sent: &Sent, row: &PortRow) -> bool
-    ensures { result ≡ is_open_at clock setup.now.lans setup.now.rows sent.now row.now }
-{
-    row.is_one_of(&sent.to())
-        && sent.is_live(clock, setup)
-        && !sent.was_taken(row.system)
-        && judge_system(setup, sent, row.system) == Picked::Taken
 }
 
 /// The first frame, from that place on, that a system may take and has not taken.
@@ -142,13 +131,24 @@ fn first_system(clock: Tick, setup: &Setup, sent: &Sent) -> Option<u8>
 fn first_system_on(clock: Tick, setup: &Setup, sent: &Sent) -> Option<u8>
     ensures { IsLeastOpen clock setup.now.lans setup.now.rows sent.now result }
 {
+    if !sent.is_live(clock, setup) {
+        return None;
+    }
+    let to = sent.to();
     let mut least = None;
-    for row in setup.rows_on(sent.to().lan) {
-        if is_free_at(clock, setup, sent, row) {
+    for row in setup.rows_on(to.lan) {
+        if row.is_one_of(&to) && is_free(setup, sent, row.system) {
             least = Some(lesser(least, row.system));
         }
     }
     least
+}
+
+/// Whether a system has not taken a frame, and did not send it.
+fn is_free(setup: &Setup, sent: &Sent, system: u8) -> bool
+    ensures { result ≡ is_free_to setup.now.rows sent.now system }
+{
+    !sent.was_taken(system) && !setup.is_sender(system, &sent.from())
 }
 
 /// The lesser of two systems, where there are two.

@@ -9,10 +9,10 @@ use std::marker::Model;
 /// The most octets that an address or a prefix has.
 pub const CAPACITY: usize = 20;
 
-/// Up to twenty octets.
+/// Up to twenty octets. The length is as wide as it is so that they are three words, and are moved as such.
 #[derive(Clone, Copy, Debug)]
 pub struct Octets {
-    len: u8,
+    len: u32,
     octets: [u8; CAPACITY],
 }
 
@@ -57,7 +57,7 @@ impl Octets {
         let mut held = [0; CAPACITY];
         held[..octets.len()].copy_from_slice(octets);
         Some(Octets {
-            len: octets.len() as u8,
+            len: octets.len() as u32,
             octets: held,
         })
     }
@@ -73,7 +73,7 @@ impl Octets {
         let mut octets = [0; CAPACITY];
         text::decode(digits, &mut octets[..len]);
         Octets {
-            len: len as u8,
+            len: len as u32,
             octets,
         }
     }
@@ -83,7 +83,7 @@ impl Octets {
         ensures value { result.now ≡ self.now }
         ensures most { length self.now ≤ 20 }
     {
-        &self.octets[..usize::from(self.len)]
+        &self.octets[..self.len as usize]
     }
 
     /// These octets with another last one.
@@ -92,7 +92,7 @@ impl Octets {
         ensures { result ≡ take (length self.now - 1) self.now ++ last ∷ [] }
     {
         let mut changed = *self;
-        changed.octets[usize::from(self.len) - 1] = last;
+        changed.octets[self.len as usize - 1] = last;
         changed
     }
 }

@@ -16,7 +16,7 @@ ghost use Rattle.tp4_world.specs.steps.Parts.{AreBehind, world_of};
 use crate::EndAt;
 use crate::sending::follow;
 use crate::telling::{call_event, request, tell_some};
-use crate::transport::{Transport, connect_at, empty_step, has_ended, own_at, place_of, user_at};
+use crate::transport::{Transport, connect_at, has_ended, own_at, place_of, user_at};
 use crate::words::{told_connect, told_refusal};
 use nsap::Nsap;
 use osi_base::{Carrier, NoMemory, Tick};
@@ -50,8 +50,14 @@ pub fn begin<C: Carrier<Addr = Nsap>>(
         return Err(NoMemory);
     };
     let request = request(alloc, system, &own, &call)?;
-    let mut out = empty_step(alloc, &mut transport.out);
-    match connect_at(&mut transport.entities, place, now, call, &mut out) {
+    transport.out.clear();
+    match connect_at(
+        &mut transport.entities,
+        place,
+        now,
+        call,
+        &mut transport.out,
+    ) {
         Ok(reference) => {
             let end = transport.ends.add(EndAt { system, reference })?;
             let request = Request {
@@ -66,10 +72,9 @@ pub fn begin<C: Carrier<Addr = Nsap>>(
                 &mut transport.ends,
                 system,
                 &own,
-                &mut out,
+                &mut transport.out,
                 events,
             )?;
-            transport.out = out;
             Ok(())
         }
         Err(why) => {
@@ -160,14 +165,14 @@ fn ask_at<C: Carrier<Addr = Nsap>>(
         return Err(NoMemory);
     };
     let event = call_event(alloc, named.number, &call)?;
-    let mut out = empty_step(alloc, &mut transport.out);
+    transport.out.clear();
     match user_at(
         &mut transport.entities,
         place,
         now,
         named.end.reference,
         call,
-        &mut out,
+        &mut transport.out,
     ) {
         Ok(()) => {
             tell_some(event, events)?;
@@ -177,10 +182,9 @@ fn ask_at<C: Carrier<Addr = Nsap>>(
                 &mut transport.ends,
                 named.end.system,
                 &own,
-                &mut out,
+                &mut transport.out,
                 events,
             )?;
-            transport.out = out;
             Ok(())
         }
         Err(why) => {

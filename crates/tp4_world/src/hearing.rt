@@ -10,7 +10,7 @@ ghost use Rattle.tp4_world.specs.Run.{Hears};
 ghost use Rattle.tp4_world.specs.steps.Parts.{AreBehind, HearsEach, HearsWaiting, TakesUnits, Tells, then_for_transport, world_of};
 
 use crate::sending::follow;
-use crate::transport::{Transport, empty_step, hear_at, no_units, own_at, place_of};
+use crate::transport::{Transport, hear_at, own_at, place_of};
 use net_world::tell;
 use nsap::Nsap;
 use osi_base::{Arrival, Carrier, NoMemory, Tick, Up};
@@ -35,10 +35,9 @@ pub fn hear_waiting<C: Carrier<Addr = Nsap>>(
     ensures clock { OnOk result ((C.link carrier.new).clock ≡ now) }
     ensures behind { OnOk result (AreBehind now transport.new.entities.items) }
 {
-    let mut units = no_units(transport.alloc, &mut transport.units);
-    take_units(carrier, &mut units, events)?;
-    hear_all(carrier, transport, now, &mut units, events)?;
-    transport.units = units;
+    transport.units.clear();
+    take_units(carrier, &mut transport.units, events)?;
+    hear_all(carrier, transport, now, events)?;
     Ok(())
 }
 
@@ -78,29 +77,29 @@ fn sort(
     }
 }
 
-/// The units are handled, one after another.
+/// The units that were taken up are handled, one after another.
 fn hear_all<C: Carrier<Addr = Nsap>>(
     carrier: &mut C,
     transport: &mut Transport,
     now: Tick,
-    units: &mut VecDeque<Arrival<Nsap>>,
     events: &mut Vec<Event>,
 ) -> Result<(), NoMemory>
     requires low { now ≤ 4000000000 }
     requires clock { (C.link carrier.old).clock ≡ now }
     requires behind { AreBehind now transport.old.entities.items }
     ensures hears { OnOk result (Tells events.old.items events.new.items (λ made. HearsEach C.link C.steps wire
-        (world_of carrier.old transport.old.entities.items transport.old.ends) units.old.items made (world_of carrier.new transport.new.entities.items transport.new.ends))) }
+        (world_of carrier.old transport.old.entities.items transport.old.ends) transport.old.units.items made (world_of carrier.new transport.new.entities.items transport.new.ends))) }
     ensures clock { OnOk result ((C.link carrier.new).clock ≡ now) }
     ensures behind { OnOk result (AreBehind now transport.new.entities.items) }
 {
-    while let Some(arrival) = units.pop_front() {
+    while let Some(arrival) = transport.units.pop_front() {
         hear(carrier, transport, now, &arrival, events)?;
     }
     Ok(())
 }
 
-/// A unit is handed to the entity of its system, where it is for the entity's address; else nothing comes of it.
+/// A unit is handed to the entity of its system, where it is for the entity's address; else nothing comes of it. Those that wait
+/// behind it are not touched.
 fn hear<C: Carrier<Addr = Nsap>>(
     carrier: &mut C,
     transport: &mut Transport,
@@ -114,6 +113,7 @@ fn hear<C: Carrier<Addr = Nsap>>(
     ensures hears { OnOk result (Tells events.old.items events.new.items (λ made. Hears C.link C.steps wire
         (world_of carrier.old transport.old.entities.items transport.old.ends) arrival.now made (world_of carrier.new transport.new.entities.items transport.new.ends))) }
     ensures clock { OnOk result ((C.link carrier.new).clock ≡ now) }
+    ensures others { OnOk result (transport.new.units.items ≡ transport.old.units.items) }
     ensures behind { OnOk result (AreBehind now transport.new.entities.items) }
 {
     let Some(place) = place_of(&transport.entities, arrival.system) else {
@@ -126,18 +126,23 @@ fn hear<C: Carrier<Addr = Nsap>>(
         return Ok(());
     }
     let alloc = transport.alloc;
-    let mut out = empty_step(alloc, &mut transport.out);
-    hear_at(&mut transport.entities, place, now, &arrival.unit, &mut out)?;
+    transport.out.clear();
+    hear_at(
+        &mut transport.entities,
+        place,
+        now,
+        &arrival.unit,
+        &mut transport.out,
+    )?;
     follow(
         alloc,
         carrier,
         &mut transport.ends,
         arrival.system,
         &own,
-        &mut out,
+        &mut transport.out,
         events,
     )?;
-    transport.out = out;
     Ok(())
 }
 

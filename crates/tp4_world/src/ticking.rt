@@ -6,7 +6,7 @@ ghost use Rattle.tp4_world.specs.Run.{TicksAll, TicksEntity};
 ghost use Rattle.tp4_world.specs.steps.Parts.{AreBehind, Tells, TicksOnce, dues_at, systems_of, world_of};
 
 use crate::sending::follow;
-use crate::transport::{Transport, empty_step, own_at, place_of, tick_at};
+use crate::transport::{Transport, own_at, place_of, tick_at};
 use nsap::Nsap;
 use osi_base::{Carrier, NoMemory, Tick};
 use osi_journal::Event;
@@ -93,10 +93,9 @@ fn tick_one<C: Carrier<Addr = Nsap>>(
     let Some(own) = own_at(&transport.entities, place) else {
         return Err(NoMemory);
     };
-    let mut out = empty_step(alloc, &mut transport.out);
-    let was_due = tick_at(&mut transport.entities, place, now, &mut out)?;
+    transport.out.clear();
+    let was_due = tick_at(&mut transport.entities, place, now, &mut transport.out)?;
     if !was_due {
-        transport.out = out;
         return Ok(false);
     }
     follow(
@@ -105,9 +104,8 @@ fn tick_one<C: Carrier<Addr = Nsap>>(
         &mut transport.ends,
         system,
         &own,
-        &mut out,
+        &mut transport.out,
         events,
     )?;
-    transport.out = out;
     Ok(true)
 }

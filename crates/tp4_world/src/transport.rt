@@ -24,12 +24,12 @@ use nsap::Nsap;
 use osi_base::{Arrival, NoMemory, Tick, Unit};
 use std::alloc::Global;
 use std::collections::VecDeque;
-use std::mem;
 use tp4_conn::{CallRefusal, ConnectCall, UserCall};
 use tp4_entity::{ConnectRefusal, EntityRefusal};
 use tp4_flow::Step;
 
-/// The entities, and their ends by number; and lists that hold nothing of value between calls, but have room.
+/// The entities, and their ends by number; and lists that hold nothing of value between calls, but have room. Each call that uses
+/// one clears it first.
 #[derive(Drop)]
 pub struct Transport {
     pub alloc: Global,
@@ -37,24 +37,6 @@ pub struct Transport {
     pub ends: Ends,
     pub out: Step,
     pub units: VecDeque<Arrival<Nsap>>,
-}
-
-/// A step with nothing in it, with the room of one that is done with.
-pub fn empty_step(alloc: Global, done: &mut Step) -> Step
-    ensures { result ≡ record { events = []; tpdus = [] } }
-{
-    let mut out = mem::replace(done, Step::new(alloc));
-    out.clear();
-    out
-}
-
-/// No units, with the room of those that are done with.
-pub fn no_units(alloc: Global, done: &mut VecDeque<Arrival<Nsap>>) -> VecDeque<Arrival<Nsap>>
-    ensures { result.items ≡ [] }
-{
-    let mut units = mem::replace(done, VecDeque::new(alloc));
-    units.clear();
-    units
 }
 
 /// The place of the entity of a system.

@@ -3,7 +3,7 @@ use Rattle.std.specs.Prelude.{◌≡◌, ℕ, ◌+◌, ◌<◌, ◌≤◌, Bool,
 use Rattle.std.specs.List.{list_any}
 use Rattle.lan_bag.specs.declared.setup.Lan.{Lan}
 use Rattle.lan_bag.specs.declared.setup.PortRow.{PortRow}
-use Rattle.lan_bag.specs.Rows.{is_one_of}
+use Rattle.lan_bag.specs.Rows.{has_sent, is_one_of}
 use Rattle.lan_bag.specs.Frames.{Frame, has_taken, kept, is_live, picked_of, is_taken}
 
 -- the lesser of two systems, where there are two
@@ -19,6 +19,10 @@ is_open_to clock lans rows frame system =
 -- the frame goes to the port of the row, and its system may take it, and has not
 abbrev pub is_open_at : ℕ → List Lan → List PortRow → Frame → PortRow → Bool
 is_open_at clock lans rows frame row = is_one_of frame.unit.to row && is_open_to clock lans rows frame row.system
+
+-- the system has not taken the frame, and did not send it
+abbrev pub is_free_to : List PortRow → Frame → ℕ → Bool
+is_free_to rows frame system = not (has_taken frame system) && not (has_sent rows system frame.unit.from)
 
 -- some system may take the frame, and has not
 abbrev pub is_open : ℕ → List Lan → List PortRow → Option Frame → Bool

@@ -9,9 +9,9 @@ use Rattle.tp4_world.proofs.asking.ask_at.Goals as goal
 pub returns-in_ok-follow-in-Ok-clause-calls : goal.returns-in_ok-follow-in-Ok-clause-calls
 returns-in_ok-follow-in-Ok-clause-calls g c =
     call_done g.C.Carrier.link g.C.Carrier.steps wire c.args.carrier.now c.follow.new.carrier c.args.transport.now.entities.items c.user_at.new.entities.items c.args.transport.now.ends c.follow.new.ends
-    c.args.place c.args.now c.args.named.number c.args.named.end c.in-Some.own c.args.call c.empty_step-out.result c.user_at.new.out c.tell_some.new.events.items c.follow.new.events.items c.requires.place
+    c.args.place c.args.now c.args.named.number c.args.named.end c.in-Some.own c.args.call c.clear.new.self c.user_at.new.out c.tell_some.new.events.items c.follow.new.events.items c.requires.place
     (λ one at. sym c.in-Some.is ∙ c.own_at.ensures one (ap (λ (ps : List Placed). slice_get ps c.args.place) c.deref.ensures.value ∙ at))
-    c.requires.clock c.empty_step-out.ensures c.in-Ok.ensures.changed
+    c.requires.clock c.clear.ensures c.in-Ok.ensures.changed
     (c.in_ok-tell_some-in-Ok.ensures ∙ ap (λ (es : List Event). es ++ listed c.in_ok-event.event) c.requires.none ∙ c.in_ok-event.ensures) c.in_ok-follow-in-Ok.ensures.follows
 
 pub returns-in_ok-refuse-in-Err-clause-calls : goal.returns-in_ok-refuse-in-Err-clause-calls

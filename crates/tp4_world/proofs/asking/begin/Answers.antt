@@ -11,10 +11,10 @@ use Rattle.tp4_world.proofs.asking.begin.Goals as goal
 pub returns-in_ok-follow-in-Ok-clause-connects : goal.returns-in_ok-follow-in-Ok-clause-connects
 returns-in_ok-follow-in-Ok-clause-connects g c =
     connect_begun g.C.Carrier.link g.C.Carrier.steps c.args.carrier.now c.follow.new.carrier c.args.transport.now.entities.items c.connect_at.new.entities.items c.args.transport.now.ends c.add.new.self c.follow.new.ends
-    c.args.system c.in-Some.place c.args.now c.in-Ok.reference c.in_ok-end-in-Ok.end c.in-Some-own_at.own c.args.call c.empty_step-out.result c.connect_at.new.out (Connect c.in_ok-new-in-Ok.field-0)
+    c.args.system c.in-Some.place c.args.now c.in-Ok.reference c.in_ok-end-in-Ok.end c.in-Some-own_at.own c.args.call c.clear.new.self c.connect_at.new.out (Connect c.in_ok-new-in-Ok.field-0)
     c.push.new.self.items c.follow.new.events.items (ap (position (is_of c.args.system)) (sym c.deref.ensures.value) ∙ sym c.place_of.ensures ∙ c.in-Some.is)
     (λ one at. sym c.in-Some-own_at.is ∙ c.own_at.ensures one (ap (λ (ps : List Placed). slice_get ps c.in-Some.place) c.deref-2.ensures.value ∙ at))
-    c.requires.clock c.empty_step-out.ensures c.in-Ok.ensures.changed c.in_ok-end-in-Ok.ensures.added c.in_ok-end-in-Ok.ensures.number
+    c.requires.clock c.clear.ensures c.in-Ok.ensures.changed c.in_ok-end-in-Ok.ensures.added c.in_ok-end-in-Ok.ensures.number
     (ap (λ (r : Request). Connect r) c.in_ok-new-in-Ok.ensures ∙ c.in_ok-request.ensures c.in_ok-end-in-Ok.end c.in-Ok.reference)
     (c.in_ok-push-in-Ok.ensures.items ∙ ap (λ (es : List Event). es ++ Connect c.in_ok-new-in-Ok.field-0 ∷ []) c.requires.none) c.in_ok-follow-in-Ok.ensures.follows
 

@@ -36,6 +36,6 @@ pub returns-clause-hears : goal.returns-clause-hears
 returns-clause-hears g c =
     let found = ap (position (is_of c.args.arrival.now.system)) (sym c.deref.ensures.value) ∙ sym c.place_of.ensures ∙ c.in-Some.is in
     hears_there g.C.Carrier.link g.C.Carrier.steps wire c.args.carrier.now c.follow.new.carrier c.args.transport.now.entities.items c.hear_at.new.entities.items c.args.transport.now.ends c.follow.new.ends
-    c.args.arrival.now c.in-Some.place c.args.now c.in-Some-own_at.own c.empty_step-out.result c.hear_at.new.out c.args.events.now.items c.follow.new.events.items found
+    c.args.arrival.now c.in-Some.place c.args.now c.in-Some-own_at.own c.clear.new.self c.hear_at.new.out c.args.events.now.items c.follow.new.events.items found
     (λ one at. sym c.in-Some-own_at.is ∙ c.own_at.ensures one (ap (λ (ps : List Placed). slice_get ps c.in-Some.place) c.deref-2.ensures.value ∙ at))
-    (sym c.is_for.ensures ∙ c.if-not-is_for.false) c.requires.clock c.empty_step-out.ensures c.in_ok-hear_at.ensures.changed c.in_ok-follow.ensures.follows
+    (sym c.is_for.ensures ∙ c.if-not-is_for.false) c.requires.clock c.clear.ensures c.in_ok-hear_at.ensures.changed c.in_ok-follow.ensures.follows

@@ -6,10 +6,10 @@ use Rattle.tp4_world.proofs.hearing.hear_all.Given as goal
 
 abbrev pub invariant-loop-arrival : goal.invariant-loop-arrival
 invariant-loop-arrival g l =
-    Going (HearsEach g.C.Carrier.link g.C.Carrier.steps wire) (world_of l.initial.carrier l.initial.transport.entities.items l.initial.transport.ends) l.initial.units.items l.initial.events.items
-    (world_of l.carrier l.transport.entities.items l.transport.ends) l.events.items l.units.items
+    Going (HearsEach g.C.Carrier.link g.C.Carrier.steps wire) (world_of l.initial.carrier l.initial.transport.entities.items l.initial.transport.ends) l.initial.transport.units.items l.initial.events.items
+    (world_of l.carrier l.transport.entities.items l.transport.ends) l.events.items l.transport.units.items
     × ((g.C.Carrier.link l.carrier).clock ≡ l.now)
     × AreBehind l.now l.transport.entities.items
 
 abbrev pub decreases-loop-arrival : goal.decreases-loop-arrival
-decreases-loop-arrival g l = length l.units.items
+decreases-loop-arrival g l = length l.transport.units.items

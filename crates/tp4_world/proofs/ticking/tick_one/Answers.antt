@@ -12,7 +12,7 @@ returns-then-not-was_due-clause-ticks g c = record {
   made = [];
   added = sym (append-nil c.args.events.now.items);
   are = once_none g.C.Carrier.link g.C.Carrier.steps wire c.args.carrier.now c.args.transport.now.entities.items c.tick_at.new.entities.items c.args.transport.now.ends c.args.system c.in-Some.place c.args.now
-      c.in_ok-was_due.was_due c.empty_step-out.result c.tick_at.new.out (ap (position (is_of c.args.system)) (sym c.deref.ensures.value) ∙ sym c.place_of.ensures ∙ c.in-Some.is) c.requires.clock
+      c.in_ok-was_due.was_due c.clear.new.self c.tick_at.new.out (ap (position (is_of c.args.system)) (sym c.deref.ensures.value) ∙ sym c.place_of.ensures ∙ c.in-Some.is) c.requires.clock
       c.if-not-was_due.true c.in_ok-was_due.ensures.changed;
 }
 
@@ -22,10 +22,10 @@ returns-then-not-was_due-clause-systems g c = changed_systems c.in-Some.place c.
 pub returns-clause-ticks : goal.returns-clause-ticks
 returns-clause-ticks g c =
     once_due g.C.Carrier.link g.C.Carrier.steps wire c.args.carrier.now c.follow.new.carrier c.args.transport.now.entities.items c.tick_at.new.entities.items c.args.transport.now.ends c.follow.new.ends
-    c.args.system c.in-Some.place c.args.now c.in-Some-own_at.own c.in_ok-was_due.was_due c.empty_step-out.result c.tick_at.new.out c.args.events.now.items c.follow.new.events.items
+    c.args.system c.in-Some.place c.args.now c.in-Some-own_at.own c.in_ok-was_due.was_due c.clear.new.self c.tick_at.new.out c.args.events.now.items c.follow.new.events.items
     (ap (position (is_of c.args.system)) (sym c.deref.ensures.value) ∙ sym c.place_of.ensures ∙ c.in-Some.is)
     (λ one at. sym c.in-Some-own_at.is ∙ c.own_at.ensures one (ap (λ (ps : List Placed). slice_get ps c.in-Some.place) c.deref-2.ensures.value ∙ at))
-    c.requires.clock c.if-not-was_due.false c.empty_step-out.ensures c.in_ok-was_due.ensures.changed c.in_ok-follow.ensures.follows
+    c.requires.clock c.if-not-was_due.false c.clear.ensures c.in_ok-was_due.ensures.changed c.in_ok-follow.ensures.follows
 
 pub returns-clause-systems : goal.returns-clause-systems
 returns-clause-systems g c = changed_systems c.in-Some.place c.args.transport.now.entities.items c.tick_at.new.entities.items _ c.in_ok-was_due.ensures.changed

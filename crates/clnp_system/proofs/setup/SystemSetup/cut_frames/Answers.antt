@@ -1,9 +1,9 @@
-use Rattle.std.proofs.Common.{List, Some, All, [], ◌∷◌, refl, ◌≤◌, arith, sym, subst}
+use Rattle.std.proofs.Common.{ℕ, List, Some, All, [], ◌∷◌, refl, ◌≤◌, arith, sym, subst}
 use Rattle.clnp_header.specs.declared.pdu.Pdu.{Pdu}
 use Rattle.clnp_segment.specs.Cutting.{Cuts}
-use Rattle.clnp_header.specs.Writing.{pdu_length}
+use Rattle.clnp_header.specs.Writing.{pdu_length, with_body}
 use Rattle.clnp_system.specs.Setting.{room_of}
-use Rattle.clnp_system.specs.Written.{MayBeWritten}
+use Rattle.clnp_system.specs.Written.{AreFrames, MayBeWritten}
 use Rattle.clnp_system.proofs.Lans.{lan_of}
 use Rattle.clnp_system.proofs.Writable.{cut_may_be_written, fits_alone}
 use Rattle.clnp_system.proofs.setup.SystemSetup.cut_frames.Goals as goal
@@ -20,5 +20,8 @@ frames-requires-clause-written c =
 
 pub returns-then-pdu_length-room : goal.returns-then-pdu_length-room
 returns-then-pdu_length-room c =
-    let fits : pdu_length c.args.pdu ≤ room_of c.args.self.now c.args.to.lan = omega (arith, c.pdu_length.ensures, c.room-room.ensures) in
-    (c.args.pdu ∷ [], fits_alone c.args.pdu (room_of c.args.self.now c.args.to.lan) c.args.pdu.segment refl fits, c.in_ok-whole.ensures)
+    let fits : pdu_length c.args.pdu ≤ room_of c.args.self.now c.args.to.lan = omega (arith, c.pdu_length.ensures, c.room-room.ensures) in (
+      c.args.pdu ∷ [],
+      fits_alone c.args.pdu (room_of c.args.self.now c.args.to.lan) c.args.pdu.segment refl fits,
+      subst (λ (b : List ℕ). AreFrames c.args.self.now c.args.to (with_body c.args.pdu b ∷ []) c.in_ok-whole.field-0.items) c.as_slice.ensures c.in_ok-whole.ensures,
+    )
