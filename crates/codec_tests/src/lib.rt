@@ -1,8 +1,10 @@
-//! Tests of the codecs over octets counted by hand, with checksums from outside: addresses, parts of headers, LAN frames, CLNP PDUs, hellos, TPDUs.
+//! Tests of the codecs over octets counted by hand, with checksums from outside: sources and sinks, addresses, parts of headers, LAN frames, CLNP PDUs, hellos, TPDUs.
 #![tactic(auto)]
 
 #[cfg(test)]
 mod addresses;
+#[cfg(test)]
+mod base;
 #[cfg(test)]
 mod frames;
 #[cfg(test)]

@@ -10,8 +10,8 @@ mod snpa;
 mod text;
 
 pub use laws::{is_prefix, text_round_trip};
-pub use nsap::Nsap;
+pub use nsap::{Nsap, RAW, TRANSPORT};
 pub use port::{Hop, Port};
 pub use prefix::Prefix;
-pub use snpa::Snpa;
+pub use snpa::{ALL_END_SYSTEMS, ALL_INTERMEDIATE_SYSTEMS, Snpa};
 pub use text::NsapFault;

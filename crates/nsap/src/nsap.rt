@@ -9,6 +9,12 @@ use crate::{NsapFault, text};
 use std::fmt;
 use std::marker::Model;
 
+/// The selector of transport.
+pub const TRANSPORT: u8 = 1;
+
+/// The selector of raw units.
+pub const RAW: u8 = 2;
+
 /// An address of 1 to 20 octets. The last octet is its selector, and those before it name a system.
 #[derive(Clone, Copy, Debug)]
 pub struct Nsap {

@@ -10,6 +10,12 @@ use std::marker::Model;
 /// How many octets an SNPA has.
 const SNPA_OCTETS: usize = 6;
 
+/// The group of all end systems (ISO 9542, multicast addresses), as the octets of its SNPA.
+pub const ALL_END_SYSTEMS: [u8; SNPA_OCTETS] = [0x09, 0x00, 0x2b, 0x00, 0x00, 0x04];
+
+/// The group of all intermediate systems (ISO 9542, multicast addresses), as the octets of its SNPA.
+pub const ALL_INTERMEDIATE_SYSTEMS: [u8; SNPA_OCTETS] = [0x09, 0x00, 0x2b, 0x00, 0x00, 0x05];
+
 /// The bit of the first octet that tells a group of systems from one.
 const GROUP: u8 = 0x01;
 

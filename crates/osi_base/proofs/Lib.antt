@@ -7,6 +7,5 @@ pub mod FletcherSums
 pub mod Fronts
 pub mod Gatherings
 pub mod Numbers
-mod RoundTrips
 pub mod Standings
 pub mod Young

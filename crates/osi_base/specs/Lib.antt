@@ -6,5 +6,4 @@ pub mod Gathering
 pub mod Link
 pub mod Memory
 pub mod Numbers
-pub mod Rounds
 pub mod Status

@@ -102,32 +102,3 @@ fn write_pair(octets: &mut [u8], at: usize, first: u8, second: u8)
     octets[at] = first;
     octets[at + 1] = second;
 }
-
-#[cfg(test)]
-mod tests {
-    use super::*;
-
-    const HEADER: &[u8; 17] =
-        b"\x81\x11\x01\x20\x1c\x00\x16\x15\x53\x03\x49\x0b\x02\x03\x49\x0a\x02";
-
-    #[test]
-    fn a_changed_header_is_not_ok(rt: HostRuntime) {
-        let mut header = *HEADER;
-        assert!(rt; fletcher_ok(&header));
-        header[4] = 0x1f;
-        assert!(rt; !fletcher_ok(&header));
-    }
-
-    #[test]
-    fn the_header_is_sealed_by_1553(rt: HostRuntime) {
-        let mut header = *HEADER;
-        header[7..9].fill(0);
-        fletcher_seal(&mut header, 7);
-        assert_eq!(rt; &header, HEADER);
-    }
-
-    #[test]
-    fn the_largest_octets_pass(rt: HostRuntime) {
-        assert!(rt; fletcher_ok(&[255; 65_535]));
-    }
-}

@@ -112,36 +112,3 @@ fn is_older(taken: Tick, now: Tick, age: u32) -> bool
 {
     u64::from(taken) + u64::from(age) < u64::from(now)
 }
-
-#[cfg(test)]
-mod tests {
-    use super::*;
-    use crate::Bytes;
-    use std::test::Fail;
-
-    fn unit(alloc: Global, to: u8) -> Result<Unit<u8>, Fail> {
-        Ok(Unit {
-            from: 1,
-            to,
-            octets: Bytes::of([7].to_vec(alloc)?),
-        })
-    }
-
-    #[test]
-    fn old_units_are_given_up(rt: HostRuntime) -> Result<(), Fail> {
-        let alloc = rt.alloc();
-        let mut floating = Floating::new(alloc, 2);
-        floating.add(3, unit(alloc, 2)?)?;
-        assert!(rt; !floating.is_full());
-        floating.add(4, unit(alloc, 5)?)?;
-        assert!(rt; floating.is_full());
-        assert!(rt; floating.has(&unit(alloc, 2)?));
-        assert!(rt; !floating.has(&unit(alloc, 3)?));
-        floating.drop_older(5, 2);
-        assert!(rt; floating.has(&unit(alloc, 2)?));
-        floating.drop_older(6, 2);
-        assert!(rt; !floating.has(&unit(alloc, 2)?));
-        assert!(rt; floating.has(&unit(alloc, 5)?));
-        Ok(())
-    }
-}

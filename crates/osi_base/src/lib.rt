@@ -17,8 +17,6 @@ mod sink;
 mod source;
 mod standard;
 mod status;
-#[cfg(test)]
-mod tests;
 mod unit;
 
 pub use address::Address;
@@ -31,7 +29,7 @@ pub use memory::{MemSink, MemSource, PlainSink, PlainSource};
 pub use note::{HelloCause, HelloKind, Note};
 pub use octets::Octets;
 pub use refusal::{Failed, HeaderRefusal, NoMemory, WriteRefusal};
-pub use runs::{gather, go_round};
+pub use runs::gather;
 pub use sink::Sink;
 pub use source::Source;
 pub use standard::{StdSink, StdSource};

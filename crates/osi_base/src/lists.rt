@@ -1,7 +1,9 @@
 //! Octets and other members that a value owns. Contracts see them as lists.
 
-ghost use Rattle.std.specs.Prelude.{◌≡◌};
+ghost use Rattle.std.specs.Prelude.{◌≡◌, IfOk};
 
+use crate::NoMemory;
+use std::alloc::Global;
 use std::marker::Model;
 
 /// Octets that a value owns.
@@ -24,6 +26,15 @@ impl Bytes {
         ensures { result ≡ list.items }
     {
         Bytes { octets: list }
+    }
+
+    /// A copy of octets that are lent.
+    pub fn copy(alloc: Global, octets: &[u8]) -> Result<Bytes, NoMemory>
+        ensures { IfOk result (λ copy. copy ≡ octets.now) }
+    {
+        Ok(Bytes {
+            octets: octets.to_vec(alloc)?,
+        })
     }
 
     /// The octets, lent.

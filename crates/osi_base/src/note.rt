@@ -73,7 +73,7 @@ pub enum Note {
     HelloFull {
         system: u8,
     },
-    /// A system sent a hello.
+    /// A system heard a hello.
     Hello {
         system: u8,
         kind: HelloKind,

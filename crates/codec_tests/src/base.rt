@@ -1,7 +1,13 @@
-//! What no clause says: that calls succeed with ample memory, and what streams give and take.
-use super::*;
+//! What no clause says: that calls succeed with ample memory, and what streams give and take; one header with its checksum.
+use osi_base::{
+    Address, Bytes, Failed, Floating, Items, MemSink, MemSource, Octets, PlainSink, PlainSource,
+    Sink, Source, StdSink, StdSource, Unit, WriteRefusal, fletcher_ok, fletcher_seal,
+};
+use std::alloc::Global;
 use std::io::{self, BufWriter, ErrorKind, Read};
 use std::test::Fail;
+
+const HEADER: &[u8; 17] = b"\x81\x11\x01\x20\x1c\x00\x16\x15\x53\x03\x49\x0b\x02\x03\x49\x0a\x02";
 
 #[derive(Drop)]
 struct Broken;
@@ -57,4 +63,51 @@ fn streams_and_memory_give_and_take(rt: HostRuntime) -> Result<(), Fail> {
     assert_eq!(rt; MemSink::new(rt.alloc(), &[2])?.write(b"abc"), Ok(3));
     assert!(rt; Items::of([1].to_vec(rt.alloc())?) != Items::of([2].to_vec(rt.alloc())?));
     Ok(())
+}
+
+fn unit(alloc: Global, to: u8) -> Result<Unit<u8>, Fail> {
+    Ok(Unit {
+        from: 1,
+        to,
+        octets: Bytes::of([7].to_vec(alloc)?),
+    })
+}
+
+#[test]
+fn old_units_are_given_up(rt: HostRuntime) -> Result<(), Fail> {
+    let alloc = rt.alloc();
+    let mut floating = Floating::new(alloc, 2);
+    floating.add(3, unit(alloc, 2)?)?;
+    assert!(rt; !floating.is_full());
+    floating.add(4, unit(alloc, 5)?)?;
+    assert!(rt; floating.is_full());
+    assert!(rt; floating.has(&unit(alloc, 2)?));
+    assert!(rt; !floating.has(&unit(alloc, 3)?));
+    floating.drop_older(5, 2);
+    assert!(rt; floating.has(&unit(alloc, 2)?));
+    floating.drop_older(6, 2);
+    assert!(rt; !floating.has(&unit(alloc, 2)?));
+    assert!(rt; floating.has(&unit(alloc, 5)?));
+    Ok(())
+}
+
+#[test]
+fn a_changed_header_is_not_ok(rt: HostRuntime) {
+    let mut header = *HEADER;
+    assert!(rt; fletcher_ok(&header));
+    header[4] = 0x1f;
+    assert!(rt; !fletcher_ok(&header));
+}
+
+#[test]
+fn the_header_is_sealed_by_1553(rt: HostRuntime) {
+    let mut header = *HEADER;
+    header[7..9].fill(0);
+    fletcher_seal(&mut header, 7);
+    assert_eq!(rt; &header, HEADER);
+}
+
+#[test]
+fn the_largest_octets_pass(rt: HostRuntime) {
+    assert!(rt; fletcher_ok(&[255; 65_535]));
 }
