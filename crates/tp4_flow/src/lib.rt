@@ -1,5 +1,5 @@
-//! The halves of an end of a connection (X.224, class 4: sequencing, flow control, retention until
-//! acknowledgement, retransmission on time-out, expedited data).
+//! The receiving half of an end (X.224, class 4: sequencing, explicit flow control, expedited data), and the rules, the options and
+//! the list of what is told and sent that both halves share. The sending half is `tp4_sending`.
 #![tactic(auto)]
 
 mod laws;

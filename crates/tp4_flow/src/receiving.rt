@@ -124,7 +124,7 @@ impl Receiving {
         let ahead = distance(self.rules.format, self.expected, wire);
         match self.judge(ahead) {
             Got::Kept => {
-                let octets = copied(self.alloc, octets)?;
+                let octets = Bytes::copy(self.alloc, octets)?;
                 self.window.place(ahead as usize, Piece { last, octets });
                 if ahead == 0 && self.show(out)? {
                     return Ok(Got::TooLarge);
@@ -164,7 +164,7 @@ impl Receiving {
         if wire == self.urgent {
             out.event(EndEvent {
                 reference: self.rules.own,
-                what: What::Urgent(copied(self.alloc, octets)?),
+                what: What::Urgent(Bytes::copy(self.alloc, octets)?),
             })?;
             self.urgent = (self.urgent + 1) % turn;
             self.answer_ed(wire, out)?;
@@ -207,11 +207,4 @@ impl Receiving {
         self.credit = credit;
         credit
     }
-}
-
-/// The same octets, owned.
-pub(crate) fn copied(alloc: Global, octets: &[u8]) -> Result<Bytes, NoMemory>
-    ensures { IfOk result (λ copy. copy ≡ octets.now) }
-{
-    Ok(Bytes::of(octets.to_vec(alloc)?))
 }

@@ -16,7 +16,7 @@ next c =
     let told : c.answer_ed.new.out ≡ record { events = c.args.out.now.events ++ record { reference = viewed.rules.own; what = Urgent c.args.octets.now } ∷ []; tpdus = c.args.out.now.tpdus ++ ea viewed c.args.wire ∷ [] } =
     c.in_ok-answer_ed.ensures.ok
     ∙ ap (λ (t : Told). record t { tpdus = t.tpdus ++ ea viewed c.args.wire ∷ [] }) c.in_ok-event.ensures.ok
-    ∙ ap (λ (o : List ℕ). record { events = c.args.out.now.events ++ record { reference = viewed.rules.own; what = Urgent o } ∷ []; tpdus = c.args.out.now.tpdus ++ ea viewed c.args.wire ∷ [] }) c.in_ok-copied.ensures in
+    ∙ ap (λ (o : List ℕ). record { events = c.args.out.now.events ++ record { reference = viewed.rules.own; what = Urgent o } ∷ []; tpdus = c.args.out.now.tpdus ++ ea viewed c.args.wire ∷ [] }) c.in_ok-copy.ensures in
     let new : ℕ → Half = λ n. record viewed { receiver = record viewed.receiver { urgent = (viewed.receiver.urgent + 1) % (4 * n) } } in
     subst (λ (h : Half). TakesUrgent h c.args.wire c.args.octets.now true (new c.block-turn.result) c.args.out.now c.answer_ed.new.out) c.self.view_is
     (subst (λ (n : ℕ). TakesUrgent viewed c.args.wire c.args.octets.now true (new n) c.args.out.now c.answer_ed.new.out) (sym c.block-turn.ensures)
