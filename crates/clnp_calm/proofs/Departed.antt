@@ -22,7 +22,7 @@ use Rattle.clnp_system.specs.Setting.{Setting, is_own_system, path_of}
 use Rattle.clnp_system.specs.Tables.{rows_tables}
 use Rattle.clnp_step.specs.Handling.{Changes, OffersFrames}
 use Rattle.clnp_step.specs.Step.{IsDropped, IsFull, IsNobodys, IsTaken, NetOffers, is_source}
-use Rattle.clnp_outcome.proofs.once.Lists.{same_some}
+use Rattle.clnp_segment.proofs.Lists.{same_some}
 use Rattle.net_world.specs.Fifo.{IsBetween, IsUser, NoneDropped, arrivals, queued}
 use Rattle.clnp_calm.specs.Calm.{IsCalmNet}
 use Rattle.clnp_calm.specs.Cutting.{IsFrameTo, KeepsAll, SendsTo}

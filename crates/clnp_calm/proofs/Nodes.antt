@@ -12,7 +12,7 @@ use Rattle.clnp_system.specs.Node.{Frame, Node, Reaction}
 use Rattle.clnp_system.specs.Receiving.{Receives}
 use Rattle.clnp_system.specs.Tables.{rows_tables}
 use Rattle.clnp_step.specs.Handling.{Changes, Handles, IsReceived, Nobody, OffersFrames, Somebody, is_system}
-use Rattle.clnp_outcome.proofs.once.Lists.{one_place}
+use Rattle.clnp_segment.proofs.Lists.{one_place}
 
 module _ {N : Type 0} (test : Node N → Bool) (one two node after : Node N) (changed : List (Node N)) (changes : Changes test (one ∷ two ∷ []) node after changed) where
   -- the first, where it passes

@@ -10,7 +10,7 @@ use Rattle.clnp_segment.specs.Store.{Holding}
 use Rattle.clnp_system.specs.Node.{Frame, Node}
 use Rattle.clnp_system.specs.Setting.{Setting, port_on}
 use Rattle.clnp_step.specs.Network.{Network}
-use Rattle.clnp_outcome.proofs.once.Lists.{same_some}
+use Rattle.clnp_segment.proofs.Lists.{same_some}
 use Rattle.clnp_calm.specs.Calm.{IsCalmNet, end_row}
 use Rattle.clnp_calm.specs.Cutting.{IsEmptyStore, IsFrameTo}
 use Rattle.clnp_calm.specs.Frames.{GoesOnlyTo, HasWaiting}

@@ -11,7 +11,7 @@ use Rattle.esis_tables.specs.Rows.{Rows, heard_table, is_row_known, swept_table}
 use Rattle.clnp_system.specs.Setting.{Setting, port_on}
 use Rattle.clnp_system.specs.Node.{Node}
 use Rattle.clnp_entity.specs.Kept.{AreNear, IsKept, IsNear}
-use Rattle.clnp_entity.proofs.Near.{heard_are, swept_are}
+use Rattle.clnp_system.proofs.Hops.{heard_are, swept_are}
 
 -- a hello is heard when it came, and its hop is on the LAN of the port that sent it
 told_tick : (now : ℕ) (from : Port) (hello : Hello) → (told_of now from hello).tick ≡ now

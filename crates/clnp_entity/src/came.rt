@@ -4,7 +4,6 @@ ghost use Rattle.std.specs.Prelude.{◌≡◌, ◌+◌, false, drop, slice_index
 ghost use Rattle.pdu_parts.specs.Field.{address_at};
 ghost use Rattle.clnp_header.specs.Faults.{IsPduFault};
 ghost use Rattle.clnp_header.specs.Values.{value_of};
-ghost use Rattle.clnp_system.specs.Hellos.{sender as sender_of};
 ghost use Rattle.clnp_system.specs.Reporting.{discarded_octets, discarded_pdu, faulty_header, source_in, wants_report};
 ghost use Rattle.clnp_entity.specs.steps.Came.{Lends, frame_of};
 ghost use Rattle.clnp_entity.specs.steps.Lost.{lost_pdu};
@@ -44,16 +43,6 @@ impl<'a> Came<'a> {
             PduKind::Er => false,
         };
         is_data && pdu.report && !self.at.snpa.is_group()
-    }
-
-    /// The port that sent it, on the LAN on which it came.
-    pub fn sender(&self) -> Port
-        ensures { result ≡ sender_of self.now.from self.now.at }
-    {
-        Port {
-            lan: self.at.lan,
-            snpa: self.from.snpa,
-        }
     }
 
     /// A PDU that is discarded.

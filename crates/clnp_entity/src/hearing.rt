@@ -14,7 +14,7 @@ ghost use Rattle.clnp_entity.specs.Kept.{IsKept};
 
 use crate::came::Came;
 use crate::entity::NetEntity;
-use clnp_system::Handled;
+use clnp_system::{Handled, sender};
 use esis_pdu::{EsisFault, HelloRef, read_esis};
 use esis_tables::HearRefusal;
 use nsap::{Nsap, Port, Snpa};
@@ -31,7 +31,7 @@ impl NetEntity {
         ensures clock { self.new.clock ≤ came.now.tick }
     {
         match read_esis(came.octets) {
-            Ok(hello) => self.hear_hello(came.tick, came.sender(), &hello),
+            Ok(hello) => self.hear_hello(came.tick, sender(&came.from, &came.at), &hello),
             Err(fault) => {
                 let note = self.unreadable(fault);
                 self.note(came.tick, note)

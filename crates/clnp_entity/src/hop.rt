@@ -10,8 +10,8 @@ ghost use Rattle.clnp_system.specs.Tables.{rows_tables};
 ghost use Rattle.clnp_entity.specs.Kept.{IsNear};
 
 use crate::entity::NetEntity;
-use clnp_system::{ALL_ENDS, SystemSetup};
-use nsap::{Hop, Nsap, Port, Snpa};
+use clnp_system::SystemSetup;
+use nsap::{ALL_END_SYSTEMS, Hop, Nsap, Port, Snpa};
 use osi_base::Tick;
 
 impl NetEntity {
@@ -29,6 +29,7 @@ impl NetEntity {
     }
 
     /// The hop to an address.
+    // Inlined: the hop, with its title, is a large value, which is moved once less for each PDU.
     #[inline(always)]
     pub(crate) fn hop_of(&self, now: Tick, address: &Nsap) -> Option<Hop>
         requires { self.now.clock ≤ now }
@@ -46,6 +47,7 @@ impl NetEntity {
 
     /// The hop to an address by what is known: of an end system a redirect, a neighbour, a row or a router, of another one a
     /// neighbour or a row.
+    // Inlined: the hop is moved once less.
     #[inline(always)]
     fn found_hop(&self, now: Tick, address: &Nsap) -> Option<Hop>
         requires { self.now.clock ≤ now }
@@ -177,10 +179,9 @@ fn group_hop(ports: &[Port]) -> Option<Hop>
     ensures { result ≡ group_hop ports.now }
 {
     let port = ports.first()?;
-    let snpa = Snpa::of(ALL_ENDS);
     let port = Port {
         lan: port.lan,
-        snpa,
+        snpa: Snpa::of(ALL_END_SYSTEMS),
     };
     Some(Hop { port, title: None })
 }

@@ -14,17 +14,11 @@ ghost use Rattle.clnp_entity.specs.steps.Judged.{MayDo, MayGo, MayStay};
 use crate::entity::NetEntity;
 use clnp_header::{PduKind, PduRef, Reason, SegmentPart};
 use clnp_system::{Aim, Verdict};
-use nsap::{Hop, Nsap};
+use nsap::{Hop, Nsap, RAW, TRANSPORT};
 use osi_base::Tick;
 
 /// The place of the lifetime in a header.
 const LIFETIME_PLACE: u8 = 4;
-
-/// The selector of transport.
-const TRANSPORT: u8 = 1;
-
-/// The selector of units as they are.
-const RAW: u8 = 2;
 
 impl NetEntity {
     /// What is to be done with a PDU that came on a LAN.

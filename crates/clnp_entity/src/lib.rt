@@ -15,6 +15,3 @@ mod sending;
 
 pub use clnp_system::{Handled, NetSent, Path, SystemSetup};
 pub use entity::NetEntity;
-
-#[cfg(test)]
-mod tests;

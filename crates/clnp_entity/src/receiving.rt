@@ -15,16 +15,11 @@ ghost use Rattle.clnp_entity.specs.Kept.{IsKept};
 
 use crate::came::{Came, octet_at};
 use crate::entity::NetEntity;
-use clnp_header::{Fault, PduRef, read_pdu};
+use clnp_header::{CLNP, Fault, PduRef, read_pdu};
 use clnp_system::{Handled, Verdict};
+use esis_pdu::ESIS;
 use nsap::Port;
 use osi_base::{NoMemory, Note, Tick};
-
-/// The first octet of a PDU of the network protocol.
-const NETWORK: u8 = 0x81;
-
-/// The first octet of a hello or a redirect.
-const ROUTING: u8 = 0x82;
 
 impl NetEntity {
     /// What comes of a frame that a port sent to a port.
@@ -74,10 +69,10 @@ impl NetEntity {
         ensures clock { self.new.clock ≤ came.now.tick }
     {
         let first = octet_at(came.octets, 0);
-        if first == NETWORK {
+        if first == CLNP {
             return self.read(came);
         }
-        if first == ROUTING {
+        if first == ESIS {
             return self.hear(came);
         }
         let system = self.system();

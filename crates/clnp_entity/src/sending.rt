@@ -11,7 +11,7 @@ ghost use Rattle.clnp_entity.specs.Kept.{IsKept, IsNear};
 ghost use Rattle.clnp_entity.specs.steps.Starting.{starting};
 
 use crate::entity::NetEntity;
-use clnp_system::{NetSent, Path};
+use clnp_system::NetSent;
 use nsap::{Hop, Nsap};
 use osi_base::{DropCause, NoMemory, Tick, Unit, Wish};
 
@@ -98,7 +98,7 @@ impl NetEntity {
         if self.is_own(address) {
             return None;
         }
-        match path_in(&self.setup.paths, path) {
+        match self.setup.path(path) {
             None => self.hop_of(now, address),
             Some(path) => self.first_hop(now, path.titles.as_slice()),
         }
@@ -148,16 +148,6 @@ impl NetEntity {
         }
         self.next_id = self.next_id.wrapping_add(1);
     }
-}
-
-/// The source route of that number, from 1.
-fn path_in(paths: &[Path], number: u8) -> Option<&Path>
-    ensures { option_map (λ path. path.now) result ≡ (if number == 0 then None else slice_get paths.now (number - 1)) }
-{
-    if number == 0 {
-        return None;
-    }
-    paths.get(usize::from(number) - 1)
 }
 
 /// Whether the identifier is the first of a half.

@@ -12,6 +12,6 @@ mod writing;
 pub use clnp_options::{Fault, PduKind, Reason};
 pub use laws::{front_or_fault, one_front, one_spelling, one_value, one_writing};
 pub use lifetime::lower_lifetime;
-pub use pdu::{OwnOpt, Pdu, PduRef, SegmentPart};
+pub use pdu::{CLNP, OwnOpt, Pdu, PduRef, SegmentPart};
 pub use reading::read_pdu;
-pub use writing::{HEADROOM, header_length, write_pdu, write_pdu_with};
+pub use writing::{header_length, write_pdu, write_pdu_with};

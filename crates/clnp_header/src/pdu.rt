@@ -74,8 +74,8 @@ pub struct Pdu {
     pub body: Bytes,
 }
 
-/// The protocol identifier of the connectionless network protocol.
-pub const PROTOCOL: u8 = 0x81;
+/// The network layer protocol identifier of the connectionless network protocol, the first octet of its PDUs.
+pub const CLNP: u8 = 0x81;
 
 /// The protocol version.
 pub const VERSION: u8 = 0x01;

@@ -15,7 +15,7 @@ ghost use Rattle.clnp_header.specs.steps.Reading.{address_read, body_read, check
 use crate::fault::early;
 use crate::flags::{Flags, flags_of};
 use crate::pdu::{
-    FIXED_PART, LONGEST_HEADER, PROTOCOL, PduRef, SEGMENTATION_PART, SHORTEST_HEADER, SegmentPart,
+    CLNP, FIXED_PART, LONGEST_HEADER, PduRef, SEGMENTATION_PART, SHORTEST_HEADER, SegmentPart,
     VERSION,
 };
 use clnp_options::{Fault, OptionsRef, Reason, read_options};
@@ -25,6 +25,7 @@ use pdu_parts::{address_at, checksum_in};
 /// The PDU at the front of the octets; octets past its segment length are ignored.
 ///
 /// The first fault in the order of the header's fields. The header that is lent has the octets up to the data.
+// Inlined at its few callers: a PDU is a large value, which is moved once less.
 #[inline(always)]
 pub fn read_pdu(octets: &[u8]) -> Result<PduRef<'_>, Fault>
     ensures ok { IfOk result (λ pdu. (rest : List ℕ) × BeginsWith IsPdu octets.now (value_of pdu) rest) }
@@ -75,7 +76,7 @@ fn header_of(octets: &[u8]) -> Result<&[u8], Fault>
     if octets.len() < FIXED_PART {
         return Err(early(Reason::IncompletePdu, 0));
     }
-    if octets[0] != PROTOCOL {
+    if octets[0] != CLNP {
         return Err(early(Reason::HeaderSyntax, 1));
     }
     let length = usize::from(octets[1]);

@@ -9,15 +9,13 @@ ghost use Rattle.clnp_header.specs.Writing.{IsShort, IsTooLong, IsWritable, IsWr
 
 use crate::flags::flags_octet;
 use crate::pdu::{
-    CHECKSUM, FIXED_PART, LONGEST_HEADER, LONGEST_PDU, OwnOpt, PROTOCOL, Pdu, SegmentPart, VERSION,
+    CHECKSUM, CLNP, FIXED_PART, LONGEST_HEADER, LONGEST_PDU, OwnOpt, Pdu, SegmentPart, VERSION,
 };
 use crate::reading::segment_length;
+use lan_frame::HEADER;
 use osi_base::{HeaderRefusal, fletcher_seal};
 use pdu_parts::{push_field, push_number, push_parameter};
 use std::alloc::{AllocError, Global};
-
-/// Room behind a written PDU for the octets that a LAN puts before it: 14 of the MAC header and 3 of the LLC PDU.
-pub const HEADROOM: usize = 17;
 
 /// The octets of the PDU: in the grammar where the grammar allows the value, and else its fields as they are.
 ///
@@ -46,7 +44,8 @@ pub fn write_pdu_with(alloc: Global, pdu: &Pdu, body: &[u8]) -> Result<Vec<u8>, 
         return Err(HeaderRefusal::TooLong);
     }
     let whole = header + body.len();
-    let mut octets = Vec::with_capacity(alloc, whole + HEADROOM)?;
+    // The room behind the PDU is for the header of its frame, which then goes before it in place.
+    let mut octets = Vec::with_capacity(alloc, whole + HEADER)?;
     push_header(&mut octets, pdu, header as u8, whole as u16)?;
     seal(&mut octets, pdu.checksum_used);
     octets.extend_from_slice(body)?;
@@ -105,17 +104,7 @@ fn push_fixed_part(
 {
     let [high, low] = whole.to_be_bytes();
     let flags = flags_octet(pdu.kind, &pdu.segment, pdu.report);
-    let fixed = [
-        PROTOCOL,
-        header,
-        VERSION,
-        pdu.lifetime,
-        flags,
-        high,
-        low,
-        0,
-        0,
-    ];
+    let fixed = [CLNP, header, VERSION, pdu.lifetime, flags, high, low, 0, 0];
     octets.extend_from_slice(&fixed)
 }
 

@@ -1,4 +1,3 @@
 -- What only carries the proof.
 pub mod Indexed
 pub mod Telling
-pub mod Tested

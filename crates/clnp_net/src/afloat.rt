@@ -1,6 +1,6 @@
 //! The units that were taken and may still arrive (X.233, PDU lifetime control), with an index by what they carry.
 
-ghost use Rattle.std.specs.Prelude.{◌≡◌, ◌<◌, ◌≤◌, ◌+◌, ◌*◌, ◌%◌, ◌↔◌, ◌++◌, ◌∷◌, [], true, false, take, drop, filter, length, nat_eq, nat_le, not, IsTrue, OnOk, OnErr};
+ghost use Rattle.std.specs.Prelude.{◌≡◌, ◌<◌, ◌≤◌, ◌+◌, ◌*◌, ◌%◌, ◌↔◌, ◌++◌, ◌∷◌, [], true, false, take, drop, filter, length, nat_eq, IsTrue, OnOk, OnErr};
 ghost use Rattle.std.specs.BTreeSet.{IsUnchanged, Updates, UpdatesBy, contains, keys_between};
 ghost use Rattle.std.specs.Cmp.Lexicographic.{pointwise};
 ghost use Rattle.std.specs.List.{All, list_any};
@@ -10,7 +10,7 @@ ghost use Rattle.osi_base.specs.Floated.{is_unit_of, is_young, IsFloated};
 ghost use Rattle.clnp_net.specs.steps.Indexed.{AreIndexed, code_of, is_front_older, key_of, sum_from, unit_at};
 
 use nsap::Nsap;
-use osi_base::{NoMemory, Tick, Unit};
+use osi_base::{NoMemory, Tick, Unit, is_older};
 use std::alloc::Global;
 use std::collections::{BTreeSet, VecDeque};
 use std::marker::Model;
@@ -21,7 +21,7 @@ const NUMBERS: u64 = 4_294_967_296;
 /// The units with the ticks at which they were taken, oldest first, and an index of them.
 ///
 /// Each unit has a running number, the oldest one `first`. The index has, for each unit, its key before its number, once it is
-/// wanted: before that nothing is put there.
+/// wanted, that is from the first injection on: before that no arrival is looked up, and nothing is put there.
 #[derive(Drop)]
 pub struct Afloat {
     limit: u32,
@@ -142,13 +142,6 @@ impl Afloat {
         delist(&mut self.index, self.indexed, &unit, number);
         self.first = self.first.wrapping_add(1);
     }
-}
-
-/// Whether what was taken at a tick is more than so many ticks old.
-fn is_older(taken: Tick, now: Tick, age: u32) -> bool
-    ensures { result ≡ not (nat_le now (taken + age)) }
-{
-    u64::from(taken) + u64::from(age) < u64::from(now)
 }
 
 /// A unit is put into the index, where there is one.

@@ -20,6 +20,7 @@ const PLAIN: Wish = Wish {
 };
 
 /// Passes on the notes that wait below, until nothing waits there.
+// Inlined: a note is a large value, which is moved once less for each frame.
 #[inline(always)]
 pub fn pass_notes<C: Carrier<Addr = Port>>(link: &mut C, waiting: &mut Ups) -> Result<(), NoMemory>
     ensures { OnOk result (Passes C.link C.steps link.old waiting.old.items link.new waiting.new.items) }
@@ -31,6 +32,7 @@ pub fn pass_notes<C: Carrier<Addr = Port>>(link: &mut C, waiting: &mut Ups) -> R
 }
 
 /// Passes on a note.
+// Inlined: the note is moved once less.
 #[inline(always)]
 fn pass_note(up: Up<Port>, waiting: &mut Ups) -> Result<(), NoMemory>
     ensures { OnOk result (waiting.new.items ≡ waiting.old.items ++ note_in up) }

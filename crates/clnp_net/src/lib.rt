@@ -8,6 +8,3 @@ mod net;
 mod systems;
 
 pub use net::ClnpNet;
-
-#[cfg(test)]
-mod tests;

@@ -307,7 +307,7 @@ fn hand_out<C: Carrier<Addr = Port>>(
     }
 }
 
-/// What waits below is taken up, all of it, and then handled. What waits alone is put into no list.
+/// What waits below is taken up, all of it, and then handled. Mostly one waits alone: no memory is taken for a list then.
 fn handle_waiting<C: Carrier<Addr = Port>>(
     alloc: Global,
     link: &mut C,
@@ -329,6 +329,7 @@ fn handle_waiting<C: Carrier<Addr = Port>>(
 }
 
 /// What came up below is handled, one after another.
+// Not inlined: where one waits alone, no room for the list and its members is cleared.
 #[inline(never)]
 fn handle<C: Carrier<Addr = Port>>(
     link: &mut C,
@@ -349,6 +350,7 @@ fn handle<C: Carrier<Addr = Port>>(
 }
 
 /// A note is told, and a frame is handed to its system.
+// Inlined: what came up is a large value, which is moved once less.
 #[inline(always)]
 fn handle_up<C: Carrier<Addr = Port>>(
     link: &mut C,
@@ -376,6 +378,7 @@ fn handle_up<C: Carrier<Addr = Port>>(
 }
 
 /// A system takes a frame: what it tells and hands up waits, and its frames are offered.
+// Inlined: what the system answers is moved once less.
 #[inline(always)]
 fn meet<C: Carrier<Addr = Port>>(
     link: &mut C,

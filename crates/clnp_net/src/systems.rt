@@ -76,7 +76,7 @@ impl Systems {
         ensures { IfOk result (λ handled. ReceivesAt now place self.old arrival.now (reaction_of handled) self.new) }
     {
         let Some(system) = self.list.get_mut(place) else {
-            return Err(NoMemory);
+            unreachable!();
         };
         let unit = &arrival.unit;
         let handled = system.on_frame(now, unit.from, unit.to, unit.octets.as_slice())?;
@@ -117,7 +117,7 @@ impl Systems {
         ensures { IfOk result (λ sent. SendsAt now unit.now wish place sent.0 self.old (sent_of sent.1) self.new) }
     {
         let Some(system) = self.list.get_mut(place) else {
-            return Err(NoMemory);
+            unreachable!();
         };
         let number = system.system();
         let sent = system.send(now, unit, wish)?;
@@ -133,7 +133,7 @@ impl Systems {
         ensures behind { IfOk result (λ ticked. AreBehind now self.new) }
     {
         let Some(system) = self.list.get_mut(place) else {
-            return Err(NoMemory);
+            unreachable!();
         };
         let number = system.system();
         let handled = system.tick(now)?;

@@ -21,8 +21,6 @@ pub use pdu_parts::ParameterRef as Opt;
 pub use reading::read_options;
 pub use reason::{Fault, PduKind, Reason};
 pub use recording::record_here;
-pub use source_route::{advance_source, next_source_hop};
+pub use source_route::{COMPLETE, advance_source, next_source_hop};
+pub use titles::FIRST_ENTRY;
 pub use writing::{TooSmall, write_option};
-
-#[cfg(test)]
-mod tests;

@@ -8,7 +8,7 @@ use crate::titles::{self, FIRST_ENTRY, MOST_OCTETS, OFFSET};
 use nsap::Nsap;
 use pdu_parts::address_at;
 
-/// The greatest kind: 0 is a partial route and 1 a complete one.
+/// The kind of a complete route or recording; 0 is that of a partial one, and there is no other.
 pub const COMPLETE: u8 = 1;
 
 /// The title at the offset of a source route. None exactly where the route has expired.

@@ -8,7 +8,7 @@ use pdu_parts::address_at;
 /// The position in a value of its offset, which counts the octets of the value from 1.
 pub const OFFSET: usize = 1;
 
-/// The offset of the first entry.
+/// The offset of the first entry of a route or recording.
 pub const FIRST_ENTRY: u8 = 3;
 
 /// The most octets of a value, so that an offset can stand one past it.

@@ -23,7 +23,7 @@ use Rattle.clnp_step.specs.Handling.{Handles, OffersFrames, TicksAll, notes_of}
 use Rattle.clnp_step.specs.Network.{Network}
 use Rattle.clnp_step.specs.Step.{Arrives, Begins, IsDropped, IsFull, IsNobodys, IsTaken, NetOffers, NetStep, NetTakesUp, NetTicks, counted, is_source, strays_in}
 use Rattle.clnp_outcome.proofs.once.Handlings.{changes_none, one_change, one_handling, one_offerings, one_tick}
-use Rattle.clnp_outcome.proofs.once.Lists.{same_head, same_tail}
+use Rattle.clnp_segment.proofs.Lists.{same_head, same_tail}
 use Rattle.clnp_outcome.proofs.once.Sendings.{one_sending}
 
 no_room : (most size : ℕ) → most ≤ size → size < most → ⊥

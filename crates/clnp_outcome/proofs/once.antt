@@ -1,10 +1,7 @@
-pub mod Cuttings
 pub mod Frames
 pub mod Handlings
-pub mod Lists
 pub mod Options
 pub mod Receivings
 pub mod Reports
 pub mod Sendings
-pub mod Stores
 pub mod Ticks

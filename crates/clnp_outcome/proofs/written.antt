@@ -2,7 +2,6 @@ pub mod Discarding
 pub mod Faults
 pub mod Fitting
 pub mod Greeting
-pub mod Hops
 pub mod Octets
 pub mod Onward
 pub mod Pieces

@@ -1,5 +1,5 @@
 -- A segment that is its whole unit comes to it at once: nothing that is held of another clashes with it, and it fills all places.
-use Rattle.std.proofs.Common.{◌≡◌, ◌==◌, ◌&&◌, ℕ, ◌+◌, ◌-◌, Bool, true, false, List, [], length, map, replicate, slice_get, Option, Some, None, refl, sym, ◌∙◌, ap, subst, arith, inl, inr}
+use Rattle.std.proofs.Common.{◌≡◌, ◌==◌, ◌&&◌, ℕ, ◌+◌, ◌-◌, Bool, true, false, List, [], length, map, slice_get, Option, Some, None, refl, sym, ◌∙◌, ap, subst, arith, inl, inr}
 use Rattle.std.proofs.lemmas.List.{append-nil, length-replicate}
 use Rattle.clnp_segment.specs.Joining.{Filled, Held, IsSegmentOf, Segment, Together, nothing_of}
 use Rattle.clnp_segment.specs.Store.{Coming, Holding, TakesAt}

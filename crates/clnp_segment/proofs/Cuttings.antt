@@ -2,7 +2,6 @@
 -- run that is not the last is some octets, a multiple of 8, and ends before the unit does.
 use Rattle.std.proofs.Common.{◌≡◌, ℕ, ◌+◌, ◌%◌, ◌<◌, ◌≤◌, Bool, true, false, if◌then◌else◌, List, [], ◌∷◌, ◌++◌, length, Option, Some, None, refl, sym, ◌∙◌, ap, subst, arith, length-append}
 use Rattle.std.specs.List.{AllByRecursion, concat}
-use Rattle.std.proofs.lemmas.List.{append_cancel_left}
 use Rattle.pdu_parts.specs.Parameter.{spelled}
 use Rattle.clnp_options.specs.Grammar.{AreAllowed}
 use Rattle.clnp_options.specs.declared.reason.PduKind.{PduKind}
@@ -13,6 +12,7 @@ use Rattle.clnp_header.specs.Grammar.{IsPlaced, IsSegment, MayBeSegment, segment
 use Rattle.clnp_header.specs.Values.{parameters}
 use Rattle.clnp_header.specs.Writing.{HasKind, IsWritable, header_length}
 use Rattle.clnp_segment.specs.Cutting.{Cuts, IsStep, MayGo, OneCutting, Pieces, PiecesJoin, piece_of, piece_pdus}
+use Rattle.clnp_segment.proofs.Lists.{same_fronts}
 
 -- ---- the runs are the data
 join_pieces : (room header : ℕ) (octets : List ℕ) (pieces : List (List ℕ)) → Pieces room header octets pieces → concat pieces ≡ octets
@@ -32,21 +32,6 @@ pieces_join = join_pieces
 one_step : (room header first second : ℕ) → IsStep room header first → IsStep room header second → first ≡ second
 one_step room header first second a b = omega (arith, a.fits, a.eights, a.most, b.fits, b.eights, b.most)
 
-same_front : (first second rest more : List ℕ) → length first ≡ length second → first ++ rest ≡ second ++ more → first ≡ second
-same_front [] [] rest more len e = refl
-same_front [] (y ∷ second) rest more len e = absurd (omega (arith, len))
-same_front (x ∷ first) [] rest more len e = absurd (omega (arith, len))
-same_front (x ∷ first) (y ∷ second) rest more len e =
-    let head : x ≡ y = head_of x y (first ++ rest) (second ++ more) e in
-    let tail : first ++ rest ≡ second ++ more = tail_of x y (first ++ rest) (second ++ more) e in
-    ap (λ (o : ℕ). o ∷ first) head ∙ ap (λ (xs : List ℕ). y ∷ xs) (same_front first second rest more (omega (arith, len)) tail)
-  where
-    head_of : (x y : ℕ) (xs ys : List ℕ) → x ∷ xs ≡ y ∷ ys → x ≡ y
-    head_of x y xs ys e = cc e
-
-    tail_of : (x y : ℕ) (xs ys : List ℕ) → x ∷ xs ≡ y ∷ ys → xs ≡ ys
-    tail_of x y xs ys e = cc e
-
 one_list : (room header : ℕ) (octets : List ℕ) (pieces others : List (List ℕ)) → Pieces room header octets pieces → Pieces room header octets others → pieces ≡ others
 one_list room header octets [] others h k = absurd h
 one_list room header octets (last ∷ []) [] h k = absurd k
@@ -56,9 +41,9 @@ one_list room header octets (piece ∷ next ∷ pieces) [] h k = absurd k
 one_list room header octets (piece ∷ next ∷ pieces) (other ∷ []) h k = absurd (omega (arith, h.0, k.0))
 one_list room header octets (piece ∷ next ∷ pieces) (other ∷ more ∷ others) h k =
     let long : length piece ≡ length other = one_step room header (length piece) (length other) h.1 k.1 in
-    let first : piece ≡ other = same_front piece other h.2.0 k.2.0 long (sym h.2.1 ∙ k.2.1) in
-    let both : other ++ h.2.0 ≡ other ++ k.2.0 = ap (λ (xs : List ℕ). xs ++ h.2.0) (sym first) ∙ sym h.2.1 ∙ k.2.1 in
-    let rest : h.2.0 ≡ k.2.0 = append_cancel_left other h.2.0 k.2.0 both in
+    let both = same_fronts piece other h.2.0 k.2.0 long (sym h.2.1 ∙ k.2.1) in
+    let first : piece ≡ other = both.0 in
+    let rest : h.2.0 ≡ k.2.0 = both.1 in
     ap (λ (xs : List ℕ). xs ∷ next ∷ pieces) first
     ∙ ap (λ (xs : List (List ℕ)). other ∷ xs)
     (one_list room header k.2.0 (next ∷ pieces) (more ∷ others) (subst (λ (xs : List ℕ). Pieces room header xs (next ∷ pieces)) rest h.2.2) k.2.2)

@@ -1,47 +1,16 @@
 -- One answer: a key has one place, what is held with a segment is one, and the cases exclude each other. Of the units that
 -- are past their deadline one alone comes before all those of later or equal deadlines.
-use Rattle.std.proofs.Common.{◌≡◌, ℕ, suc, ◌+◌, ◌<◌, ◌≤◌, Bool, true, false, List, [], ◌∷◌, ◌++◌, length, map, slice_get, Option, Some, None, refl, sym, ◌∙◌, ap, subst, arith}
+use Rattle.std.proofs.Common.{◌≡◌, ℕ, suc, ◌+◌, ◌<◌, ◌≤◌, false, List, [], ◌∷◌, ◌++◌, length, map, slice_get, Option, Some, None, refl, sym, ◌∙◌, ap, subst, arith}
 use Rattle.std.specs.List.{AllByRecursion, list_any}
-use Rattle.std.proofs.lemmas.Bool.{or_parts}
 use Rattle.clnp_segment.specs.Joining.{Filled, Held, Segment, Together}
 use Rattle.clnp_segment.specs.Store.{At, Coming, Holding, Key, Partial, HasNoRoom, OneAnswer, OneExpiry, TakesAt, found_or_nothing, has_key, partial_with}
 use Rattle.clnp_segment.specs.declared.store.Expired.{Expired}
 use Rattle.clnp_segment.specs.declared.store.Joined.{Joined}
 use Rattle.clnp_segment.specs.declared.store.Joined.TheVariants as joined
+use Rattle.clnp_segment.proofs.Lists.{none_in, one_place, same_head, same_tail}
 use Rattle.clnp_segment.proofs.Storing.{all_back}
 
--- ---- lists
-same_head : {A : Type 0} (x y : A) (xs ys : List A) → x ∷ xs ≡ y ∷ ys → x ≡ y
-same_head x y xs ys e = cc e
-
-same_tail : {A : Type 0} (x y : A) (xs ys : List A) → x ∷ xs ≡ y ∷ ys → xs ≡ ys
-same_tail x y xs ys e = cc e
-
-apart : {b : Bool} → b ≡ true → b ≡ false → ⊥
-apart h k = absurd cc
-
--- the first unit that passes a test
-one_place : (test : Partial → Bool) (before others : List Partial) (unit other : Partial) (rest more : List Partial) → before ++ unit ∷ rest ≡ others ++ other ∷ more
-    → test unit ≡ true → test other ≡ true → list_any test before ≡ false → list_any test others ≡ false → (before ≡ others) × (unit ≡ other) × (rest ≡ more)
-one_place test [] [] unit other rest more e passed also lacks none = (refl, same_head unit other rest more e, same_tail unit other rest more e)
-one_place test [] (y ∷ others) unit other rest more e passed also lacks none =
-    let same = same_head unit y rest (others ++ other ∷ more) e in
-    absurd (apart (subst (λ (u : Partial). test u ≡ true) same passed) (or_parts (test y) (list_any test others) none).0)
-one_place test (x ∷ before) [] unit other rest more e passed also lacks none =
-    let same = same_head x other (before ++ unit ∷ rest) more e in
-    absurd (apart (subst (λ (u : Partial). test u ≡ true) (sym same) also) (or_parts (test x) (list_any test before) lacks).0)
-one_place test (x ∷ before) (y ∷ others) unit other rest more e passed also lacks none =
-    let all = one_place test before others unit other rest more (same_tail x y (before ++ unit ∷ rest) (others ++ other ∷ more) e) passed also
-    (or_parts (test x) (list_any test before) lacks).1 (or_parts (test y) (list_any test others) none).1 in (
-      ap (λ (us : List Partial). x ∷ us) all.0 ∙ ap (λ (u : Partial). u ∷ others) (same_head x y (before ++ unit ∷ rest) (others ++ other ∷ more) e),
-      all.1,
-      all.2,
-    )
-
-none_in : (test : Partial → Bool) (before : List Partial) (unit : Partial) (rest : List Partial) → test unit ≡ true → list_any test (before ++ unit ∷ rest) ≡ false → ⊥
-none_in test [] unit rest passed none = apart passed (or_parts (test unit) (list_any test rest) none).0
-none_in test (x ∷ before) unit rest passed none = none_in test before unit rest passed (or_parts (test x) (list_any test (before ++ unit ∷ rest)) none).1
-
+-- ---- a place
 one_at : (key : Key) (held before : List Partial) (found : Option Partial) (rest others : List Partial) (other : Option Partial) (more : List Partial)
     → At key held before found rest → At key held others other more → (before ≡ others) × (found ≡ other) × (rest ≡ more)
 one_at key held before found rest others other more (At.There unit is whole passed lacks) (At.There second also all too none) =

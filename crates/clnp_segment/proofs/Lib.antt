@@ -1,9 +1,10 @@
 mod Alone
-mod Cuttings
+pub mod Cuttings
 mod Deliveries
-mod Determined
+pub mod Determined
 mod Dues
 pub mod Joins
+pub mod Lists
 mod Marks
 mod Pieces
 mod Read

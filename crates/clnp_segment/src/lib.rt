@@ -14,6 +14,3 @@ pub use laws::{
     one_cutting, pieces_join, read_may_come, whole_in_turn,
 };
 pub use store::{Expired, Joined, Store};
-
-#[cfg(test)]
-mod tests;

@@ -95,7 +95,7 @@ impl Places {
 
 /// Whether an octet is another than the one that is held in its place.
 ///
-/// What is done does not hang on the octets, so that many places are gone over at once.
+/// There is no branch on the octets, so that the compiler goes over many places at once.
 fn clash(held: &[u8], filled: &[bool], octets: &[u8]) -> bool
     requires held { length held.now ≡ length octets.now }
     requires filled { length filled.now ≡ length octets.now }

@@ -41,7 +41,8 @@ pub struct Expired {
     pub header: Bytes,
 }
 
-/// The units of which some segments came, each until the lifetime of its segments has passed.
+/// The units of which some segments came, each until the lifetime of its segments has passed. The octets of all that is held are counted
+/// in `used`, so that a segment goes over those of its own unit alone.
 #[derive(Drop)]
 pub struct Store {
     alloc: Global,

@@ -1,5 +1,6 @@
 pub mod Aims
 pub mod Arriving
+pub mod Hops
 pub mod Initial
 pub mod Lans
 pub mod Lengths

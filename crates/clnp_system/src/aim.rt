@@ -8,7 +8,7 @@ ghost use Rattle.clnp_system.specs.Written.{IsRead};
 
 use crate::setup::SystemSetup;
 use clnp_header::PduRef;
-use clnp_options::{SOURCE_ROUTING, advance_source, get, next_source_hop};
+use clnp_options::{COMPLETE, SOURCE_ROUTING, advance_source, get, next_source_hop};
 use nsap::Nsap;
 
 /// Where a PDU goes next.
@@ -21,9 +21,6 @@ pub enum Aim {
     /// Its source route does not pass here.
     Forbidden,
 }
-
-/// The kind of a complete route.
-const COMPLETE: u8 = 1;
 
 /// The most octets of a route.
 const LONGEST_ROUTE: usize = 254;

@@ -22,6 +22,7 @@ impl SystemSetup {
     /// The frames of a PDU with these data in place of its own, which are copied only where they are cut.
     ///
     /// None exactly where it does not fit the room of the LAN and may not be cut.
+    // Inlined: the PDU and the frame are large values, which are moved once less for each unit.
     #[inline(always)]
     pub(crate) fn frames_with(
         &self,
@@ -106,6 +107,7 @@ impl SystemSetup {
     }
 
     /// The frame of a PDU with these data in place of its own, from the own port on the LAN.
+    // Inlined: the frame is a large value, which is moved once less.
     #[inline(always)]
     fn frame_with(
         &self,
@@ -166,7 +168,7 @@ impl SystemSetup {
         ensures value { result ≡ Rd self.now.hold destination hop.now.port.snpa hop.now.title }
         ensures short { size_of result ≤ 254 }
     {
-        // Their lengths are known once they are read.
+        // Reads for their clauses alone: how long what is read is at most.
         let _octets = destination.octets().len()
             + hop.port.snpa.octets().len()
             + title_octets(&hop.title);
@@ -207,7 +209,7 @@ pub(crate) fn hello_octets(alloc: Global, hello: &Hello) -> Result<Vec<u8>, NoMe
 }
 
 /// The sender of a frame, on the LAN on which it came.
-pub(crate) fn sender(from: &Port, at: &Port) -> Port
+pub fn sender(from: &Port, at: &Port) -> Port
     ensures { result ≡ sender from.now at.now }
 {
     Port {

@@ -7,23 +7,11 @@ ghost use Rattle.clnp_system.specs.Setting.{own_address, port_on};
 
 use crate::framing::{hello_octets, sender};
 use crate::setup::SystemSetup;
-use clnp_header::HEADROOM;
 use esis_pdu::Hello;
-use nsap::{Nsap, Port, Snpa};
+use lan_frame::HEADER;
+use nsap::{ALL_END_SYSTEMS, ALL_INTERMEDIATE_SYSTEMS, Nsap, Port, RAW, Snpa, TRANSPORT};
 use osi_base::{Items, NoMemory, Tick, Unit};
 use std::alloc::Global;
-
-/// The SNPA of all end systems.
-pub const ALL_ENDS: [u8; 6] = [0x09, 0x00, 0x2b, 0x00, 0x00, 0x04];
-
-/// The SNPA of all intermediate systems.
-pub const ALL_INTERMEDIATES: [u8; 6] = [0x09, 0x00, 0x2b, 0x00, 0x00, 0x05];
-
-/// The selector of transport.
-const TRANSPORT: u8 = 1;
-
-/// The selector of raw units.
-const RAW: u8 = 2;
 
 impl SystemSetup {
     /// The hellos of a tick, one on each port; none where they are off or not due.
@@ -74,9 +62,9 @@ impl SystemSetup {
         ensures { result ≡ hearers self.now.end }
     {
         if self.end {
-            Snpa::of(ALL_INTERMEDIATES)
+            Snpa::of(ALL_INTERMEDIATE_SYSTEMS)
         } else {
-            Snpa::of(ALL_ENDS)
+            Snpa::of(ALL_END_SYSTEMS)
         }
     }
 
@@ -111,7 +99,7 @@ impl SystemSetup {
         ensures value { result ≡ own_ish self.now }
         ensures short { size_of result ≤ 254 }
     {
-        // Its length is known once it is read.
+        // A read for its clause alone: a title that is read has at most 20 octets.
         let _octets = self.title.octets();
         Hello::Ish {
             hold: self.hold,
@@ -125,6 +113,7 @@ impl SystemSetup {
         ensures most { length result ≤ 20 }
     {
         let address = self.title.with_selector(selector);
+        // A read for its clause alone: an address that is read has at most 20 octets.
         let _octets = address.octets();
         address
     }
@@ -149,11 +138,12 @@ impl SystemSetup {
     }
 }
 
-/// The octets of a hello once more, with room for the header of a frame.
+/// The octets of a hello once more, with room for the header of a frame, which then goes before them in place. A hello is written once for
+/// all ports, since a copy takes fewer instructions than its checksum.
 fn copy_of(alloc: Global, octets: &[u8]) -> Result<Vec<u8>, NoMemory>
     ensures { IfOk result (λ copy. copy.items ≡ octets.now) }
 {
-    let mut copy = Vec::with_capacity(alloc, octets.len() + HEADROOM)?;
+    let mut copy = Vec::with_capacity(alloc, octets.len() + HEADER)?;
     copy.extend_from_slice(octets)?;
     Ok(copy)
 }

@@ -15,7 +15,7 @@ mod verdict;
 
 pub use aim::Aim;
 pub use answer::{Handled, NetSent};
-pub use hello::{ALL_ENDS, ALL_INTERMEDIATES};
+pub use framing::sender;
 pub use laws::{comes_up, derived, quiet_tick, sent, stored};
 pub use report::Reported;
 pub use setup::{Path, SystemSetup};

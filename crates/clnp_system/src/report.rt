@@ -69,7 +69,7 @@ impl SystemSetup {
         ensures value { IfOk result (λ report. report ≡ report_pdu self.now (discarded_of discarded.now)) }
         ensures short { header_length (report_pdu self.now (discarded_of discarded.now)) ≤ 55 }
     {
-        // The lengths of both addresses are known once they are read.
+        // Reads for their clauses alone: an address that is read has at most 20 octets.
         let _octets = self.title.octets().len() + discarded.source.octets().len();
         let reason = Vec::from_slice(alloc, &[discarded.reason.code(), discarded.place])?;
         let option = OwnOpt {

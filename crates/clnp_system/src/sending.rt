@@ -12,17 +12,17 @@ ghost use Rattle.clnp_system.specs.Written.{CutFrames, MayBeWritten};
 use crate::framing::length_with;
 use crate::setup::{Path, SystemSetup};
 use clnp_header::{OwnOpt, Pdu, PduKind, SegmentPart};
-use clnp_options::{RECORDING, SOURCE_ROUTING};
+use clnp_options::{COMPLETE, FIRST_ENTRY, RECORDING, SOURCE_ROUTING};
 use nsap::{Hop, Nsap, Port};
 use osi_base::{Bytes, Items, NoMemory, Unit, Wish};
 use pdu_parts::push_field;
 use std::alloc::{AllocError, Global};
 
+/// The kind of a partial route or recording.
+const PARTIAL: u8 = 0;
+
 /// The octets of a recording.
 const RECORDING_OCTETS: usize = 63;
-
-/// The offset of the first entry.
-const FIRST_ENTRY: u8 = 3;
 
 impl SystemSetup {
     /// The frames of a unit to the hop, with that identifier where it may be cut. None exactly where it does not fit and may
@@ -114,7 +114,7 @@ impl SystemSetup {
     }
 
     /// The source route of that number, from 1.
-    fn path(&self, number: u8) -> Option<&Path>
+    pub fn path(&self, number: u8) -> Option<&Path>
         ensures { option_map (λ path. path.now) result ≡ path_of self.now number }
     {
         if number == 0 {
@@ -124,7 +124,7 @@ impl SystemSetup {
     }
 }
 
-/// The addresses of a unit are addresses.
+/// The addresses of a unit are addresses: reads for their clauses alone.
 fn addressed(unit: &Unit<Nsap>)
     ensures from { IsAddress unit.now.from }
     ensures to { IsAddress unit.now.to }
@@ -154,7 +154,7 @@ fn route_option(alloc: Global, path: &Path) -> Result<OwnOpt, NoMemory>
     ensures value { IfOk result (λ option. option.value ≡ (if path.now.complete then 1 else 0) ∷ 3 ∷ entries path.now.titles) }
     ensures addressed { IfOk result (λ _. IsAddressed path.now) }
 {
-    let kind = if path.complete { 1 } else { 0 };
+    let kind = if path.complete { COMPLETE } else { PARTIAL };
     let mut value = Vec::from_slice(alloc, &[kind, FIRST_ENTRY])?;
     push_titles(&mut value, path.titles.as_slice())?;
     Ok(OwnOpt {

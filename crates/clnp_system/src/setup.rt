@@ -100,7 +100,7 @@ impl SystemSetup {
         self.title
     }
 
-    /// The own title is an address.
+    /// The own title is an address: a read for its clause alone.
     pub(crate) fn titled(&self)
         ensures { IsAddress self.now.title }
     {

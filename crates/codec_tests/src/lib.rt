@@ -1,4 +1,4 @@
-//! Tests of the codecs over octets counted by hand, with checksums from outside: sources and sinks, addresses, parts of headers, LAN frames, CLNP PDUs, hellos, TPDUs.
+//! Tests of the codecs over octets counted by hand, with checksums from outside: sources and sinks, addresses, parts of headers, LAN frames, options, CLNP PDUs, hellos, TPDUs.
 #![tactic(auto)]
 
 #[cfg(test)]
@@ -9,6 +9,8 @@ mod base;
 mod frames;
 #[cfg(test)]
 mod hellos;
+#[cfg(test)]
+mod options;
 #[cfg(test)]
 mod parts;
 #[cfg(test)]

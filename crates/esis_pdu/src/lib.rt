@@ -11,5 +11,5 @@ mod writing;
 pub use fault::EsisFault;
 pub use hello::{AddressesRef, Hello, HelloRef};
 pub use laws::{front_or_fault, one_front, one_value, one_writing};
-pub use reading::read_esis;
+pub use reading::{ESIS, read_esis};
 pub use writing::write_esis;

@@ -16,8 +16,8 @@ use crate::{AddressesRef, EsisFault, HelloRef};
 use nsap::{Nsap, Snpa};
 use pdu_parts::{address_at, are_parameters, checksum_in, field_at};
 
-/// The network layer protocol identifier of ES-IS.
-pub(crate) const PROTOCOL: u8 = 0x82;
+/// The network layer protocol identifier of ES-IS, the first octet of its PDUs.
+pub const ESIS: u8 = 0x82;
 
 /// The version of the protocol.
 pub(crate) const VERSION: u8 = 0x01;
@@ -90,7 +90,7 @@ fn is_version(pdu: &[u8]) -> bool
     requires { 10 ≤ length pdu.now }
     ensures { result ≡ is_version pdu.now }
 {
-    pdu[0] == PROTOCOL && pdu[2] == VERSION
+    pdu[0] == ESIS && pdu[2] == VERSION
 }
 
 #[tactic(auto, unfolding(crate::specs::steps::Reading::body_at, crate::specs::Addresses::parts_at))]

@@ -8,7 +8,8 @@ ghost use Rattle.esis_pdu.specs.Hellos.{IsAddressed, IsEsis, IsWritten, parts, s
 ghost use Rattle.esis_pdu.specs.steps.Writing.{draft_part, within};
 
 use crate::Hello;
-use crate::reading::{ESH, FIXED, ISH, MOST, PROTOCOL, RD, VERSION};
+use crate::reading::{ESH, ESIS, FIXED, ISH, MOST, RD, VERSION};
+use lan_frame::HEADER;
 use nsap::Nsap;
 use osi_base::{HeaderRefusal, fletcher_seal};
 use pdu_parts::push_field;
@@ -29,7 +30,8 @@ pub fn write_esis(alloc: Global, hello: &Hello) -> Result<Vec<u8>, HeaderRefusal
     let Some(length) = length_of(hello) else {
         return Err(HeaderRefusal::TooLong);
     };
-    let mut pdu = Vec::with_capacity(alloc, usize::from(length))?;
+    // The room behind the PDU is for the header of its frame, which then goes before it in place.
+    let mut pdu = Vec::with_capacity(alloc, usize::from(length) + HEADER)?;
     push_fixed(&mut pdu, length, hello)?;
     push_parts(&mut pdu, hello)?;
     fletcher_seal(&mut pdu, CHECKSUM_AT);
@@ -110,7 +112,7 @@ fn push_fixed(pdu: &mut Vec<u8>, length: u8, hello: &Hello) -> Result<(), AllocE
         Hello::Rd { hold, .. } => (RD, *hold),
     };
     let [high, low] = hold.to_be_bytes();
-    pdu.extend_from_slice(&[PROTOCOL, length, VERSION, 0, kind, high, low, 0, 0])
+    pdu.extend_from_slice(&[ESIS, length, VERSION, 0, kind, high, low, 0, 0])
 }
 
 /// Appends what stands behind the fixed part.

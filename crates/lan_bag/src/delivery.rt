@@ -11,7 +11,8 @@ use crate::store::Store;
 use nsap::Port;
 use osi_base::{DropCause, Offered, Picked, Tick, Unit};
 
-/// The first frame that a system may take and has not taken.
+/// The first frame that a system may take and has not taken. It is kept, since a run asks for it again and again: then nobody looks at
+/// the frames before it once more.
 #[derive(Clone, Copy)]
 pub struct Fresh {
     /// Its place, and where there is none how many frames were numbered.

@@ -8,7 +8,8 @@ use crate::setup::{PortRow, group_of};
 use nsap::Snpa;
 use std::marker::Model;
 
-/// Ports, of which it is known whether the groups name some.
+/// Ports, of which it is known whether the groups name some: then a hello to a group that has no port on the LAN, as those of end systems
+/// where no router is, is not compared with each port.
 #[derive(Drop)]
 pub struct Listed {
     rows: Vec<PortRow>,

@@ -6,7 +6,7 @@ ghost use Rattle.lan_bag.specs.Rows.{bound_on, room_on, is_on, sender_of, has_se
 ghost use Rattle.lan_bag.specs.steps.Setting.{AreOfLans, rows_on};
 
 use crate::listed::Listed;
-use nsap::{Port, Snpa};
+use nsap::{ALL_END_SYSTEMS, ALL_INTERMEDIATE_SYSTEMS, Port, Snpa};
 use osi_base::NoMemory;
 use std::alloc::Global;
 use std::marker::Model;
@@ -16,12 +16,6 @@ const UNLISTED: Lan = Lan {
     bound: 1,
     room: 264,
 };
-
-/// The group of all end systems (ISO 9542, multicast addresses).
-const ALL_END_SYSTEMS: [u8; 6] = [0x09, 0x00, 0x2b, 0x00, 0x00, 0x04];
-
-/// The group of all intermediate systems (ISO 9542, multicast addresses).
-const ALL_INTERMEDIATE_SYSTEMS: [u8; 6] = [0x09, 0x00, 0x2b, 0x00, 0x00, 0x05];
 
 /// One LAN.
 #[derive(Clone, Copy, Debug, PartialEq, Eq)]
@@ -72,7 +66,7 @@ impl Setup {
         Ok(Setup { lans, rows, lists })
     }
 
-    /// Ports among which are those on a LAN, and for a LAN that is listed no others.
+    /// The ports on a LAN; for a LAN that is not listed maybe others, too.
     pub fn rows_on(&self, lan: u8) -> &[PortRow]
         ensures { rows_on result.now lan ≡ rows_on self.now.rows lan }
     {

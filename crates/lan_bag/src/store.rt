@@ -17,7 +17,7 @@ use std::marker::Model;
 /// The most live frames.
 const MOST_LIVE: u32 = 16_384;
 
-/// The frames in the order of their numbers; those that are late are given up.
+/// The frames in the order of their numbers; those that are late are given up. The live ones are counted, so that an offer goes over none.
 #[derive(Drop)]
 pub struct Store {
     gone: u32,

@@ -7,8 +7,8 @@ use osi_base::NoMemory;
 use std::alloc::Global;
 use std::marker::Model;
 
-/// Systems, in the order in which they took a frame. The first stands beside the list of the others, so that one alone is in no
-/// list.
+/// Systems, in the order in which they took a frame. The first stands beside the list of the others: mostly one system takes a frame,
+/// and then no memory is taken for a list.
 #[derive(Drop, Debug)]
 pub struct Takers {
     first: Option<u8>,

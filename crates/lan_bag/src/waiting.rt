@@ -9,7 +9,7 @@ use std::alloc::Global;
 use std::collections::VecDeque;
 use std::marker::Model;
 
-/// What waits. The first stands beside the list of the others, so that one that waits alone is in no list.
+/// What waits. The first stands beside the list of the others: mostly one waits alone, and then no memory is taken for a list.
 #[derive(Drop)]
 pub struct Waiting {
     first: Option<Up<Port>>,
@@ -41,6 +41,7 @@ impl Waiting {
     }
 
     /// One more waits, behind the others.
+    // Inlined: what waits is a large value, which is moved once less.
     #[inline(always)]
     pub fn push(&mut self, up: Up<Port>) -> Result<(), NoMemory>
         ensures { OnOk result (self.new ≡ self.old ++ up ∷ []) }
@@ -54,6 +55,7 @@ impl Waiting {
     }
 
     /// The first of what waits, which is taken up.
+    // Inlined: what waits is a large value, which is moved once less.
     #[inline(always)]
     pub fn pop(&mut self) -> Option<Up<Port>>
         ensures first { self.old ≡ after_first result self.new }

@@ -28,6 +28,7 @@ pub fn write_frame(to: &Snpa, from: &Snpa, pdu: Vec<u8>) -> Result<Vec<u8>, NoMe
     let length = (LLC.len() + pdu.len()) as u16;
     let header = header_of(to.octets(), from.octets(), length);
     let mut whole = pdu;
+    // Zeros, and not the header itself, which was written in parts just before and would be read whole: a processor waits for that.
     whole.extend_from_slice(&[0; HEADER])?;
     put_first(&mut whole, &header);
     Ok(whole)

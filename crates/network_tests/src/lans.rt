@@ -6,7 +6,7 @@ use lan_bag::{Lan, LanBag, PortRow};
 use nsap::{Port, Snpa};
 use osi_base::{
     Arrival, Bytes, Carrier, DropCause, Injected, NoMemory, Note, Offered, Picked, Unit, Up, Wish,
-    gather, go_round,
+    gather,
 };
 use std::alloc::Global;
 use std::collections::VecDeque;
@@ -138,15 +138,6 @@ fn next_up(bag: &mut LanBag) -> Option<Up<Port>> {
 /// All that the LANs hand up.
 fn all_up(alloc: Global, bag: &mut LanBag) -> Result<VecDeque<Up<Port>>, NoMemory> {
     gather(alloc, bag)
-}
-
-/// What is handed up in a round over the LANs, in which the first frame is taken.
-fn round(bag: &mut LanBag, unit: Sent) -> Option<Up<Port>> {
-    if bag.now() < 4_000_000_000 {
-        go_round(bag, unit.ok()?, PLAIN, 1, 2).ok()?
-    } else {
-        None
-    }
 }
 
 /// Whether a tick passes.
@@ -416,15 +407,6 @@ fn frames_of_a_lan_that_is_not_listed_have_the_least_numbers(rt: HostRuntime) {
     let bag = bag(rt.alloc()).expect(&rt, "memory");
     assert_eq!(rt; bound(&bag, port(7, 1)), 1);
     has_room(&rt, &bag, port(7, 1), 264);
-}
-
-#[test]
-fn a_round_over_the_lans_hands_up_the_note_of_the_frame(rt: HostRuntime) {
-    let alloc = rt.alloc();
-    let mut bag = bag(alloc).expect(&rt, "memory");
-    let up = round(&mut bag, near(alloc, b"\x81"));
-    assert!(rt; is_note(up, first_note(18)));
-    has_now(&rt, &bag, 1);
 }
 
 #[test]

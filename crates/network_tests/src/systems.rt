@@ -5,8 +5,8 @@ ghost use Rattle.clnp_system.specs.Setting.{IsSetting};
 
 use clnp_header::{Reason, read_pdu};
 use clnp_route::Table;
-use clnp_system::{ALL_ENDS, Reported, SystemSetup};
-use nsap::{Hop, Nsap, Port, Snpa};
+use clnp_system::{Reported, SystemSetup};
+use nsap::{ALL_END_SYSTEMS, Hop, Nsap, Port, Snpa};
 use osi_base::{Bytes, Unit, Wish};
 use std::alloc::Global;
 use std::test::Fail;
@@ -36,8 +36,10 @@ fn port(lan: u8, system: u8) -> Port
     }
 }
 
-/// The end system 490a00, on LAN 0.
-fn end_system(alloc: Global) -> Result<SystemSetup, Fail>
+/// The end system 490a00, on LAN 0, which has that room.
+fn end_system(alloc: Global, room: u32) -> Result<SystemSetup, Fail>
+    requires least { 264 ≤ room }
+    requires most { room ≤ 1497 }
     ensures { IfOk result IsSetting }
 {
     let Some(title) = Nsap::of(&[0x49, 0x0a, 0x00]) else {
@@ -54,7 +56,7 @@ fn end_system(alloc: Global) -> Result<SystemSetup, Fail>
         ports: Vec::from_slice(alloc, &[port])?,
         rows: Table::new(alloc),
         bounds: Vec::from_slice(alloc, &[1])?,
-        rooms: Vec::from_slice(alloc, &[1497])?,
+        rooms: Vec::from_slice(alloc, &[room])?,
         life: 32,
         hello: 30,
         hold: 20,
@@ -92,11 +94,13 @@ fn intermediate_system(alloc: Global) -> Result<SystemSetup, Fail>
     })
 }
 
-/// The frames in which the end system sends these octets, from 490a02 to 490b02.
-fn send(alloc: Global, octets: &[u8], cut: bool) -> Result<Vec<Unit<Port>>, Fail>
-    requires { length octets.now ≤ 16384 }
+/// The frames in which the end system sends these octets, from 490a02 to 490b02, on a LAN of that room.
+fn send(alloc: Global, octets: &[u8], cut: bool, room: u32) -> Result<Vec<Unit<Port>>, Fail>
+    requires octets { length octets.now ≤ 16384 }
+    requires least { 264 ≤ room }
+    requires most { room ≤ 1497 }
 {
-    let setup = end_system(alloc)?;
+    let setup = end_system(alloc, room)?;
     let unit = Unit {
         from: address(&[0x49, 0x0a, 0x02])?,
         to: address(&[0x49, 0x0b, 0x02])?,
@@ -180,7 +184,7 @@ fn have_lengths(frames: &[Unit<Port>], lengths: &[usize]) -> bool {
 #[test]
 fn an_end_system_tells_its_addresses(rt: HostRuntime) -> Result<(), Fail> {
     let alloc = rt.alloc();
-    let setup = end_system(alloc)?;
+    let setup = end_system(alloc, 1497)?;
     let frames = setup.hellos(alloc, 30)?;
     match frames.as_slice() {
         [frame] => assert_eq!(rt; frame.octets.as_slice(), ESH),
@@ -192,10 +196,10 @@ fn an_end_system_tells_its_addresses(rt: HostRuntime) -> Result<(), Fail> {
 #[test]
 fn a_group_frame_is_answered(rt: HostRuntime) -> Result<(), Fail> {
     let alloc = rt.alloc();
-    let setup = end_system(alloc)?;
+    let setup = end_system(alloc, 1497)?;
     let at = Port {
         lan: 0,
-        snpa: Snpa::of(ALL_ENDS),
+        snpa: Snpa::of(ALL_END_SYSTEMS),
     };
     let Some(_) = setup.port_on(at.lan) else {
         return Err(Fail::from("a port"));
@@ -218,7 +222,7 @@ fn a_report_has_the_header_as_its_data(rt: HostRuntime) -> Result<(), Fail> {
 #[test]
 fn a_unit_goes_on_with_a_redirect(rt: HostRuntime) -> Result<(), Fail> {
     let alloc = rt.alloc();
-    let frames = send(alloc, b"hello", false)?;
+    let frames = send(alloc, b"hello", false, 1497)?;
     match frames.as_slice() {
         [frame] => assert_eq!(rt; frame.octets.as_slice(), HELLO),
         _ => return Err(Fail::from("one frame")),
@@ -231,12 +235,21 @@ fn a_unit_goes_on_with_a_redirect(rt: HostRuntime) -> Result<(), Fail> {
 #[test]
 fn a_unit_is_cut_twice(rt: HostRuntime) -> Result<(), Fail> {
     let alloc = rt.alloc();
-    let frames = send(alloc, &[0x55; 3000], true)?;
+    let frames = send(alloc, &[0x55; 3000], true, 1497)?;
     assert!(rt; have_lengths(&frames, &[1495, 1495, 79]));
     let [first, ..] = frames.as_slice() else {
         return Err(Fail::from("frames"));
     };
     let pieces = forward(alloc, first.octets.as_slice(), 1)?;
     assert!(rt; have_lengths(&pieces, &[263, 263, 263, 263, 263, 263, 55]));
+    Ok(())
+}
+
+/// With a header of 23 octets a piece has 240 or 488 octets of the unit.
+#[test]
+fn the_longest_unit_is_cut_into_69_pieces_or_34(rt: HostRuntime) -> Result<(), Fail> {
+    let alloc = rt.alloc();
+    assert_eq!(rt; send(alloc, &[0x55; 16_384], true, 264)?.len(), 69);
+    assert_eq!(rt; send(alloc, &[0x55; 16_384], true, 512)?.len(), 34);
     Ok(())
 }

@@ -1,6 +1,6 @@
 //! What a carrier took and may still let arrive (X.233, PDU lifetime control).
 
-ghost use Rattle.std.specs.Prelude.{◌≡◌, ◌<◌, ◌≤◌, ◌+◌, ◌↔◌, ◌++◌, ◌∷◌, [], filter, length, nat_le, IsTrue, OnOk, OnErr};
+ghost use Rattle.std.specs.Prelude.{◌≡◌, ◌<◌, ◌≤◌, ◌+◌, ◌↔◌, ◌++◌, ◌∷◌, [], filter, length, nat_le, not, IsTrue, OnOk, OnErr};
 ghost use Rattle.std.specs.List.{All, list_any};
 ghost use Rattle.osi_base.specs.Floated.{is_unit_of, is_young, IsFloated, IsOrdered};
 
@@ -107,8 +107,8 @@ fn drop_front<A: Drop>(entries: &mut VecDeque<(u32, Unit<A>)>, now: Tick, age: u
 }
 
 /// Whether what was taken at a tick is more than so many ticks old.
-fn is_older(taken: Tick, now: Tick, age: u32) -> bool
-    ensures { IsTrue result ↔ (taken + age < now) }
+pub fn is_older(taken: Tick, now: Tick, age: u32) -> bool
+    ensures { result ≡ not (nat_le now (taken + age)) }
 {
     u64::from(taken) + u64::from(age) < u64::from(now)
 }

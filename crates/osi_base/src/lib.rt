@@ -22,7 +22,7 @@ mod unit;
 pub use address::Address;
 pub use carrier::Carrier;
 pub use fletcher::{fletcher_ok, fletcher_seal};
-pub use floating::Floating;
+pub use floating::{Floating, is_older};
 pub use laws::{one_seal, over_runs};
 pub use lists::{Bytes, Items};
 pub use memory::{MemSink, MemSource, PlainSink, PlainSource};

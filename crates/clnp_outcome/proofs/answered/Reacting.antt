@@ -61,7 +61,7 @@ use Rattle.clnp_outcome.proofs.written.Fitting.{FitsDiscarded, FitsOctets}
 use Rattle.clnp_outcome.proofs.written.Discarding.{lost}
 use Rattle.clnp_outcome.proofs.written.Faults.{fault_fits}
 use Rattle.clnp_outcome.proofs.written.Greeting.{group_answered, redirected}
-use Rattle.clnp_outcome.proofs.written.Hops.{heard_are}
+use Rattle.clnp_system.proofs.Hops.{heard_are}
 use Rattle.clnp_outcome.proofs.written.Octets.{all_both, all_of, octets_take}
 use Rattle.clnp_outcome.proofs.written.Onward.{goes_on}
 use Rattle.clnp_outcome.proofs.written.Pieces.{sent_cut}

@@ -4,7 +4,7 @@ use Rattle.std.specs.List.{AllByRecursion}
 use Rattle.std.proofs.lemmas.Bool.{cases_eq}
 use Rattle.carrier_answers.specs.Answers.{AreOctets}
 use Rattle.clnp_outcome.specs.Standing.{FitsSlot}
-use Rattle.clnp_outcome.proofs.once.Lists.{same_some}
+use Rattle.clnp_segment.proofs.Lists.{same_some}
 
 -- ---- octets at their places
 

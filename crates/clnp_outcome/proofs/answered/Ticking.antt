@@ -12,7 +12,7 @@ use Rattle.clnp_outcome.specs.Standing.{FitsNode, IsFrame, IsHop}
 use Rattle.clnp_outcome.proofs.written.Discarding.{reported_all}
 use Rattle.clnp_outcome.proofs.answered.Expiring.{given_up}
 use Rattle.clnp_outcome.proofs.written.Greeting.{greeted_if}
-use Rattle.clnp_outcome.proofs.written.Hops.{swept_are}
+use Rattle.clnp_system.proofs.Hops.{swept_are}
 use Rattle.clnp_outcome.proofs.written.Octets.{all_both}
 
 notes_fit : (system : ℕ) (list : List Expired) → WaitsInOctets (map (expiry_note system) list)

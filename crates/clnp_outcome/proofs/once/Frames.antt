@@ -13,8 +13,8 @@ use Rattle.clnp_system.specs.Hellos.{AnswersGroup, AreHellos, HellosIf, Redirect
 use Rattle.clnp_system.specs.Node.{Frame}
 use Rattle.clnp_system.specs.Setting.{Setting, is_group, room_of}
 use Rattle.clnp_system.specs.Written.{AreFrames, CutFrames, GoesTo, IsHelloFrame, IsPduFrame}
-use Rattle.clnp_outcome.proofs.once.Cuttings.{one_cutting}
-use Rattle.clnp_outcome.proofs.once.Lists.{same_some}
+use Rattle.clnp_segment.proofs.Cuttings.{one_cutting}
+use Rattle.clnp_segment.proofs.Lists.{same_some}
 
 one_frame : (setting : Setting) (to : Port) (frame other : Frame) → GoesTo setting to frame → GoesTo setting to other → frame.octets ≡ other.octets → frame ≡ other
 one_frame setting to frame other a b octets =

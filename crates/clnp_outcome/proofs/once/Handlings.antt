@@ -17,7 +17,7 @@ use Rattle.clnp_system.specs.Node.{Node, Reaction}
 use Rattle.clnp_system.specs.Receiving.{Receives}
 use Rattle.clnp_system.specs.Tables.{Tables}
 use Rattle.clnp_step.specs.Handling.{Changes, Handles, IsReceived, Nobody, OffersFrame, OffersFrames, Somebody, TicksAll, drop_note, is_system, notes_of, plain_wish}
-use Rattle.clnp_outcome.proofs.once.Lists.{none_in, one_place}
+use Rattle.clnp_segment.proofs.Lists.{none_in, one_place}
 use Rattle.clnp_outcome.proofs.once.Receivings.{one_receiving}
 use Rattle.clnp_outcome.proofs.once.Ticks.{one_node_tick}
 

@@ -12,7 +12,7 @@ use Rattle.clnp_header.specs.Values.{parameters}
 use Rattle.clnp_system.specs.Forwarding.{AreOptionsOnward, Ended, Full, IsOnward, IsOptionOnward, Other, Passes, Recorded, Records, Routed, Written, past_own}
 use Rattle.clnp_system.specs.Setting.{Setting}
 use Rattle.clnp_system.specs.Verdicts.{IsRoute, IsRouteOf}
-use Rattle.clnp_outcome.proofs.once.Lists.{same_fronts, same_head, same_tail}
+use Rattle.clnp_segment.proofs.Lists.{same_fronts, same_head, same_tail}
 
 -- ---- entries
 

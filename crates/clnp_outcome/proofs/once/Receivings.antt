@@ -34,10 +34,10 @@ use Rattle.clnp_system.specs.Tables.{Tables}
 use Rattle.clnp_system.specs.Verdicts.{IsRouteOf, verdict}
 use Rattle.clnp_system.specs.Written.{HasPdu}
 use Rattle.clnp_outcome.proofs.once.Frames.{one_group_answer}
-use Rattle.clnp_outcome.proofs.once.Lists.{same_some}
+use Rattle.clnp_segment.proofs.Lists.{same_some}
 use Rattle.clnp_outcome.proofs.once.Options.{one_route_of}
 use Rattle.clnp_outcome.proofs.once.Reports.{one_discard, one_going_onward, one_reaction}
-use Rattle.clnp_outcome.proofs.once.Stores.{one_answer}
+use Rattle.clnp_segment.proofs.Determined.{one_answer}
 
 -- ---- the first octet
 

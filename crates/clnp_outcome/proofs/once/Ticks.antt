@@ -7,9 +7,9 @@ use Rattle.clnp_system.specs.Node.{Frame, Node, Reaction}
 use Rattle.clnp_system.specs.Tables.{Tables}
 use Rattle.clnp_system.specs.Ticking.{ExpiresAll, NodeTicks, ReportsEach, discarded_unit, expiry_note}
 use Rattle.clnp_outcome.proofs.once.Frames.{one_hellos_if}
-use Rattle.clnp_outcome.proofs.once.Lists.{same_some}
+use Rattle.clnp_segment.proofs.Lists.{same_some}
 use Rattle.clnp_outcome.proofs.once.Reports.{one_reaction, one_report}
-use Rattle.clnp_outcome.proofs.once.Stores.{one_expiry}
+use Rattle.clnp_segment.proofs.Determined.{one_expiry}
 
 one_expiring : (store : Holding) (now : ℕ) (list others : List Expired) (after more : Holding) → ExpiresAll store now list after → ExpiresAll store now others more
     → (list ≡ others) × (after ≡ more)

@@ -22,6 +22,7 @@ use Rattle.clnp_header.specs.Faults.{IsPduFault, first_fault, is_eights, is_plac
 use Rattle.clnp_header.specs.Flags.{has_more, is_dt, is_segmented, kind_of, wants_report}
 use Rattle.pdu_parts.specs.Number.{number_at}
 use Rattle.clnp_header.specs.Faults.{fault as at_place}
+use Rattle.clnp_header.proofs.Quiet.{IsQuiet, first_of_rest, holds, quiet_front, quiet_must, reportable, some_there}
 use Rattle.clnp_system.specs.Node.{Frame}
 use Rattle.clnp_system.specs.Reporting.{discarded_octets, faulty_header, some_address, source_in}
 use Rattle.clnp_system.specs.Setting.{is_group}
@@ -29,40 +30,6 @@ use Rattle.carrier_answers.specs.Answers.{AreOctets}
 use Rattle.clnp_outcome.specs.Standing.{IsNsap}
 use Rattle.clnp_outcome.proofs.written.Fitting.{FitsDiscarded}
 use Rattle.clnp_outcome.proofs.written.Octets.{octets_drop, octets_front, octets_take, some_of}
-
--- a step whose fault is not reportable
-IsQuiet : Option Fault → Type 0
-IsQuiet step = IfSome step (λ fault. fault.reportable ≡ false)
-
-quiet_must : (holds : Bool) (fault : Fault) → fault.reportable ≡ false → IsQuiet (must holds fault)
-unfolding IsQuiet
-quiet_must true fault e = tt
-quiet_must false fault e = e
-
-first_of_rest : (step : Option Fault) (steps : List (Option Fault)) (fault : Fault) → IsQuiet step → fault.reportable ≡ true → first_failing (step ∷ steps) ≡ Some fault
-    → (step ≡ None) × (first_failing steps ≡ Some fault)
-unfolding IsQuiet
-first_of_rest None steps fault quiet wanted is = (refl, is)
-first_of_rest (Some other) steps fault quiet wanted is =
-    let same : other ≡ fault = cc in let e : other.reportable ≡ fault.reportable = ap (λ (f : Fault). f.reportable) same in absurd cc
-
-quiet_front : (front rest : List (Option Fault)) (fault : Fault) → AllByRecursion IsQuiet front → fault.reportable ≡ true → first_failing (front ++ rest) ≡ Some fault
-    → AllByRecursion (λ step. step ≡ None) front
-quiet_front [] rest fault quiet wanted is = tt
-quiet_front (step ∷ front) rest fault quiet wanted is =
-    let here = first_of_rest step (front ++ rest) fault quiet.0 wanted is in (here.0, quiet_front front rest fault quiet.1 wanted here.1)
-
-holds : (is : Bool) (fault : Fault) → must is fault ≡ None → is ≡ true
-holds true fault e = refl
-holds false fault e = absurd cc
-
-some_there : {X : Type 0} (option : Option X) → is_some option ≡ true → IsSome option
-some_there None e = absurd cc
-some_there (Some x) e = refl
-
-reportable : (b : Bool) → not b ≡ false → b ≡ true
-reportable true e = refl
-reportable false e = absurd cc
 
 quiet_rest : (front rest : List (Option Fault)) (fault : Fault) → AllByRecursion IsQuiet front → fault.reportable ≡ true → first_failing (front ++ rest) ≡ Some fault
     → first_failing rest ≡ Some fault

@@ -19,7 +19,7 @@ use Rattle.clnp_system.proofs.Lans.{lan_of}
 use Rattle.esis_pdu.specs.declared.hello.Hello.{Hello}
 use Rattle.clnp_outcome.specs.Standing.{IsFrame, IsSetUp, IsSnpa}
 use Rattle.clnp_outcome.proofs.written.Fitting.{FitsOctets, FitsPart}
-use Rattle.clnp_outcome.proofs.once.Cuttings.{cut_written}
+use Rattle.clnp_segment.proofs.Cuttings.{cut_written}
 use Rattle.clnp_outcome.proofs.written.Octets.{octets_back, octets_front}
 use Rattle.clnp_outcome.proofs.written.Writes.{MayBeHello, hello_frame, pdu_frame}
 

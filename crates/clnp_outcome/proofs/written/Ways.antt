@@ -12,7 +12,7 @@ use Rattle.clnp_system.specs.Node.{Node}
 use Rattle.clnp_system.specs.Setting.{all_ends}
 use Rattle.clnp_system.specs.Tables.{rows_tables}
 use Rattle.clnp_outcome.specs.Standing.{FitsNode, IsHop, IsSnpa}
-use Rattle.clnp_outcome.proofs.written.Hops.{found_is, next_is, router_is}
+use Rattle.clnp_system.proofs.Hops.{found_is, next_is, router_is}
 
 if_some : {A : Type 0} (P : A → Type 0) (test : Bool) (one other : Option A) → IfSome one P → IfSome other P → IfSome (if test then one else other) P
 if_some P true one other h k = h

@@ -1,5 +1,6 @@
 use Rattle.clnp_entity.specs.Kept.{IsNear}
-use Rattle.clnp_entity.proofs.Near.{found_is, near_of}
+use Rattle.clnp_system.proofs.Hops.{found_is}
+use Rattle.clnp_entity.proofs.Near.{near_of}
 use Rattle.clnp_entity.proofs.entity.NetEntity.neighbour.Goals as goal
 
 pub returns-clause-near : goal.returns-clause-near

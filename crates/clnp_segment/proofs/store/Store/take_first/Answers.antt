@@ -1,4 +1,4 @@
-use Rattle.std.proofs.Common.{◌≡◌, ◌∙◌, ap, sym}
+use Rattle.std.proofs.Common.{◌∙◌, ap, sym}
 use Rattle.clnp_segment.specs.Joining.{Segment}
 use Rattle.clnp_segment.specs.steps.Incoming.{incoming_of}
 use Rattle.clnp_segment.specs.steps.Places.{is_alone}
