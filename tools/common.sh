@@ -1,0 +1,63 @@
+# What each tool begins with, read by `.`: its help, which is the comment at its head, its words, its files.
+# The launcher names itself in OSI; a tool that is called by its own path is called again through it.
+# Statuses of a tool: those of the program (0 to 7) and of the launcher; 1 also where its help says so; 2 wrong words, no such file.
+# shellcheck shell=sh
+tool=${0##*/}
+tools=$(dirname "$(readlink -f "$0")")
+[ -n "${OSI-}" ] || exec "$tools/../osi" "$tool" "$@"
+
+say() {
+    echo "osi $tool: $*" >&2
+}
+
+help() {
+    sed -n '2,/^[^#]/s/^#\( \|$\)//p' "$0"
+}
+
+wrong() {
+    say "$*; see ./osi $tool --help"
+    exit 2
+}
+
+# Asks for as many words as are given first; without any the help is written.
+words() {
+    case ${2-} in
+    -h | --help)
+        help
+        exit
+        ;;
+    esac
+    if [ $# = 1 ]; then
+        help >&2
+        exit 2
+    fi
+    [ $# -gt "$1" ] || wrong "a word is missing"
+    [ $# = $(($1 + 1)) ] || wrong "there are words too many"
+}
+
+# Copies a file into the tool's folder, $work, under a name without blanks.
+take() {
+    if [ -d "$1" ] || [ ! -r "$1" ]; then
+        wrong "there is no file $1 that can be read"
+    fi
+    cat -- "$1" >"$work/$2" || exit 3
+}
+
+# Runs the program by its word on $work/script, into $work/WORD. Without a transcript the tool ends.
+program() {
+    "$OSI" "$1" <"$work/script" >"$work/$1" 2>"$work/said"
+    status=$?
+    case $status in
+    0 | 1 | 7) ;;
+    *)
+        cat "$work/said" >&2
+        exit "$status"
+        ;;
+    esac
+}
+
+work=$(mktemp -d) || exit 125
+trap 'rm -rf "$work"' EXIT
+trap 'exit 129' HUP
+trap 'exit 130' INT
+trap 'exit 143' TERM
