@@ -11,7 +11,7 @@ say() {
 }
 
 help() {
-    sed -n '2,/^[^#]/s/^#\( \|$\)//p' "$0"
+    sed -n -e '2,/^[^#]/s/^# //p' -e '2,/^[^#]/s/^#$//p' "$0"
 }
 
 wrong() {
@@ -43,9 +43,21 @@ take() {
     cat -- "$1" >"$work/$2" || exit 3
 }
 
-# Runs the program by its word on $work/script, into $work/WORD. Without a transcript the tool ends.
+# Looks whether $work/transcript begins as a transcript does.
+is_transcript() {
+    head -n 1 "$work/transcript" | grep -q -E '^(tick 0|done|refused .*|toomuch)$' ||
+        wrong "the input is no transcript, which ./osi run < SCRIPT writes"
+}
+
+# Runs the program by its word on $work/script, into $work/WORD. Without a transcript the tool ends. What the launcher says of a build
+# is shown, what it says of a refused line is not: the tool tells it.
 program() {
-    "$OSI" "$1" <"$work/script" >"$work/$1" 2>"$work/said"
+    : >"$work/said"
+    if [ "$OSI_BUILT" = yes ]; then
+        "$OSI" "$1" <"$work/script" >"$work/$1" 2>"$work/said"
+    else
+        "$OSI" "$1" <"$work/script" >"$work/$1"
+    fi
     status=$?
     case $status in
     0 | 1 | 7) ;;

@@ -12,11 +12,11 @@ function answers(   line, field) {
     fflush(lines)
     for (due++; due > 0; ) {
         if ((getline line) <= 0) exit 1
-        if (line == answer) due--
-        else if (line ~ /^frame /) {
-            split(line, field, " ")
-            sent(field[2], field[3], field[4], field[5])
-        }
+        if (line == answer) { due--; continue }
+        split(line, field, " ")
+        if (field[1] == "tick") clock = field[2]
+        if (field[1] == "frame") sent(field[2], field[3], field[4], field[5])
+        if (field[1] == "deliver") had[field[2] " " field[3]]
     }
     unread = 0
 }
@@ -29,10 +29,12 @@ function add(line) {
     unread += length(line) + 1
     if (line == mark) due++
 }
-# A frame was sent: for the system of that SNPA, or for all others of the group's kind.
+# A frame was sent: for the system of that SNPA, or for all others of the group's kind. A pair that a line of the script delivered, or
+# that is late, is left out when it would be delivered, as `settle` leaves it out.
 function sent(number, lan, sender, snpa,   i) {
     for (i = 1; i <= ports; i++) {
         if (on[i] != lan || of[i] == sender) continue
+        late_after[number] = clock + bound[lan]
         if (at[i] == snpa || snpa == "09002b00000" (kind[of[i]] == "es" ? 4 : 5)) waits[++waiting] = number " " of[i]
     }
 }
@@ -40,6 +42,7 @@ function settle(   i, j, count, chosen, pair) {
     for (answers(); waiting; answers()) {
         count = 0
         for (i = 1; i <= waiting; i++) {
+            if (waits[i] in had || late_after[waits[i] + 0] < clock) continue
             if (below(100) < loss) { add("# lost: " waits[i]); continue }
             chosen[++count] = waits[i]
             if (below(100) < repeat) chosen[++count] = waits[i]
@@ -62,6 +65,7 @@ BEGIN {
         sub(/\r$/, "", line)
         split(line, field, " ")
         if (field[1] == "es" || field[1] == "is") { kind[field[2]] = field[1]; any = field[2] }
+        if (field[1] == "lan") bound[field[2]] = field[3]
         if (field[1] == "port") { of[++ports] = field[2]; on[ports] = field[3]; at[ports] = tolower(field[4]) }
         if (line == "start") { mark = "deliver 999999999 " any; answer = "nosuch 999999999 " any }
         if (line != "settle" || any == "") add(line)
