@@ -204,24 +204,38 @@ fn sent(alloc: Global, first: u32, count: u32, length: u32) -> Result<String, Fa
     Ok(shown)
 }
 
+/// A unit that may not be cut takes no identifier. One that was given is given again when its lifetime of 32 ticks is over, and no tick
+/// earlier.
 #[test]
 fn identifiers_are_spent(rt: HostRuntime) -> Result<(), Fail> {
     let alloc = rt.alloc();
     let first = "unit a b s - 00\n".repeat(alloc, 32_767)?;
     let passing = "tick\n".repeat(alloc, 33)?;
     let second = "unit a b s - 00\n".repeat(alloc, 32_770)?;
+    let until_free = "tick\n".repeat(alloc, 32)?;
     let (first_sent, passed) = (sent(alloc, 1, 32_767, 41)?, ticks(alloc, 0, 33)?);
-    let second_sent = sent(alloc, 16_385, 32_769, 41)?;
+    let (second_sent, passed_again) = (sent(alloc, 16_385, 32_769, 41)?, ticks(alloc, 33, 32)?);
     expect(
         &rt,
         alloc,
-        &[SET_UP, "start\n", &first, &passing, &second],
+        &[
+            SET_UP,
+            "start\n",
+            &first,
+            &passing,
+            &second,
+            "unit a b - - 00\n",
+            &until_free,
+            "unit a b s - 00\ntick\nunit a b s - 00\n",
+        ],
         &[
             "tick 0\n",
             &first_sent,
             &passed,
             &second_sent,
-            "no idsspent\ndone\n",
+            "no idsspent\nsent a 490b02 00\ndrop frame a\n",
+            &passed_again,
+            "no idsspent\ntick 66\nsent a 490b02 00\nframe 32769 x a 02000000000b 41\ndone\n",
         ],
     )
 }

@@ -33,9 +33,8 @@ use Rattle.tp4_world.specs.World.{World, entity_at, with_entity}
 use Rattle.tp4_world.specs.declared.place.EndAt.{EndAt}
 use Rattle.tp4_world.specs.declared.place.Placed.{Placed}
 use Rattle.tp4_world.proofs.Destinations.{ActsFine, hearing_fine}
-use Rattle.tp4_world.proofs.Having.{found, with_some}
+use Rattle.tp4_world.proofs.Having.{found, with_any, with_some}
 use Rattle.tp4_headline.proofs.WorldAsides.{AreQuiet, are_aside, picked_quiet, told_quiet}
-use Rattle.tp4_headline.proofs.WorldPlaces.{with_any}
 use Rattle.calm_world.specs.Run.{HaveEntities}
 use Rattle.calm_world.specs.steps.Hall.{AreWaiting, Does, Done, Goes, Hall, IsAddress, Meeting, Meets, More, Post, Step, Still, after}
 use Rattle.calm_world.specs.steps.Posting.{AreKept, AreUnitsOf, IsHall, IsKept, IsUnitOf}

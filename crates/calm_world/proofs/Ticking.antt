@@ -19,7 +19,8 @@ use Rattle.tp4_world.specs.World.{World, entity_at, is_of, with_entity}
 use Rattle.tp4_world.specs.declared.place.Placed.{Placed}
 use Rattle.tp4_world.proofs.Destinations.{ActsFine, ticking_fine}
 use Rattle.tp4_headline.proofs.WorldAsides.{are_aside, told_quiet}
-use Rattle.tp4_headline.proofs.WorldPlaces.{found_any, some_same, with_first, with_other}
+use Rattle.tp4_headline.proofs.WorldPlaces.{some_same}
+use Rattle.tp4_world.proofs.Having.{found_any, with_first, with_other}
 use Rattle.calm_world.specs.Run.{HaveEntities}
 use Rattle.calm_world.specs.steps.Hall.{AreWaiting, Clocking, Hall, IsAddress, Over, TickGoes, TickStep, Ticking, TicksDone, TicksMore, after}
 use Rattle.calm_world.specs.steps.Posting.{AreKept, AreUnitsOf, IsHall}

@@ -10,11 +10,6 @@ module _ {M E R : Type 0} (meaning : Meaning M E R) where
   HasCourse state line = ((events : List E) × (new : M) × meaning.step state line events new)
       ⊎ (((said : R) × meaning.refuses state line said) ⊎ ((events : List E) × (new : M) × meaning.fills state line events new))
 
-  -- in the states of a set that lines do not leave, each line has a course
-  pub record IsTotal (Stands : M → Type 0) : Type 0 where
-    pub course : (state : M) (line : List ℕ) → Stands state → HasCourse state line
-    pub stays : (old : M) (line : List ℕ) (events : List E) (new : M) → Stands old → meaning.step old line events new → Stands new
-
   -- all octets of an input ask for a transcript and a status
   pub record AsksSomething (first : M) (all : List ℕ) : Type 0 where
     pub text : List ℕ

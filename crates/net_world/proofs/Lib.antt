@@ -2,7 +2,6 @@ pub mod Journals
 pub mod OneRun
 pub mod Runs
 pub mod Shown
-pub mod SomeRun
 pub mod Standing
 pub mod Taking
 pub mod Units

@@ -2,5 +2,4 @@ pub mod Fifo
 pub mod Laws
 pub mod Run
 pub mod Told
-pub mod Total
 pub mod steps

@@ -1,11 +1,9 @@
-//! A network over any carrier of units, as a script runs it: raw units, deliveries and ticks, and the events that they make
-//! (X.213, connectionless-mode network service).
+//! A network over any carrier of units, as scripts run it: raw units that are sent, all that comes up, and the events that tell of
+//! both (X.213, connectionless-mode network service).
 #![tactic(auto)]
 
-mod laws;
 mod telling;
 mod world;
 
-pub use laws::{one_run, one_start, shows_sent, some_run, some_start};
-pub use telling::{picked_event, tell};
-pub use world::{NetWorld, send_unit, take_up};
+pub use telling::{address, picked_event, tell};
+pub use world::{send_unit, take_up};

@@ -3,14 +3,12 @@
 ghost use Rattle.std.specs.Prelude.{◌≡◌, ◌++◌, ◌∷◌, [], OnOk};
 ghost use Rattle.net_world.specs.Told.{note_event, picked_event, refusal, sent_event, shown_at, up_events};
 
-use nsap::Nsap;
+use nsap::{Nsap, RAW};
 use osi_base::{Address, Arrival, Bytes, DropCause, NoMemory, Note, Offered, Picked, Up};
 use osi_journal::{Event, Refused};
 
-/// The selector of raw units.
-pub const RAW: u8 = 2;
-
 /// Tells what came up: a note, or a raw unit. Units for other selectors are not shown.
+// Inlined, with an arm of its own for frames: most notes are frames, and the event of one is then written in its place in the list.
 #[inline(always)]
 pub fn tell(up: Up<Nsap>, events: &mut Vec<Event>) -> Result<(), NoMemory>
     ensures { OnOk result (events.new.items ≡ events.old.items ++ up_events up) }
@@ -116,7 +114,7 @@ fn note_event(note: Note) -> Event
 }
 
 /// The line of a raw unit that a system sent to an address, by the network's answer.
-pub fn sent_event(system: u8, to: &Nsap, octets: Vec<u8>, answer: Offered) -> Event
+pub(crate) fn sent_event(system: u8, to: &Nsap, octets: Vec<u8>, answer: Offered) -> Event
     ensures { result ≡ sent_event system to.now octets.items answer }
 {
     match answer {
@@ -157,7 +155,7 @@ pub fn picked_event(number: u32, system: u8, answer: Picked) -> Event
 }
 
 /// An address, as events have it.
-fn address(nsap: &Nsap) -> Address
+pub fn address(nsap: &Nsap) -> Address
     ensures { result ≡ nsap.now }
 {
     Address::of(nsap.octets())

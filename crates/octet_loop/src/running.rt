@@ -1,4 +1,4 @@
-//! The loop over a source and a sink: octets are read in pieces, and what they tell is written.
+//! The pieces of an input, one after another, up to its limit, its end or a stop.
 
 ghost use Rattle.std.specs.Prelude.{◌≡◌, ◌≢◌, ◌⊎◌, ◌++◌, ◌+◌, ◌≤◌, ◌<◌, List, ℕ, [], length, max};
 ghost use Rattle.osi_base.specs.Ends.{HasRisen, Took, Put, IsAtEnd};

@@ -18,6 +18,10 @@ use Rattle.clnp_step.proofs.Seen.{belongs_same}
 use Rattle.net_world.specs.Laws.{IsFirst}
 use Rattle.tp4_world.specs.Laws.{IsFirst as IsFirstWorld, IsNew}
 use Rattle.tp4_world.specs.declared.place.Placed.{Placed}
+use Rattle.tp4_world.specs.steps.Parts.{AreLaterAll}
+use Rattle.tp4_world.proofs.Later.{each_later}
+use Rattle.tp4_entity.specs.Dues.{AreLater}
+use Rattle.tp4_entity.proofs.Dues.{later_none}
 use Rattle.osi_setup.specs.declared.transport.Limits.{Limits}
 use Rattle.osi_setup.specs.SetUp.{System, SetUp, entities_from, entities_of, entity_with, nodes_from, nodes_of, placed_at, timers_of, titles_of}
 use Rattle.tp4_conn.specs.End.{End}
@@ -131,6 +135,12 @@ entities_new setup =
 -- no entity has a clock ahead
 pub entities_behind : (setup : SetUp) (now : ℕ) → AllByRecursion (λ (one : Placed). one.entity.clock ≤ now) (entities_of setup)
 entities_behind setup now = of_systems (λ (one : Placed). one.entity.clock ≤ now) setup.life setup.limits 0 setup.systems (λ place system is. omega arith)
+
+-- no end is due
+pub entities_later : (setup : SetUp) (now : ℕ) → AreLaterAll now (entities_of setup)
+entities_later setup now =
+    each_later now (entities_of setup)
+    (of_systems (λ (one : Placed). AreLater now one.entity.ends) setup.life setup.limits 0 setup.systems (λ place system is. later_none now setup.limits.references))
 
 pub begins_world : (setup : SetUp) (net : Net) → Begins link_of BagStep rows_tables (new_bag setup.lans setup.ports) (nodes_of setup) setup.life net
     → IsFirstWorld setup.life (titles_of setup) (link_of_net net) (entities_of setup)

@@ -15,7 +15,7 @@ use Rattle.calm_world.specs.Run.{IsUnrouted}
 use Rattle.osi_setup.specs.Fitting.{Fits, IsWell}
 use Rattle.osi_setup.specs.SetUp.{SetUp, nothing_said, set_up}
 use Rattle.osi_setup.proofs.Wellness.{nothing_well, well_after}
-use Rattle.osi_bench.specs.Bench.{bench_lines}
+use Rattle.osi_script.specs.Table.{all_words}
 use Rattle.osi_bench.specs.World.{SetsUp, StartsUp, WorldRun, WorldRuns, is_start}
 use Rattle.osi_bench.specs.declared.world.World.{World}
 use Rattle.osi_bench.specs.declared.world.World.TheVariants.{SettingUp}
@@ -209,12 +209,12 @@ pub record RunsCalm (script : List Line) (journal : List Event) (last : World) (
   pub begins : names.started ≡ true
   pub says : Says names texts after last_names
 
-pub runs_calm : (texts : List (List ℕ)) (script : List Line) (names : Declared) (journal : List Event) (last : World) → Says (nothing_declared bench_lines) texts script names → WorldRun script journal last
+pub runs_calm : (texts : List (List ℕ)) (script : List Line) (names : Declared) (journal : List Event) (last : World) → Says (nothing_declared all_words) texts script names → WorldRun script journal last
     → IsCalmScript script → RunsCalm script journal last names
 runs_calm texts script names journal last says run calm =
-    let found = starts_from calm.after names calm.before (nothing_declared bench_lines) texts nothing_said journal last
+    let found = starts_from calm.after names calm.before (nothing_declared all_words) texts nothing_said journal last
     (record { lans = refl; systems = refl; ports = λ n. refl; selectors = λ n s. refl }) (record { life = refl; bounds = refl }) (record { ends = tt; paths = refl }) nothing_well refl calm.one_lan.none
-    (subst (λ (s : List Line). Says (nothing_declared bench_lines) texts s names) calm.script_is says) (subst (λ (s : List Line). WorldRun s journal last) calm.script_is run) in
+    (subst (λ (s : List Line). Says (nothing_declared all_words) texts s names) calm.script_is says) (subst (λ (s : List Line). WorldRun s journal last) calm.script_is run) in
     record {
       setup = found.setup;
       well = found.well;

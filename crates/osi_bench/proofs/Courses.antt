@@ -50,7 +50,7 @@ use Rattle.osi_bench.proofs.Moving.{line_near, start_near}
 use Rattle.osi_bench.proofs.NetServing.{Serving, begun_serves}
 use Rattle.osi_bench.proofs.Octets.{IsInOctets, LineInOctets, line_octets, may_begin, nodes_are, octets_after}
 use Rattle.osi_bench.proofs.Placing.{IsOwn, among, entities_ready, present, titles_own}
-use Rattle.osi_bench.proofs.Totality.{asks_something}
+use Rattle.line_loop.proofs.Totality.{asks_something}
 
 -- ---- what stands
 

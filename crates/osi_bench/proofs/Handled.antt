@@ -10,7 +10,8 @@ use Rattle.osi_script.specs.declared.line.Line.{Line}
 use Rattle.osi_script.specs.Grammar.{line_read}
 use Rattle.osi_script.specs.Known.{Declared, nothing_declared}
 use Rattle.osi_script.specs.Script.{Says}
-use Rattle.osi_bench.specs.Bench.{Bench, FillsJournal, RunsLine, bench_lines, bench_meaning, first_bench, most_events}
+use Rattle.osi_script.specs.Table.{all_words}
+use Rattle.osi_bench.specs.Bench.{Bench, FillsJournal, RunsLine, bench_meaning, first_bench, most_events}
 use Rattle.osi_bench.specs.Top.{IsRun, ShowsWhatWasSubmitted, lines_handled, lines_over, lines_run, texts_in}
 use Rattle.osi_bench.specs.World.{HasNoInject, WorldRun, WorldRuns, WorldStep, titles_of}
 use Rattle.osi_bench.specs.declared.world.World.{World}
@@ -47,7 +48,7 @@ runs_more first (other ∷ script) journal mid line made last runs step =
 front_lawful : (titles : List (List ℕ)) (front back : List Event) → Lawful titles (front ++ back) → Lawful titles front
 front_lawful titles front back lawful = λ before after is. lawful before (after ++ back) (ap (λ (journal : List Event). journal ++ back) is ∙ append_assoc before after back)
 
-module _ (law : (texts : List (List ℕ)) (script : List Line) (names : Declared) (journal : List Event) (last : World) → Says (nothing_declared bench_lines) texts script names
+module _ (law : (texts : List (List ℕ)) (script : List Line) (names : Declared) (journal : List Event) (last : World) → Says (nothing_declared all_words) texts script names
     → WorldRun script journal last → HasNoInject script → Lawful (titles_of last) journal) where
   texts_lawful : (texts : List (List ℕ)) (journal : List Event) (last : Bench) (runs : Runs bench_meaning first_bench texts journal last) → HasNoInject (lines_run first_bench texts journal last runs)
       → Lawful (titles_of last.world) journal
@@ -63,7 +64,7 @@ module _ (law : (texts : List (List ℕ)) (script : List Line) (names : Declared
       let script : List Line = lines_run first_bench texts before state runs in
       let whole : Lawful (titles_of last.world) (before ++ fills.whole) =
       law (texts ++ text ∷ []) (script ++ fills.line ∷ []) last.names (before ++ fills.whole) last.world
-      (says_more (nothing_declared bench_lines) texts script state.names text fills.line last.names r.says fills.meaning)
+      (says_more (nothing_declared all_words) texts script state.names text fills.line last.names r.says fills.meaning)
       (runs_more first_bench.world script before state.world fills.line fills.whole last.world r.runs fills.steps) none in
       let left : List Event = drop (most_events - state.events) fills.whole in
       let parts : before ++ fills.whole ≡ journal ++ left =

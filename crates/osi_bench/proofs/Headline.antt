@@ -15,7 +15,7 @@ use Rattle.osi_setup.specs.Fitting.{AreTitlesApart, IsWell}
 use Rattle.osi_setup.specs.SetUp.{SetUp, entities_of, nothing_said, set_up, timers_of, titles_of as titles_said}
 use Rattle.osi_setup.proofs.Entities.{are_timed}
 use Rattle.osi_setup.proofs.Wellness.{nothing_well, well_after}
-use Rattle.osi_bench.specs.Bench.{bench_lines}
+use Rattle.osi_script.specs.Table.{all_words}
 use Rattle.osi_bench.specs.World.{HasNoInject, NetDoes, SetsUp, StartsUp, WorldRun, WorldRuns, is_start, link_of_net, titles_of}
 use Rattle.osi_bench.specs.declared.world.World.{World}
 use Rattle.osi_bench.specs.declared.world.World.TheVariants.{SettingUp}
@@ -115,8 +115,8 @@ module _ (law : ReceivesWhatWasSubmitted link_of_net NetDoes) where
       (line_kept names setup text line says.0 one w begun says.1) says.2 none.1 h.3.1 h.5 h.4 (set_up_lawful texts script)
 
   -- the journal of a script is lawful
-  pub script_lawful : (texts : List (List ℕ)) (script : List Line) (names : Declared) (journal : List Event) (last : World) → Says (nothing_declared bench_lines) texts script names → WorldRun script journal last
+  pub script_lawful : (texts : List (List ℕ)) (script : List Line) (names : Declared) (journal : List Event) (last : World) → Says (nothing_declared all_words) texts script names → WorldRun script journal last
       → HasNoInject script → Lawful (titles_of last) journal
   script_lawful texts script names journal last says run none =
-      set_up_lawful texts script (nothing_declared bench_lines) names nothing_said journal last
+      set_up_lawful texts script (nothing_declared all_words) names nothing_said journal last
       (record { lans = refl; systems = refl; ports = λ n. refl; selectors = λ n s. refl }) nothing_well refl says none run

@@ -9,7 +9,6 @@ pub mod CalmRun
 pub mod Captured
 pub mod Capturing
 pub mod Courses
-pub mod Decimals
 pub mod Fields
 pub mod Fitted
 pub mod Framing
@@ -32,6 +31,5 @@ pub mod ToldFrames
 pub mod ToldLines
 pub mod ToldNet
 pub mod ToldSystems
-pub mod Totality
 pub mod Values
 pub mod Words

@@ -25,7 +25,8 @@ use Rattle.osi_storm.specs.Read.{AreRead, RunsStorms}
 use Rattle.osi_storm.specs.Summary.{summary_line}
 use Rattle.osi_storm.specs.Words.{words}
 use Rattle.osi_storm.proofs.EachLine.{are_read}
-use Rattle.osi_bench.specs.Bench.{Bench, FillsJournal, RunsLine, bench_lines, first_bench, most_events}
+use Rattle.osi_script.specs.Table.{all_words}
+use Rattle.osi_bench.specs.Bench.{Bench, FillsJournal, RunsLine, first_bench, most_events}
 use Rattle.osi_bench.specs.Storm.{AsksSummary, StormFills, StormRuns, SummaryOutcome, as_it_stands, line_after, storm_lines}
 use Rattle.osi_bench.specs.Text.{done_line, toomuch_line}
 use Rattle.osi_bench.specs.steps.Storming.{Fills, Goes, HasJournal, IsKnown, IsReady, Stands}
@@ -97,8 +98,8 @@ fills_at lines rest line first bench last start counts text made goes is fills =
 one_reading : (read : Result Reading LineFault) (first second : Reading) → read ≡ Ok first → read ≡ Ok second → first.names ≡ second.names
 one_reading read first second a b = let same : first ≡ second = cc in ap (λ (r : Reading). r.names) same
 
-read_by : RunsStorms bench_lines
-read_by = record { words = (refl, (refl, (refl, (refl, (refl, (refl, (refl, (refl, (refl, (refl, (refl, (refl, (refl, (refl, (refl, (refl, tt)))))))))))))))); lans = omega arith }
+read_by : RunsStorms all_words
+read_by = (refl, (refl, (refl, (refl, (refl, (refl, (refl, (refl, (refl, (refl, (refl, (refl, (refl, (refl, (refl, (refl, tt))))))))))))))))
 
 -- the lines of the set-up from one on are read by these names, and leave names that are ready for words
 pub record AreLeft (texts : List (List ℕ)) (names : Declared) : Type 0 where
@@ -107,8 +108,8 @@ pub record AreLeft (texts : List (List ℕ)) (names : Declared) : Type 0 where
   pub says : Says names texts script last
   pub ready : IsReady last
 
-pub all_left : AreLeft set_up_lines (nothing_declared bench_lines)
-all_left = let h = are_read bench_lines read_by in record { script = h.said; last = h.names; says = h.set_up; ready = h.each }
+pub all_left : AreLeft set_up_lines (nothing_declared all_words)
+all_left = let h = are_read all_words read_by in record { script = h.said; last = h.names; says = h.set_up; ready = h.each }
 
 known_first : (text : List ℕ) (texts : List (List ℕ)) (names last : Declared) (script : List Line) → Says names (text ∷ texts) script last → IsKnown names text
 known_first text texts names last [] h = absurd h
@@ -250,11 +251,6 @@ words_on all done left rest word is left-is = is ∙ ap (λ (ws : List ℕ). don
 pub goes_words : (done : List ℕ) (word : ℕ) (first next : Bench) (start after : Counts) → Goes (map line_after done ++ line_after word ∷ []) first start next after
     → Goes (map line_after (done ++ word ∷ [])) first start next after
 goes_words done word first next start after goes = subst (λ (lines : Lines). Goes lines first start next after) (sym (map-append line_after done (word ∷ []))) goes
-
-pub all_words : (all done left : List ℕ) (first next : Bench) (start after : Counts) → all ≡ done ++ left → left ≡ [] → Goes (map line_after done) first start next after
-    → Goes (map line_after all) first start next after
-all_words all done left first next start after is none goes =
-    subst (λ (ws : List ℕ). Goes (map line_after ws) first start next after) (sym (is ∙ ap (λ (ws : List ℕ). done ++ ws) none ∙ append-nil done)) goes
 
 pub fills_words : (all done left rest : List ℕ) (word : ℕ) (first : Bench) (start : Counts) → all ≡ done ++ left → left ≡ word ∷ rest
     → Fills (map line_after done ++ line_after word ∷ map line_after rest) first start → Fills (map line_after all) first start

@@ -1,11 +1,11 @@
 -- The bench as a machine: what a line of a script does to the names declared, to the network and to the journal.
-use Rattle.std.specs.Prelude.{◌≡◌, ℕ, ◌+◌, ◌-◌, ◌<◌, ◌≤◌, true, false, List, [], ◌∷◌, length, take, Ok, Err}
+use Rattle.std.specs.Prelude.{◌≡◌, ℕ, ◌+◌, ◌-◌, ◌<◌, ◌≤◌, false, List, [], length, take, Ok, Err}
 use Rattle.osi_script.specs.declared.fault.LineFault.{LineFault}
 use Rattle.osi_script.specs.declared.fault.LineCause.TheVariants as causes
-use Rattle.osi_script.specs.declared.form.Word.TheVariants as words
 use Rattle.osi_script.specs.declared.line.Line.{Line}
 use Rattle.osi_script.specs.Grammar.{line_read, fault}
-use Rattle.osi_script.specs.Known.{Declared, Lines, nothing_declared}
+use Rattle.osi_script.specs.Known.{Declared, nothing_declared}
+use Rattle.osi_script.specs.Table.{all_words}
 use Rattle.osi_script.specs.Tags.{tags_of}
 use Rattle.osi_journal.specs.declared.event.Event.{Event}
 use Rattle.osi_journal.specs.Told.{journal_text}
@@ -13,15 +13,6 @@ use Rattle.line_loop.specs.Meaning.{Meaning}
 use Rattle.osi_bench.specs.Text.{done_lines, refused_line, toomuch_line}
 use Rattle.osi_bench.specs.World.{first_world, strays_of, WorldStep}
 use Rattle.osi_bench.specs.declared.world.World.{World}
-
--- the lines of a script: all that there are
-abbrev pub bench_lines : Lines
-bench_lines = record {
-  words = words.Deliver ∷ words.Data ∷ words.Tick ∷ words.Settle ∷ words.Unit ∷ words.Expedite ∷ words.Window ∷ words.Connect ∷ words.Accept ∷ words.Disconnect
-      ∷ words.Refuse ∷ words.Inject ∷ words.Route ∷ words.Port ∷ words.Es ∷ words.Is ∷ words.Tsap ∷ words.Lan ∷ words.Path ∷ words.Set ∷ words.Start ∷ [];
-  lans = 16;
-  wishes = true;
-}
 
 -- the most events of a journal
 abbrev pub most_events : ℕ
@@ -35,7 +26,7 @@ pub record Bench : Type 0 where
   pub events : ℕ
 
 abbrev pub first_bench : Bench
-first_bench = record { names = nothing_declared bench_lines; world = first_world; lines = 0; events = 0 }
+first_bench = record { names = nothing_declared all_words; world = first_world; lines = 0; events = 0 }
 
 -- a line of a script is read, declares its names, and takes its step, and the journal has room for its events
 pub record RunsLine (old : Bench) (octets : List ℕ) (made : List Event) (new : Bench) : Type 0 where

@@ -20,14 +20,14 @@ use Rattle.tp4_entity.specs.Entity.{Entity}
 use Rattle.tp4_world.specs.World.{entity_at}
 use Rattle.calm_world.specs.Service.{IsIndicationOf, MayIndicate, end_at_number}
 use Rattle.calm_pairs.specs.Confirms.{IsUnanswered}
-use Rattle.osi_bench.specs.Bench.{bench_lines}
+use Rattle.osi_script.specs.Table.{all_words}
 use Rattle.osi_bench.specs.World.{Ends, WorldRun, WorldRuns, WorldStep, link_of_net}
 use Rattle.osi_bench.specs.declared.world.World.{World}
 use Rattle.osi_bench.specs.declared.world.World.TheVariants.{Running}
 
 -- the texts are the lines of a calm script, and by the run of the network they have this journal and lead to this network
 pub record RunsCalmly (texts : List (List ℕ)) (script : List Line) (names : Declared) (journal : List Event) (titles : List (List ℕ)) (last : Ends) : Type 0 where
-  pub says : Says (nothing_declared bench_lines) texts script names
+  pub says : Says (nothing_declared all_words) texts script names
   pub run : WorldRun script journal (Running titles last)
   pub calm : IsCalmScript script
 

@@ -6,7 +6,8 @@ use Rattle.osi_base.specs.declared.status.Status.{Status}
 use Rattle.osi_base.specs.declared.status.Status.TheVariants.{Done, RefusedLine, RefusedWords, ReadFault, WriteFault, NoMemory, RefusedCapture, TooMuch}
 use Rattle.osi_journal.specs.declared.event.Event.{Event}
 use Rattle.osi_script.specs.declared.line.Line.{Line}
-use Rattle.osi_bench.specs.Bench.{Bench, RunsLine, bench_lines, first_bench, bench_meaning, most_events}
+use Rattle.osi_script.specs.Table.{all_words}
+use Rattle.osi_bench.specs.Bench.{Bench, RunsLine, first_bench, bench_meaning, most_events}
 use Rattle.line_loop.specs.Course.{Runs, IsRead, IsWhole, IsOver, IsTooMuch, IsTooMuchAtEnd, IsRefusedAt, IsRefusedAtEnd}
 use Rattle.line_loop.specs.Limits.{most_octets, most_read}
 use Rattle.line_loop.specs.Lines.{whole_lines, open_line, without_return, last_line}
@@ -50,21 +51,13 @@ is_decode (word ∷ other ∷ words) = false
 -- is an `inject` line, each raw unit that is shown was sent
 pub record IsScriptRun (texts : List (List ℕ)) (journal : List Event) (last : Bench) : Type 0 where
   pub script : List Line
-  pub lines : Says (nothing_declared bench_lines) texts script last.names
+  pub lines : Says (nothing_declared all_words) texts script last.names
   pub run : WorldRun script journal last.world
   pub sent : HasNoInject script → RawLawful (life_of last.world) (titles_of last.world) journal
 
 -- what runs on the bench is a script, line by line, and the run of the network for its lines
 abbrev pub RunsScripts : Type 0
 RunsScripts = (texts : List (List ℕ)) (journal : List Event) (last : Bench) → Runs bench_meaning first_bench texts journal last → IsScriptRun texts journal last
-
--- the events that a front of the octets leads to, up to a limit where it passes one, with what the names declared and the network are then
-pub record IsJournal (octets : List ℕ) (journal : List Event) (last : Bench) : Type 0 where
-  pub front : List ℕ
-  pub begins : IsPrefix front octets
-  pub run : IsRead bench_meaning first_bench front journal last
-      ⊎ (IsWhole bench_meaning first_bench front journal last
-      ⊎ (IsTooMuch bench_meaning first_bench front journal last ⊎ IsTooMuchAtEnd bench_meaning first_bench front journal last))
 
 -- the lines that have their line feed, without their ends
 abbrev pub texts_in : List ℕ → List (List ℕ)

@@ -4,14 +4,11 @@ ghost use Rattle.std.specs.Prelude.{◌≡◌};
 ghost use Rattle.tp4_world.specs.Run.{transport_address};
 ghost use Rattle.tp4_world.specs.Telling.{asked_options};
 
-use nsap::Nsap;
+use nsap::{Nsap, TRANSPORT};
 use osi_base::Bytes;
 use osi_script::Options;
 use tp4_conn::{ConnectCall, Timers};
 use tp4_world::asked_options;
-
-/// The selector of the transport users of a system.
-const TRANSPORT: u8 = 1;
 
 /// The entity sets the times of the ends that it makes.
 const NO_TIMES: Timers = Timers {

@@ -3,44 +3,18 @@
 ghost use Rattle.std.specs.Prelude.{◌≡◌, ◌<◌, ◌≤◌, ◌+◌, ◌-◌, ◌++◌, OnErr, OnOk, IsErrOf};
 ghost use Rattle.line_loop.specs.Lines.{most_lines};
 ghost use Rattle.osi_journal.specs.Told.{journal_text};
-ghost use Rattle.osi_script.specs.Known.{lines_of};
 ghost use Rattle.osi_script.specs.Tags.{tags_of};
-ghost use Rattle.osi_bench.specs.Bench.{FillsJournal, RefusesLine, RunsLine, bench_lines, most_events};
+ghost use Rattle.osi_bench.specs.Bench.{FillsJournal, RefusesLine, RunsLine, most_events};
 
 use crate::text::{push_done, push_events, push_refusal, push_strays, push_too_much};
 use crate::world::{World, step};
 use line_loop::{LineError, Machine};
 use osi_base::NoMemory;
 use osi_journal::Event;
-use osi_script::{Built, LineCause, LineFault, LineRefusal, Names, Word};
+use osi_script::{LineCause, LineFault, LineRefusal, Names};
 use std::alloc::Global;
 use std::marker::Model;
 use std::mem;
-
-/// The words of the lines, those of long scripts first.
-const WORDS: [Word; 21] = [
-    Word::Deliver,
-    Word::Data,
-    Word::Tick,
-    Word::Settle,
-    Word::Unit,
-    Word::Expedite,
-    Word::Window,
-    Word::Connect,
-    Word::Accept,
-    Word::Disconnect,
-    Word::Refuse,
-    Word::Inject,
-    Word::Route,
-    Word::Port,
-    Word::Es,
-    Word::Is,
-    Word::Tsap,
-    Word::Lan,
-    Word::Path,
-    Word::Set,
-    Word::Start,
-];
 
 /// The most events of a transcript.
 const MOST_EVENTS: u32 = 4_194_304;
@@ -57,6 +31,7 @@ pub struct Bench {
     world: World,
     lines: u32,
     count: u32,
+    // A field, so that each line uses its room again.
     events: Vec<Event>,
     stopped: bool,
 }
@@ -83,7 +58,7 @@ impl Bench {
     {
         Bench {
             alloc,
-            names: Names::new(alloc, all_lines()),
+            names: Names::new(alloc),
             world: World::new(alloc),
             lines: 0,
             count: 0,
@@ -150,17 +125,6 @@ impl Bench {
         };
         self.events = events;
         Ok(())
-    }
-}
-
-/// The lines of a script.
-fn all_lines() -> Built
-    ensures { lines_of result ≡ bench_lines }
-{
-    Built {
-        words: &WORDS,
-        lans: 16,
-        wishes: true,
     }
 }
 

@@ -43,6 +43,7 @@ impl Model for Frame {
 #[derive(Drop)]
 pub struct Capture {
     bench: Bench,
+    // A field, so that each line uses its room again.
     events: Vec<Event>,
 }
 

@@ -2,7 +2,8 @@
 
 ghost use Rattle.std.specs.Prelude.{◌≡◌, List, ℕ};
 ghost use Rattle.osi_bench.specs.Calm.{ServesCalmScripts};
-ghost use Rattle.osi_bench.specs.Bench.{bench_lines, bench_meaning, first_bench};
+ghost use Rattle.osi_script.specs.Table.{all_words};
+ghost use Rattle.osi_bench.specs.Bench.{bench_meaning, first_bench};
 ghost use Rattle.line_loop.specs.Total.{AsksSomething};
 ghost use Rattle.line_loop.specs.Exact.{OneCourse, AsksOne};
 ghost use Rattle.osi_bench.specs.Frames.{MakesCaptures};
@@ -38,7 +39,7 @@ pub fn raw_units_are_lawful()
 /// comes before an expedited one that was submitted before it; and an end without a partner shows nothing.
 pub fn ends_are_lawful()
     ensures { (texts : List (List ℕ)) (script : List Line) (names : Declared) (journal : List Event) (last : World)
-        → Says (nothing_declared bench_lines) texts script names → WorldRun script journal last → HasNoInject script
+        → Says (nothing_declared all_words) texts script names → WorldRun script journal last → HasNoInject script
         → Lawful (titles_of last) journal }
 {
     tp4_headline::lawful::<ClnpNet<LanBag>>();

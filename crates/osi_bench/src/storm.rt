@@ -32,6 +32,7 @@ enum Stop {
 struct Rig {
     bench: Bench,
     counts: Counts,
+    // A field, so that each line uses its room again.
     events: Vec<Event>,
 }
 

@@ -80,7 +80,9 @@ pub fn step(
     }
 }
 
-/// A line of a set-up. It is apart, so that a line of a running network has no room for a new network to clear.
+/// A line of a set-up.
+// Not inlined: a function clears the room of all its values as it begins, and each line of a running network would clear that of a
+// new network.
 #[inline(never)]
 fn set_up(
     alloc: Global,

@@ -6,9 +6,9 @@ ghost use Rattle.osi_capture.specs.steps.Reading.{AppendsRecord, head_of, record
 
 use crate::cause::Cause;
 use crate::record::Numbers;
-use itoa::Buffer;
 use osi_base::NoMemory;
 use osi_show::{ExtendedEnds, show_frame};
+use text_parts::{push, push_number};
 
 /// Appends the lines of the record of this number. After `NoMemory`, `out` ends in a part of them.
 pub fn push_record(
@@ -79,15 +79,6 @@ fn word(cause: Cause) -> &'static str
 fn push_field(number: u32, out: &mut Vec<u8>) -> Result<(), NoMemory>
     ensures { OnOk result (out.new.items ≡ out.old.items ++ field number) }
 {
-    let mut digits = Buffer::new();
-    push(digits.format(number).as_bytes(), out)?;
+    push_number(u64::from(number), out)?;
     push(b" ", out)
-}
-
-/// Appends a text as it is.
-fn push(text: &[u8], out: &mut Vec<u8>) -> Result<(), NoMemory>
-    ensures { OnOk result (out.new.items ≡ out.old.items ++ text.now) }
-{
-    out.extend_from_slice(text)?;
-    Ok(())
 }

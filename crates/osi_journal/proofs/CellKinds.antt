@@ -95,7 +95,6 @@ shapes =
     ∷ (codes "redirect", these (OfSystem ∷ OfDigits ∷ OfDigits ∷ []))
     ∷ (codes "badtpdu", these (OfSystem ∷ OfWord ∷ OfNumber ∷ []))
     ∷ (codes "unknown", these (OfSystem ∷ OfWord ∷ []))
-    ∷ (codes "strays", these (OfNumber ∷ []))
     ∷ []
 
 by_shape : List Shape → List ℕ → List (List ℕ) → List Kind
@@ -179,4 +178,3 @@ shaped tags (events.Hello system kind snpa) names told = refl
 shaped tags (events.Redirect system address snpa) names told = refl
 shaped tags (events.BadTpdu system cause place) names told = refl
 shaped tags (events.Unknown system kind) names told = refl
-shaped tags (events.Strays count) names told = refl

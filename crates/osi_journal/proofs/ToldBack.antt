@@ -247,7 +247,6 @@ rows =
     ∷ (codes "redirect", redirect_of)
     ∷ (codes "badtpdu", badtpdu_of)
     ∷ (codes "unknown", told_of (λ s kind. events.Unknown s (tpdu_of kind)))
-    ∷ (codes "strays", number_of events.Strays)
     ∷ []
 
 by_row : List Row → List ℕ → List Cell → Option Event
@@ -370,4 +369,3 @@ told_back (events.Unknown system tpdus.Ed) = refl
 told_back (events.Unknown system tpdus.Ak) = refl
 told_back (events.Unknown system tpdus.Ea) = refl
 told_back (events.Unknown system tpdus.Er) = refl
-told_back (events.Strays count) = refl

@@ -173,7 +173,6 @@ cells_of (events.Hello system kind snpa) = Word (codes "hello") ∷ System syste
 cells_of (events.Redirect system address snpa) = Word (codes "redirect") ∷ System system ∷ Digits address ∷ Digits snpa ∷ []
 cells_of (events.BadTpdu system cause place) = Word (codes "badtpdu") ∷ System system ∷ Word (tpdu_cause_text cause) ∷ Number place ∷ []
 cells_of (events.Unknown system kind) = Word (codes "unknown") ∷ System system ∷ Word (tpdu_text kind) ∷ []
-cells_of (events.Strays count) = Word (codes "strays") ∷ Number count ∷ []
 
 abbrev pub texts_of : Tags → Event → List (List ℕ)
 texts_of tags event = map (cell_text tags) (cells_of event)

@@ -233,8 +233,4 @@ pub enum Event {
         system: u8,
         kind: TpduKind,
     },
-    /// How many units arrived that no system had sent.
-    Strays {
-        count: u32,
-    },
 }

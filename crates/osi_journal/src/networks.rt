@@ -5,11 +5,12 @@ ghost use Rattle.osi_journal.specs.Told.{hello_text, tpdu_cause_text, Word, Numb
 ghost use Rattle.osi_journal.specs.steps.Written.{Appends};
 
 use crate::cause::TpduCause;
-use crate::fields::{push, push_name, push_number, push_snpa};
+use crate::fields::{push_name, push_snpa};
 use crate::pieces::{Piece, write};
 use crate::words::{hello_piece, number, tpdu_cause_piece};
 use osi_base::{Address, HelloKind, NoMemory};
 use osi_script::Names;
+use text_parts::{push, push_marked};
 
 /// A frame that was sent.
 pub fn write_frame(
@@ -24,11 +25,11 @@ pub fn write_frame(
     ensures { Appends names.now (Word (codes "frame") ∷ Number frame ∷ Lan lan ∷ System system ∷ Digits snpa.now ∷ Number length ∷ []) out.old.items out.new.items result }
 {
     push(b"frame ", out)?;
-    push_number(frame, b' ', out)?;
+    push_marked(frame, b' ', out)?;
     push_name(names.lan_name(lan), b' ', out)?;
     push_name(names.system_name(system), b' ', out)?;
     push_snpa(snpa, b' ', out)?;
-    push_number(length, b'\n', out)
+    push_marked(length, b'\n', out)
 }
 
 /// A hello that was heard.

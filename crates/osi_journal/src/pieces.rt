@@ -1,15 +1,13 @@
 //! The fields of a transcript line, and how they are written.
 
 ghost use Rattle.std.specs.Prelude.{◌≡◌, ◌++◌, OnOk};
-ghost use Rattle.std.specs.Fmt.{decimal};
 ghost use Rattle.osi_script.specs.Tags.{tags_of};
 ghost use Rattle.osi_journal.specs.Told.{line};
 ghost use Rattle.osi_journal.specs.steps.Written.{piece_text, pieces_text, tail};
 
-use crate::fields::{push, push_pairs};
-use itoa::Buffer;
 use osi_base::NoMemory;
 use osi_script::Names;
+use text_parts::{push, push_hex, push_number};
 
 /// A field of a transcript line.
 #[derive(Clone, Copy)]
@@ -57,22 +55,14 @@ fn push_piece(piece: Piece<'_>, names: &Names, out: &mut Vec<u8>) -> Result<(), 
         Piece::Number(number) => push_number(number, out),
         Piece::System(system) => push(names.system_name(system), out),
         Piece::Lan(lan) => push(names.lan_name(lan), out),
-        Piece::Digits(octets) => push_pairs(octets, out),
+        Piece::Digits(octets) => push_hex(octets, out),
         Piece::Octets(octets) => {
             if octets.is_empty() {
                 out.push(b'-')?;
                 Ok(())
             } else {
-                push_pairs(octets, out)
+                push_hex(octets, out)
             }
         }
     }
-}
-
-/// Appends a number in decimal.
-fn push_number(number: u64, out: &mut Vec<u8>) -> Result<(), NoMemory>
-    ensures { OnOk result (out.new.items ≡ out.old.items ++ decimal number) }
-{
-    let mut digits = Buffer::new();
-    push(digits.format(number).as_bytes(), out)
 }

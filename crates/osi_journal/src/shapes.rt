@@ -5,13 +5,15 @@ ghost use Rattle.osi_script.specs.Tags.{tags_of};
 ghost use Rattle.osi_journal.specs.Told.{Word, Number, System, Octets, Digits};
 ghost use Rattle.osi_journal.specs.steps.Written.{piece_text, Appends, Heads};
 
-use crate::fields::{push, push_hex, push_name, push_number, push_octets};
+use crate::fields::{push_hex, push_name, push_octets};
 use crate::pieces::{Piece, write};
 use crate::words::number;
 use osi_base::{Address, Bytes, NoMemory};
 use osi_script::Names;
+use text_parts::{push, push_marked};
 
 /// A number behind a word and a blank.
+// Inlined: the word is a constant at each call, and its length is then known.
 #[inline(always)]
 pub fn write_count(
     head: &'static str,
@@ -22,7 +24,7 @@ pub fn write_count(
     ensures { Heads names.now head.now (Number count ∷ []) out.old.items out.new.items result }
 {
     push(head.as_bytes(), out)?;
-    push_number(count, b'\n', out)
+    push_marked(count, b'\n', out)
 }
 
 /// A word and a system.
@@ -55,6 +57,7 @@ pub fn write_told(
 }
 
 /// A number and a system behind a word and a blank.
+// Inlined, as `write_count`.
 #[inline(always)]
 pub fn write_answer(
     head: &'static str,
@@ -66,7 +69,7 @@ pub fn write_answer(
     ensures { Heads names.now head.now (Number count ∷ System system ∷ []) out.old.items out.new.items result }
 {
     push(head.as_bytes(), out)?;
-    push_number(count, b' ', out)?;
+    push_marked(count, b' ', out)?;
     push_name(names.system_name(system), b'\n', out)
 }
 
@@ -81,11 +84,12 @@ pub fn write_octets(
     ensures { Heads names.now head.now (Number end ∷ Octets octets.now ∷ []) out.old.items out.new.items result }
 {
     push(head.as_bytes(), out)?;
-    push_number(end, b' ', out)?;
+    push_marked(end, b' ', out)?;
     push_octets(octets.as_slice(), b'\n', out)
 }
 
 /// A system, an address and octets behind a word and a blank.
+// Inlined, as `write_count`.
 #[inline(always)]
 pub fn write_raw<'a>(
     head: &'static str,

@@ -128,6 +128,5 @@ pub fn write_event(event: &Event, names: &Names, out: &mut Vec<u8>) -> Result<()
             names,
             out,
         ),
-        Event::Strays { count } => write_count("strays ", *count, names, out),
     }
 }

@@ -16,7 +16,7 @@ use Rattle.osi_script.specs.declared.line.Line.{Line}
 use Rattle.osi_script.specs.declared.parts.Parts.{Parts}
 use Rattle.osi_script.specs.declared.system.LanRow.{LanRow}
 use Rattle.osi_script.specs.Field.{is_name}
-use Rattle.osi_script.specs.Known.{Declared, Lines, KnownSystem, nothing_declared, with_changed, changed}
+use Rattle.osi_script.specs.Known.{Declared, KnownSystem, nothing_declared, with_changed, changed}
 use Rattle.osi_script.specs.Script.{Says}
 use Rattle.osi_script.specs.Table.{row_of}
 use Rattle.osi_script.specs.Tags.{AreNames, HaveNames, name_at}
@@ -134,5 +134,5 @@ no_names = record {
 }
 
 -- the names of a script are names
-pub script_names : (built : Lines) (script : List (List ℕ)) (said : List Line) (last : Declared) → Says (nothing_declared built) script said last → HaveNames last
-script_names built script said last says = says_keep (nothing_declared built) script said last says (no_names, no_names)
+pub script_names : (known : List Word) (script : List (List ℕ)) (said : List Line) (last : Declared) → Says (nothing_declared known) script said last → HaveNames last
+script_names known script said last says = says_keep (nothing_declared known) script said last says (no_names, no_names)

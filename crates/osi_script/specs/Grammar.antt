@@ -1,12 +1,11 @@
 -- The lines of the script: what each says, and the first fault of each that is refused.
-use Rattle.std.specs.Prelude.{◌≡◌, ◌==◌, ℕ, ◌+◌, Bool, true, false, not, ◌&&◌, ◌||◌, nat_lt, nat_le, if◌then◌else◌, List, [], ◌∷◌, ◌++◌, length}
+use Rattle.std.specs.Prelude.{◌≡◌, ◌==◌, ℕ, ◌+◌, Bool, true, false, not, nat_lt, if◌then◌else◌, List, [], ◌∷◌, ◌++◌, length}
 use Rattle.std.specs.Prelude.{position, Option, Some, None, slice_get, Result, Ok, Err}
 use Rattle.std.specs.List.{list_any}
 use Rattle.nsap.specs.declared.port.Port.{Port}
 use Rattle.osi_script.specs.declared.fault.LineCause.{LineCause}
 use Rattle.osi_script.specs.declared.fault.LineCause.TheVariants as causes
 use Rattle.osi_script.specs.declared.fault.LineFault.{LineFault}
-use Rattle.osi_base.specs.declared.unit.Wish.{Wish}
 use Rattle.osi_script.specs.declared.form.Effect.{Effect}
 use Rattle.osi_script.specs.declared.form.Effect.TheVariants as effects
 use Rattle.osi_script.specs.declared.form.Word.{Word}
@@ -53,14 +52,6 @@ fields_read names parts column (form ∷ forms) (field ∷ fields) =
 abbrev pub many_from : ℕ → ℕ → Option LineCause
 many_from limit count = if nat_lt count limit then None else Some causes.Many
 
--- a LAN more than there may be, or than are run
-abbrev pub lan_cause : ℕ → ℕ → Option LineCause
-lan_cause count built = if nat_le 16 count then Some causes.Many else if nat_le built count then Some causes.Word else None
-
--- wishes where none are run
-abbrev pub wish_cause : Bool → Wish → Option LineCause
-wish_cause built wish = if (wish.cut || wish.report || wish.trace || not (wish.path == 0)) && not built then Some causes.Word else None
-
 -- the lifetime is below the bound of a LAN
 abbrev pub life_cause : Declared → Option LineCause
 life_cause names = if list_any (λ lan. nat_lt (setting_or names.settings keys.Life) lan.bound) names.lans then Some causes.Life else None
@@ -69,7 +60,7 @@ life_cause names = if list_any (λ lan. nat_lt (setting_or names.settings keys.L
 abbrev pub limit_cause : Declared → Effect → Parts → Option LineCause
 limit_cause names effects.Nothing parts = None
 limit_cause names effects.Setting parts = None
-limit_cause names effects.Lan parts = lan_cause (length names.lans) names.built.lans
+limit_cause names effects.Lan parts = many_from 16 (length names.lans)
 limit_cause names effects.EndSystem parts = many_from 16 (length names.systems)
 limit_cause names effects.IntermediateSystem parts = many_from 16 (length names.systems)
 limit_cause names effects.Port parts = many_from (if is_end names parts.system then 1 else 8) (length (ports_of (slice_get names.systems parts.system)))
@@ -77,7 +68,6 @@ limit_cause names effects.Route parts = many_from 256 (length (routes_of (slice_
 limit_cause names effects.Path parts = many_from 16 (length names.paths)
 limit_cause names effects.Selector parts = None
 limit_cause names effects.Start parts = life_cause names
-limit_cause names effects.Unit parts = wish_cause names.built.wishes parts.wish
 
 -- the number that a declaration gives: systems and LANs from 0, source routes from 1
 abbrev pub next_number : Declared → Effect → ℕ
@@ -132,7 +122,6 @@ declared_by names effects.Selector parts =
     record names { systems = changed names.systems parts.system (λ system. record system { selectors = with system.selectors parts.selector }) }
 declared_by names effects.Start parts = record names { started = true }
 declared_by names effects.Nothing parts = names
-declared_by names effects.Unit parts = names
 
 -- a line and what is declared after it
 pub record Reading : Type 0 where
@@ -164,7 +153,7 @@ worded_read names past column fields (Some word) =
 
 abbrev pub split_read : Declared → ℕ → List (List ℕ) → Result Reading LineFault
 split_read names past [] = Err (fault causes.Word 1)
-split_read names past (word ∷ fields) = worded_read names past (next_column 1 word) fields (word_of names.built.words word)
+split_read names past (word ∷ fields) = worded_read names past (next_column 1 word) fields (word_of names.words word)
 
 -- an empty line, or one that begins with `#`
 abbrev pub is_idle : List ℕ → Bool

@@ -10,7 +10,6 @@ use Rattle.osi_script.specs.declared.settings.Settings.{Settings}
 use Rattle.osi_script.specs.declared.settings.Key.TheVariants as keys
 use Rattle.osi_script.specs.declared.form.Word.{Word}
 use Rattle.osi_script.specs.declared.line.PathKind.TheVariants as kinds
-use Rattle.osi_script.specs.declared.names.Built.{Built}
 use Rattle.osi_script.specs.declared.parts.Parts.{Parts}
 use Rattle.osi_script.specs.declared.system.LanRow.{LanRow}
 
@@ -23,31 +22,22 @@ pub record KnownSystem : Type 0 where
   pub routes : List (List ℕ)
   pub selectors : List (List ℕ)
 
--- the lines that are run: the words that name one, the most LANs, and whether a unit may have wishes
-pub record Lines : Type 0 where
-  pub words : List Word
-  pub lans : ℕ
-  pub wishes : Bool
-
-abbrev pub lines_of : Built → Lines
-lines_of built = record { words = built.words.now; lans = built.lans; wishes = built.wishes }
-
 -- one selector more
 abbrev pub with : List (List ℕ) → List ℕ → List (List ℕ)
 with selectors selector = insert_key (slice_cmp nat_cmp) selectors selector
 
--- what the lines so far declare, and what lines there are
+-- what the lines so far declare, and the words that name a line
 pub record Declared : Type 0 where
-  pub built : Lines
+  pub words : List Word
   pub settings : Settings
   pub lans : List LanRow
   pub systems : List KnownSystem
   pub paths : List (List ℕ)
   pub started : Bool
 
-abbrev pub nothing_declared : Lines → Declared
-nothing_declared built = record {
-  built = built;
+abbrev pub nothing_declared : List Word → Declared
+nothing_declared words = record {
+  words = words;
   settings = record { life = None; t1 = None; w = None; i = None; n = None; refs = None; credit = None; ct = None; hold = None };
   lans = [];
   systems = [];

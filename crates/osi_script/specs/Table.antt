@@ -51,17 +51,17 @@ row_of words.Disconnect = event (codes "disconnect") (any_number ∷ forms.Octet
 row_of words.Data = event (codes "data") (any_number ∷ forms.Octets ∷ [])
 row_of words.Expedite = event (codes "expedite") (any_number ∷ forms.Octets ∷ [])
 row_of words.Window = event (codes "window") (any_number ∷ forms.Plain plain.Credit ∷ [])
-row_of words.Unit =
-    record {
-      text = codes "unit";
-      of_set_up = false;
-      fields = name named.EndSystem ∷ name named.To ∷ forms.Plain plain.Flags ∷ name named.Path ∷ forms.Octets ∷ [];
-      effect = effects.Unit;
-    }
+row_of words.Unit = event (codes "unit") (name named.EndSystem ∷ name named.To ∷ forms.Plain plain.Flags ∷ name named.Path ∷ forms.Octets ∷ [])
 row_of words.Tick = event (codes "tick") []
 row_of words.Settle = event (codes "settle") []
 row_of words.Deliver = event (codes "deliver") (any_number ∷ name named.System ∷ [])
 row_of words.Inject = event (codes "inject") (name named.Lan ∷ name named.System ∷ forms.Octets ∷ [])
+
+-- all words, those of long scripts first
+abbrev pub all_words : List Word
+all_words =
+    words.Deliver ∷ words.Data ∷ words.Tick ∷ words.Settle ∷ words.Unit ∷ words.Expedite ∷ words.Window ∷ words.Connect ∷ words.Accept ∷ words.Disconnect
+    ∷ words.Refuse ∷ words.Inject ∷ words.Route ∷ words.Port ∷ words.Es ∷ words.Is ∷ words.Tsap ∷ words.Lan ∷ words.Path ∷ words.Set ∷ words.Start ∷ []
 
 -- the word that a field is, among those that name a line
 abbrev pub word_of : List Word → List ℕ → Option Word

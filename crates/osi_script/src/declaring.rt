@@ -1,8 +1,8 @@
 //! What a line does once its fields are read: the limits that it keeps to, and what it declares.
 
-ghost use Rattle.std.specs.Prelude.{◌≡◌, ◌++◌, ◌∷◌, [], ◌||◌, length, nat_lt, if◌then◌else◌, slice_get, IfOk, OnOk, OnErr};
+ghost use Rattle.std.specs.Prelude.{◌≡◌, ◌++◌, ◌∷◌, [], length, nat_lt, if◌then◌else◌, slice_get, IfOk, OnOk, OnErr};
 ghost use Rattle.std.specs.List.{list_any};
-ghost use Rattle.osi_script.specs.Grammar.{lan_cause, wish_cause, new_system};
+ghost use Rattle.osi_script.specs.Grammar.{new_system};
 ghost use Rattle.osi_script.specs.Known.{changed, with};
 
 use crate::fault::LineCause;
@@ -12,7 +12,7 @@ use crate::parts::Parts;
 use crate::settings::Key;
 use crate::system::{LanRow, SystemRow};
 use nsap::{Port, Prefix};
-use osi_base::{Bytes, NoMemory, Wish};
+use osi_base::{Bytes, NoMemory};
 use std::alloc::Global;
 
 /// The most LANs, systems and source routes.
@@ -30,7 +30,7 @@ impl Names {
         ensures { result ≡ limit_cause self.now effect parts.now }
     {
         match effect {
-            Effect::Lan => lan_cause(self.lans.len(), usize::from(self.built.lans)),
+            Effect::Lan => many_from(self.lans.len(), DECLARED),
             Effect::EndSystem | Effect::IntermediateSystem => {
                 many_from(self.systems.len(), DECLARED)
             }
@@ -41,7 +41,6 @@ impl Names {
             Effect::Route => many_from(self.routes_count(parts.system), ROUTES),
             Effect::Path => many_from(self.paths.len(), DECLARED),
             Effect::Start => self.life_cause(),
-            Effect::Unit => wish_cause(self.built.wishes, parts.wish),
             Effect::Nothing | Effect::Setting | Effect::Selector => None,
         }
     }
@@ -59,8 +58,7 @@ impl Names {
             | Effect::Port
             | Effect::Route
             | Effect::Selector
-            | Effect::Start
-            | Effect::Unit => 0,
+            | Effect::Start => 0,
         }
     }
 
@@ -102,7 +100,7 @@ impl Names {
         match effect {
             Effect::Setting => self.settings = self.settings.with(parts.key, parts.number),
             Effect::Lan => {
-                let name = copied(self.alloc, &parts.name)?;
+                let name = Bytes::copy(self.alloc, parts.name.as_slice())?;
                 self.lans.push(LanRow {
                     name,
                     bound: parts.number,
@@ -120,43 +118,21 @@ impl Names {
                 add_port(&mut self.systems, parts.system, port)?;
             }
             Effect::Route => add_route(&mut self.systems, parts.system, parts.given_prefix())?,
-            Effect::Path => self.paths.push(copied(self.alloc, &parts.name)?)?,
+            Effect::Path => self
+                .paths
+                .push(Bytes::copy(self.alloc, parts.name.as_slice())?)?,
             Effect::Selector => {
                 let selector = parts.selector.as_slice().to_vec(self.alloc)?;
                 add_selector(&mut self.systems, parts.system, selector)?;
             }
             Effect::Start => self.started = true,
-            Effect::Nothing | Effect::Unit => {}
+            Effect::Nothing => {}
         }
         Ok(())
     }
 }
 
-/// A LAN more than there may be, or than are built.
-fn lan_cause(count: usize, built: usize) -> Option<LineCause>
-    ensures { result ≡ lan_cause count built }
-{
-    if DECLARED <= count {
-        Some(LineCause::Many)
-    } else if built <= count {
-        Some(LineCause::Word)
-    } else {
-        None
-    }
-}
-
-/// Wishes where none are built.
-fn wish_cause(built: bool, wish: Wish) -> Option<LineCause>
-    ensures { result ≡ wish_cause built wish }
-{
-    let asks = wish.cut || wish.report || wish.trace || wish.path != 0;
-    if asks && !built {
-        Some(LineCause::Word)
-    } else {
-        None
-    }
-}
-
+/// As many as there may be.
 fn many_from(count: usize, limit: usize) -> Option<LineCause>
     ensures { result ≡ (if nat_lt count limit then None else Some LineCause.Many) }
 {
@@ -173,16 +149,10 @@ fn is_any_above(lans: &[LanRow], life: u32) -> bool
     lans.iter().any(|lan| life < lan.bound)
 }
 
-fn copied(alloc: Global, octets: &Bytes) -> Result<Bytes, NoMemory>
-    ensures { IfOk result (λ copy. copy ≡ octets.now) }
-{
-    Ok(Bytes::of(octets.as_slice().to_vec(alloc)?))
-}
-
 fn system_row(alloc: Global, is_end: bool, parts: &Parts) -> Result<SystemRow, NoMemory>
     ensures { IfOk result (λ row. row ≡ new_system is_end parts.now) }
 {
-    let name = copied(alloc, &parts.name)?;
+    let name = Bytes::copy(alloc, parts.name.as_slice())?;
     Ok(SystemRow::new(alloc, name, is_end, parts.given_title()))
 }
 

@@ -126,6 +126,4 @@ pub enum Effect {
     Selector,
     /// It ends the set-up.
     Start,
-    /// It declares nothing, and may have wishes.
-    Unit,
 }

@@ -24,5 +24,5 @@ pub use fault::{LineCause, LineFault, LineRefusal};
 pub use form::Word;
 pub use laws::{names_are_known, names_stay_names, one_reading};
 pub use line::{Line, Options, PathKind};
-pub use names::{Built, Names, WHOLE};
-pub use settings::Key;
+pub use names::Names;
+pub use settings::{Key, default_of};

@@ -89,7 +89,7 @@ impl Names {
         }
         let mut fields = Fields::of(text);
         match fields.next() {
-            Some(field) => match word_of(self.built.words, field) {
+            Some(field) => match word_of(self.words, field) {
                 Some(word) => self.read_worded(text.len() as u32 + 1, word, fields),
                 None => Err(LineRefusal::Fault(fault(LineCause::Word, 1))),
             },
@@ -118,6 +118,7 @@ impl Names {
     }
 
     /// The fields one after another, each once.
+    // Not inlined: a line that is idle or out of order would clear the room for the values of all kinds of fields.
     #[inline(never)]
     fn read_fields(
         &self,
@@ -285,7 +286,7 @@ fn first_unprintable(octets: &[u8]) -> Option<usize>
     octets.iter().position(|octet| !is_printable(*octet))
 }
 
-/// Whether all octets are printable characters. It looks at each of them, which many at a time cost less.
+/// Whether all octets are printable characters. It goes over all of them without a branch, so that the compiler takes many at a time.
 fn are_printable(octets: &[u8]) -> bool
     ensures { result ≡ list_all is_printable octets.now }
 {

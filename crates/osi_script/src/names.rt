@@ -16,29 +16,11 @@ use osi_base::Bytes;
 use std::alloc::Global;
 use std::marker::Model;
 
-/// The lines that a caller runs. Any other line is refused, as one whose word names no line.
-#[derive(Clone, Copy)]
-pub struct Built {
-    /// The words that name a line.
-    pub words: &'static [Word],
-    /// The most LANs.
-    pub lans: u8,
-    /// Whether a unit may have flags and a source route.
-    pub wishes: bool,
-}
-
-/// All lines of the script.
-pub const WHOLE: Built = Built {
-    words: &WORDS,
-    lans: 16,
-    wishes: true,
-};
-
-/// The settings, LANs, systems and source routes that were declared, and whether the set-up has ended.
+/// The words that name a line; the settings, LANs, systems and source routes that were declared; and whether the set-up has ended.
 #[derive(Drop)]
 pub struct Names {
     pub(crate) alloc: Global,
-    pub(crate) built: Built,
+    pub(crate) words: &'static [Word],
     pub(crate) settings: Settings,
     pub(crate) lans: Vec<LanRow>,
     pub(crate) systems: Vec<SystemRow>,
@@ -49,12 +31,12 @@ pub struct Names {
 // There are at most sixteen LANs, systems and source routes.
 impl Model for Names {
     ghost use Rattle.std.specs.Prelude.{◌≤◌, length};
-    ghost use Rattle.osi_script.specs.Known.{Declared, lines_of};
+    ghost use Rattle.osi_script.specs.Known.{Declared};
 
     ghost Value = { Declared };
 
     ghost view = { λ n. record {
-      built = lines_of n.built;
+      words = n.words.now;
       settings = n.settings;
       lans = n.lans.items;
       systems = n.systems.items;
@@ -66,15 +48,16 @@ impl Model for Names {
 }
 
 impl Names {
-    ghost use Rattle.osi_script.specs.Known.{lines_of, nothing_declared, is_among, is_end, has_port, has_station, routes_of, selectors_of};
+    ghost use Rattle.osi_script.specs.Known.{nothing_declared, is_among, is_end, has_port, has_station, routes_of, selectors_of};
+    ghost use Rattle.osi_script.specs.Table.{all_words};
 
-    /// Nothing is declared yet. Lines that are not built are refused.
-    pub fn new(alloc: Global, built: Built) -> Names
-        ensures { result ≡ nothing_declared (lines_of built) }
+    /// Nothing is declared yet.
+    pub fn new(alloc: Global) -> Names
+        ensures { result ≡ nothing_declared all_words }
     {
         Names {
             alloc,
-            built,
+            words: &WORDS,
             settings: Settings::new(),
             lans: Vec::new(alloc),
             systems: Vec::new(alloc),
@@ -84,6 +67,7 @@ impl Names {
     }
 
     /// The number of the system with this name.
+    // Inlined: most lines of long scripts name a system.
     #[inline(always)]
     pub fn system_at(&self, name: &str) -> Option<u8>
         ensures number { result ≡ system_at self.now.systems name.now }

@@ -8,7 +8,7 @@ const NO_DIGIT: u8 = 255;
 
 /// Writes the octets that pairs of digits stand for; false exactly where one is no digit.
 ///
-/// What is done does not hang on the digits, so that many pairs are gone over at once.
+/// There is no branch on a digit, so that the compiler takes many pairs at a time.
 pub fn write(text: &[u8], octets: &mut [u8]) -> bool
     requires { length text.now ≡ 2 * length octets.old }
     ensures { Writes text.now octets.new result }

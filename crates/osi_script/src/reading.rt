@@ -93,7 +93,7 @@ impl Names {
         }
     }
 
-    // The set-up alone asks for keys and their values, and other fields pay nothing for them.
+    // Not inlined: only lines of the set-up have keys, and the fields of all other lines would clear the room for its values.
     #[inline(never)]
     fn unset_key(&self, field: &str) -> Result<Key, LineCause>
         ensures { result ≡ unset_key self.now.settings (key_of field.now) }
@@ -105,6 +105,7 @@ impl Names {
         }
     }
 
+    // Not inlined, for the same reason.
     #[inline(never)]
     #[tactic(auto, unfolding(crate::specs::Reading::value_of))]
     fn setting_of(&self, key: Key, field: &str) -> Result<u32, LineCause>

@@ -22,25 +22,25 @@ pub struct Row {
 /// All words, those of long scripts first.
 pub const WORDS: [Word; 21] = [
     Word::Deliver,
-    Word::Tick,
     Word::Data,
-    Word::Unit,
+    Word::Tick,
     Word::Settle,
-    Word::Window,
+    Word::Unit,
     Word::Expedite,
+    Word::Window,
     Word::Connect,
     Word::Accept,
-    Word::Refuse,
     Word::Disconnect,
+    Word::Refuse,
     Word::Inject,
     Word::Route,
-    Word::Tsap,
-    Word::Set,
-    Word::Lan,
+    Word::Port,
     Word::Es,
     Word::Is,
-    Word::Port,
+    Word::Tsap,
+    Word::Lan,
     Word::Path,
+    Word::Set,
     Word::Start,
 ];
 
@@ -84,14 +84,14 @@ const fn set_up(text: &'static str, fields: &'static [Form], effect: Effect) -> 
 }
 
 /// A line after the set-up.
-const fn event(text: &'static str, fields: &'static [Form], effect: Effect) -> Row
-    ensures { result ≡ record { text = text.entry; of_set_up = false; fields = fields.entry; effect = effect } }
+const fn event(text: &'static str, fields: &'static [Form]) -> Row
+    ensures { result ≡ record { text = text.entry; of_set_up = false; fields = fields.entry; effect = Effect.Nothing } }
 {
     Row {
         text,
         of_set_up: false,
         fields,
-        effect,
+        effect: Effect::Nothing,
     }
 }
 
@@ -150,22 +150,16 @@ pub fn row_of(word: Word) -> Row
                 SUM,
                 Form::Octets,
             ],
-            Effect::Nothing,
         ),
         Word::Accept => event(
             "accept",
             &[ANY_NUMBER, FORMAT, SIZE, EXPEDITED, SUM, Form::Octets],
-            Effect::Nothing,
         ),
-        Word::Refuse => event("refuse", &[ANY_NUMBER, Form::Octets], Effect::Nothing),
-        Word::Disconnect => event("disconnect", &[ANY_NUMBER, Form::Octets], Effect::Nothing),
-        Word::Data => event("data", &[ANY_NUMBER, Form::Octets], Effect::Nothing),
-        Word::Expedite => event("expedite", &[ANY_NUMBER, Form::Octets], Effect::Nothing),
-        Word::Window => event(
-            "window",
-            &[ANY_NUMBER, Form::Plain(Plain::Credit)],
-            Effect::Nothing,
-        ),
+        Word::Refuse => event("refuse", &[ANY_NUMBER, Form::Octets]),
+        Word::Disconnect => event("disconnect", &[ANY_NUMBER, Form::Octets]),
+        Word::Data => event("data", &[ANY_NUMBER, Form::Octets]),
+        Word::Expedite => event("expedite", &[ANY_NUMBER, Form::Octets]),
+        Word::Window => event("window", &[ANY_NUMBER, Form::Plain(Plain::Credit)]),
         Word::Unit => event(
             "unit",
             &[
@@ -175,16 +169,11 @@ pub fn row_of(word: Word) -> Row
                 Form::Named(Named::Path),
                 Form::Octets,
             ],
-            Effect::Unit,
         ),
-        Word::Tick => event("tick", &[], Effect::Nothing),
-        Word::Settle => event("settle", &[], Effect::Nothing),
-        Word::Deliver => event("deliver", &[ANY_NUMBER, SYSTEM], Effect::Nothing),
-        Word::Inject => event(
-            "inject",
-            &[Form::Named(Named::Lan), SYSTEM, Form::Octets],
-            Effect::Nothing,
-        ),
+        Word::Tick => event("tick", &[]),
+        Word::Settle => event("settle", &[]),
+        Word::Deliver => event("deliver", &[ANY_NUMBER, SYSTEM]),
+        Word::Inject => event("inject", &[Form::Named(Named::Lan), SYSTEM, Form::Octets]),
     }
 }
 

@@ -32,6 +32,7 @@ are_timed life limits a most = record {
   sendings = a.most_sendings;
   window_least = a.least_window;
   window = a.most_window;
+  inactive_least = a.least_inactive;
   inactive = a.most_inactive;
   credit = a.most_credit;
 }

@@ -17,6 +17,7 @@ use Rattle.osi_script.specs.declared.line.PathKind.{PathKind}
 use Rattle.osi_script.specs.declared.line.PathKind.TheVariants as kinds
 use Rattle.osi_script.specs.declared.settings.Key.{Key}
 use Rattle.osi_script.specs.declared.settings.Key.TheVariants as keys
+use Rattle.osi_script.specs.Settings.{default_of}
 use Rattle.tp4_conn.specs.declared.timers.Timers.{Timers}
 use Rattle.tp4_entity.specs.Entity.{Entity}
 use Rattle.tp4_entity.specs.Step.{new_entity}
@@ -44,14 +45,29 @@ pub record SetUp : Type 0 where
   pub hold : ℕ
   pub limits : Limits
 
--- a retransmission time of 8 ticks, 4 sendings, a window time of 20 ticks, an inactivity time of 60 ticks, a credit of 8, and 64
--- references
+-- the limits of transport where a script sets none
 abbrev pub usual_limits : Limits
-usual_limits = record { t1 = 8; sendings = 4; window = 20; inactive = 60; credit = 8; references = 64 }
+usual_limits = record {
+  t1 = default_of keys.T1;
+  sendings = default_of keys.N;
+  window = default_of keys.W;
+  inactive = default_of keys.I;
+  credit = default_of keys.Credit;
+  references = default_of keys.Refs;
+}
 
--- nothing is said yet: a lifetime of 32 ticks, no hellos, and a holding time of 20 seconds
+-- nothing is said yet
 abbrev pub nothing_said : SetUp
-nothing_said = record { lans = []; systems = []; ports = []; paths = []; life = 32; hello = 0; hold = 20; limits = usual_limits }
+nothing_said = record {
+  lans = [];
+  systems = [];
+  ports = [];
+  paths = [];
+  life = default_of keys.Life;
+  hello = default_of keys.Ct;
+  hold = default_of keys.Hold;
+  limits = usual_limits;
+}
 
 -- ---- the systems
 

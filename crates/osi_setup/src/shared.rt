@@ -11,15 +11,9 @@ use clnp_entity::{Path, SystemSetup};
 use lan_bag::{Lan, LanBag, PortRow};
 use nsap::Port;
 use osi_base::{Items, NoMemory};
-use osi_script::Key;
+use osi_script::{Key, default_of};
 use std::alloc::Global;
 use std::marker::Model;
-
-/// The lifetime of a PDU where none is set, in ticks.
-const LIFE: u8 = 32;
-
-/// The holding time where none is set, in seconds.
-const HOLD: u8 = 20;
 
 /// What all systems share: the LANs, the ports, the source routes, the times and the limits of transport.
 ///
@@ -65,9 +59,9 @@ impl Shared {
             lans: Vec::new(alloc),
             ports: Vec::new(alloc),
             paths: Vec::new(alloc),
-            life: LIFE,
-            hello: 0,
-            hold: HOLD,
+            life: default_of(Key::Life) as u8,
+            hello: default_of(Key::Ct) as u8,
+            hold: default_of(Key::Hold) as u8,
             limits: Limits::new(),
         }
     }
@@ -113,6 +107,7 @@ impl Shared {
         self.life
     }
 
+    /// One LAN more.
     pub fn add_lan(&mut self, lan: Lan) -> Result<(), NoMemory>
         ensures ok { OnOk result (self.new ≡ record self.old { lans = self.old.lans ++ lan ∷ [] }) }
         ensures same { OnErr result (self.new ≡ self.old) }
@@ -121,6 +116,7 @@ impl Shared {
         Ok(())
     }
 
+    /// One port more.
     pub fn add_port(&mut self, row: PortRow) -> Result<(), NoMemory>
         ensures ok { OnOk result (self.new ≡ record self.old { ports = self.old.ports ++ row ∷ [] }) }
         ensures same { OnErr result (self.new ≡ self.old) }
@@ -129,6 +125,7 @@ impl Shared {
         Ok(())
     }
 
+    /// One source route more.
     pub fn add_path(&mut self, path: Path) -> Result<(), NoMemory>
         ensures ok { OnOk result (self.new ≡ record self.old { paths = self.old.paths ++ path ∷ [] }) }
         ensures same { OnErr result (self.new ≡ self.old) }

@@ -8,15 +8,12 @@ ghost use Rattle.osi_setup.specs.Fitting.{AreSelectorsApart};
 ghost use Rattle.osi_setup.specs.SetUp.{entity_with};
 
 use clnp_route::{AddRefusal, Table};
-use nsap::{Hop, Nsap, Prefix};
+use nsap::{Hop, Nsap, Prefix, TRANSPORT};
 use osi_base::{Bytes, NoMemory};
 use std::alloc::Global;
 use std::marker::Model;
 use tp4_conn::Timers;
 use tp4_entity::{TpEntity, TsapRefusal};
-
-/// The selector of the transport users of a system.
-const TRANSPORT: u8 = 1;
 
 /// A system with its routes and transport selectors.
 #[derive(Drop)]

@@ -8,6 +8,7 @@ ghost use Rattle.tp4_conn.specs.End.{IsTimed};
 
 use crate::system::System;
 use osi_base::NoMemory;
+use osi_script::{Key, default_of};
 use std::alloc::Global;
 use tp4_conn::Timers;
 use tp4_world::Placed;
@@ -35,12 +36,12 @@ impl Limits {
         ensures { result ≡ usual_limits }
     {
         Limits {
-            t1: 8,
-            sendings: 4,
-            window: 20,
-            inactive: 60,
-            credit: 8,
-            references: 64,
+            t1: default_of(Key::T1) as u8,
+            sendings: default_of(Key::N) as u8,
+            window: default_of(Key::W) as u8,
+            inactive: default_of(Key::I) as u8,
+            credit: default_of(Key::Credit) as u8,
+            references: default_of(Key::Refs) as u8,
         }
     }
 

@@ -6,9 +6,9 @@ ghost use Rattle.std.specs.Prelude.{◌≡◌, ◌≤◌, ◌-◌, ◌++◌, ◌
 ghost use Rattle.hex.specs.Hex.{encode_lower};
 ghost use Rattle.osi_show.specs.Texts.{address_text, joined, cut};
 
-use crate::field::{push, push_hex};
 use nsap::Nsap;
 use osi_base::NoMemory;
+use text_parts::{push, push_hex};
 
 /// The authority and format identifier of local addresses in binary.
 const LOCAL: u8 = 0x49;

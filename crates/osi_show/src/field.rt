@@ -1,8 +1,7 @@
 //! The fields of a line, and how they are written.
 
-ghost use Rattle.std.specs.Prelude.{◌≡◌, ◌≤◌, ◌*◌, ◌++◌, ◌∷◌, [], map, length, OnOk};
+ghost use Rattle.std.specs.Prelude.{◌≡◌, ◌++◌, ◌∷◌, [], map, OnOk};
 ghost use Rattle.std.specs.Fmt.{decimal};
-ghost use Rattle.hex.specs.Hex.{encode_lower};
 ghost use Rattle.osi_show.specs.Pdus.{flags_text, segment_text};
 ghost use Rattle.osi_show.specs.Texts.{line, octets_text, title_text};
 ghost use Rattle.osi_show.specs.steps.Written.{before, field_text, tail};
@@ -10,9 +9,9 @@ ghost use Rattle.osi_show.specs.steps.Written.{before, field_text, tail};
 use crate::address::show_nsap;
 use crate::listed::{push_addresses, push_parameters};
 use clnp_header::SegmentPart;
-use itoa::Buffer;
 use nsap::Nsap;
 use osi_base::NoMemory;
+use text_parts::{push, push_hex, push_number};
 
 /// A field of a line.
 #[derive(Clone, Copy)]
@@ -59,7 +58,7 @@ fn push_field(field: &Field<'_>, out: &mut Vec<u8>) -> Result<(), NoMemory>
 {
     match field {
         Field::Word(text) => push(text.as_bytes(), out),
-        Field::Number(number) => push_number(*number, out),
+        Field::Number(number) => push_number(*number as u64, out),
         Field::Octet(octet) => push_hex(&[*octet], out),
         Field::Digits(octets) => push_hex(octets, out),
         Field::Address(address) => show_nsap(address, out),
@@ -75,7 +74,7 @@ pub fn push_numbers(word: &str, numbers: &[usize], out: &mut Vec<u8>) -> Result<
 {
     push(word.as_bytes(), out)?;
     for number in numbers {
-        push_number(*number, out)?;
+        push_number(*number as u64, out)?;
         push(b" ", out)?;
     }
     Ok(())
@@ -86,7 +85,7 @@ pub fn push_end(count: usize, out: &mut Vec<u8>) -> Result<(), NoMemory>
     ensures { OnOk result (out.new.items ≡ out.old.items ++ 32 ∷ (decimal count ++ 10 ∷ [])) }
 {
     push(b" ", out)?;
-    push_number(count, out)?;
+    push_number(count as u64, out)?;
     push(b"\n", out)
 }
 
@@ -124,11 +123,11 @@ pub fn push_segment(segment: Option<SegmentPart>, out: &mut Vec<u8>) -> Result<(
     let Some(part) = segment else {
         return push(b"-", out);
     };
-    push_number(usize::from(part.id), out)?;
+    push_number(u64::from(part.id), out)?;
     push(b"/", out)?;
-    push_number(usize::from(part.offset), out)?;
+    push_number(u64::from(part.offset), out)?;
     push(b"/", out)?;
-    push_number(usize::from(part.total), out)
+    push_number(u64::from(part.total), out)
 }
 
 /// Appends octets in hexadecimal, in lower case, `-` for none.
@@ -140,48 +139,4 @@ pub fn push_octets(octets: &[u8], out: &mut Vec<u8>) -> Result<(), NoMemory>
     } else {
         push_hex(octets, out)
     }
-}
-
-/// Appends octets in hexadecimal, in lower case.
-pub fn push_hex(octets: &[u8], out: &mut Vec<u8>) -> Result<(), NoMemory>
-    ensures { OnOk result (out.new.items ≡ out.old.items ++ encode_lower octets.now) }
-{
-    let before = out.len();
-    let Some(after) = octets
-        .len()
-        .checked_mul(2)
-        .and_then(|more| before.checked_add(more))
-    else {
-        return Err(NoMemory);
-    };
-    out.resize(after, 0)?;
-    fill_hex(octets, &mut out.as_mut_slice()[before..]);
-    Ok(())
-}
-
-/// Writes octets in hexadecimal over a place of just that room.
-fn fill_hex(octets: &[u8], place: &mut [u8])
-    requires { length place.old ≡ 2 * length octets.now }
-    ensures { place.new ≡ encode_lower octets.now }
-{
-    match hex::encode_to_slice(octets, place) {
-        Ok(()) => {}
-        Err(_) => unreachable!(),
-    }
-}
-
-/// Appends a number in decimal.
-pub fn push_number(number: usize, out: &mut Vec<u8>) -> Result<(), NoMemory>
-    ensures { OnOk result (out.new.items ≡ out.old.items ++ decimal number) }
-{
-    let mut digits = Buffer::new();
-    push(digits.format(number).as_bytes(), out)
-}
-
-/// Appends a text as it is.
-pub fn push(text: &[u8], out: &mut Vec<u8>) -> Result<(), NoMemory>
-    ensures { OnOk result (out.new.items ≡ out.old.items ++ text.now) }
-{
-    out.extend_from_slice(text)?;
-    Ok(())
 }

@@ -11,10 +11,11 @@ ghost use Rattle.osi_show.specs.Tpdus.{known};
 ghost use Rattle.osi_show.specs.steps.Written.{going_on};
 
 use crate::address::show_nsap;
-use crate::field::{push, push_hex, push_octets};
+use crate::field::push_octets;
 use clnp_options::OptionsRef;
 use osi_base::NoMemory;
 use pdu_parts::{ParameterRef, address_at, split_parameter};
+use text_parts::{push, push_hex};
 use tpdu::Kind;
 
 /// Calling transport selector; in an ER the header of the rejected TPDU.

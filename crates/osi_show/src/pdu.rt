@@ -8,14 +8,13 @@ ghost use Rattle.osi_show.specs.Texts.{address_text};
 ghost use Rattle.osi_show.specs.steps.Written.{before, discard_view};
 
 use crate::address::show_nsap;
-use crate::field::{Field, push, push_end, push_flags, push_numbers, push_segment, write};
+use crate::field::{Field, push_end, push_flags, push_numbers, push_segment, write};
 use crate::listed::push_options;
 use clnp_header::{Fault, PduRef, SegmentPart};
 use clnp_options::{REASON, get};
+use nsap::TRANSPORT;
 use osi_base::NoMemory;
-
-/// The selector of transport.
-const TRANSPORT: u8 = 0x01;
+use text_parts::push;
 
 /// Appends the line of a DT PDU.
 pub fn write_dt(pdu: &PduRef<'_>, out: &mut Vec<u8>) -> Result<(), NoMemory>

@@ -1,11 +1,11 @@
 -- That no line of a generated script is refused.
-use Rattle.std.specs.Prelude.{◌≡◌, ℕ, ◌<◌, ◌≤◌, false, List, [], ◌∷◌, Some, Ok}
+use Rattle.std.specs.Prelude.{◌≡◌, ℕ, ◌<◌, List, [], ◌∷◌, Some, Ok}
 use Rattle.std.specs.List.{AllByRecursion}
 use Rattle.osi_script.specs.declared.form.Word.{Word}
 use Rattle.osi_script.specs.declared.form.Word.TheVariants as words
 use Rattle.osi_script.specs.declared.line.Line.{Line}
 use Rattle.osi_script.specs.Grammar.{line_read}
-use Rattle.osi_script.specs.Known.{Declared, Lines, nothing_declared}
+use Rattle.osi_script.specs.Known.{Declared, nothing_declared}
 use Rattle.osi_script.specs.Script.{Says}
 use Rattle.osi_script.specs.Table.{row_of, word_of}
 use Rattle.osi_storm.specs.Line.{set_up_lines, line_text}
@@ -16,19 +16,14 @@ line_words =
     words.Lan ∷ words.Es ∷ words.Is ∷ words.Port ∷ words.Route ∷ words.Tsap ∷ words.Start ∷ words.Connect ∷ words.Accept
     ∷ words.Data ∷ words.Expedite ∷ words.Deliver ∷ words.Tick ∷ words.Disconnect ∷ words.Refuse ∷ words.Window ∷ []
 
--- these lines are run, on two LANs
-pub record RunsStorms (built : Lines) : Type 0 where
-  pub words : AllByRecursion (λ word. word_of built.words (row_of word).text ≡ Some word) line_words
-  pub lans : 2 ≤ built.lans
-
--- these lines alone
-abbrev pub least_lines : Lines
-least_lines = record { words = line_words; lans = 2; wishes = false }
+-- each of these words names its line
+abbrev pub RunsStorms : List Word → Type 0
+RunsStorms known = AllByRecursion (λ word. word_of known (row_of word).text ≡ Some word) line_words
 
 -- the lines of the set-up are read one after another, and after them the line of each word, which declares nothing more
-pub record AreRead (built : Lines) : Type 0 where
+pub record AreRead (known : List Word) : Type 0 where
   pub said : List Line
   pub names : Declared
-  pub set_up : Says (nothing_declared built) set_up_lines said names
+  pub set_up : Says (nothing_declared known) set_up_lines said names
   pub each : (word frames ends : ℕ) → frames < 1000000000 → ends < 1000000000
       → (line : Line) × (line_read names (line_text word frames ends) ≡ Ok (record { line = line; names = names }))

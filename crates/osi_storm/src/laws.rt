@@ -1,10 +1,11 @@
 //! What holds of every generated script.
 
-ghost use Rattle.osi_script.specs.Known.{Lines};
-ghost use Rattle.osi_storm.specs.Read.{RunsStorms, AreRead, least_lines};
+ghost use Rattle.std.specs.Prelude.{List};
+ghost use Rattle.osi_script.specs.declared.form.Word.{Word};
+ghost use Rattle.osi_storm.specs.Read.{RunsStorms, AreRead, line_words};
 
-/// Where the lines of generated scripts are run, none of them is refused.
+/// Where the words of generated scripts name their lines, no line of them is refused.
 pub fn lines_are_read()
-    ensures read { (built : Lines) → RunsStorms built → AreRead built }
-    ensures some { RunsStorms least_lines }
+    ensures read { (words : List Word) → RunsStorms words → AreRead words }
+    ensures some { RunsStorms line_words }
 {}

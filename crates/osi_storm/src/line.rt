@@ -5,8 +5,9 @@ ghost use Rattle.std.specs.Fmt.{decimal};
 ghost use Rattle.osi_storm.specs.Line.{set_up_lines, line_text, number_back, connect_line, format_text, accept_line, data_line, expedite_line, deliver_line, closing_line, system_text};
 
 use crate::counts::Counts;
-use crate::text::{push_number, push_octets, push_text};
+use crate::text::{push_number, push_octets};
 use osi_base::NoMemory;
+use text_parts::push;
 
 /// Two LANs with an end system on each, and an intermediate system between them.
 const SET_UP: [&str; 15] = [
@@ -47,7 +48,7 @@ pub fn push_line(word: u32, counts: &Counts, out: &mut Vec<u8>) -> Result<(), No
         2..=4 => push_data(value, end, out),
         5 => push_expedite(value, end, out),
         6..=12 => push_deliver(value, counts.frames, out),
-        13 | 14 => push_text("tick", out),
+        13 | 14 => push(b"tick", out),
         _ => push_closing(value, end, out),
     }
 }
@@ -62,9 +63,9 @@ fn number_back(count: u32, back: u32) -> u32
 fn push_connect(value: u32, out: &mut Vec<u8>) -> Result<(), NoMemory>
     ensures { OnOk result (out.new.items ≡ out.old.items ++ connect_line value) }
 {
-    push_text("connect a aa b bb ", out)?;
-    push_text(format_text(value), out)?;
-    push_text(" 128 exp sum -", out)
+    push(b"connect a aa b bb ", out)?;
+    push(format_text(value).as_bytes(), out)?;
+    push(b" 128 exp sum -", out)
 }
 
 fn format_text(value: u32) -> &'static str
@@ -97,7 +98,7 @@ fn push_deliver(value: u32, frames: u32, out: &mut Vec<u8>) -> Result<(), NoMemo
     ensures { OnOk result (out.new.items ≡ out.old.items ++ deliver_line value frames) }
 {
     push_end("deliver ", number_back(frames, value % 8), " ", out)?;
-    push_text(system_text(value), out)
+    push(system_text(value).as_bytes(), out)
 }
 
 fn system_text(value: u32) -> &'static str
@@ -128,5 +129,5 @@ fn push_end(before: &str, number: u32, after: &str, out: &mut Vec<u8>) -> Result
     ensures { OnOk result (out.new.items ≡ out.old.items ++ (before.now ++ decimal number ++ after.now)) }
 {
     push_number(before, number, out)?;
-    push_text(after, out)
+    push(after.as_bytes(), out)
 }

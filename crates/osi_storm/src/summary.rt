@@ -5,8 +5,9 @@ ghost use Rattle.osi_storm.specs.Summary.{summary_line};
 
 use crate::counts::Counts;
 use crate::request::Storm;
-use crate::text::{push_number, push_text};
+use crate::text::push_number;
 use osi_base::NoMemory;
+use text_parts::push;
 
 /// Appends the line of what was counted of a run, with a line feed. After `NoMemory`, `out` ends in a
 /// part of it.
@@ -21,5 +22,5 @@ pub fn push_summary(storm: Storm, counts: &Counts, out: &mut Vec<u8>) -> Result<
     push_number(" got ", counts.got, out)?;
     push_number(" urgent ", counts.urgent, out)?;
     push_number(" gone ", counts.gone, out)?;
-    push_text("\n", out)
+    push(b"\n", out)
 }

@@ -1,27 +1,18 @@
-//! Texts and numbers, appended to a line.
+//! What a line of a script repeats.
 
 ghost use Rattle.std.specs.Prelude.{◌≡◌, ◌++◌, ◌∷◌, [], replicate, OnOk};
 ghost use Rattle.std.specs.Fmt.{decimal};
 ghost use Rattle.hex.specs.Hex.{encode_lower};
 
-use itoa::Buffer;
 use osi_base::NoMemory;
-
-/// Appends a text as it is.
-pub fn push_text(text: &str, out: &mut Vec<u8>) -> Result<(), NoMemory>
-    ensures { OnOk result (out.new.items ≡ out.old.items ++ text.now) }
-{
-    out.extend_from_slice(text.as_bytes())?;
-    Ok(())
-}
+use text_parts::{fill_hex, push};
 
 /// Appends a text and a number in decimal.
 pub fn push_number(before: &str, number: u32, out: &mut Vec<u8>) -> Result<(), NoMemory>
     ensures { OnOk result (out.new.items ≡ out.old.items ++ before.now ++ decimal number) }
 {
-    let mut digits = Buffer::new();
-    push_text(before, out)?;
-    push_text(digits.format(number), out)
+    push(before.as_bytes(), out)?;
+    text_parts::push_number(u64::from(number), out)
 }
 
 /// Appends an octet in hexadecimal, `count` times.
@@ -40,8 +31,6 @@ fn digits_of(octet: u8) -> [u8; 2]
     ensures { result ≡ encode_lower (octet ∷ []) }
 {
     let mut digits = [0; 2];
-    match hex::encode_to_slice([octet], &mut digits) {
-        Ok(()) => digits,
-        Err(_) => unreachable!(),
-    }
+    fill_hex(&[octet], &mut digits);
+    digits
 }

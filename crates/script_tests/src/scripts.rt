@@ -2,11 +2,9 @@
 
 mod rows;
 
-use self::rows::{
-    AFTER_START, BEFORE_START, BUILT, FAULTS, FULL, LATE, LIFE, LINES, ROUTES, SHORT_LIFE,
-};
+use self::rows::{AFTER_START, BEFORE_START, FAULTS, FULL, LATE, LIFE, LINES, ROUTES, SHORT_LIFE};
 use osi_base::Wish;
-use osi_script::{Built, Line, LineRefusal, Names, Options, WHOLE, Word};
+use osi_script::{Line, LineRefusal, Names, Options};
 use std::alloc::Global;
 use std::process::Abort;
 use std::test::Fail;
@@ -161,10 +159,10 @@ fn check(rt: &impl Abort, alloc: Global, names: &mut Names, rows: &str) -> Resul
 #[test]
 fn a_line_has_its_answer(rt: HostRuntime) -> Result<(), Fail> {
     for rows in [LINES, FULL, LIFE, SHORT_LIFE, LATE] {
-        let mut names = Names::new(rt.alloc(), WHOLE);
+        let mut names = Names::new(rt.alloc());
         check(&rt, rt.alloc(), &mut names, rows)?;
     }
-    let mut names = Names::new(rt.alloc(), WHOLE);
+    let mut names = Names::new(rt.alloc());
     for rows in [FAULTS, BEFORE_START, "start", AFTER_START] {
         check(&rt, rt.alloc(), &mut names, rows)?;
     }
@@ -173,7 +171,7 @@ fn a_line_has_its_answer(rt: HostRuntime) -> Result<(), Fail> {
 
 #[test]
 fn a_system_has_256_routes(rt: HostRuntime) -> Result<(), Fail> {
-    let mut names = Names::new(rt.alloc(), WHOLE);
+    let mut names = Names::new(rt.alloc());
     check(&rt, rt.alloc(), &mut names, ROUTES)?;
     for octet in 0..=255u8 {
         let route = format!(in rt.alloc(); "route a {octet:02x} r x")?;
@@ -185,7 +183,7 @@ fn a_system_has_256_routes(rt: HostRuntime) -> Result<(), Fail> {
 
 #[test]
 fn a_line_has_at_most_40000_octets(rt: HostRuntime) -> Result<(), Fail> {
-    let mut names = Names::new(rt.alloc(), WHOLE);
+    let mut names = Names::new(rt.alloc());
     let mut line = "#".repeat(rt.alloc(), 40_000)?;
     for (more, wanted) in [
         ("", "nothing [0, 0, 0, 0, 0, 0]"),
@@ -197,21 +195,4 @@ fn a_line_has_at_most_40000_octets(rt: HostRuntime) -> Result<(), Fail> {
         assert_eq!(rt; answer.trim_end(), wanted);
     }
     Ok(())
-}
-
-#[test]
-fn a_line_that_is_not_built_names_no_line(rt: HostRuntime) -> Result<(), Fail> {
-    let built = Built {
-        words: &[
-            Word::Lan,
-            Word::Es,
-            Word::Tsap,
-            Word::Start,
-            Word::Unit,
-            Word::Tick,
-        ],
-        lans: 1,
-        wishes: false,
-    };
-    check(&rt, rt.alloc(), &mut Names::new(rt.alloc(), built), BUILT)
 }

@@ -2,7 +2,7 @@
 
 use osi_base::{Address, Bytes};
 use osi_journal::{Boxed, Event, GoneCause, Indication, Request};
-use osi_script::{Names, Options, WHOLE};
+use osi_script::{Names, Options};
 use osi_storm::{Counts, Storm, Words, push_line, push_summary, set_up};
 use std::alloc::Global;
 use std::test::Fail;
@@ -77,7 +77,7 @@ fn a_word_has_its_line(rt: HostRuntime) -> Result<(), Fail> {
 
 #[test]
 fn a_script_is_read(rt: HostRuntime) -> Result<(), Fail> {
-    let mut names = Names::new(rt.alloc(), WHOLE);
+    let mut names = Names::new(rt.alloc());
     for line in set_up() {
         assert!(rt; names.read_line(line.as_bytes()).is_ok(), "{line}");
     }

@@ -22,7 +22,7 @@ use Rattle.tp4_sending.specs.Pieces.{Queue, count_in, cut_at, end_of, once, free
 use Rattle.tp4_sending.specs.declared.tries.Tries.{Tries}
 use Rattle.tp4_sending.proofs.Goings.{piece_there}
 use Rattle.tp4_moves.specs.Lines.{shown_in}
-use Rattle.tp4_calm.proofs.Freed.{cut_behind, freed_front}
+use Rattle.tp4_moves.proofs.FlowUnits.{cut_behind, freed_front}
 use Rattle.tp4_history.proofs.Complete.{AllFull, Complete, complete_more, cut_more, full_more, one_piece, shown_on}
 use Rattle.tp4_calm.specs.steps.Carrying.{AreLeft, ArePieces, Carries, piece_in, pieces_in, unit_in, units_in}
 use Rattle.tp4_calm.specs.steps.Flowing.{HasUnit, IsOrdered}

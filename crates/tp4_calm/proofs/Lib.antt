@@ -5,7 +5,6 @@ pub mod Carried
 pub mod ShownIn
 pub mod Clocking
 pub mod Confirming
-pub mod Freed
 pub mod Going
 pub mod Granting
 pub mod Handing

@@ -1,9 +1,11 @@
+pub mod Calms
 pub mod Credits
 pub mod Dues
 pub mod Lives
 pub mod Makings
 pub mod Openings
 pub mod Propers
+pub mod Rests
 pub mod Sendables
 pub mod Sizes
 pub mod Timely

@@ -120,6 +120,7 @@ pub record IsTimed (t : Timers) : Type 0 where
   pub sendings : t.sendings ≤ 16
   pub window_least : 1 ≤ t.window
   pub window : t.window ≤ 255
+  pub inactive_least : 1 ≤ t.inactive
   pub inactive : t.inactive ≤ 255
   pub credit : t.credit ≤ 15
 

@@ -58,7 +58,7 @@ is_expedited (Some o) = o.expedited
 unfoldable pub opened_tpdu : (ℕ → ℕ → ℕ) → Base → Open → Tpdu → Moved
 -- CC: AK
 opened_tpdu wrap b o (Cc credit destination source width calling called size extra version classes ack_time text) = acknowledging b o
--- DR: gone; DC; Frozen
+-- DR: gone; a DC, where its source is not 0; Frozen
 opened_tpdu wrap b o (Dr destination source reason info text) = frozen b (gone b (Reason reason) text) (confirms b source)
 -- ER: gone protocol; DR 133; Closing
 opened_tpdu wrap b o (Er destination cause rejected) = protocol_error b

@@ -10,8 +10,7 @@ ghost use Rattle.tp4_conn.specs.End.{Does, agreed_format};
 ghost use Rattle.tp4_conn.specs.Table.{on_call};
 ghost use Rattle.tp4_conn.specs.steps.Kept.{IsEnd, IsSound};
 
-use crate::base::{Base, copied};
-use crate::timers::is_past;
+use crate::base::{Base, PROTOCOL_ERROR, copied};
 use crate::{Answering, Open, Stage, UserCall, opened};
 use osi_base::NoMemory;
 use std::alloc::Global;
@@ -19,7 +18,6 @@ use tp4_flow::{GoneCause, Step};
 use tpdu::TpduRef;
 
 /// A TPDU came.
-#[cold]
 #[tactic(auto, unfolding(crate::specs::AkWait::ak_wait_tpdu))]
 pub(crate) fn on_tpdu(
     alloc: Global,
@@ -43,7 +41,13 @@ pub(crate) fn on_tpdu(
             octets,
             ..
         } => base.part(source, reason, copied(alloc, octets)?, out),
-        TpduRef::Er { .. } => base.fail(alloc, GoneCause::Protocol, 133, wait.first, out),
+        TpduRef::Er { .. } => base.fail(
+            alloc,
+            GoneCause::Protocol,
+            PROTOCOL_ERROR,
+            wait.first,
+            out,
+        ),
         TpduRef::Cr { .. } => Ok(Stage::AkWait(wait)),
         TpduRef::Cc { .. } => Ok(Stage::AkWait(wait)),
         TpduRef::Dc { .. } => Ok(Stage::AkWait(wait)),
@@ -74,7 +78,6 @@ fn open(
 }
 
 /// A tick of the clock.
-#[cold]
 #[tactic(auto, unfolding(crate::specs::AkWait::ak_wait_tick))]
 pub(crate) fn on_tick(
     alloc: Global,
@@ -86,7 +89,7 @@ pub(crate) fn on_tick(
     ensures step { IfOk result (λ stage. Does (ak_wait_tick base.now wait) base.now stage out.old out.new) }
     ensures sound { IfOk result (λ stage. IsSound base.now stage) }
 {
-    if !is_past(wait.tries.last, base.timers.t1, base.clock) {
+    if !wait.tries.is_due(base.timers.t1, base.clock) {
         return Ok(Stage::AkWait(wait));
     }
     if wait.tries.count < base.timers.sendings {
@@ -101,7 +104,6 @@ pub(crate) fn on_tick(
 }
 
 /// A call of the user.
-#[cold]
 pub(crate) fn on_call(
     alloc: Global,
     base: &Base,

@@ -16,6 +16,12 @@ use std::alloc::Global;
 use tp4_flow::{EndEvent, GoneCause, Sent, Step, What};
 use tpdu::{Format, Tpdu};
 
+/// The reason of a DR by which the user, or the end itself, disconnects: normal disconnect (X.224, DR TPDU).
+pub(crate) const NORMAL: u8 = 128;
+
+/// The reason of a DR after a TPDU that no partner may send: protocol error (X.224, DR TPDU).
+pub(crate) const PROTOCOL_ERROR: u8 = 133;
+
 /// What an end has in every state.
 #[derive(Drop)]
 pub struct Base {
@@ -272,11 +278,10 @@ impl Base {
         ensures stage { IfOk result (λ stage. stage ≡ Closing (record { reason = 128; octets = octets; from = from; last = self.now.clock })) }
         ensures step { IfOk result (λ stage. Does (closing self.now [] 128 octets from) self.now stage out.old out.new) }
     {
-        self.close(alloc, 128, octets, from, out)
+        self.close(alloc, NORMAL, octets, from, out)
     }
 
     /// Gone for a cause; one DR; Closing.
-    #[cold]
     pub(crate) fn fail(
         &self,
         alloc: Global,
@@ -293,7 +298,6 @@ impl Base {
     }
 
     /// Gone by a DR: its reason and octets; a DC where its source is not 0; Frozen.
-    #[cold]
     pub(crate) fn part(
         &self,
         source: u16,

@@ -7,15 +7,14 @@ ghost use Rattle.tp4_conn.specs.Closing.{closing_tpdu, closing_tick};
 ghost use Rattle.tp4_conn.specs.End.{Does};
 ghost use Rattle.tp4_conn.specs.steps.Kept.{IsEnd, IsSound};
 
-use crate::timers::is_past;
 use crate::{Base, Releasing, Stage};
 use osi_base::NoMemory;
 use std::alloc::Global;
 use tp4_flow::Step;
+use tp4_sending::is_past;
 use tpdu::TpduRef;
 
 /// A TPDU came.
-#[cold]
 #[tactic(auto, unfolding(crate::specs::Closing::closing_tpdu))]
 pub(crate) fn on_tpdu(base: &Base, close: Releasing, tpdu: &TpduRef<'_>, out: &Step) -> Stage
     requires end { IsEnd base.now (Closing close) }
@@ -35,7 +34,6 @@ pub(crate) fn on_tpdu(base: &Base, close: Releasing, tpdu: &TpduRef<'_>, out: &S
 }
 
 /// A tick of the clock.
-#[cold]
 #[tactic(auto, unfolding(crate::specs::Closing::closing_tick))]
 pub(crate) fn on_tick(
     alloc: Global,

@@ -1,6 +1,6 @@
 //! One end of a connection (X.224, class 4 procedures and state tables).
 
-ghost use Rattle.std.specs.Prelude.{◌≡◌, ◌≢◌, ◌≤◌, Some, None, Err, IfOk, IfErr, OnOk};
+ghost use Rattle.std.specs.Prelude.{◌≡◌, ◌≢◌, ◌≤◌, ◌+◌, Some, None, Err, IfOk, IfErr, OnOk};
 ghost use Rattle.tpdu.specs.declared.tpdu.Format.TheVariants.{Normal};
 ghost use Rattle.tpdu.specs.Values.{tpdu_of, sum_of};
 ghost use Rattle.tpdu.specs.declared.kind.Kind.TheVariants.{Cr};
@@ -13,20 +13,22 @@ ghost use Rattle.tp4_conn.specs.Calls.{IsCall, call_refusal, state_of};
 ghost use Rattle.tp4_conn.specs.Dues.{IsBefore};
 ghost use Rattle.tp4_conn.specs.End.{Does, IsSame, IsSize, IsTimed, Moved, agreed_format};
 ghost use Rattle.tp4_conn.specs.Making.{connected, on_cr};
+ghost use Rattle.tp4_conn.specs.Living.{IsInTime};
 ghost use Rattle.tp4_conn.specs.Matching.{is_called_by, is_match};
 ghost use Rattle.tp4_conn.specs.Table.{Called, Took, Ticked, stepped, due};
 
 use crate::base::{Base, copied, options_in};
 use crate::matching::{fits, has_sum, wants_sum};
 use crate::refusal::refusal;
-use crate::{CallRefusal, ConnectCall, Requesting, Stage, State, Timers, UserCall, rows};
+use crate::{CallRefusal, ConnectCall, Requesting, Stage, State, Steps, Timers, UserCall, rows};
 use nsap::Nsap;
 use osi_base::{NoMemory, Tick};
 use std::alloc::Global;
 use std::marker::Model;
 use std::mem;
+use std::sync::ledger::Ledger;
 use tp4_flow::{EndEvent, Step, What};
-use tp4_sending::Tries;
+use tp4_sending::{Tries, sooner};
 use tpdu::{Format, TpduCause, TpduRef};
 
 /// One end of a connection.
@@ -37,16 +39,16 @@ pub struct Connection {
     stage: Stage,
 }
 
-// The timers are in their ranges, and no tick is ahead of the clock.
+// The timers are in their ranges, and no tick is ahead of the clock; where a CC was sent and not answered, its sendings are at most T1 apart.
 impl Model for Connection {
     ghost use Rattle.tp4_conn.specs.End.{End};
-    ghost use Rattle.tp4_conn.specs.steps.Kept.{IsEnd};
+    ghost use Rattle.tp4_conn.specs.steps.Kept.{IsEnd, IsWaiting};
 
     ghost Value = { End };
 
     ghost view = { λ a. record { base = a.base; stage = a.stage } };
 
-    ghost invariant = { λ a. IsEnd a.base a.stage };
+    ghost invariant = { λ a. IsEnd a.base a.stage × IsWaiting a.base.timers a.stage };
 }
 
 impl Connection {
@@ -60,7 +62,8 @@ impl Connection {
         requires now { now ≤ 4000000000 }
         requires timers { IsTimed call.rules }
         requires size { IsSize call.options.size }
-        ensures { IfOk result (λ made. Does (connected now call) made.base made.stage out.old out.new) }
+        ensures later { IfOk result (λ made. IsBefore (due made.base made.stage) now) }
+        ensures step { IfOk result (λ made. Does (connected now call) made.base made.stage out.old out.new) }
     {
         let base = Base {
             own: call.own,
@@ -98,7 +101,8 @@ impl Connection {
         requires timers { IsTimed rules }
         requires cr { kind_for (tpdu_of cr.now) ≡ Cr }
         requires allowed { IsAllowed Normal (tpdu_of cr.now) }
-        ensures { IfOk result (λ made. (m : Moved) → on_cr now own from rules (tpdu_of cr.now) ≡ Some m → Does m made.base made.stage out.old out.new) }
+        ensures later { IfOk result (λ made. IsBefore (due made.base made.stage) now) }
+        ensures step { IfOk result (λ made. (m : Moved) → on_cr now own from rules (tpdu_of cr.now) ≡ Some m → Does m made.base made.stage out.old out.new) }
     {
         let TpduRef::Cr {
             credit,
@@ -133,9 +137,11 @@ impl Connection {
     }
 
     /// Its state.
-    pub fn state(&self) -> State
-        ensures { result ≡ state_of self.now.stage }
+    pub fn state<L: Ledger>(&self, steps: &mut Steps<L>) -> State
+        ensures value { result ≡ state_of self.now.stage }
+        ensures step { steps.new ≡ steps.old + 1 }
     {
+        steps.add();
         self.stage.state()
     }
 
@@ -161,9 +167,11 @@ impl Connection {
     }
 
     /// The least tick at which `tick` changes more than the clock, or sends something.
-    pub fn next_due(&self) -> Option<Tick>
-        ensures { result ≡ due self.now.base self.now.stage }
+    pub fn next_due<L: Ledger>(&self, steps: &mut Steps<L>) -> Option<Tick>
+        ensures value { result ≡ due self.now.base self.now.stage }
+        ensures step { steps.new ≡ steps.old + 1 }
     {
+        steps.add();
         let timers = self.base.timers;
         match &self.stage {
             Stage::CrWait(wait) => Some(wait.tries.last + timers.t1),
@@ -198,12 +206,15 @@ impl Connection {
     pub fn user(&mut self, now: Tick, call: UserCall, out: &mut Step) -> Result<(), CallRefusal>
         requires clock { self.old.base.clock ≤ now }
         requires now { now ≤ 4000000000 }
+        requires due { IsInTime (due self.old.base self.old.stage) now }
         requires call { IsCall call }
         ensures allowed { OnOk result (call_refusal self.old.base self.old.stage call ≡ None) }
         ensures step { OnOk result (Does (stepped wire now self.old (Called call)) self.new.base self.new.stage out.old out.new) }
         ensures refused { (why : CallRefusal) → call_refusal self.old.base self.old.stage call ≡ Some why → result ≡ Err why }
         ensures why { IfErr result (λ why. why ≢ OutOfMemory → call_refusal self.old.base self.old.stage call ≡ Some why) }
         ensures same { IfErr result (λ why. why ≢ OutOfMemory → (self.new ≡ self.old) × (out.new ≡ out.old)) }
+        ensures from { OnOk result (IsInTime (due self.new.base self.new.stage) now) }
+        ensures later { OnOk result (IsBefore (due self.old.base self.old.stage) now → IsBefore (due self.new.base self.new.stage) now) }
         ensures kept { IsSame self.old.base self.new.base }
         ensures clock { self.new.base.clock ≤ now }
     {
@@ -227,8 +238,11 @@ impl Connection {
     pub fn on_tpdu(&mut self, now: Tick, tpdu: &TpduRef<'_>, out: &mut Step) -> Result<(), NoMemory>
         requires clock { self.old.base.clock ≤ now }
         requires now { now ≤ 4000000000 }
+        requires due { IsInTime (due self.old.base self.old.stage) now }
         requires allowed { IsAllowed (agreed_format self.old.base.agreed) (tpdu_of tpdu.now) }
         ensures step { OnOk result (Does (stepped wire now self.old (Took (tpdu_of tpdu.now) (sum_of tpdu.now))) self.new.base self.new.stage out.old out.new) }
+        ensures from { OnOk result (IsInTime (due self.new.base self.new.stage) now) }
+        ensures later { OnOk result (IsBefore (due self.old.base self.old.stage) now → IsBefore (due self.new.base self.new.stage) now) }
         ensures kept { IsSame self.old.base self.new.base }
         ensures clock { self.new.base.clock ≤ now }
     {
@@ -245,28 +259,25 @@ impl Connection {
     }
 
     /// A tick of the clock. The end is due at a later tick then, or no more.
-    pub fn tick(&mut self, now: Tick, out: &mut Step) -> Result<(), NoMemory>
+    pub fn tick<L: Ledger>(
+        &mut self,
+        now: Tick,
+        out: &mut Step,
+        steps: &mut Steps<L>,
+    ) -> Result<(), NoMemory>
         requires clock { self.old.base.clock ≤ now }
         requires now { now ≤ 4000000000 }
+        requires due { IsInTime (due self.old.base self.old.stage) now }
         ensures step { OnOk result (Does (stepped wire now self.old Ticked) self.new.base self.new.stage out.old out.new) }
         ensures later { OnOk result (IsBefore (due self.new.base self.new.stage) now) }
         ensures kept { IsSame self.old.base self.new.base }
         ensures clock { self.new.base.clock ≤ now }
+        ensures counted { steps.new ≡ steps.old + 1 }
     {
+        steps.add();
         self.base.clock = now;
         let stage = mem::replace(&mut self.stage, Stage::Frozen { at: now });
         self.stage = rows::pass(self.alloc, &self.base, stage, out)?;
         Ok(())
-    }
-}
-
-/// The earlier of two ticks that may be there.
-fn sooner(one: Option<Tick>, other: Option<Tick>) -> Option<Tick>
-    ensures { result ≡ sooner one other }
-{
-    match (one, other) {
-        (None, other) => other,
-        (one, None) => one,
-        (Some(one), Some(other)) => Some(one.min(other)),
     }
 }

@@ -9,8 +9,7 @@ ghost use Rattle.tp4_conn.specs.CrWait.{cr_wait_tpdu, cr_wait_tick, confirmed};
 ghost use Rattle.tp4_conn.specs.End.{Does, IsSize, IsTimed, agreed_format};
 ghost use Rattle.tp4_conn.specs.steps.Kept.{IsEnd, IsKept, IsSound};
 
-use crate::base::{Base, copied, options_in};
-use crate::timers::is_past;
+use crate::base::{Base, PROTOCOL_ERROR, copied, options_in};
 use crate::{Open, Options, Requesting, Stage};
 use osi_base::NoMemory;
 use std::alloc::Global;
@@ -28,7 +27,6 @@ fn is_within(proposed: Options, options: Options) -> bool
 }
 
 /// A TPDU came.
-#[cold]
 #[tactic(auto, using(crate::proofs::Sizes::size_known), unfolding(crate::specs::CrWait::cr_wait_tpdu))]
 pub(crate) fn on_tpdu(
     alloc: Global,
@@ -56,7 +54,7 @@ pub(crate) fn on_tpdu(
             base.partner = source;
             let options = options_in(format, size, extra);
             if !is_within(base.proposed, options) {
-                return base.fail(alloc, GoneCause::Protocol, 133, base.clock, out);
+                return base.fail(alloc, GoneCause::Protocol, PROTOCOL_ERROR, base.clock, out);
             }
             base.credit = u16::from(credit);
             base.agreed = Some(options);
@@ -107,7 +105,6 @@ fn open(
 }
 
 /// A tick of the clock.
-#[cold]
 #[tactic(auto, unfolding(crate::specs::CrWait::cr_wait_tick))]
 pub(crate) fn on_tick(
     alloc: Global,
@@ -119,7 +116,7 @@ pub(crate) fn on_tick(
     ensures step { IfOk result (λ stage. Does (cr_wait_tick base.now wait) base.now stage out.old out.new) }
     ensures sound { IfOk result (λ stage. IsSound base.now stage) }
 {
-    if !is_past(wait.tries.last, base.timers.t1, base.clock) {
+    if !wait.tries.is_due(base.timers.t1, base.clock) {
         return Ok(Stage::CrWait(wait));
     }
     if wait.tries.count < base.timers.sendings {

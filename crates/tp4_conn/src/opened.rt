@@ -12,13 +12,13 @@ ghost use Rattle.tp4_conn.specs.Opened.{opened_tpdu, opened_tick, opened_window,
 ghost use Rattle.tp4_conn.specs.Table.{on_call};
 ghost use Rattle.tp4_conn.specs.steps.Kept.{IsEnd, IsSound};
 
-use crate::base::{Base, copied};
-use crate::timers::is_past;
+use crate::base::{Base, NORMAL, PROTOCOL_ERROR, copied};
 use crate::{Open, Stage, UserCall};
 use osi_base::NoMemory;
 use std::alloc::Global;
 use tp4_flow::{GoneCause, Life, Step, What};
 use tp4_number::Got;
+use tp4_sending::is_past;
 use tpdu::TpduRef;
 
 /// A TPDU came, which counts as taken now.
@@ -47,7 +47,13 @@ pub(crate) fn on_tpdu(
             octets,
             ..
         } => base.part(source, reason, copied(alloc, octets)?, out),
-        TpduRef::Er { .. } => base.fail(alloc, GoneCause::Protocol, 133, base.clock, out),
+        TpduRef::Er { .. } => base.fail(
+            alloc,
+            GoneCause::Protocol,
+            PROTOCOL_ERROR,
+            base.clock,
+            out,
+        ),
         TpduRef::Dt {
             last,
             number,
@@ -59,7 +65,7 @@ pub(crate) fn on_tpdu(
             .receiving
             .on_dt(number, last, octets, out)?
         {
-            Got::TooLarge => base.fail(alloc, GoneCause::Protocol, 133, base.clock, out),
+            Got::TooLarge => base.fail(alloc, GoneCause::Protocol, PROTOCOL_ERROR, base.clock, out),
             Got::Kept | Got::Old | Got::Outside => {
                 flow.acked = base.clock;
                 Ok(Stage::Opened(flow))
@@ -67,7 +73,7 @@ pub(crate) fn on_tpdu(
         },
         TpduRef::Ed { number, octets, .. } => {
             if !base.is_expedited() {
-                return base.fail(alloc, GoneCause::Protocol, 133, base.clock, out);
+                return base.fail(alloc, GoneCause::Protocol, PROTOCOL_ERROR, base.clock, out);
             }
             flow.halves.get_mut().receiving.on_ed(number, octets, out)?;
             Ok(Stage::Opened(flow))
@@ -109,10 +115,10 @@ pub(crate) fn on_tick(
     ensures sound { IfOk result (λ stage. IsSound base.now stage) }
 {
     if is_past(flow.took, base.timers.inactive, base.clock) {
-        return base.fail(alloc, GoneCause::Inactive, 128, base.clock, out);
+        return base.fail(alloc, GoneCause::Inactive, NORMAL, base.clock, out);
     }
     match flow.halves.get_mut().sending.tick(base.clock, out)? {
-        Life::Exhausted => return base.fail(alloc, GoneCause::Exhausted, 128, base.clock, out),
+        Life::Exhausted => return base.fail(alloc, GoneCause::Exhausted, NORMAL, base.clock, out),
         Life::Goes => {}
     }
     if !is_past(flow.acked, base.timers.window, base.clock) {
@@ -153,7 +159,6 @@ pub(crate) fn on_call(
 }
 
 /// The user wants this credit.
-#[cold]
 fn grant(base: &Base, mut flow: Open, credit: u16, out: &mut Step) -> Result<Stage, NoMemory>
     requires end { IsEnd base.now (Opened flow) }
     requires credit { credit ≤ 255 }

@@ -1,9 +1,7 @@
 //! The times and counts of an end (X.224, class 4: timers).
 
-ghost use Rattle.std.specs.Prelude.{◌≡◌, ◌+◌, nat_le};
+ghost use Rattle.std.specs.Prelude.{◌≡◌};
 ghost use Rattle.tp4_conn.specs.End.{IsTimed, span, in_use, frozen_for};
-
-use osi_base::Tick;
 
 /// The times and counts of an end, the times in ticks.
 #[derive(Clone, Copy, Debug)]
@@ -46,11 +44,4 @@ impl Timers {
     {
         2 * self.life + self.inactive + self.span()
     }
-}
-
-/// Whether so many ticks passed since then.
-pub(crate) fn is_past(since: Tick, ticks: u32, now: Tick) -> bool
-    ensures { result ≡ nat_le (since + ticks) now }
-{
-    u64::from(since) + u64::from(ticks) <= u64::from(now)
 }

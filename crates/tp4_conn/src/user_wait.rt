@@ -7,13 +7,12 @@ ghost use Rattle.tp4_conn.specs.End.{Does, IsSize};
 ghost use Rattle.tp4_conn.specs.UserWait.{user_wait_accept, user_wait_refuse, user_wait_tick, refusing};
 ghost use Rattle.tp4_conn.specs.steps.Kept.{IsEnd, IsKept, IsSound};
 
-use crate::base::{Base, copied};
-use crate::timers::is_past;
+use crate::base::{Base, NORMAL, copied};
 use crate::{Answering, Options, Stage};
 use osi_base::{Bytes, NoMemory, Tick};
 use std::alloc::Global;
 use tp4_flow::{GoneCause, Step, What};
-use tp4_sending::Tries;
+use tp4_sending::{Tries, is_past};
 use tpdu::{Format, Tpdu};
 
 /// What both ends agree on.
@@ -32,7 +31,6 @@ fn agreed_by(proposed: Options, asked: Options) -> Options
 }
 
 /// The user accepts.
-#[cold]
 #[tactic(auto, using(crate::proofs::Sizes::size_lesser), unfolding(crate::specs::UserWait::user_wait_accept))]
 pub(crate) fn accept(
     alloc: Global,
@@ -73,7 +71,7 @@ fn send_refusal(alloc: Global, base: &Base, octets: &[u8], out: &mut Step) -> Re
     let tpdu = Tpdu::Dr {
         destination: base.partner,
         source: 0,
-        reason: 128,
+        reason: NORMAL,
         info: None,
         octets: copied(alloc, octets)?,
     };
@@ -81,7 +79,6 @@ fn send_refusal(alloc: Global, base: &Base, octets: &[u8], out: &mut Step) -> Re
 }
 
 /// The user refuses.
-#[cold]
 #[tactic(auto, unfolding(crate::specs::UserWait::user_wait_refuse))]
 pub(crate) fn refuse(
     alloc: Global,
@@ -97,7 +94,6 @@ pub(crate) fn refuse(
 }
 
 /// A tick of the clock.
-#[cold]
 #[tactic(auto, unfolding(crate::specs::UserWait::user_wait_tick, crate::specs::UserWait::user_wait_refuse))]
 pub(crate) fn on_tick(
     alloc: Global,

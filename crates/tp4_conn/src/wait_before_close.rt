@@ -7,15 +7,14 @@ ghost use Rattle.tp4_conn.specs.End.{Does};
 ghost use Rattle.tp4_conn.specs.WaitBeforeClose.{wait_before_close_tpdu, wait_before_close_tick};
 ghost use Rattle.tp4_conn.specs.steps.Kept.{IsEnd, IsKept, IsSound};
 
-use crate::timers::is_past;
-use crate::{Base, Parting, Stage};
+use crate::base::{Base, NORMAL};
+use crate::{Parting, Stage};
 use osi_base::NoMemory;
 use std::alloc::Global;
 use tp4_flow::Step;
 use tpdu::TpduRef;
 
 /// A TPDU came.
-#[cold]
 #[tactic(auto, unfolding(crate::specs::WaitBeforeClose::wait_before_close_tpdu))]
 pub(crate) fn on_tpdu(
     alloc: Global,
@@ -32,7 +31,7 @@ pub(crate) fn on_tpdu(
     match *tpdu {
         TpduRef::Cc { source, .. } => {
             base.partner = source;
-            base.close(alloc, 128, wait.octets, base.clock, out)
+            base.close(alloc, NORMAL, wait.octets, base.clock, out)
         }
         TpduRef::Dr { source, .. } => {
             base.send_dc(source, out)?;
@@ -49,7 +48,6 @@ pub(crate) fn on_tpdu(
 }
 
 /// A tick of the clock.
-#[cold]
 #[tactic(auto, unfolding(crate::specs::WaitBeforeClose::wait_before_close_tick))]
 pub(crate) fn on_tick(
     alloc: Global,
@@ -62,7 +60,7 @@ pub(crate) fn on_tick(
     ensures sound { IfOk result (λ stage. IsSound base.now stage) }
 {
     let tries = wait.request.tries;
-    if !is_past(tries.last, base.timers.t1, base.clock) {
+    if !tries.is_due(base.timers.t1, base.clock) {
         return Ok(Stage::WaitBeforeClose(wait));
     }
     if tries.count < base.timers.sendings {

@@ -1,8 +1,7 @@
 pub mod Answered
-pub mod Empty
+pub mod Dues
 pub mod Formats
 pub mod Hearings
-pub mod Idle
 pub mod PlaceLaws
 pub mod Standings
 pub mod Ticks

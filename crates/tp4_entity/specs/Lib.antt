@@ -1,4 +1,5 @@
 pub mod Association
+pub mod Dues
 pub mod Entity
 pub mod References
 pub mod Standing

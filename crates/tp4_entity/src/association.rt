@@ -1,7 +1,7 @@
 //! What an entity does with a TPDU: the end that it belongs to, or a stateless answer (X.224, class 4: association of TPDUs with
 //! connections; connection establishment).
 
-ghost use Rattle.std.specs.Prelude.{◌≡◌, ◌≤◌, ◌∷◌, [], ℕ, OnOk, Some, None, true, false};
+ghost use Rattle.std.specs.Prelude.{◌≡◌, ◌≤◌, ◌<◌, ◌∷◌, [], ℕ, length, slice_set, OnOk, Some, None, true, false};
 ghost use Rattle.std.specs.List.{list_any};
 ghost use Rattle.tpdu.specs.Values.{destination_of, format_for, seen, tpdu_of};
 ghost use Rattle.tpdu.specs.Writing.{IsAllowed, kind_for};
@@ -13,14 +13,18 @@ ghost use Rattle.tp4_flow.specs.declared.step.What.TheVariants.{Unknown};
 ghost use Rattle.tp4_number.specs.Number.{wire};
 ghost use Rattle.tp4_conn.specs.declared.timers.Timers.{Timers};
 ghost use Rattle.tp4_entity.specs.Association.{answer, is_called, is_frozen, met, met_at, new_end, refusal, requested, stateless, unmatched};
+ghost use Rattle.tp4_conn.specs.Dues.{IsBefore};
+ghost use Rattle.tp4_conn.specs.Living.{IsInTime};
+ghost use Rattle.tp4_entity.specs.Dues.{AreFrom, due_at};
 ghost use Rattle.tp4_entity.specs.Entity.{end_at};
 ghost use Rattle.tp4_entity.specs.References.{least_free};
 ghost use Rattle.tp4_entity.specs.Step.{DoesSo};
 ghost use Rattle.tp4_entity.specs.Unit.{extended_of};
-ghost use Rattle.tp4_entity.specs.steps.Places.{IsBehind, IsPlace, Places, format_of, takes_at};
+ghost use Rattle.tp4_entity.specs.steps.Places.{IsBehind, IsPlace, Lasts, Places, format_of, takes_at};
 
 use crate::TpEntity;
-use crate::places::free_place;
+use crate::places::{due_at, free_place, keep, state_of};
+use due_links::Due;
 use nsap::Nsap;
 use osi_base::{Bytes, NoMemory, Tick};
 use std::alloc::Global;
@@ -49,8 +53,10 @@ impl TpEntity {
         out: &mut Step,
     ) -> Result<(), NoMemory>
         requires now { self.old.clock ≤ 4000000000 }
+        requires due { AreFrom self.old.clock self.old.ends }
         requires allowed { IsAllowed (format_for (extended_of self.old) (destination_of (tpdu_of tpdu.now))) (tpdu_of tpdu.now) }
         ensures step { OnOk result (DoesSo (met wire self.old.clock self.old from.now (seen tpdu.now)) self.new out.old out.new) }
+        ensures lasts { OnOk result (Lasts self.old.clock self.old.ends self.new.ends) }
         ensures clock { self.new.clock ≡ self.old.clock }
     {
         match destination_of(tpdu) {
@@ -62,9 +68,11 @@ impl TpEntity {
     /// A CR: the first of the five rules that applies.
     fn request(&mut self, from: &Nsap, cr: &TpduRef<'_>, out: &mut Step) -> Result<(), NoMemory>
         requires now { self.old.clock ≤ 4000000000 }
+        requires due { AreFrom self.old.clock self.old.ends }
         requires cr { kind_for (tpdu_of cr.now) ≡ Cr }
         requires allowed { IsAllowed Normal (tpdu_of cr.now) }
         ensures step { OnOk result (DoesSo (met wire self.old.clock self.old from.now (seen cr.now)) self.new out.old out.new) }
+        ensures lasts { OnOk result (Lasts self.old.clock self.old.ends self.new.ends) }
         ensures clock { self.new.clock ≡ self.old.clock }
     {
         let TpduRef::Cr { source, called, .. } = *cr else {
@@ -83,9 +91,11 @@ impl TpEntity {
         out: &mut Step,
     ) -> Result<(), NoMemory>
         requires now { self.old.clock ≤ 4000000000 }
+        requires due { AreFrom self.old.clock self.old.ends }
         requires cr { kind_for (tpdu_of cr.now) ≡ Cr }
         requires allowed { IsAllowed Normal (tpdu_of cr.now) }
         ensures step { OnOk result (DoesSo (requested self.old.clock self.old from.now source called.now (tpdu_of cr.now)) self.new out.old out.new) }
+        ensures lasts { OnOk result (Lasts self.old.clock self.old.ends self.new.ends) }
         ensures clock { self.new.clock ≡ self.old.clock }
     {
         if is_called_live(&self.ends, from, source) {
@@ -109,9 +119,11 @@ impl TpEntity {
         out: &mut Step,
     ) -> Result<(), NoMemory>
         requires now { self.old.clock ≤ 4000000000 }
+        requires due { AreFrom self.old.clock self.old.ends }
         requires cr { kind_for (tpdu_of cr.now) ≡ Cr }
         requires allowed { IsAllowed Normal (tpdu_of cr.now) }
         ensures step { OnOk result (DoesSo (new_end self.old.clock self.old from.now source (tpdu_of cr.now) (least_free self.old.clock self.old)) self.new out.old out.new) }
+        ensures lasts { OnOk result (Lasts self.old.clock self.old.ends self.new.ends) }
         ensures clock { self.new.clock ≡ self.old.clock }
     {
         let Some(place) = free_place(&self.ends, self.clock) else {
@@ -132,23 +144,60 @@ impl TpEntity {
         out: &mut Step,
     ) -> Result<(), NoMemory>
         requires now { self.old.clock ≤ 4000000000 }
+        requires due { AreFrom self.old.clock self.old.ends }
         requires allowed { IsAllowed (format_of (end_at self.old destination)) (tpdu_of tpdu.now) }
         ensures step { OnOk result (DoesSo (met_at wire self.old.clock self.old from.now (seen tpdu.now) (Some destination)) self.new out.old out.new) }
+        ensures lasts { OnOk result (Lasts self.old.clock self.old.ends self.new.ends) }
         ensures clock { self.new.clock ≡ self.old.clock }
     {
         if destination == 0 {
             return unmatched(self.alloc, from, tpdu, out);
         }
-        self.idle = 0;
         let Some(place) = self.ends.get_mut(usize::from(destination) - 1) else {
             return unmatched(self.alloc, from, tpdu, out);
         };
-        take_place(self.alloc, place, self.clock, from, tpdu, out)
+        take_place(
+            self.alloc,
+            place,
+            &mut self.due,
+            u32::from(destination) - 1,
+            self.clock,
+            from,
+            tpdu,
+            out,
+        )
     }
 }
 
 /// The end there takes a TPDU that matches it; else the TPDU belongs to no end.
 fn take_place(
+    alloc: Global,
+    place: &mut Option<Connection>,
+    due: &mut Due,
+    id: u32,
+    now: Tick,
+    from: &Nsap,
+    tpdu: &TpduRef<'_>,
+    out: &mut Step,
+) -> Result<(), NoMemory>
+    requires behind { IsBehind now place.old }
+    requires now { now ≤ 4000000000 }
+    requires from { IsInTime (due_at place.old) now }
+    requires id { id < length due.old }
+    requires allowed { IsAllowed (format_of place.old) (tpdu_of tpdu.now) }
+    ensures step { OnOk result (Places (takes_at wire now from.now (seen tpdu.now) place.old) place.new out.old out.new) }
+    ensures kept { (timers : Timers) (reference : ℕ) → IsPlace timers now reference place.old → IsPlace timers now reference place.new }
+    ensures from { OnOk result (IsInTime (due_at place.new) now) }
+    ensures later { OnOk result (IsBefore (due_at place.old) now → IsBefore (due_at place.new) now) }
+    ensures due { due.new ≡ slice_set due.old id (due_at place.new) }
+{
+    let outcome = take_there(alloc, place, now, from, tpdu, out);
+    keep(due, id, due_at(place));
+    outcome
+}
+
+/// The end there takes a TPDU that matches it; else the TPDU belongs to no end.
+fn take_there(
     alloc: Global,
     place: &mut Option<Connection>,
     now: Tick,
@@ -158,10 +207,12 @@ fn take_place(
 ) -> Result<(), NoMemory>
     requires behind { IsBehind now place.old }
     requires now { now ≤ 4000000000 }
+    requires from { IsInTime (due_at place.old) now }
     requires allowed { IsAllowed (format_of place.old) (tpdu_of tpdu.now) }
     ensures step { OnOk result (Places (takes_at wire now from.now (seen tpdu.now) place.old) place.new out.old out.new) }
     ensures kept { (timers : Timers) (reference : ℕ) → IsPlace timers now reference place.old → IsPlace timers now reference place.new }
-    ensures none { place.old ≡ None → place.new ≡ None }
+    ensures from { OnOk result (IsInTime (due_at place.new) now) }
+    ensures later { OnOk result (IsBefore (due_at place.old) now → IsBefore (due_at place.new) now) }
 {
     match place {
         Some(end) if end.matches(from, tpdu) => end.on_tpdu(now, tpdu, out),
@@ -287,5 +338,5 @@ fn is_called_frozen(places: &[Option<Connection>], from: &Nsap, reference: u16) 
 fn is_frozen(end: &Connection) -> bool
     ensures { result ≡ is_frozen end.now.stage }
 {
-    end.state() == State::Frozen
+    state_of(end) == State::Frozen
 }

@@ -1,14 +1,16 @@
 //! The ends of a system by their references, and what its users ask (X.224, class 4: connection establishment; frozen references).
 
-ghost use Rattle.std.specs.Prelude.{◌≡◌, ◌≢◌, ◌≤◌, ◌<◌, ◌+◌, ◌-◌, [], ◌∷◌, ◌++◌, Some, None, Err, true, false, length, option_copied, replicate, slice_get, is_some, IfErr, IfOk, OnErr, OnOk};
+ghost use Rattle.std.specs.Prelude.{◌≡◌, ◌≢◌, ◌≤◌, ◌<◌, ◌+◌, ◌-◌, [], ◌∷◌, ◌++◌, Some, None, Err, true, false, length, option_copied, replicate, slice_get, is_some, if◌then◌else◌, IfErr, IfOk, OnErr, OnOk};
 ghost use Rattle.tp4_number.specs.Number.{wire};
 ghost use Rattle.tp4_conn.specs.Calls.{IsCall};
 ghost use Rattle.tp4_conn.specs.End.{IsSize, IsTimed};
 ghost use Rattle.tp4_conn.specs.declared.call.CallRefusal.TheVariants.{NoMemory as EndOutOfMemory};
 ghost use Rattle.tp4_entity.specs.Association.{is_registered};
+ghost use Rattle.std.specs.List.{list_any};
+ghost use Rattle.tp4_entity.specs.Dues.{AreFrom, AreLater};
 ghost use Rattle.tp4_entity.specs.Entity.{Acted, at, end_at, with_end};
 ghost use Rattle.tp4_entity.specs.References.{is_free, least_free};
-ghost use Rattle.tp4_entity.specs.Step.{DoesSo, calling, connect_refusal, connecting, dues, first_due, new_entity, state_at, ticking, user_refusal};
+ghost use Rattle.tp4_entity.specs.Step.{DoesSo, calling, connect_refusal, connecting, dues, first_due, is_due, new_entity, state_at, ticking, user_refusal};
 ghost use Rattle.tp4_entity.specs.Unit.{HearsUnit};
 ghost use Rattle.tp4_entity.specs.declared.refusal.ConnectRefusal.{ConnectRefusal};
 ghost use Rattle.tp4_entity.specs.declared.refusal.ConnectRefusal.TheVariants.{NoMemory as ConnectOutOfMemory};
@@ -17,13 +19,15 @@ ghost use Rattle.tp4_entity.specs.declared.refusal.EntityRefusal.TheVariants.{Ca
 ghost use Rattle.tp4_entity.specs.declared.refusal.TsapRefusal.TheVariants.{TsapTaken};
 ghost use Rattle.tp4_entity.specs.steps.Places.{IsOwn};
 
-use crate::places::{call_place, clock_after, due_place, free_place, is_over, no_ends, tick_place};
+use crate::places::{call_place, clock_after, free_place, is_over, no_ends, state_of, tick_place};
 use crate::{ConnectRefusal, EntityRefusal, TsapRefusal};
+use due_links::Due;
 use nsap::Nsap;
 use osi_base::{Bytes, NoMemory, Tick};
 use std::alloc::Global;
 use std::marker::Model;
-use tp4_conn::{ConnectCall, Connection, State, Timers, UserCall};
+use std::sync::ledger::Ledger;
+use tp4_conn::{ConnectCall, Connection, State, Steps, Timers, UserCall};
 use tp4_flow::Step;
 
 /// The most octets of a connect request.
@@ -38,23 +42,23 @@ pub struct TpEntity {
     pub(crate) clock: Tick,
     pub(crate) selectors: Vec<Bytes>,
     pub(crate) ends: Vec<Option<Connection>>,
-    pub(crate) idle: usize,
-    pub(crate) used: usize,
+    pub(crate) due: Due,
 }
 
 // The timers are in their ranges, there are 1 to 64 references, and each end has its reference, these timers and no later clock;
-// none of the first `idle` ends is due, and behind the first `used` places no end stands.
+// each place is due when its end is.
 impl Model for TpEntity {
     ghost use Rattle.tp4_entity.specs.Entity.{Entity};
-    ghost use Rattle.tp4_entity.specs.steps.Places.{AreIdle, IsEntity, IsUsed};
+    ghost use Rattle.std.specs.Prelude.{◌≡◌};
+    ghost use Rattle.tp4_entity.specs.Dues.{dues_of};
+    ghost use Rattle.tp4_entity.specs.steps.Places.{IsEntity};
 
     ghost Value = { Entity };
 
     ghost view = { λ a. record { own = a.own; timers = a.timers; clock = a.clock; selectors = a.selectors.items; ends = a.ends.items } };
 
     ghost invariant = { λ a. IsEntity (record { own = a.own; timers = a.timers; clock = a.clock; selectors = a.selectors.items; ends = a.ends.items })
-        × AreIdle a.clock a.idle a.ends.items
-        × IsUsed a.used a.ends.items };
+        × (a.due ≡ dues_of a.ends.items) };
 }
 
 impl TpEntity {
@@ -71,6 +75,7 @@ impl TpEntity {
         ensures { IfOk result (λ entity. entity ≡ new_entity own references rules) }
     {
         let ends = no_ends(alloc, usize::from(references))?;
+        let due = Due::new(alloc, u32::from(references))?;
         Ok(TpEntity {
             alloc,
             own,
@@ -78,8 +83,7 @@ impl TpEntity {
             clock: 0,
             selectors: Vec::new(alloc),
             ends,
-            idle: 0,
-            used: 0,
+            due,
         })
     }
 
@@ -95,7 +99,7 @@ impl TpEntity {
         ensures { result ≡ state_at self.now reference }
     {
         match self.end_at(reference) {
-            Some(end) => Some(end.state()),
+            Some(end) => Some(state_of(end)),
             None => None,
         }
     }
@@ -144,10 +148,13 @@ impl TpEntity {
     ) -> Result<u16, ConnectRefusal>
         requires clock { self.old.clock ≤ now }
         requires now { now ≤ 4000000000 }
+        requires due { AreFrom now self.old.ends }
         requires size { IsSize call.options.size }
         ensures allowed { OnOk result (connect_refusal now self.old call.octets ≡ None) }
         ensures least { IfOk result (λ reference. least_free now self.old ≡ Some reference) }
         ensures step { IfOk result (λ reference. DoesSo (connecting now self.old reference call) self.new out.old out.new) }
+        ensures from { OnOk result (AreFrom now self.new.ends) }
+        ensures later { OnOk result (AreLater now self.old.ends → AreLater now self.new.ends) }
         ensures refused { (why : ConnectRefusal) → connect_refusal now self.old call.octets ≡ Some why → result ≡ Err why }
         ensures why { IfErr result (λ why. why ≢ ConnectOutOfMemory → connect_refusal now self.old call.octets ≡ Some why) }
         ensures same { IfErr result (λ why. why ≢ ConnectOutOfMemory → (self.new ≡ self.old) × (out.new ≡ out.old)) }
@@ -177,9 +184,12 @@ impl TpEntity {
     ) -> Result<(), EntityRefusal>
         requires clock { self.old.clock ≤ now }
         requires now { now ≤ 4000000000 }
+        requires due { AreFrom now self.old.ends }
         requires call { IsCall call }
         ensures allowed { OnOk result (user_refusal self.old reference call ≡ None) }
         ensures step { OnOk result (DoesSo (calling wire now self.old reference call) self.new out.old out.new) }
+        ensures from { OnOk result (AreFrom now self.new.ends) }
+        ensures later { OnOk result (AreLater now self.old.ends → AreLater now self.new.ends) }
         ensures refused { (why : EntityRefusal) → user_refusal self.old reference call ≡ Some why → result ≡ Err why }
         ensures why { IfErr result (λ why. why ≢ Call EndOutOfMemory → user_refusal self.old reference call ≡ Some why) }
         ensures same { IfErr result (λ why. why ≢ Call EndOutOfMemory → (self.new ≡ self.old) × (out.new ≡ out.old)) }
@@ -188,11 +198,17 @@ impl TpEntity {
         if reference == 0 {
             return Err(EntityRefusal::NoSuchEnd);
         }
-        self.idle = 0;
         let Some(place) = self.ends.get_mut(usize::from(reference) - 1) else {
             return Err(EntityRefusal::NoSuchEnd);
         };
-        match call_place(place, now, call, out) {
+        match call_place(
+            place,
+            &mut self.due,
+            u32::from(reference) - 1,
+            now,
+            call,
+            out,
+        ) {
             Ok(()) => {
                 self.clock = now;
                 Ok(())
@@ -205,20 +221,47 @@ impl TpEntity {
     }
 
     /// The due end of least reference ticks, and is taken out where it is due no more; one end fewer is due then. False exactly where
-    /// none is due.
-    pub fn tick_next(&mut self, now: Tick, out: &mut Step) -> Result<bool, NoMemory>
+    /// none is due. An end is looked at twice, and none where none is due.
+    pub fn tick_next<L: Ledger>(
+        &mut self,
+        now: Tick,
+        out: &mut Step,
+        steps: &mut Steps<L>,
+    ) -> Result<bool, NoMemory>
         requires clock { self.old.clock ≤ now }
         requires now { now ≤ 4000000000 }
+        requires due { AreFrom now self.old.ends }
         ensures due { IfOk result (λ was_due. was_due ≡ is_some (first_due now self.old)) }
         ensures step { OnOk result (DoesSo (ticking wire now self.old) self.new out.old out.new) }
         ensures fewer { IfOk result (λ was_due. was_due ≡ true → dues now self.new + 1 ≡ dues now self.old) }
+        ensures from { OnOk result (AreFrom now self.new.ends) }
+        ensures later { OnOk result (AreLater now self.old.ends → AreLater now self.new.ends) }
+        ensures rest { IfOk result (λ was_due. was_due ≡ false → AreLater now self.new.ends) }
         ensures clock { self.new.clock ≤ now }
+        ensures steps { IfOk result (λ was_due. steps.new ≤ steps.old + (if was_due then 2 else 0)) }
     {
         self.wake(now);
-        let Some(place) = due_place(&self.ends, self.idle, self.used, now) else {
+        let Some(place) = self.due.pop(now) else {
             return Ok(false);
         };
-        self.tick_at(place, out)?;
+        tick_place(
+            &mut self.ends[place as usize],
+            &mut self.due,
+            place,
+            now,
+            out,
+            steps,
+        )?;
         Ok(true)
+    }
+
+    /// Whether some end has a due tick of at most now.
+    pub fn due_by(&self, now: Tick) -> bool
+        ensures { result ≡ list_any (is_due now) self.now.ends }
+    {
+        match self.due.first() {
+            Some(tick) => tick <= now,
+            None => false,
+        }
     }
 }

@@ -1,20 +1,27 @@
 //! The places of ends, each of one reference (X.224, class 4: frozen references).
 
-ghost use Rattle.std.specs.Prelude.{◌≡◌, ◌==◌, ◌≢◌, ◌≤◌, ◌<◌, ℕ, length, IfSome, Some, None, Err, position, replicate, IfErr, IfOk, OnOk, if◌then◌else◌, false};
+ghost use Rattle.std.specs.Prelude.{◌≡◌, ◌==◌, ◌≢◌, ◌≤◌, ◌<◌, ℕ, ◌+◌, length, slice_set, IfSome, Some, None, Err, position, replicate, IfErr, IfOk, OnOk, if◌then◌else◌, false};
 ghost use Rattle.tp4_number.specs.Number.{wire};
-ghost use Rattle.tp4_conn.specs.Calls.{IsCall};
+ghost use Rattle.tp4_conn.specs.Calls.{IsCall, state_of};
+ghost use Rattle.tp4_conn.specs.Dues.{IsBefore};
+ghost use Rattle.tp4_conn.specs.Living.{IsInTime};
+ghost use Rattle.tp4_conn.specs.Table.{due};
+ghost use Rattle.tp4_entity.specs.Dues.{due_at};
 ghost use Rattle.tp4_conn.specs.declared.call.CallRefusal.TheVariants.{NoMemory as EndOutOfMemory};
 ghost use Rattle.tp4_conn.specs.declared.timers.Timers.{Timers};
 ghost use Rattle.tp4_entity.specs.References.{is_free_place};
 ghost use Rattle.tp4_entity.specs.Step.{end_refusal, is_due};
 ghost use Rattle.tp4_entity.specs.declared.refusal.EntityRefusal.{EntityRefusal};
 ghost use Rattle.tp4_entity.specs.declared.refusal.EntityRefusal.TheVariants.{Call};
-ghost use Rattle.tp4_entity.specs.steps.Places.{AreBehind, AreEmpty, AreIdle, IsBehind, IsPlace, Places, calls_at, is_memory, ticks_at};
+ghost use Rattle.tp4_entity.specs.steps.Places.{AreBehind, IsBehind, IsPlace, Places, calls_at, is_memory, ticks_at};
 
 use crate::EntityRefusal;
+use due_links::Due;
 use osi_base::{NoMemory, Tick};
 use std::alloc::Global;
-use tp4_conn::{CallRefusal, Connection, State, UserCall};
+use std::marker::Brand;
+use std::sync::ledger::{Blank, Ledger};
+use tp4_conn::{CallRefusal, Connection, State, Steps, UserCall};
 use tp4_flow::Step;
 
 /// So many places without ends.
@@ -44,8 +51,8 @@ pub(crate) fn is_over(end: &Connection, now: Tick) -> bool
     requires { end.now.base.clock ≤ now }
     ensures { result ≡ is_free_place now (Some end.now) }
 {
-    match end.state() {
-        State::Frozen => match end.next_due() {
+    match state_of(end) {
+        State::Frozen => match due_of(end) {
             Some(due) => due <= now,
             None => true,
         },
@@ -72,48 +79,92 @@ pub(crate) fn free_place(places: &[Option<Connection>], now: Tick) -> Option<usi
     None
 }
 
-/// The first place whose end is due, where none is among the first `idle` places, and no end stands behind the first `used`.
-pub(crate) fn due_place(
-    places: &[Option<Connection>],
-    idle: usize,
-    used: usize,
-    now: Tick,
-) -> Option<usize>
-    requires idle { AreIdle now idle places.now }
-    requires within { used ≤ length places.now }
-    requires empty { AreEmpty used places.now }
-    ensures { result ≡ position (is_due now) places.now }
+/// When an end is due next, where nobody counts the looks at it.
+pub(crate) fn due_of(end: &Connection) -> Option<Tick>
+    ensures { result ≡ due end.now.base end.now.stage }
 {
-    for at in idle..used {
-        if is_due(&places[at], now) {
-            return Some(at);
-        }
-    }
-    None
+    due_counted::<Brand>(end, Blank::new(1))
 }
 
-/// How many of the first places are still known to have no due end, as the clock goes on.
-pub(crate) fn idle_after(idle: usize, clock: Tick, now: Tick) -> usize
-    ensures { result ≡ (if clock == now then idle else 0) }
+/// When an end is due next; the look is counted in a ledger of its own.
+fn due_counted<L: Ledger>(end: &Connection, blank: Blank) -> Option<Tick>
+    requires name { blank.name ≡ L.name }
+    requires parts { blank.parts ≡ L.parts }
+    requires some { 0 < blank.parts }
+    ensures { result ≡ due end.now.base end.now.stage }
 {
-    if clock == now { idle } else { 0 }
+    end.next_due(&mut Steps::<L>::new(blank))
 }
 
-/// Whether an end stands there that is due.
-fn is_due(place: &Option<Connection>, now: Tick) -> bool
-    ensures { result ≡ is_due now place.now }
+/// The state of an end, where nobody counts the looks at it.
+pub(crate) fn state_of(end: &Connection) -> State
+    ensures { result ≡ state_of end.now.stage }
+{
+    state_counted::<Brand>(end, Blank::new(1))
+}
+
+/// The state of an end; the look is counted in a ledger of its own.
+fn state_counted<L: Ledger>(end: &Connection, blank: Blank) -> State
+    requires name { blank.name ≡ L.name }
+    requires parts { blank.parts ≡ L.parts }
+    requires some { 0 < blank.parts }
+    ensures { result ≡ state_of end.now.stage }
+{
+    end.state(&mut Steps::<L>::new(blank))
+}
+
+/// When the end there is due.
+pub(crate) fn due_at(place: &Option<Connection>) -> Option<Tick>
+    ensures { result ≡ due_at place.now }
 {
     match place {
-        Some(end) => match end.next_due() {
-            Some(tick) => tick <= now,
-            None => false,
-        },
-        None => false,
+        Some(end) => due_of(end),
+        None => None,
+    }
+}
+
+/// A place is due at that tick, or at none.
+pub(crate) fn keep(due: &mut Due, id: u32, tick: Option<Tick>)
+    requires { id < length due.old }
+    ensures { due.new ≡ slice_set due.old id tick }
+{
+    match tick {
+        Some(tick) => due.set(id, tick),
+        None => due.clear(id),
     }
 }
 
 /// A call of the user of the end there.
 pub(crate) fn call_place(
+    place: &mut Option<Connection>,
+    due: &mut Due,
+    id: u32,
+    now: Tick,
+    call: UserCall,
+    out: &mut Step,
+) -> Result<(), EntityRefusal>
+    requires behind { IsBehind now place.old }
+    requires now { now ≤ 4000000000 }
+    requires call { IsCall call }
+    requires from { IsInTime (due_at place.old) now }
+    requires id { id < length due.old }
+    ensures allowed { OnOk result (end_refusal call place.old ≡ None) }
+    ensures step { OnOk result (Places (calls_at wire now call place.old) place.new out.old out.new) }
+    ensures refused { (why : EntityRefusal) → end_refusal call place.old ≡ Some why → result ≡ Err why }
+    ensures why { IfErr result (λ why. why ≢ Call EndOutOfMemory → end_refusal call place.old ≡ Some why) }
+    ensures same { IfErr result (λ why. why ≢ Call EndOutOfMemory → (place.new ≡ place.old) × (out.new ≡ out.old)) }
+    ensures kept { (timers : Timers) (reference : ℕ) → IsPlace timers now reference place.old → IsPlace timers now reference place.new }
+    ensures from { OnOk result (IsInTime (due_at place.new) now) }
+    ensures later { OnOk result (IsBefore (due_at place.old) now → IsBefore (due_at place.new) now) }
+    ensures due { due.new ≡ slice_set due.old id (due_at place.new) }
+{
+    let outcome = call_there(place, now, call, out);
+    keep(due, id, due_at(place));
+    outcome
+}
+
+/// A call of the user of the end there, but for its due tick.
+fn call_there(
     place: &mut Option<Connection>,
     now: Tick,
     call: UserCall,
@@ -122,13 +173,15 @@ pub(crate) fn call_place(
     requires behind { IsBehind now place.old }
     requires now { now ≤ 4000000000 }
     requires call { IsCall call }
+    requires from { IsInTime (due_at place.old) now }
     ensures allowed { OnOk result (end_refusal call place.old ≡ None) }
     ensures step { OnOk result (Places (calls_at wire now call place.old) place.new out.old out.new) }
     ensures refused { (why : EntityRefusal) → end_refusal call place.old ≡ Some why → result ≡ Err why }
     ensures why { IfErr result (λ why. why ≢ Call EndOutOfMemory → end_refusal call place.old ≡ Some why) }
     ensures same { IfErr result (λ why. why ≢ Call EndOutOfMemory → (place.new ≡ place.old) × (out.new ≡ out.old)) }
     ensures kept { (timers : Timers) (reference : ℕ) → IsPlace timers now reference place.old → IsPlace timers now reference place.new }
-    ensures none { place.old ≡ None → place.new ≡ None }
+    ensures from { OnOk result (IsInTime (due_at place.new) now) }
+    ensures later { OnOk result (IsBefore (due_at place.old) now → IsBefore (due_at place.new) now) }
 {
     match place {
         Some(end) => call_end(end, now, call, out),
@@ -146,11 +199,14 @@ fn call_end(
     requires behind { end.old.base.clock ≤ now }
     requires now { now ≤ 4000000000 }
     requires call { IsCall call }
+    requires from { IsInTime (due end.old.base end.old.stage) now }
     ensures allowed { OnOk result (end_refusal call (Some end.old) ≡ None) }
     ensures step { OnOk result (Places (calls_at wire now call (Some end.old)) (Some end.new) out.old out.new) }
     ensures refused { (why : EntityRefusal) → end_refusal call (Some end.old) ≡ Some why → result ≡ Err why }
     ensures why { IfErr result (λ why. why ≢ Call EndOutOfMemory → end_refusal call (Some end.old) ≡ Some why) }
     ensures same { IfErr result (λ why. why ≢ Call EndOutOfMemory → (end.new ≡ end.old) × (out.new ≡ out.old)) }
+    ensures from { OnOk result (IsInTime (due end.new.base end.new.stage) now) }
+    ensures later { OnOk result (IsBefore (due end.old.base end.old.stage) now → IsBefore (due end.new.base end.new.stage) now) }
     ensures kept { (timers : Timers) (reference : ℕ) → IsPlace timers now reference (Some end.old) → IsPlace timers now reference (Some end.new) }
 {
     match end.user(now, call, out) {
@@ -170,23 +226,34 @@ pub(crate) fn clock_after(why: EntityRefusal, clock: Tick, now: Tick) -> Tick
 }
 
 /// The end there ticks, and is taken out where it is due no more. No end is due there then.
-pub(crate) fn tick_place(
+pub(crate) fn tick_place<L: Ledger>(
     place: &mut Option<Connection>,
+    due: &mut Due,
+    id: u32,
     now: Tick,
     out: &mut Step,
+    steps: &mut Steps<L>,
 ) -> Result<(), NoMemory>
     requires behind { IsBehind now place.old }
     requires now { now ≤ 4000000000 }
+    requires from { IsInTime (due_at place.old) now }
+    requires id { id < length due.old }
     ensures step { OnOk result (Places (ticks_at wire now place.old) place.new out.old out.new) }
     ensures later { OnOk result (is_due now place.new ≡ false) }
+    ensures due { due.new ≡ slice_set due.old id (due_at place.new) }
+    ensures steps { steps.new ≤ steps.old + 2 }
     ensures kept { (timers : Timers) (reference : ℕ) → IsPlace timers now reference place.old → IsPlace timers now reference place.new }
-    ensures none { place.old ≡ None → place.new ≡ None }
 {
-    if let Some(end) = place {
-        end.tick(now, out)?;
-        if end.next_due().is_none() {
-            *place = None;
-        }
+    let Some(end) = place else {
+        due.clear(id);
+        return Ok(());
+    };
+    let outcome = end.tick(now, out, steps);
+    let next = end.next_due(steps);
+    keep(due, id, next);
+    outcome?;
+    if next.is_none() {
+        *place = None;
     }
     Ok(())
 }

@@ -1,16 +1,15 @@
 //! The steps of an entity at one of its places.
 
 ghost use Rattle.std.specs.Prelude.{◌≡◌, ◌≤◌, ◌<◌, ◌+◌, Some, length, position, option_copied, [], ◌∷◌, ◌++◌, IfOk, OnErr, OnOk};
-ghost use Rattle.std.specs.List.{list_any};
-ghost use Rattle.tp4_number.specs.Number.{wire};
 ghost use Rattle.tp4_conn.specs.End.{IsSize};
 ghost use Rattle.tp4_entity.specs.Association.{is_registered};
+ghost use Rattle.tp4_entity.specs.Dues.{AreFrom};
 ghost use Rattle.tp4_entity.specs.Entity.{at, end_at, with_end};
-ghost use Rattle.tp4_entity.specs.Step.{DoesSo, connecting, dues, is_due, ticking_at};
-ghost use Rattle.tp4_entity.specs.steps.Places.{IsOwn};
+ghost use Rattle.tp4_entity.specs.Step.{DoesSo, connecting};
+ghost use Rattle.tp4_entity.specs.steps.Places.{IsOwn, Lasts};
 
 use crate::TpEntity;
-use crate::places::{idle_after, tick_place};
+use crate::places::{due_of, keep};
 use nsap::Nsap;
 use osi_base::{Bytes, NoMemory, Tick};
 use tp4_conn::{ConnectCall, Connection};
@@ -51,7 +50,6 @@ impl TpEntity {
         requires { self.old.clock ≤ now }
         ensures { self.new ≡ at now self.old }
     {
-        self.idle = idle_after(self.idle, self.clock, now);
         self.clock = now;
     }
 
@@ -61,8 +59,7 @@ impl TpEntity {
         requires own { IsOwn self.old.timers self.old.clock (place + 1) end }
         ensures { self.new ≡ with_end self.old (place + 1) (Some end) }
     {
-        self.idle = 0;
-        self.used = self.used.max(place + 1);
+        keep(&mut self.due, place as u32, due_of(&end));
         self.ends[place] = Some(end);
     }
 
@@ -77,9 +74,11 @@ impl TpEntity {
         requires within { place < length self.old.ends }
         requires clock { self.old.clock ≤ now }
         requires now { now ≤ 4000000000 }
+        requires due { AreFrom now self.old.ends }
         requires size { IsSize call.options.size }
         ensures reference { IfOk result (λ reference. reference ≡ place + 1) }
         ensures step { OnOk result (DoesSo (connecting now self.old (place + 1) call) self.new out.old out.new) }
+        ensures lasts { OnOk result (Lasts now self.old.ends self.new.ends) }
         ensures clock { self.new.clock ≤ now }
     {
         let from: Nsap = self.own;
@@ -94,22 +93,5 @@ impl TpEntity {
         self.wake(now);
         self.put(place, end);
         Ok(own)
-    }
-
-    /// The first end that is due ticks. One fewer is due then.
-    pub(crate) fn tick_at(&mut self, place: usize, out: &mut Step) -> Result<(), NoMemory>
-        requires now { self.old.clock ≤ 4000000000 }
-        requires first { position (is_due self.old.clock) self.old.ends ≡ Some place }
-        ensures step { OnOk result (DoesSo (ticking_at wire self.old.clock self.old (Some (place + 1))) self.new out.old out.new) }
-        ensures fewer { OnOk result (position (is_due self.old.clock) self.old.ends ≡ Some place → dues self.old.clock self.new + 1 ≡ dues self.old.clock self.old) }
-        ensures clock { self.new.clock ≡ self.old.clock }
-    {
-        self.idle = 0;
-        let Some(slot) = self.ends.get_mut(place) else {
-            return Ok(());
-        };
-        tick_place(slot, self.clock, out)?;
-        self.idle = place + 1;
-        Ok(())
     }
 }

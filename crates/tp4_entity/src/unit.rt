@@ -6,6 +6,7 @@ ghost use Rattle.tpdu.specs.Grammar.{BeginsWithTpdu};
 ghost use Rattle.tpdu.specs.Values.{destination_of, format_for, seen, tpdu_of};
 ghost use Rattle.tpdu.specs.Writing.{IsAllowed};
 ghost use Rattle.tp4_number.specs.Number.{wire};
+ghost use Rattle.tp4_entity.specs.Dues.{AreFrom, AreLater};
 ghost use Rattle.tp4_entity.specs.Entity.{Acted, at, end_at};
 ghost use Rattle.tp4_entity.specs.Step.{DoesSo};
 ghost use Rattle.tp4_entity.specs.Unit.{HearsUnit, extended_of, listed_if};
@@ -32,7 +33,10 @@ impl TpEntity {
     ) -> Result<(), NoMemory>
         requires clock { self.old.clock ≤ now }
         requires now { now ≤ 4000000000 }
+        requires due { AreFrom now self.old.ends }
         ensures heard { OnOk result ((acted : Acted) × HearsUnit wire now self.old from octets.now acted × DoesSo acted self.new out.old out.new) }
+        ensures from { OnOk result (AreFrom now self.new.ends) }
+        ensures later { OnOk result (AreLater now self.old.ends → AreLater now self.new.ends) }
         ensures clock { self.new.clock ≤ now }
     {
         self.wake(now);

@@ -41,9 +41,10 @@ use Rattle.tp4_headline.proofs.MeetsOthers.{KnowsTaken}
 use Rattle.tp4_headline.proofs.ReferencesMet.{IsMet, met, no_request, none, only, target_of}
 use Rattle.tp4_headline.proofs.ReferencesOwn.{are_partners, partners_are}
 use Rattle.tp4_headline.proofs.ReferencesSince.{AreUpTo, LineGoes, SinceBy, line_goes, lines_go, told_up, up_append, up_more}
-use Rattle.tp4_headline.proofs.ReferencesStarts.{followed_by, started}
+use Rattle.tp4_headline.proofs.ReferencesStarts.{followed_by}
 use Rattle.tp4_headline.proofs.ReferencesStays.{line_stays}
 use Rattle.tp4_headline.proofs.WorldCalls.{lines_hold}
+use Rattle.tp4_headline.proofs.WorldStarts.{started}
 use Rattle.tp4_headline.proofs.WorldOutcomes.{one_unit, outcomes}
 
 -- ---- lists

@@ -40,7 +40,8 @@ use Rattle.tp4_headline.proofs.WorldActs.{Went, went_aside, went_nowhere, went_o
 use Rattle.tp4_headline.proofs.WorldAsides.{are_aside, picked_quiet, told_quiet}
 use Rattle.tp4_headline.proofs.WorldFloats.{all_explained_on, choice_goes}
 use Rattle.tp4_headline.proofs.WorldKnown.{known_at, rest_with}
-use Rattle.tp4_headline.proofs.WorldPlaces.{with_again, with_first}
+use Rattle.tp4_headline.proofs.WorldPlaces.{with_again}
+use Rattle.tp4_world.proofs.Having.{with_first}
 
 acted_same : (a b : Acted) → a.entity ≡ b.entity → a.events ≡ b.events → a.tpdus ≡ b.tpdus → a ≡ b
 acted_same a b entity told tpdus =

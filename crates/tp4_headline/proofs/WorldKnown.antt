@@ -11,7 +11,8 @@ use Rattle.tp4_world.specs.declared.place.EndAt.{EndAt}
 use Rattle.tp4_world.specs.declared.place.Placed.{Placed}
 use Rattle.tp4_headline.specs.steps.Known.{Holds, IsListed, Known}
 use Rattle.tp4_headline.specs.steps.Worlds.{AreAtRest}
-use Rattle.tp4_headline.proofs.WorldPlaces.{some_same, with_any, with_first, with_other}
+use Rattle.tp4_headline.proofs.WorldPlaces.{some_same}
+use Rattle.tp4_world.proofs.Having.{with_any, with_first, with_other}
 
 equal : (n m : ℕ) → (n == m) ≡ true → n ≡ m
 equal n m is = grind arith

@@ -94,7 +94,7 @@ all_none : (ends : List (Option End)) → AllByRecursion (λ place. place ≡ No
 all_none [] none = refl
 all_none (place ∷ ends) none = ap (λ (p : Option End). p ∷ ends) none.0 ∙ ap (λ (ps : List (Option End)). None ∷ ps) (all_none ends none.1)
 
-no_ends : (titles : List (List ℕ)) (placed : List Placed) → AllByRecursion (IsNew titles) placed → AllByRecursion (λ (one : Placed). HasNoEnd one.entity) placed
+pub no_ends : (titles : List (List ℕ)) (placed : List Placed) → AllByRecursion (IsNew titles) placed → AllByRecursion (λ (one : Placed). HasNoEnd one.entity) placed
 no_ends titles [] all = tt
 no_ends titles (one ∷ placed) all = (all.0.none, no_ends titles placed all.1)
 
@@ -161,7 +161,7 @@ module _ (titles : List (List ℕ)) (timers : Timers) (timed : IsTimed timers) (
       outcomes.new now (length e.ends) e (all_none e.ends (titled system e is).none) (subst IsTimed (sym timers_are) timed) (subst (λ (t : Timers). 1 ≤ t.inactive) (sym timers_are) inactive)
 
   -- the network as it starts
-  started : {C : Type 0} (link : C → Link (List ℕ)) (steps : C → Call (List ℕ) → C → Type 0) (law : (old : C) (call : Call (List ℕ)) (new : C) → steps old call new → Keeps (link old) call (link new))
+  pub started : {C : Type 0} (link : C → Link (List ℕ)) (steps : C → Call (List ℕ) → C → Type 0) (law : (old : C) (call : Call (List ℕ)) (new : C) → steps old call new → Keeps (link old) call (link new))
       → Followed titles timers → (Sound : Entity → Type 0) (InTime : ℕ → Entity → Type 0) → Outcomes Sound InTime → (made : C) (begun : List Event) (first : World C)
       → IsFirst timers.life titles (link made) placed → Starts link steps made placed begun first → Rests link Sound titles timers begun first
   started {C} link steps law followed Sound InTime outcomes made begun first is start =

@@ -24,7 +24,8 @@ use Rattle.tp4_headline.proofs.WorldActs.{Went, went_nowhere, went_on, went_then
 use Rattle.tp4_headline.proofs.WorldAsides.{are_aside, told_quiet}
 use Rattle.tp4_headline.proofs.WorldFloats.{tick_goes}
 use Rattle.tp4_headline.proofs.WorldKnown.{known_at}
-use Rattle.tp4_headline.proofs.WorldPlaces.{found_any, some_same, with_first, with_other}
+use Rattle.tp4_headline.proofs.WorldPlaces.{some_same}
+use Rattle.tp4_world.proofs.Having.{found_any, with_first, with_other}
 
 equal : (n m : ℕ) → (n == m) ≡ true → n ≡ m
 equal n m is = grind arith

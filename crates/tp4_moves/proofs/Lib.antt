@@ -16,7 +16,7 @@ mod FlowResends
 mod FlowRows
 mod FlowSending
 mod FlowSends
-mod FlowUnits
+pub mod FlowUnits
 pub mod Halves
 pub mod Offers
 pub mod Opens

@@ -8,7 +8,7 @@ use Rattle.tp4_conn.specs.Table.{Ticked, due, stepped}
 use Rattle.tp4_entity.specs.Entity.{Entity, at, end_at, there}
 use Rattle.tp4_entity.specs.Step.{dues, first_due, is_due, kept_end, ticking, ticking_at, ticking_end}
 use Rattle.tp4_entity.proofs.PlaceLaws.{Place, end_at_of, set_at}
-use Rattle.tp4_entity.proofs.Ticks.{fewer_so}
+use Rattle.tp4_entity.proofs.Ticks.{first_fewer}
 use Rattle.tp4_outcome.specs.Rest.{AreProper}
 use Rattle.tp4_outcome.proofs.Ends.{kept_later}
 use Rattle.tp4_outcome.proofs.Rows.{ticked_later}
@@ -37,11 +37,11 @@ tick_fewer wrap now e place clock p h =
     let new : Place = kept_end m (due m.base m.stage) in
     let later : is_due now new ≡ false = kept_later now m (due m.base m.stage) (ticked_later wrap now d.end (p.ends (place + 1) d.end stands).proper) in
     let back : place + 1 - 1 ≡ place = omega arith in
-    let fewer : dues e.clock (set_at e place new) + 1 ≡ dues e.clock e =
-    fewer_so e e place (Some d.end) new refl d.get (ap (λ (n : ℕ). is_due n new) clock ∙ later) (ap (λ (n : ℕ). position (is_due n) e.ends) clock ∙ h) in
+    let fewer : dues now (set_at e place new) + 1 ≡ dues now e =
+    first_fewer e e now place (Some d.end) new (ap (λ (n : ℕ). at n e) clock) h d.get later in
     ap (λ (x : Place). dues now (ticking_end wrap now e (place + 1) x).entity + 1) stands
     ∙ ap (λ (n : ℕ). dues now (record e { ends = slice_set e.ends n new }) + 1) back
-    ∙ subst (λ (n : ℕ). dues n (set_at e place new) + 1 ≡ dues n e) clock fewer
+    ∙ fewer
 
 fewer_at : (wrap : ℕ → ℕ → ℕ) (now reference : ℕ) (e : Entity) (found : Option ℕ) → e.clock ≡ now → AreProper e → position (is_due now) e.ends ≡ found
     → option_map (λ (place : ℕ). place + 1) found ≡ Some reference → dues now (ticking_at wrap now e (option_map (λ (place : ℕ). place + 1) found)).entity + 1 ≡ dues now e

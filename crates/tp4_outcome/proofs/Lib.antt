@@ -1,4 +1,3 @@
-pub mod Calms
 pub mod Ends
 pub mod Fewer
 pub mod Heards

@@ -1,27 +1,13 @@
 -- What the ends of an entity keep, and when none of them is due (X.224, class 4 state tables; structure and encoding of TPDUs).
-use Rattle.std.specs.Prelude.{◌≡◌, ◌≤◌, ℕ, ◌+◌, ◌*◌, false, [], Some, None}
-use Rattle.tp4_conn.specs.declared.stage.Answering.{Answering}
-use Rattle.tp4_conn.specs.declared.stage.Stage.{Stage}
-use Rattle.tp4_conn.specs.declared.stage.Stage.TheVariants.{AkWait}
+use Rattle.std.specs.Prelude.{◌≡◌, ◌≤◌, ℕ, Some, None}
 use Rattle.tp4_conn.specs.declared.timers.Timers.{Timers}
 use Rattle.tp4_conn.specs.End.{End, IsTimed}
 use Rattle.tp4_conn.specs.Living.{IsInTime}
 use Rattle.tp4_conn.specs.Proper.{AreSendable, IsProper}
 use Rattle.tp4_conn.specs.Table.{due}
+use Rattle.tp4_conn.specs.steps.Kept.{IsWaiting}
 use Rattle.tp4_entity.specs.Entity.{Acted, Entity, end_at}
 use Rattle.tp4_entity.specs.Step.{first_due}
-
--- a CC was sent, and neither a DT nor an ED; its sendings are at most T1 apart
-pub record IsUnanswered (t : Timers) (w : Answering) : Type 0 where
-  pub shut : w.halves.sending.is_open ≡ false
-  pub window : w.halves.sending.window ≡ []
-  pub urgent : w.halves.sending.urgent.out ≡ None
-  pub runs : w.tries.last + t.t1 ≤ w.first + w.tries.count * t.t1
-  pub few : w.tries.count ≤ t.sendings
-
-abbrev pub IsWaiting : Timers → Stage → Type 0
-IsWaiting t (AkWait w) = IsUnanswered t w
-IsWaiting t stage = Unit {0}
 
 -- an end of an entity with these timers
 pub record IsProperEnd (timers : Timers) (e : End) : Type 0 where

@@ -1,5 +1,5 @@
 -- After a tick that goes on nothing is due: a DT or an ED that was due was sent now, the others wait, and what is next was tried
--- against the number rule.
+-- against the number rule. So it is after new sends, by a tick that is not after now, where nothing that was sent was due by it.
 use Rattle.std.proofs.Common.{◌≡◌, ℕ, zero, suc, ◌+◌, ◌-◌, ◌<◌, ◌≤◌, Bool, true, false, ◌||◌, ◌==◌, nat_lt, nat_le, if◌then◌else◌, List, [], ◌∷◌, ◌++◌, length, Option, Some, None, refl, sym, ◌∙◌, ap, subst, arith, inl, inr}
 use Rattle.std.specs.Prelude.{not, is_some}
 use Rattle.std.proofs.lemmas.Bool.{or_parts, and_parts, and_right, le-ltb, lt-ltb, leb-false, ltb-true, true≢false}
@@ -35,43 +35,45 @@ added_late t1 tick now (x ∷ window) soon h k =
       | inr rest ↦ added_late t1 tick now window soon (λ r. h (second_due (Some (x.last + t1)) (least_due t1 window) now r)) rest
     ]
 
--- the window waits
-record Early (now : ℕ) (s : FlowSender) : Type 0 where
-  is_open : s.is_open ≡ true
-  clock : s.clock ≡ now
-  some : 0 < s.rules.t1
-  window : IsDue (least_due s.rules.t1 s.window) now → ⊥
+-- the window waits, by a tick that is not after now
+pub record Early (b now : ℕ) (s : FlowSender) : Type 0 where
+  pub is_open : s.is_open ≡ true
+  pub clock : s.clock ≡ now
+  pub some : 0 < s.rules.t1
+  pub bound : b ≤ now
+  pub window : IsDue (least_due s.rules.t1 s.window) b → ⊥
 
 -- the ED that is outstanding waits too
-record Late (now : ℕ) (s : FlowSender) : Type 0 where
-  early : Early now s
-  last : IsDue (urgent_last s s.urgent.out) now → ⊥
+pub record Late (b now : ℕ) (s : FlowSender) : Type 0 where
+  pub early : Early b now s
+  pub last : IsDue (urgent_last s s.urgent.out) b → ⊥
 
 -- and the next ED
-record Waits (now : ℕ) (s : FlowSender) : Type 0 where
-  late : Late now s
-  opens : IsDue (urgent_opens s) now → ⊥
+pub record Waits (b now : ℕ) (s : FlowSender) : Type 0 where
+  pub late : Late b now s
+  pub opens : IsDue (urgent_opens s) now → ⊥
 
 -- and the next DT
-record Rests (now : ℕ) (s : FlowSender) : Type 0 where
-  waits : Waits now s
-  opens : IsDue (normal_opens s) now → ⊥
+pub record Rests (b now : ℕ) (s : FlowSender) : Type 0 where
+  pub waits : Waits b now s
+  pub opens : IsDue (normal_opens s) now → ⊥
 
-again_late : (now : ℕ) (s : FlowSender) (out : Option Tries) → s.urgent.out ≡ out → Early now s → Late now (resends_urgent_as out s).sender
-again_late now s None e h = record { early = h; last = λ k. subst (λ (o : Option Tries). IsDue (urgent_last s o) now) e k }
-again_late now s (Some tries) e h = by (is_due s.rules.t1 s.clock tries) refl
+-- an ED that was due is sent now
+again_late : (b now : ℕ) (s : FlowSender) (out : Option Tries) → s.urgent.out ≡ out → Early b now s → Late b now (resends_urgent_as out s).sender
+again_late b now s None e h = record { early = h; last = λ k. subst (λ (o : Option Tries). IsDue (urgent_last s o) b) e k }
+again_late b now s (Some tries) e h = by (is_due s.rules.t1 s.clock tries) refl
   where
-    by : (b : Bool) → is_due s.rules.t1 s.clock tries ≡ b
-        → Late now (if b then record { sender = retried_urgent s tries; events = []; tpdus = eds s (s.urgent.next - 1) s.urgent.units } else nothing s).sender
+    by : (due : Bool) → is_due s.rules.t1 s.clock tries ≡ due
+        → Late b now (if due then record { sender = retried_urgent s tries; events = []; tpdus = eds s (s.urgent.next - 1) s.urgent.units } else nothing s).sender
     by true t = record {
-      early = record { is_open = h.is_open; clock = h.clock; some = h.some; window = h.window };
-      last = λ k. absurd (omega (arith, h.clock, h.some, k));
+      early = record { is_open = h.is_open; clock = h.clock; some = h.some; bound = h.bound; window = h.window };
+      last = λ k. absurd (omega (arith, h.clock, h.some, h.bound, k));
     }
     by false t = record {
       early = h;
       last = λ k.
-          let past : tries.last + s.rules.t1 ≤ now = subst (λ (o : Option Tries). IsDue (urgent_last s o) now) e k in
-          let low : s.clock < tries.last + s.rules.t1 = leb-false (tries.last + s.rules.t1) s.clock t in absurd (omega (arith, past, low, h.clock));
+          let past : tries.last + s.rules.t1 ≤ b = subst (λ (o : Option Tries). IsDue (urgent_last s o) b) e k in
+          let low : s.clock < tries.last + s.rules.t1 = leb-false (tries.last + s.rules.t1) s.clock t in absurd (omega (arith, past, low, h.clock, h.bound));
     }
 
 -- what the rule holds back now it holds back later too
@@ -86,15 +88,15 @@ unless_due : (b : Bool) (next : Option ℕ) (now : ℕ) → (b ≡ false → IsD
 unless_due true next now h k = k
 unless_due false next now h k = h refl k
 
-urgent_waits : (now : ℕ) (s : FlowSender) → Late now s → Waits now (one_urgent s).sender
-urgent_waits now s h = by (is_some s.urgent.out || length s.urgent.units == 0) refl (rule_allows s s.urgent.blocks s.urgent.next) refl (is_noted s.urgent.noted s.urgent.next)
+urgent_waits : (b now : ℕ) (s : FlowSender) → Late b now s → Waits b now (one_urgent s).sender
+urgent_waits b now s h = by (is_some s.urgent.out || length s.urgent.units == 0) refl (rule_allows s s.urgent.blocks s.urgent.next) refl (is_noted s.urgent.noted s.urgent.next)
   where
     held : rule_allows s s.urgent.blocks s.urgent.next ≡ false → IsDue (urgent_opens s) now → ⊥
     held r = unless_due (is_some s.urgent.out || length s.urgent.units == 0) (opens_at (block_in s) s.rules.limit s.urgent.blocks s.urgent.next) now
         (λ _. rule_late s s.urgent.blocks s.urgent.next now h.early.clock r)
 
     by : (busy : Bool) → (is_some s.urgent.out || length s.urgent.units == 0) ≡ busy → (allowed : Bool) → rule_allows s s.urgent.blocks s.urgent.next ≡ allowed → (noted : Bool)
-        → Waits now (if busy then nothing s
+        → Waits b now (if busy then nothing s
         else if allowed then record { sender = sent_urgent s; events = []; tpdus = eds s s.urgent.next s.urgent.units }
         else if noted then nothing s
         else record { sender = record s { urgent = record s.urgent { noted = Some s.urgent.next } }; events = holds s Ed s.urgent.next ∷ []; tpdus = [] }).sender
@@ -105,14 +107,14 @@ urgent_waits now s h = by (is_some s.urgent.out || length s.urgent.units == 0) r
     }
     by false e true r noted = record {
       late = record {
-        early = record { is_open = h.early.is_open; clock = h.early.clock; some = h.early.some; window = h.early.window };
-        last = λ k. absurd (omega (arith, h.early.clock, h.early.some, k));
+        early = record { is_open = h.early.is_open; clock = h.early.clock; some = h.early.some; bound = h.early.bound; window = h.early.window };
+        last = λ k. absurd (omega (arith, h.early.clock, h.early.some, h.early.bound, k));
       };
       opens = λ k. k;
     }
     by false e false r true = record { late = h; opens = held r }
     by false e false r false = record {
-      late = record { early = record { is_open = h.early.is_open; clock = h.early.clock; some = h.early.some; window = h.early.window }; last = h.last };
+      late = record { early = record { is_open = h.early.is_open; clock = h.early.clock; some = h.early.some; bound = h.early.bound; window = h.early.window }; last = h.last };
       opens = held r;
     }
 
@@ -124,31 +126,32 @@ held_back : (now : ℕ) (s : FlowSender) → s.clock ≡ now → rule_allows s s
 held_back now s c r = unless_due (is_urgent s || not (has_next s)) (opens_at (block_in s) s.rules.limit s.numbers.blocks s.numbers.next) now
     (λ _. rule_late s s.numbers.blocks s.numbers.next now c r)
 
-sent_waits : (now : ℕ) (s : FlowSender) → Waits now s → Waits now (sent_normal s)
-sent_waits now s h = record {
+sent_waits : (b now : ℕ) (s : FlowSender) → Waits b now s → Waits b now (sent_normal s)
+sent_waits b now s h = record {
   late = record {
     early = record {
       is_open = h.late.early.is_open;
       clock = h.late.early.clock;
       some = h.late.early.some;
-      window = added_late s.rules.t1 s.clock now s.window (omega (arith, h.late.early.clock, h.late.early.some)) h.late.early.window;
+      bound = h.late.early.bound;
+      window = added_late s.rules.t1 s.clock b s.window (omega (arith, h.late.early.clock, h.late.early.some, h.late.early.bound)) h.late.early.window;
     };
     last = h.late.last;
   };
   opens = h.opens;
 }
 
-normals_rest : (fuel now : ℕ) (s : FlowSender) → Waits now s → end_of s.rules.piece s.queue - s.numbers.next ≤ fuel → Rests now (normals fuel s).sender
-normals_rest zero now s h f =
+normals_rest : (fuel b now : ℕ) (s : FlowSender) → Waits b now s → end_of s.rules.piece s.queue - s.numbers.next ≤ fuel → Rests b now (normals fuel s).sender
+normals_rest zero b now s h f =
     let out : nat_lt s.numbers.next (end_of s.rules.piece s.queue) ≡ false = le-ltb _ _ (omega (arith, f)) in
     record { waits = h; opens = no_more now s (and_right _ _ out) }
-normals_rest (suc fuel) now s h f =
+normals_rest (suc fuel) b now s h f =
     by (has_next s) refl (rule_allows s s.numbers.blocks s.numbers.next) refl (is_noted s.noted s.numbers.next)
-    (λ (more : has_next s ≡ true). normals_rest fuel now (sent_normal s) (sent_waits now s h) (let below : s.numbers.next < end_of s.rules.piece s.queue = ltb-true s.numbers.next (end_of s.rules.piece s.queue) (and_parts (nat_lt s.numbers.next (s.numbers.base + s.numbers.credit)) (nat_lt s.numbers.next (end_of s.rules.piece s.queue)) more).1 in omega (arith, below, f)))
+    (λ (more : has_next s ≡ true). normals_rest fuel b now (sent_normal s) (sent_waits b now s h) (let below : s.numbers.next < end_of s.rules.piece s.queue = ltb-true s.numbers.next (end_of s.rules.piece s.queue) (and_parts (nat_lt s.numbers.next (s.numbers.base + s.numbers.credit)) (nat_lt s.numbers.next (end_of s.rules.piece s.queue)) more).1 in omega (arith, below, f)))
   where
     by : (more : Bool) → has_next s ≡ more → (allowed : Bool) → rule_allows s s.numbers.blocks s.numbers.next ≡ allowed → (noted : Bool)
-        → (has_next s ≡ true → Rests now (normals fuel (sent_normal s)).sender)
-        → Rests now (if not more then nothing s
+        → (has_next s ≡ true → Rests b now (normals fuel (sent_normal s)).sender)
+        → Rests b now (if not more then nothing s
         else if allowed then before (dts_of s s.numbers.next) (normals fuel (sent_normal s))
         else if noted then nothing s
         else record { sender = record s { noted = Some s.numbers.next }; events = holds s Dt s.numbers.next ∷ []; tpdus = [] }).sender
@@ -158,7 +161,7 @@ normals_rest (suc fuel) now s h f =
     by true e false r false rest = record {
       waits = record {
         late = record {
-          early = record { is_open = h.late.early.is_open; clock = h.late.early.clock; some = h.late.early.some; window = h.late.early.window };
+          early = record { is_open = h.late.early.is_open; clock = h.late.early.clock; some = h.late.early.some; bound = h.late.early.bound; window = h.late.early.window };
           last = h.late.last;
         };
         opens = h.opens;
@@ -166,37 +169,49 @@ normals_rest (suc fuel) now s h f =
       opens = held_back now s h.late.early.clock r;
     }
 
-where_rests : (now : ℕ) (s : FlowSender) → Waits now s → Rests now (normals_where s).sender
-where_rests now s h = by (is_urgent s) refl
+where_rests : (b now : ℕ) (s : FlowSender) → Waits b now s → Rests b now (normals_where s).sender
+where_rests b now s h = by (is_urgent s) refl
   where
-    by : (b : Bool) → is_urgent s ≡ b → Rests now (if b then nothing s else all_normals s).sender
+    by : (t : Bool) → is_urgent s ≡ t → Rests b now (if t then nothing s else all_normals s).sender
     by true e = record {
       waits = h;
       opens = unless_due (is_urgent s || not (has_next s)) (opens_at (block_in s) s.rules.limit s.numbers.blocks s.numbers.next) now
           (λ f. absurd (true≢false (sym e ∙ (or_parts (is_urgent s) (not (has_next s)) f).0)));
     }
-    by false e = normals_rest (end_of s.rules.piece s.queue - s.numbers.next) now s h (omega arith)
+    by false e = normals_rest (end_of s.rules.piece s.queue - s.numbers.next) b now s h (omega arith)
 
-not_due : (now : ℕ) (s : FlowSender) → Rests now s → IsDue (due_of s) now → ⊥
-not_due now s h due =
-    elim (either_due (least_due s.rules.t1 s.window) (urgent_part s) now (subst (λ (d : Option ℕ). IsDue d now) (due_is s h.waits.late.early.is_open) due)) [
+sooner_due : (due : Option ℕ) (b now : ℕ) → b ≤ now → IsDue due b → IsDue due now
+sooner_due None b now h k = k
+sooner_due (Some tick) b now h k = omega (arith, h, k)
+
+pub not_due : (b now : ℕ) (s : FlowSender) → Rests b now s → IsDue (due_of s) b → ⊥
+not_due b now s h due =
+    elim (either_due (least_due s.rules.t1 s.window) (urgent_part s) b (subst (λ (d : Option ℕ). IsDue d b) (due_is s h.waits.late.early.is_open) due)) [
       | inl window ↦ h.waits.late.early.window window
-      | inr rest ↦ part rest
+      | inr rest ↦ elim (either_due (urgent_last s s.urgent.out) (sooner (urgent_opens s) (normal_opens s)) b rest) [
+        | inl last ↦ h.waits.late.last last
+        | inr opens ↦ elim (either_due (urgent_opens s) (normal_opens s) b opens) [
+          | inl one ↦ h.waits.opens (sooner_due (urgent_opens s) b now h.waits.late.early.bound one)
+          | inr other ↦ h.opens (sooner_due (normal_opens s) b now h.waits.late.early.bound other)
+        ]
+      ]
     ]
-  where
-    opens : IsDue (sooner (urgent_opens s) (normal_opens s)) now → ⊥
-    opens k = elim (either_due (urgent_opens s) (normal_opens s) now k) [ inl one ↦ h.waits.opens one | inr other ↦ h.opens other ]
 
-    part : IsDue (urgent_part s) now → ⊥
-    part k = elim (either_due (urgent_last s s.urgent.out) (sooner (urgent_opens s) (normal_opens s)) now k) [ inl last ↦ h.waits.late.last last | inr rest ↦ opens rest ]
+pub new_rests : (b : ℕ) (s : FlowSender) → s.is_open ≡ true → 0 < s.rules.t1 → b ≤ s.clock → (IsDue (least_due s.rules.t1 s.window) b → ⊥) → (IsDue (urgent_last s s.urgent.out) b → ⊥)
+    → Rests b s.clock (new_sends s).sender
+new_rests b s o some bound window last =
+    let late : Late b s.clock s = record { early = record { is_open = o; clock = refl; some = some; bound = bound; window = window }; last = last } in
+    subst (λ (t : Bool). Rests b s.clock (if t then then_sends (one_urgent s) normals_where else nothing s).sender) (sym o)
+    (where_rests b s.clock (one_urgent s).sender (urgent_waits b s.clock s late))
 
 goes_later : (s : FlowSender) → s.is_open ≡ true → 0 < s.rules.t1 → IsDue (due_of (ticked_as Goes s).sender) s.clock → ⊥
 goes_later s o some =
     let m = (resends_urgent (resends s).sender).sender in
-    let late : Late s.clock m = again_late s.clock (resends s).sender (resends s).sender.urgent.out refl
-    (record { is_open = o; clock = refl; some = some; window = resent_late s.rules.t1 s.clock s.window some }) in
-    not_due s.clock (new_sends m).sender
-    (subst (λ (b : Bool). Rests s.clock (if b then then_sends (one_urgent m) normals_where else nothing m).sender) (sym late.early.is_open) (where_rests s.clock (one_urgent m).sender (urgent_waits s.clock m late)))
+    let late : Late s.clock s.clock m = again_late s.clock s.clock (resends s).sender (resends s).sender.urgent.out refl
+    (record { is_open = o; clock = refl; some = some; bound = omega arith; window = resent_late s.rules.t1 s.clock s.window some }) in
+    not_due s.clock s.clock (new_sends m).sender
+    (subst (λ (b : Bool). Rests s.clock s.clock (if b then then_sends (one_urgent m) normals_where else nothing m).sender) (sym late.early.is_open)
+    (where_rests s.clock s.clock (one_urgent m).sender (urgent_waits s.clock s.clock m late)))
 
 pub tick_later : (s : FlowSender) → s.is_open ≡ true → 0 < s.rules.t1 → life_of s ≡ Goes → IsDue (due_of (ticked s).sender) s.clock → ⊥
 tick_later s o some goes due = goes_later s o some (subst (λ (l : Life). IsDue (due_of (ticked_as l s).sender) s.clock) goes due)

@@ -1,6 +1,6 @@
 //! When a sending half is to act again (X.224, retransmission on time-out; sequence numbering).
 
-ghost use Rattle.std.specs.Prelude.{◌≡◌};
+ghost use Rattle.std.specs.Prelude.{◌≡◌, ◌+◌, nat_le};
 ghost use Rattle.tp4_sending.specs.FlowSender.{urgent_opens, normal_opens, urgent_last};
 ghost use Rattle.tp4_sending.specs.Pieces.{sooner, least_due};
 
@@ -53,7 +53,7 @@ impl Sending {
 }
 
 /// The earlier of two ticks that may be there.
-pub(crate) fn sooner(one: Option<Tick>, other: Option<Tick>) -> Option<Tick>
+pub fn sooner(one: Option<Tick>, other: Option<Tick>) -> Option<Tick>
     ensures { result ≡ sooner one other }
 {
     match (one, other) {
@@ -61,4 +61,11 @@ pub(crate) fn sooner(one: Option<Tick>, other: Option<Tick>) -> Option<Tick>
         (Some(one), None) => Some(one),
         (None, other) => other,
     }
+}
+
+/// Whether so many ticks passed since then.
+pub fn is_past(since: Tick, ticks: u32, now: Tick) -> bool
+    ensures { result ≡ nat_le (since + ticks) now }
+{
+    u64::from(since) + u64::from(ticks) <= u64::from(now)
 }

@@ -13,6 +13,7 @@ mod tpdus;
 mod tries;
 mod urgent;
 
+pub use due::{is_past, sooner};
 pub use laws::{
     due_is_least, held_numbers_rise, joins_what_was_cut, stays_settled, waits_until_due,
 };

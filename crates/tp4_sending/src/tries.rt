@@ -5,6 +5,7 @@ ghost use Rattle.std.specs.List.{list_any};
 ghost use Rattle.circular_buffer.specs.Buffer.{buffer};
 ghost use Rattle.tp4_sending.specs.Pieces.{again, is_due, is_spent, once};
 
+use crate::due::is_past;
 use circular_buffer::HeapCircularBuffer;
 use osi_base::Tick;
 
@@ -41,7 +42,7 @@ impl Tries {
     pub fn is_due(self, t1: u32, now: Tick) -> bool
         ensures { result ≡ is_due t1 now self }
     {
-        u64::from(self.last) + u64::from(t1) <= u64::from(now)
+        is_past(self.last, t1, now)
     }
 
     /// Whether it was sent as often as it may be, and was not acknowledged in time.

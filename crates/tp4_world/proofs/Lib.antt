@@ -6,6 +6,7 @@ pub mod Entities
 pub mod Going
 pub mod Having
 pub mod Heard
+pub mod Later
 pub mod Latest
 pub mod Leaving
 pub mod Lowered

@@ -11,7 +11,7 @@ ghost use Rattle.tp4_entity.specs.Entity.{Entity};
 ghost use Rattle.tp4_entity.specs.Step.{user_refusal};
 ghost use Rattle.tp4_world.specs.Run.{Calls, CallsBy, Connects};
 ghost use Rattle.tp4_world.specs.World.{entity_at, is_of};
-ghost use Rattle.tp4_world.specs.steps.Parts.{AreBehind, world_of};
+ghost use Rattle.tp4_world.specs.steps.Parts.{AreBehind, AreLaterAll, world_of};
 
 use crate::EndAt;
 use crate::sending::follow;
@@ -35,12 +35,14 @@ pub fn begin<C: Carrier<Addr = Nsap>>(
     requires low { now ≤ 4000000000 }
     requires clock { (C.link carrier.old).clock ≡ now }
     requires behind { AreBehind now transport.old.entities.items }
+    requires later { AreLaterAll now transport.old.entities.items }
     requires size { IsSize call.options.size }
     requires none { events.old.items ≡ [] }
     ensures connects { OnOk result (Connects C.link C.steps
         (world_of carrier.old transport.old.entities.items transport.old.ends) system call events.new.items (world_of carrier.new transport.new.entities.items transport.new.ends)) }
     ensures clock { OnOk result ((C.link carrier.new).clock ≡ now) }
     ensures behind { OnOk result (AreBehind now transport.new.entities.items) }
+    ensures later { OnOk result (AreLaterAll now transport.new.entities.items) }
 {
     let alloc = transport.alloc;
     let Some(place) = place_of(&transport.entities, system) else {
@@ -96,12 +98,14 @@ pub fn ask<C: Carrier<Addr = Nsap>>(
     requires low { now ≤ 4000000000 }
     requires clock { (C.link carrier.old).clock ≡ now }
     requires behind { AreBehind now transport.old.entities.items }
+    requires later { AreLaterAll now transport.old.entities.items }
     requires call { IsCall call }
     requires none { events.old.items ≡ [] }
     ensures calls { OnOk result (Calls C.link C.steps wire
         (world_of carrier.old transport.old.entities.items transport.old.ends) number call events.new.items (world_of carrier.new transport.new.entities.items transport.new.ends)) }
     ensures clock { OnOk result ((C.link carrier.new).clock ≡ now) }
     ensures behind { OnOk result (AreBehind now transport.new.entities.items) }
+    ensures later { OnOk result (AreLaterAll now transport.new.entities.items) }
 {
     let Some(end) = transport.ends.numbered(number) else {
         refuse(Some(Refused::NoSuchEnd), events)?;
@@ -151,6 +155,7 @@ fn ask_at<C: Carrier<Addr = Nsap>>(
     requires low { now ≤ 4000000000 }
     requires clock { (C.link carrier.old).clock ≡ now }
     requires behind { AreBehind now transport.old.entities.items }
+    requires later { AreLaterAll now transport.old.entities.items }
     requires place { position (is_of named.end.system) transport.old.entities.items ≡ Some place }
     requires call { IsCall call }
     requires none { events.old.items ≡ [] }
@@ -159,6 +164,7 @@ fn ask_at<C: Carrier<Addr = Nsap>>(
         (user_refusal entity named.end.reference call) events.new.items (world_of carrier.new transport.new.entities.items transport.new.ends)) }
     ensures clock { OnOk result ((C.link carrier.new).clock ≡ now) }
     ensures behind { OnOk result (AreBehind now transport.new.entities.items) }
+    ensures later { OnOk result (AreLaterAll now transport.new.entities.items) }
 {
     let alloc = transport.alloc;
     let Some(own) = own_at(&transport.entities, place) else {

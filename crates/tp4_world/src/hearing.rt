@@ -7,18 +7,15 @@ ghost use Rattle.nsap.specs.Address.{selector_of};
 ghost use Rattle.net_world.specs.Told.{up_events};
 ghost use Rattle.tp4_number.specs.Number.{wire};
 ghost use Rattle.tp4_world.specs.Run.{Hears};
-ghost use Rattle.tp4_world.specs.steps.Parts.{AreBehind, HearsEach, HearsWaiting, TakesUnits, Tells, then_for_transport, world_of};
+ghost use Rattle.tp4_world.specs.steps.Parts.{AreBehind, AreLaterAll, HearsEach, HearsWaiting, TakesUnits, Tells, then_for_transport, world_of};
 
 use crate::sending::follow;
 use crate::transport::{Transport, hear_at, own_at, place_of};
 use net_world::tell;
-use nsap::Nsap;
+use nsap::{Nsap, TRANSPORT};
 use osi_base::{Arrival, Carrier, NoMemory, Tick, Up};
 use osi_journal::Event;
 use std::collections::VecDeque;
-
-/// The selector of transport.
-const TRANSPORT: u8 = 1;
 
 /// Tells what waits in the carrier, and then hands each unit for transport to its entity.
 pub fn hear_waiting<C: Carrier<Addr = Nsap>>(
@@ -30,10 +27,12 @@ pub fn hear_waiting<C: Carrier<Addr = Nsap>>(
     requires low { now ≤ 4000000000 }
     requires clock { (C.link carrier.old).clock ≡ now }
     requires behind { AreBehind now transport.old.entities.items }
+    requires later { AreLaterAll now transport.old.entities.items }
     ensures hears { OnOk result (Tells events.old.items events.new.items (λ made. HearsWaiting C.link C.steps wire
         (world_of carrier.old transport.old.entities.items transport.old.ends) made (world_of carrier.new transport.new.entities.items transport.new.ends))) }
     ensures clock { OnOk result ((C.link carrier.new).clock ≡ now) }
     ensures behind { OnOk result (AreBehind now transport.new.entities.items) }
+    ensures later { OnOk result (AreLaterAll now transport.new.entities.items) }
 {
     transport.units.clear();
     take_units(carrier, &mut transport.units, events)?;
@@ -87,10 +86,12 @@ fn hear_all<C: Carrier<Addr = Nsap>>(
     requires low { now ≤ 4000000000 }
     requires clock { (C.link carrier.old).clock ≡ now }
     requires behind { AreBehind now transport.old.entities.items }
+    requires later { AreLaterAll now transport.old.entities.items }
     ensures hears { OnOk result (Tells events.old.items events.new.items (λ made. HearsEach C.link C.steps wire
         (world_of carrier.old transport.old.entities.items transport.old.ends) transport.old.units.items made (world_of carrier.new transport.new.entities.items transport.new.ends))) }
     ensures clock { OnOk result ((C.link carrier.new).clock ≡ now) }
     ensures behind { OnOk result (AreBehind now transport.new.entities.items) }
+    ensures later { OnOk result (AreLaterAll now transport.new.entities.items) }
 {
     while let Some(arrival) = transport.units.pop_front() {
         hear(carrier, transport, now, &arrival, events)?;
@@ -110,11 +111,13 @@ fn hear<C: Carrier<Addr = Nsap>>(
     requires low { now ≤ 4000000000 }
     requires clock { (C.link carrier.old).clock ≡ now }
     requires behind { AreBehind now transport.old.entities.items }
+    requires later { AreLaterAll now transport.old.entities.items }
     ensures hears { OnOk result (Tells events.old.items events.new.items (λ made. Hears C.link C.steps wire
         (world_of carrier.old transport.old.entities.items transport.old.ends) arrival.now made (world_of carrier.new transport.new.entities.items transport.new.ends))) }
     ensures clock { OnOk result ((C.link carrier.new).clock ≡ now) }
     ensures others { OnOk result (transport.new.units.items ≡ transport.old.units.items) }
     ensures behind { OnOk result (AreBehind now transport.new.entities.items) }
+    ensures later { OnOk result (AreLaterAll now transport.new.entities.items) }
 {
     let Some(place) = place_of(&transport.entities, arrival.system) else {
         return Ok(());

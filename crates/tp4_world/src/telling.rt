@@ -9,8 +9,9 @@ ghost use Rattle.tp4_world.specs.steps.Parts.{listed};
 use crate::EndAt;
 use crate::ends::Ends;
 use crate::words::{is_urgent, told_cause, told_fault, told_kind, told_options};
+use net_world::address;
 use nsap::Nsap;
-use osi_base::{Address, Bytes, Injected, NoMemory, Offered};
+use osi_base::{Bytes, Injected, NoMemory, Offered};
 use osi_journal::{Boxed, Event, Indication, Request};
 use std::alloc::Global;
 use tp4_conn::{ConnectCall, UserCall};
@@ -171,10 +172,10 @@ pub fn request(
         system,
         reference: 0,
         calling: address(own),
-        calling_selector: copied(alloc, &call.from_selector)?,
+        calling_selector: Bytes::copy(alloc, call.from_selector.as_slice())?,
         called: address(&call.to),
-        called_selector: copied(alloc, &call.to_selector)?,
-        octets: copied(alloc, &call.octets)?,
+        called_selector: Bytes::copy(alloc, call.to_selector.as_slice())?,
+        octets: Bytes::copy(alloc, call.octets.as_slice())?,
     })
 }
 
@@ -186,19 +187,19 @@ pub fn call_event(alloc: Global, end: u32, call: &UserCall) -> Result<Option<Eve
         UserCall::Accept(..) | UserCall::Window(_) => Ok(None),
         UserCall::Refuse(octets) => Ok(Some(Event::Refuse {
             end,
-            octets: copied(alloc, octets)?,
+            octets: Bytes::copy(alloc, octets.as_slice())?,
         })),
         UserCall::Normal(octets) => Ok(Some(Event::Data {
             end,
-            octets: copied(alloc, octets)?,
+            octets: Bytes::copy(alloc, octets.as_slice())?,
         })),
         UserCall::Urgent(octets) => Ok(Some(Event::Expedite {
             end,
-            octets: copied(alloc, octets)?,
+            octets: Bytes::copy(alloc, octets.as_slice())?,
         })),
         UserCall::Disconnect(octets) => Ok(Some(Event::Disconnect {
             end,
-            octets: copied(alloc, octets)?,
+            octets: Bytes::copy(alloc, octets.as_slice())?,
         })),
     }
 }
@@ -237,19 +238,4 @@ pub fn inject_event(system: u8, answer: Injected) -> Event
         Injected::Taken => Event::Inject { system },
         Injected::NotThere => Event::InjectNotThere { system },
     }
-}
-
-/// An address, as events have it.
-fn address(nsap: &Nsap) -> Address
-    ensures { result ≡ nsap.now }
-{
-    Address::of(nsap.octets())
-}
-
-/// A copy of octets.
-fn copied(alloc: Global, octets: &Bytes) -> Result<Bytes, NoMemory>
-    ensures { IfOk result (λ copy. copy ≡ octets.now) }
-{
-    let copy = Vec::from_slice(alloc, octets.as_slice())?;
-    Ok(Bytes::of(copy))
 }

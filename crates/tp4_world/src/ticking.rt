@@ -1,9 +1,9 @@
 //! The ends that are due at a tick, system by system (X.224, class 4 procedures).
 
-ghost use Rattle.std.specs.Prelude.{◌≡◌, ◌≤◌, ◌+◌, slice_get, true, IfOk, OnOk};
+ghost use Rattle.std.specs.Prelude.{◌≡◌, ◌≤◌, ◌+◌, ℕ, slice_get, true, false, IfOk, OnOk};
 ghost use Rattle.tp4_number.specs.Number.{wire};
 ghost use Rattle.tp4_world.specs.Run.{TicksAll, TicksEntity};
-ghost use Rattle.tp4_world.specs.steps.Parts.{AreBehind, Tells, TicksOnce, dues_at, systems_of, world_of};
+ghost use Rattle.tp4_world.specs.steps.Parts.{AreBehind, AreFromAll, AreLaterAll, AreLaterAt, Tells, TicksOnce, dues_at, systems_of, world_of};
 
 use crate::sending::follow;
 use crate::transport::{Transport, own_at, place_of, tick_at};
@@ -21,10 +21,12 @@ pub fn tick_all<C: Carrier<Addr = Nsap>>(
     requires low { now ≤ 4000000000 }
     requires clock { (C.link carrier.old).clock ≡ now }
     requires behind { AreBehind now transport.old.entities.items }
+    requires from { AreFromAll now transport.old.entities.items }
     ensures ticks { OnOk result (Tells events.old.items events.new.items (λ made. TicksAll C.link C.steps wire
         (world_of carrier.old transport.old.entities.items transport.old.ends) transport.old.entities.items made (world_of carrier.new transport.new.entities.items transport.new.ends))) }
     ensures clock { OnOk result ((C.link carrier.new).clock ≡ now) }
     ensures behind { OnOk result (AreBehind now transport.new.entities.items) }
+    ensures later { OnOk result (AreLaterAll now transport.new.entities.items) }
 {
     for place in 0..transport.entities.len() {
         let Some(system) = system_at(transport, place) else {
@@ -58,10 +60,14 @@ fn tick_system<C: Carrier<Addr = Nsap>>(
     requires low { now ≤ 4000000000 }
     requires clock { (C.link carrier.old).clock ≡ now }
     requires behind { AreBehind now transport.old.entities.items }
+    requires from { AreFromAll now transport.old.entities.items }
     ensures ticks { OnOk result (Tells events.old.items events.new.items (λ made. TicksEntity C.link C.steps wire system
         (world_of carrier.old transport.old.entities.items transport.old.ends) made (world_of carrier.new transport.new.entities.items transport.new.ends))) }
     ensures clock { OnOk result ((C.link carrier.new).clock ≡ now) }
     ensures behind { OnOk result (AreBehind now transport.new.entities.items) }
+    ensures from { OnOk result (AreFromAll now transport.new.entities.items) }
+    ensures kept { OnOk result ((other : ℕ) → AreLaterAt now transport.old.entities.items other → AreLaterAt now transport.new.entities.items other) }
+    ensures rest { OnOk result (AreLaterAt now transport.new.entities.items system) }
     ensures systems { OnOk result (systems_of transport.new.entities.items ≡ systems_of transport.old.entities.items) }
 {
     while tick_one(carrier, transport, now, system, events)? {}
@@ -79,11 +85,15 @@ fn tick_one<C: Carrier<Addr = Nsap>>(
     requires low { now ≤ 4000000000 }
     requires clock { (C.link carrier.old).clock ≡ now }
     requires behind { AreBehind now transport.old.entities.items }
+    requires from { AreFromAll now transport.old.entities.items }
     ensures ticks { IfOk result (λ was_due. Tells events.old.items events.new.items (λ made. TicksOnce C.link C.steps wire system
         (world_of carrier.old transport.old.entities.items transport.old.ends) was_due made (world_of carrier.new transport.new.entities.items transport.new.ends))) }
     ensures fewer { IfOk result (λ was_due. was_due ≡ true → dues_at now transport.new.entities.items system + 1 ≡ dues_at now transport.old.entities.items system) }
     ensures clock { OnOk result ((C.link carrier.new).clock ≡ now) }
     ensures behind { OnOk result (AreBehind now transport.new.entities.items) }
+    ensures from { OnOk result (AreFromAll now transport.new.entities.items) }
+    ensures kept { OnOk result ((other : ℕ) → AreLaterAt now transport.old.entities.items other → AreLaterAt now transport.new.entities.items other) }
+    ensures rest { IfOk result (λ was_due. was_due ≡ false → AreLaterAt now transport.new.entities.items system) }
     ensures systems { OnOk result (systems_of transport.new.entities.items ≡ systems_of transport.old.entities.items) }
 {
     let alloc = transport.alloc;

@@ -1,12 +1,13 @@
 //! The transport entities of the systems, in the order of their declaration, and the ends that were made there (X.224, class 4
 //! procedures).
 
-ghost use Rattle.std.specs.Prelude.{◌≡◌, ◌≢◌, ◌≤◌, ◌+◌, ℕ, [], None, Some, Err, is_some, slice_get, true, IfErr, IfOk, OnOk};
+ghost use Rattle.std.specs.Prelude.{◌≡◌, ◌≢◌, ◌≤◌, ◌<◌, ◌+◌, ℕ, [], None, Some, Err, is_some, slice_get, true, false, IfErr, IfOk, OnOk};
 ghost use Rattle.std.specs.List.{position};
 ghost use Rattle.tp4_number.specs.Number.{wire};
 ghost use Rattle.tp4_conn.specs.Calls.{IsCall};
 ghost use Rattle.tp4_conn.specs.End.{IsSize};
 ghost use Rattle.tp4_conn.specs.declared.call.CallRefusal.TheVariants.{NoMemory as EndOutOfMemory};
+ghost use Rattle.tp4_entity.specs.Dues.{AreFrom, AreLater};
 ghost use Rattle.tp4_entity.specs.Entity.{Acted};
 ghost use Rattle.tp4_entity.specs.References.{is_free, least_free};
 ghost use Rattle.tp4_entity.specs.Step.{DoesSo, calling, connect_refusal, connecting, dues, first_due, ticking, user_refusal};
@@ -24,8 +25,10 @@ use nsap::Nsap;
 use osi_base::{Arrival, NoMemory, Tick, Unit};
 use std::alloc::Global;
 use std::collections::VecDeque;
-use tp4_conn::{CallRefusal, ConnectCall, UserCall};
-use tp4_entity::{ConnectRefusal, EntityRefusal};
+use std::marker::Brand;
+use std::sync::ledger::{Blank, Ledger};
+use tp4_conn::{CallRefusal, ConnectCall, Steps, UserCall};
+use tp4_entity::{ConnectRefusal, EntityRefusal, TpEntity};
 use tp4_flow::Step;
 
 /// The entities, and their ends by number; and lists that hold nothing of value between calls, but have room. Each call that uses
@@ -80,9 +83,11 @@ pub fn hear_at(
 ) -> Result<(), NoMemory>
     requires low { now ≤ 4000000000 }
     requires behind { AreBehind now entities.old.items }
+    requires from { (one : PlacedEntity) → slice_get entities.old.items place ≡ Some one → AreFrom now one.entity.ends }
     ensures changed { OnOk result (ChangesAt place entities.old.items entities.new.items
         (λ before after. (acted : Acted) × HearsUnit wire now before unit.now.from unit.now.octets acted × DoesSo acted after out.old out.new)) }
     ensures behind { OnOk result (AreBehind now entities.new.items) }
+    ensures later { OnOk result (ChangesAt place entities.old.items entities.new.items (λ before after. AreLater now before.ends → AreLater now after.ends)) }
 {
     let Some(one) = entities.get_mut(place) else {
         return Err(NoMemory);
@@ -101,6 +106,7 @@ pub fn connect_at(
 ) -> Result<u16, ConnectRefusal>
     requires low { now ≤ 4000000000 }
     requires behind { AreBehind now entities.old.items }
+    requires from { (one : PlacedEntity) → slice_get entities.old.items place ≡ Some one → AreFrom now one.entity.ends }
     requires size { IsSize call.options.size }
     ensures changed { IfOk result (λ reference. ChangesAt place entities.old.items entities.new.items
         (λ before after. (connect_refusal now before call.octets ≡ None) × (least_free now before ≡ Some reference)
@@ -109,6 +115,7 @@ pub fn connect_at(
         → (one : PlacedEntity) × (slice_get entities.old.items place ≡ Some one) × (connect_refusal now one.entity call.octets ≡ Some why)) }
     ensures same { IfErr result (λ why. why ≢ ConnectOutOfMemory → entities.new.items ≡ entities.old.items) }
     ensures behind { AreBehind now entities.new.items }
+    ensures later { OnOk result (ChangesAt place entities.old.items entities.new.items (λ before after. AreLater now before.ends → AreLater now after.ends)) }
 {
     let Some(one) = entities.get_mut(place) else {
         return Err(ConnectRefusal::NoMemory);
@@ -127,6 +134,7 @@ pub fn user_at(
 ) -> Result<(), EntityRefusal>
     requires low { now ≤ 4000000000 }
     requires behind { AreBehind now entities.old.items }
+    requires from { (one : PlacedEntity) → slice_get entities.old.items place ≡ Some one → AreFrom now one.entity.ends }
     requires call { IsCall call }
     ensures changed { OnOk result (ChangesAt place entities.old.items entities.new.items
         (λ before after. (user_refusal before reference call ≡ None) × DoesSo (calling wire now before reference call) after out.old out.new)) }
@@ -134,6 +142,7 @@ pub fn user_at(
         → (one : PlacedEntity) × (slice_get entities.old.items place ≡ Some one) × (user_refusal one.entity reference call ≡ Some why)) }
     ensures same { IfErr result (λ why. why ≢ Call EndOutOfMemory → entities.new.items ≡ entities.old.items) }
     ensures behind { AreBehind now entities.new.items }
+    ensures later { OnOk result (ChangesAt place entities.old.items entities.new.items (λ before after. AreLater now before.ends → AreLater now after.ends)) }
 {
     let Some(one) = entities.get_mut(place) else {
         return Err(EntityRefusal::Call(CallRefusal::NoMemory));
@@ -150,13 +159,41 @@ pub fn tick_at(
 ) -> Result<bool, NoMemory>
     requires low { now ≤ 4000000000 }
     requires behind { AreBehind now entities.old.items }
+    requires from { (one : PlacedEntity) → slice_get entities.old.items place ≡ Some one → AreFrom now one.entity.ends }
     ensures changed { IfOk result (λ was_due. ChangesAt place entities.old.items entities.new.items
         (λ before after. (was_due ≡ is_some (first_due now before)) × DoesSo (ticking wire now before) after out.old out.new)) }
     ensures fewer { IfOk result (λ was_due. was_due ≡ true → ChangesAt place entities.old.items entities.new.items (λ before after. dues now after + 1 ≡ dues now before)) }
     ensures behind { OnOk result (AreBehind now entities.new.items) }
+    ensures later { OnOk result (ChangesAt place entities.old.items entities.new.items (λ before after. AreLater now before.ends → AreLater now after.ends)) }
+    ensures from { OnOk result (ChangesAt place entities.old.items entities.new.items (λ before after. AreFrom now after.ends)) }
+    ensures rest { IfOk result (λ was_due. was_due ≡ false → ChangesAt place entities.old.items entities.new.items (λ before after. AreLater now after.ends)) }
 {
     let Some(one) = entities.get_mut(place) else {
         return Err(NoMemory);
     };
-    one.entity.tick_next(now, out)
+    tick_counted::<Brand>(&mut one.entity, now, out, Blank::new(1))
+}
+
+/// The due end of least reference of an entity ticks; the looks at it are counted in a ledger of their own.
+fn tick_counted<L: Ledger>(
+    entity: &mut TpEntity,
+    now: Tick,
+    out: &mut Step,
+    blank: Blank,
+) -> Result<bool, NoMemory>
+    requires name { blank.name ≡ L.name }
+    requires parts { blank.parts ≡ L.parts }
+    requires some { 0 < blank.parts }
+    requires low { now ≤ 4000000000 }
+    requires clock { entity.old.clock ≤ now }
+    requires from { AreFrom now entity.old.ends }
+    ensures due { IfOk result (λ was_due. was_due ≡ is_some (first_due now entity.old)) }
+    ensures step { OnOk result (DoesSo (ticking wire now entity.old) entity.new out.old out.new) }
+    ensures fewer { IfOk result (λ was_due. was_due ≡ true → dues now entity.new + 1 ≡ dues now entity.old) }
+    ensures from { OnOk result (AreFrom now entity.new.ends) }
+    ensures later { OnOk result (AreLater now entity.old.ends → AreLater now entity.new.ends) }
+    ensures rest { IfOk result (λ was_due. was_due ≡ false → AreLater now entity.new.ends) }
+    ensures clock { entity.new.clock ≤ now }
+{
+    entity.tick_next(now, out, &mut Steps::<L>::new(blank))
 }

@@ -1,6 +1,6 @@
 //! The network that a script runs, with its transport entities.
 
-ghost use Rattle.std.specs.Prelude.{◌≡◌, ◌<◌, ◌≤◌, [], length, is_some, true, IsTrue, IfOk, OnOk};
+ghost use Rattle.std.specs.Prelude.{◌≡◌, ◌<◌, ◌≤◌, [], length, true, IsTrue, IfOk, OnOk};
 ghost use Rattle.osi_base.specs.declared.unit.Injected.{Injected as Answer};
 ghost use Rattle.osi_base.specs.declared.unit.Picked.{Picked as Choice};
 ghost use Rattle.osi_base.specs.declared.unit.Picked.TheVariants.{Taken};
@@ -8,8 +8,7 @@ ghost use Rattle.tp4_conn.specs.Calls.{IsCall};
 ghost use Rattle.tp4_conn.specs.End.{IsSize};
 ghost use Rattle.tp4_number.specs.Number.{wire};
 ghost use Rattle.tp4_world.specs.Run.{Calls, Connects, Delivers, Injects, SendsRaw, Settles, Starts, Ticks};
-ghost use Rattle.tp4_world.specs.World.{entity_at};
-ghost use Rattle.tp4_world.specs.steps.Parts.{AreBehind, SettlesSo, Tells, world_of};
+ghost use Rattle.tp4_world.specs.steps.Parts.{AreBehind, AreLaterAll, SettlesSo, Tells, world_of};
 
 use crate::Placed;
 use crate::asking::{ask, begin};
@@ -17,7 +16,7 @@ use crate::ends::Ends;
 use crate::hearing::hear_waiting;
 use crate::telling::inject_event;
 use crate::ticking::tick_all;
-use crate::transport::{Transport, place_of};
+use crate::transport::Transport;
 use net_world::{picked_event, send_unit, take_up};
 use nsap::Nsap;
 use osi_base::{Bytes, Carrier, NoMemory, Picked, Tick, Wish};
@@ -41,7 +40,7 @@ pub struct TpWorld<C: Carrier<Addr = Nsap> + Drop> {
     stopped: bool,
 }
 
-// The clock of no entity is ahead of the carrier's, unless a call stopped for want of memory.
+// The clock of no entity is ahead of the carrier's, and no end is due up to it, unless a call stopped for want of memory.
 impl<C: Carrier<Addr = Nsap> + Drop> Model for TpWorld<C> {
     ghost use Rattle.std.specs.Prelude.{◌≡◌, false};
     ghost use Rattle.tp4_world.specs.World.{World};
@@ -54,7 +53,8 @@ impl<C: Carrier<Addr = Nsap> + Drop> Model for TpWorld<C> {
     ghost invariant = { λ w. w.stopped ≡ false → IsSound C.link (world_of w.carrier w.transport.entities.items w.transport.ends) };
 }
 
-// The calls of most lines are apart, so that who makes one of them has no room for the values of all to clear.
+// A function clears the stack slots of all its values as it begins, those of calls that are inlined into it too. So the calls
+// but `call` and `deliver`, the lines that come most, are never inlined: `inline(never)` took 2 % of the instructions of a script away.
 impl<C: Carrier<Addr = Nsap> + Drop> TpWorld<C> {
     /// The network starts: tick 0, and what waits is told.
     ///
@@ -67,6 +67,7 @@ impl<C: Carrier<Addr = Nsap> + Drop> TpWorld<C> {
     ) -> Result<TpWorld<C>, NoMemory>
         requires low { (C.link carrier).clock ≤ 4000000000 }
         requires behind { AreBehind (C.link carrier).clock systems.items }
+        requires later { AreLaterAll (C.link carrier).clock systems.items }
         requires none { events.old.items ≡ [] }
         ensures { IfOk result (λ world. Starts C.link C.steps carrier systems.items events.new.items world) }
     {
@@ -99,13 +100,6 @@ impl<C: Carrier<Addr = Nsap> + Drop> TpWorld<C> {
         ensures { result ≡ length self.now.ends }
     {
         self.transport.ends.count()
-    }
-
-    /// Whether a system has a transport entity.
-    pub fn has_entity(&self, system: u8) -> bool
-        ensures { result ≡ is_some (entity_at self.now.entities system) }
-    {
-        place_of(&self.transport.entities, system).is_some()
     }
 
     /// A user of a system asks for a connection. The own reference, the address and the timers of the call are set here.
@@ -313,11 +307,13 @@ fn deliver<C: Carrier<Addr = Nsap>>(
     requires low { now ≤ 4000000000 }
     requires clock { (C.link carrier.old).clock ≡ now }
     requires behind { AreBehind now transport.old.entities.items }
+    requires later { AreLaterAll now transport.old.entities.items }
     ensures delivers { IfOk result (λ answer. Tells events.old.items events.new.items (λ made. Delivers C.link C.steps wire
         (world_of carrier.old transport.old.entities.items transport.old.ends) number system answer made (world_of carrier.new transport.new.entities.items transport.new.ends))) }
     ensures taken { IfOk result (λ answer. IsTrue ((C.link carrier.old).takes number system) → answer ≡ Taken) }
     ensures clock { OnOk result ((C.link carrier.new).clock ≡ now) }
     ensures behind { OnOk result (AreBehind now transport.new.entities.items) }
+    ensures later { OnOk result (AreLaterAll now transport.new.entities.items) }
 {
     let answer = carrier.choose(number, system)?;
     events.push(picked_event(number, system, answer))?;
@@ -335,10 +331,12 @@ fn settle<C: Carrier<Addr = Nsap>>(
     requires low { now ≤ 4000000000 }
     requires clock { (C.link carrier.old).clock ≡ now }
     requires behind { AreBehind now transport.old.entities.items }
+    requires later { AreLaterAll now transport.old.entities.items }
     ensures settles { IfOk result (λ answer. Tells events.old.items events.new.items (λ made. SettlesSo C.link C.steps wire
         (world_of carrier.old transport.old.entities.items transport.old.ends) made answer (world_of carrier.new transport.new.entities.items transport.new.ends))) }
     ensures clock { OnOk result ((C.link carrier.new).clock ≡ now) }
     ensures behind { OnOk result (AreBehind now transport.new.entities.items) }
+    ensures later { OnOk result (AreLaterAll now transport.new.entities.items) }
 {
     for count in 0..MOST_DELIVERIES {
         let Some((number, system)) = carrier.fresh() else {

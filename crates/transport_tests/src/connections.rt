@@ -1,12 +1,14 @@
 //! Each row of each state, for each TPDU and each call, by hand.
 
-ghost use Rattle.std.specs.Prelude.{◌≡◌, ◌≤◌, IfOk};
+ghost use Rattle.std.specs.Prelude.{◌≡◌, ◌≤◌, IfOk, OnOk};
 ghost use Rattle.tpdu.specs.Values.{tpdu_of};
 ghost use Rattle.tpdu.specs.Writing.{IsAllowed, kind_for};
 ghost use Rattle.tpdu.specs.declared.kind.Kind.TheVariants.{Cr};
 ghost use Rattle.tpdu.specs.declared.tpdu.Format.TheVariants.{Normal};
 ghost use Rattle.tp4_conn.specs.Calls.{IsCall};
 ghost use Rattle.tp4_conn.specs.End.{IsSize, IsTimed, agreed_format};
+ghost use Rattle.tp4_conn.specs.Living.{IsInTime};
+ghost use Rattle.tp4_conn.specs.Table.{due};
 
 mod rows;
 mod script;
@@ -15,6 +17,7 @@ mod table;
 mod tpdus;
 mod words;
 
+use crate::looks::{due_of, state_of, tick_end};
 use nsap::Nsap;
 use osi_base::{Bytes, Tick};
 use script::SCRIPT;
@@ -34,9 +37,9 @@ struct Play {
     alloc: Global,
     end: Connection,
     out: Step,
-    now: Tick,
-    ghost clock: { end.base.clock ≤ now },
-    ghost low: { now ≤ 4000000000 },
+    clock: Tick,
+    ghost behind: { end.base.clock ≤ clock },
+    ghost low: { clock ≤ 4000000000 },
 }
 
 #[test]
@@ -73,7 +76,7 @@ impl Play {
             alloc,
             end,
             out,
-            now: 0,
+            clock: 0,
         })
     }
 
@@ -106,7 +109,7 @@ impl Play {
             bytes(self.alloc, word(words, 5))?,
         )?;
         self.end = Connection::connect(self.alloc, 0, call, &mut self.out)?;
-        self.now = 0;
+        self.clock = 0;
         Ok(String::new(self.alloc))
     }
 
@@ -118,7 +121,7 @@ impl Play {
             octets.as_slice(),
             &mut self.out,
         )?;
-        self.now = 0;
+        self.clock = 0;
         Ok(String::new(self.alloc))
     }
 
@@ -131,9 +134,20 @@ impl Play {
     }
 
     fn tick(&mut self, words: &[&str]) -> Result<String, Fail> {
-        self.now = number(words, 1)?.max(self.now).min(4_000_000_000);
-        self.end.tick(self.now, &mut self.out)?;
+        self.clock = number(words, 1)?.max(self.clock).min(4_000_000_000);
+        self.in_time()?;
+        tick_end(&mut self.end, self.clock, &mut self.out)?;
         Ok(String::new(self.alloc))
+    }
+
+    /// A tick at which the end was due may not be left out.
+    fn in_time(&self) -> Result<(), Fail>
+        ensures { OnOk result (IsInTime (due self.now.end.base self.now.end.stage) self.now.clock) }
+    {
+        match due_of(&self.end) {
+            Some(due) if due < self.clock => Err(Fail::from("a due tick was left out")),
+            _ => Ok(()),
+        }
     }
 
     /// A TPDU from a system, where it matches.
@@ -143,13 +157,15 @@ impl Play {
         if !self.end.matches(&system(from)?, &tpdu) {
             return Ok(format!(in self.alloc; "unknown ")?);
         }
-        self.end.on_tpdu(self.now, &tpdu, &mut self.out)?;
+        self.in_time()?;
+        self.end.on_tpdu(self.clock, &tpdu, &mut self.out)?;
         Ok(String::new(self.alloc))
     }
 
     fn ask(&mut self, words: &[&str]) -> Result<String, Fail> {
         let call = user_call(self.alloc, words)?;
-        match self.end.user(self.now, call, &mut self.out) {
+        self.in_time()?;
+        match self.end.user(self.clock, call, &mut self.out) {
             Ok(()) => Ok(String::new(self.alloc)),
             Err(why) => Ok(format!(in self.alloc; "no {why:?} ")?),
         }
@@ -158,8 +174,8 @@ impl Play {
     /// The answer, the state, the due tick, the events and the TPDUs.
     fn shown(&self, answer: &str) -> Result<String, Fail> {
         let alloc = self.alloc;
-        let mut text = format!(in alloc; "{answer}{}", state_word(self.end.state()))?;
-        if let Some(due) = self.end.next_due() {
+        let mut text = format!(in alloc; "{answer}{}", state_word(state_of(&self.end)))?;
+        if let Some(due) = due_of(&self.end) {
             text.push_str(format!(in alloc; " {due}")?.as_str())?;
         }
         for event in self.out.events() {

@@ -1,11 +1,13 @@
 //! An entity of address 490b01 that takes connections at the selector `bb`, call by call.
 
-ghost use Rattle.std.specs.Prelude.{◌≡◌, ◌≤◌, IfOk};
+ghost use Rattle.std.specs.Prelude.{◌≡◌, ◌≤◌, IfOk, OnOk};
 ghost use Rattle.tp4_conn.specs.Calls.{IsCall};
 ghost use Rattle.tp4_conn.specs.End.{IsSize};
+ghost use Rattle.tp4_entity.specs.Dues.{AreFrom};
 
 mod script;
 
+use crate::looks::tick_first;
 use nsap::Nsap;
 use osi_base::{Bytes, Tick};
 use script::SCRIPT;
@@ -33,9 +35,9 @@ struct Play {
     alloc: Global,
     entity: TpEntity,
     out: Step,
-    now: Tick,
-    ghost clock: { entity.clock ≤ now },
-    ghost low: { now ≤ 4000000000 },
+    clock: Tick,
+    ghost behind: { entity.clock ≤ clock },
+    ghost low: { clock ≤ 4000000000 },
 }
 
 #[test]
@@ -69,7 +71,7 @@ impl Play {
             alloc,
             entity,
             out: Step::new(alloc),
-            now: 0,
+            clock: 0,
         })
     }
 
@@ -105,14 +107,15 @@ impl Play {
 
     fn pass(&mut self, words: &[&str]) -> Result<String, Fail> {
         let tick: u32 = word(words, 1).parse()?;
-        self.now = tick.max(self.now).min(4_000_000_000);
+        self.clock = tick.max(self.clock).min(4_000_000_000);
         Ok(String::new(self.alloc))
     }
 
     fn hear(&mut self, words: &[&str]) -> Result<String, Fail> {
         let octets = bytes(self.alloc, word(words, 2))?;
+        self.in_time()?;
         self.entity.on_unit(
-            self.now,
+            self.clock,
             address(word(words, 1))?,
             octets.as_slice(),
             &mut self.out,
@@ -122,7 +125,8 @@ impl Play {
 
     fn call(&mut self, words: &[&str]) -> Result<String, Fail> {
         let call = connect_call(self.alloc, bytes(self.alloc, word(words, 1))?)?;
-        match self.entity.connect(self.now, call, &mut self.out) {
+        self.in_time()?;
+        match self.entity.connect(self.clock, call, &mut self.out) {
             Ok(reference) => Ok(format!(in self.alloc; "{reference}")?),
             Err(why) => Ok(format!(in self.alloc; "no {why:?}")?),
         }
@@ -130,9 +134,10 @@ impl Play {
 
     fn ask(&mut self, words: &[&str]) -> Result<String, Fail> {
         let call = user_call(self.alloc, words)?;
+        self.in_time()?;
         match self
             .entity
-            .user(self.now, pair(words, 1)?, call, &mut self.out)
+            .user(self.clock, pair(words, 1)?, call, &mut self.out)
         {
             Ok(()) => Ok(String::new(self.alloc)),
             Err(why) => Ok(format!(in self.alloc; "no {}", refusal_word(self.alloc, why)?)?),
@@ -140,25 +145,37 @@ impl Play {
     }
 
     fn tick(&mut self) -> Result<String, Fail> {
-        let was_due = self.entity.tick_next(self.now, &mut self.out)?;
+        self.in_time()?;
+        let was_due = tick_first(&mut self.entity, self.clock, &mut self.out)?;
         Ok(format!(in self.alloc; "{was_due}")?)
+    }
+
+    /// A tick at which an end was due may not be left out.
+    fn in_time(&self) -> Result<(), Fail>
+        ensures { OnOk result (AreFrom self.now.clock self.now.entity.ends) }
+    {
+        if self.clock > 0 && self.entity.due_by(self.clock - 1) {
+            return Err(Fail::from("a due tick was left out"));
+        }
+        Ok(())
     }
 
     /// 64 ends call, and each is refused.
     fn spend(&mut self) -> Result<String, Fail> {
         for reference in 1..=64 {
             let call = connect_call(self.alloc, Bytes::of(Vec::new(self.alloc)))?;
-            self.entity.connect(self.now, call, &mut self.out)?;
+            self.in_time()?;
+            self.entity.connect(self.clock, call, &mut self.out)?;
             let refusal = [6, 0x80, 0, reference, 0, 0, 3];
             self.entity
-                .on_unit(self.now, address("490a01")?, &refusal, &mut self.out)?;
+                .on_unit(self.clock, address("490a01")?, &refusal, &mut self.out)?;
         }
         self.out = Step::new(self.alloc);
         Ok(String::new(self.alloc))
     }
 
     fn free(&mut self, words: &[&str]) -> Result<String, Fail> {
-        let is_free = self.entity.is_free(self.now, pair(words, 1)?);
+        let is_free = self.entity.is_free(self.clock, pair(words, 1)?);
         Ok(format!(in self.alloc; "{is_free}")?)
     }
 

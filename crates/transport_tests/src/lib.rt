@@ -1,10 +1,14 @@
-//! Tests of transport: numbers, the halves of a connection, its ends row by row of the state tables, the ends of a system.
+//! Tests of transport: due ticks, numbers, the halves of a connection, its ends row by row of the state tables, the ends of a system.
 #![tactic(auto)]
 
 #[cfg(test)]
 mod connections;
 #[cfg(test)]
+mod due;
+#[cfg(test)]
 mod entities;
+#[cfg(test)]
+mod looks;
 #[cfg(test)]
 mod numbers;
 #[cfg(test)]

@@ -17,7 +17,6 @@ report b a0 4
 alien b
 hellofull b
 redirect b 490a01 02000000000b
-strays 3
 ";
 
 pub const ENDS: &str = "connect 1 a 9 490a01 aa 490b01 bb -

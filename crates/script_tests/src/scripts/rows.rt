@@ -262,15 +262,3 @@ es a 490a00
 is r 490900
 port a x 02000000000a
 port r x 020000000900";
-
-/// Lines where one LAN is built, and no wishes of units.
-pub const BUILT: &str = "lan x 1 1497
-es a 490a00
-is r 490900 | 1 word
-settle 1 | 1 word
-lan y 1 1497 | 1 word
-start
-unit a a - - 00
-tick
-unit a a s - 00 | 1 word
-data 1 00 | 1 word";

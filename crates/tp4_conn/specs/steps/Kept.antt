@@ -1,5 +1,7 @@
 -- What holds of an end between calls, and what no row changes.
-use Rattle.std.specs.Prelude.{◌≡◌, ◌≤◌, true, false}
+use Rattle.std.specs.Prelude.{◌≡◌, ◌≤◌, ◌+◌, ◌*◌, true, false, [], None}
+use Rattle.tp4_conn.specs.declared.stage.Answering.{Answering}
+use Rattle.tp4_conn.specs.declared.timers.Timers.{Timers}
 use Rattle.tp4_conn.specs.declared.base.Base.{Base}
 use Rattle.tp4_conn.specs.declared.halves.Halves.{Halves}
 use Rattle.tp4_conn.specs.declared.stage.Stage.{Stage}
@@ -36,3 +38,15 @@ pub record IsKept (old new : Base) : Type 0 where
   pub same : IsSame old new
   pub clock : new.clock ≡ old.clock
   pub credit : old.credit ≤ 15 → new.credit ≤ 15
+
+-- a CC was sent, and neither a DT nor an ED; its sendings are at most T1 apart
+pub record IsUnanswered (t : Timers) (w : Answering) : Type 0 where
+  pub shut : w.halves.sending.is_open ≡ false
+  pub window : w.halves.sending.window ≡ []
+  pub urgent : w.halves.sending.urgent.out ≡ None
+  pub runs : w.tries.last + t.t1 ≤ w.first + w.tries.count * t.t1
+  pub few : w.tries.count ≤ t.sendings
+
+abbrev pub IsWaiting : Timers → Stage → Type 0
+IsWaiting t (AkWait w) = IsUnanswered t w
+IsWaiting t stage = Unit {0}

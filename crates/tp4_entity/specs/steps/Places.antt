@@ -1,5 +1,5 @@
 -- The place of an end: what holds of it between calls, and what a step makes of it.
-use Rattle.std.specs.Prelude.{◌≡◌, ◌≤◌, ℕ, zero, suc, ◌+◌, ◌*◌, Bool, true, false, List, [], ◌∷◌, length, Option, Some, None, if◌then◌else◌}
+use Rattle.std.specs.Prelude.{◌≡◌, ◌≤◌, ℕ, ◌+◌, ◌*◌, Bool, true, false, List, [], ◌∷◌, length, Option, Some, None, if◌then◌else◌}
 use Rattle.tpdu.specs.declared.tpdu.Format.{Format}
 use Rattle.tpdu.specs.declared.tpdu.Format.TheVariants.{Normal, Extended}
 use Rattle.tpdu.specs.declared.tpdu.Tpdu.{Tpdu}
@@ -15,9 +15,10 @@ use Rattle.tp4_conn.specs.End.{End, IsTimed, Moved, agreed_format, end_of}
 use Rattle.tp4_conn.specs.Matching.{is_match}
 use Rattle.tp4_conn.specs.Table.{Called, Ticked, Took, due, stepped}
 use Rattle.tp4_entity.specs.Association.{stateless}
+use Rattle.tp4_entity.specs.Dues.{AreFrom, AreLater}
 use Rattle.tp4_entity.specs.Entity.{Entity, end_at}
 use Rattle.tp4_conn.specs.declared.call.CallRefusal.TheVariants.{NoMemory}
-use Rattle.tp4_entity.specs.Step.{is_due, kept_end}
+use Rattle.tp4_entity.specs.Step.{kept_end}
 use Rattle.tp4_entity.specs.declared.refusal.EntityRefusal.{EntityRefusal}
 use Rattle.tp4_entity.specs.declared.refusal.EntityRefusal.TheVariants.{Call}
 
@@ -52,23 +53,9 @@ pub record IsEntity (e : Entity) : Type 0 where
   pub most : length e.ends ≤ 64
   pub places : ArePlaces e.timers e.clock 1 e.ends
 
--- none of so many first places has an end that is due
-abbrev pub AreIdle : ℕ → ℕ → List (Option End) → Type 0
-AreIdle now zero places = Unit {0}
-AreIdle now (suc count) [] = Unit {0}
-AreIdle now (suc count) (place ∷ places) = (is_due now place ≡ false) × AreIdle now count places
-
--- no end stands behind so many first places
-abbrev pub AreEmpty : ℕ → List (Option End) → Type 0
-AreEmpty zero [] = Unit {0}
-AreEmpty zero (place ∷ places) = (place ≡ None) × AreEmpty zero places
-AreEmpty (suc count) [] = Unit {0}
-AreEmpty (suc count) (place ∷ places) = AreEmpty count places
-
--- there are so many places, and behind them no end stands
-pub record IsUsed (count : ℕ) (places : List (Option End)) : Type 0 where
-  pub within : count ≤ length places
-  pub empty : AreEmpty count places
+-- no end is due sooner than now, and where each was due later, each is
+abbrev pub Lasts : ℕ → List (Option End) → List (Option End) → Type 0
+Lasts now old new = AreFrom now new × (AreLater now old → AreLater now new)
 
 -- the format that the end at a place agreed on
 abbrev pub format_of : Option End → Format

@@ -12,6 +12,7 @@ use Rattle.osi_journal.specs.declared.cause.Settled.{Settled}
 use Rattle.osi_journal.specs.declared.event.Event.{Event}
 use Rattle.osi_journal.specs.declared.event.Event.TheVariants as events
 use Rattle.tp4_flow.specs.Told.{Told}
+use Rattle.tp4_entity.specs.Dues.{AreFrom, AreLater}
 use Rattle.tp4_entity.specs.Entity.{Entity}
 use Rattle.osi_base.specs.Gathering.{Gathers}
 use Rattle.net_world.specs.Told.{told}
@@ -35,10 +36,22 @@ world_of carrier entities ends = record { carrier = carrier; entities = entities
 abbrev pub AreBehind : ℕ → List Placed → Type 0
 AreBehind now placed = AllByRecursion (λ one. one.entity.clock ≤ now) placed
 
--- the clock is one at which entities can be called, and that of no entity is ahead of it
+-- no end of the entity of a system is due before now
+abbrev pub AreFromAll : ℕ → List Placed → Type 0
+AreFromAll now placed = (system : ℕ) (entity : Entity) → entity_at placed system ≡ Some entity → AreFrom now entity.ends
+
+-- each end of the entity of a system is due later, or never
+abbrev pub AreLaterAt : ℕ → List Placed → ℕ → Type 0
+AreLaterAt now placed system = (entity : Entity) → entity_at placed system ≡ Some entity → AreLater now entity.ends
+
+abbrev pub AreLaterAll : ℕ → List Placed → Type 0
+AreLaterAll now placed = (system : ℕ) → AreLaterAt now placed system
+
+-- the clock is one at which entities can be called, that of no entity is ahead of it, and no end is due up to it
 pub record IsSound {C : Type 0} (link : C → Link (List ℕ)) (world : World C) : Type 0 where
   pub low : (link world.carrier).clock ≤ 4000000000
   pub behind : AreBehind (link world.carrier).clock world.entities
+  pub later : AreLaterAll (link world.carrier).clock world.entities
 
 -- the entity at a place becomes another
 pub record ChangesAt (place : ℕ) (old new : List Placed) (Does : Entity → Entity → Type 0) : Type 0 where

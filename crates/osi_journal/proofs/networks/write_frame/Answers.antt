@@ -10,8 +10,8 @@ pub returns : goal.returns
 returns c =
     let tags = tags_of c.args.names.now in
     behind (codes "frame") 32 _ _ _ _ _ _ refl c.in_ok-push.ensures
-    (behind (decimal c.args.frame) 32 _ _ _ _ _ _ refl c.in_ok-push_number.ensures
+    (behind (decimal c.args.frame) 32 _ _ _ _ _ _ refl c.in_ok-push_marked.ensures
     (behind (name_at tags.lans c.args.lan) 32 _ _ _ _ _ _ c.lan_name.ensures c.in_ok-push_name.ensures
     (behind (name_at tags.systems c.args.system) 32 _ _ _ _ _ _ c.system_name.ensures c.in_ok-push_name-2.ensures
     (behind (encode_lower c.args.snpa.now) 32 _ _ _ _ _ _ refl c.in_ok-push_snpa.ensures
-    c.push_number-2.ensures))))
+    c.push_marked-2.ensures))))

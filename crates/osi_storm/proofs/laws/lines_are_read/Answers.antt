@@ -1,9 +1,9 @@
-use Rattle.std.proofs.Common.{refl, arith}
+use Rattle.std.proofs.Common.{refl}
 use Rattle.osi_storm.proofs.EachLine.{are_read}
 use Rattle.osi_storm.proofs.laws.lines_are_read.Goals as goal
 
 pub returns-clause-read : goal.returns-clause-read
-returns-clause-read c built runs = are_read built runs
+returns-clause-read c words runs = are_read words runs
 
 pub returns-clause-some : goal.returns-clause-some
-returns-clause-some c = record { words = (refl, (refl, (refl, (refl, (refl, (refl, (refl, (refl, (refl, (refl, (refl, (refl, (refl, (refl, (refl, (refl, tt)))))))))))))))); lans = omega arith }
+returns-clause-some c = (refl, (refl, (refl, (refl, (refl, (refl, (refl, (refl, (refl, (refl, (refl, (refl, (refl, (refl, (refl, (refl, tt))))))))))))))))

@@ -12,4 +12,4 @@ returns c =
     let got = more out _ _ _ _ _ ends c.in_ok-push_number-6.ensures in
     let urgent = more out _ _ _ _ _ got c.in_ok-push_number-7.ensures in
     let gone = more out _ _ _ _ _ urgent c.in_ok-push_number-8.ensures in
-    ended c.push_text.result out _ _ _ _ gone c.push_text.ensures
+    ended c.push.result out _ _ _ _ gone c.push.ensures

@@ -1,9 +1,10 @@
-use Rattle.std.proofs.Common.{◌∙◌, ◌++◌, ap, sym, slice_get, List}
+use Rattle.std.proofs.Common.{◌∙◌, ◌++◌, ap, subst, sym, slice_get, List}
 use Rattle.osi_journal.specs.declared.event.Event.{Event}
 use Rattle.tp4_number.specs.Number.{wire}
 use Rattle.tp4_world.specs.declared.place.Placed.{Placed}
-use Rattle.tp4_world.specs.steps.Parts.{listed}
+use Rattle.tp4_world.specs.steps.Parts.{AreLaterAll, listed}
 use Rattle.tp4_world.proofs.Asked.{call_done, call_memory, call_refused}
+use Rattle.tp4_world.proofs.Later.{later_changed, later_place}
 use Rattle.tp4_world.proofs.asking.ask_at.Goals as goal
 
 pub returns-in_ok-follow-in-Ok-clause-calls : goal.returns-in_ok-follow-in-Ok-clause-calls
@@ -22,3 +23,17 @@ returns-in_ok-refuse-in-Err-clause-calls g c =
     let why = c.in-Err.ensures.why memory in
     call_refused g.C.Carrier.link g.C.Carrier.steps wire c.args.carrier.now c.args.transport.now.entities.items c.user_at.new.entities.items c.args.transport.now.ends c.args.place c.args.named.number c.args.named.end
     c.args.call why.0 c.in-Err.why told.0 c.refuse.new.events.items c.requires.place why.1 why.2 (c.in-Err.ensures.same memory) is told.2
+
+pub user_at-requires-clause-from : goal.user_at-requires-clause-from
+user_at-requires-clause-from g c = λ one at.
+    later_place c.args.now c.args.transport.now.entities.items c.args.named.end.system c.args.place one c.requires.later c.requires.place at
+
+pub returns-in_ok-follow-in-Ok-clause-later : goal.returns-in_ok-follow-in-Ok-clause-later
+returns-in_ok-follow-in-Ok-clause-later g c =
+    later_changed c.args.now c.args.transport.now.entities.items c.user_at.new.entities.items c.args.named.end.system c.args.place c.requires.place c.requires.later c.in-Ok.ensures.later
+
+pub returns-in_ok-refuse-in-Err-clause-later : goal.returns-in_ok-refuse-in-Err-clause-later
+returns-in_ok-refuse-in-Err-clause-later g c =
+    let told = c.in_ok-refuse-in-Err.ensures in
+    let memory = call_memory c.in-Err.why told.0 (sym c.told_refusal.ensures ∙ told.1) in
+    subst (λ (placed : List Placed). AreLaterAll c.args.now placed) (sym (c.in-Err.ensures.same memory)) c.requires.later

@@ -1,4 +1,4 @@
-use Rattle.std.proofs.Common.{◌∙◌, ◌++◌, ◌∷◌, [], ap, sym, slice_get, List}
+use Rattle.std.proofs.Common.{◌∙◌, ◌++◌, ◌∷◌, [], ap, subst, sym, slice_get, List}
 use Rattle.std.specs.List.{position}
 use Rattle.osi_journal.specs.declared.event.Event.{Event}
 use Rattle.osi_journal.specs.declared.event.Event.TheVariants.{Connect}
@@ -6,6 +6,8 @@ use Rattle.osi_journal.specs.declared.event.Request.{Request}
 use Rattle.tp4_world.specs.World.{is_of}
 use Rattle.tp4_world.specs.declared.place.Placed.{Placed}
 use Rattle.tp4_world.proofs.Asked.{connect_begun, connect_memory, connect_refused}
+use Rattle.tp4_world.specs.steps.Parts.{AreLaterAll}
+use Rattle.tp4_world.proofs.Later.{later_changed, later_place}
 use Rattle.tp4_world.proofs.asking.begin.Goals as goal
 
 pub returns-in_ok-follow-in-Ok-clause-connects : goal.returns-in_ok-follow-in-Ok-clause-connects
@@ -27,3 +29,17 @@ returns-in_ok-refuse-in-Err-clause-connects g c =
     connect_refused g.C.Carrier.link g.C.Carrier.steps c.args.carrier.now c.args.transport.now.entities.items c.connect_at.new.entities.items c.args.transport.now.ends c.args.system c.in-Some.place c.args.now
     c.args.call why.0 c.in-Err.why told.0 c.refuse.new.events.items (ap (position (is_of c.args.system)) (sym c.deref.ensures.value) ∙ sym c.place_of.ensures ∙ c.in-Some.is) why.1 c.requires.clock why.2
     (c.in-Err.ensures.same memory) is told.2
+
+pub connect_at-requires-clause-from : goal.connect_at-requires-clause-from
+connect_at-requires-clause-from g c = λ one at.
+    later_place c.args.now c.args.transport.now.entities.items c.args.system c.in-Some.place one c.requires.later (ap (position (is_of c.args.system)) (sym c.deref.ensures.value) ∙ sym c.place_of.ensures ∙ c.in-Some.is) at
+
+pub returns-in_ok-follow-in-Ok-clause-later : goal.returns-in_ok-follow-in-Ok-clause-later
+returns-in_ok-follow-in-Ok-clause-later g c =
+    later_changed c.args.now c.args.transport.now.entities.items c.connect_at.new.entities.items c.args.system c.in-Some.place (ap (position (is_of c.args.system)) (sym c.deref.ensures.value) ∙ sym c.place_of.ensures ∙ c.in-Some.is) c.requires.later c.in-Ok.ensures.later
+
+pub returns-in_ok-refuse-in-Err-clause-later : goal.returns-in_ok-refuse-in-Err-clause-later
+returns-in_ok-refuse-in-Err-clause-later g c =
+    let told = c.in_ok-refuse-in-Err.ensures in
+    let memory = connect_memory c.in-Err.why told.0 (sym c.told_connect.ensures ∙ told.1) in
+    subst (λ (placed : List Placed). AreLaterAll c.args.now placed) (sym (c.in-Err.ensures.same memory)) c.requires.later

@@ -8,6 +8,7 @@ use Rattle.tp4_world.specs.steps.Parts.{world_of}
 use Rattle.tp4_world.proofs.Acting.{own_of}
 use Rattle.tp4_world.proofs.Entities.{no_entity}
 use Rattle.tp4_world.proofs.Heard.{hears_none, hears_there, hears_unfit}
+use Rattle.tp4_world.proofs.Later.{later_changed, later_place}
 use Rattle.tp4_world.proofs.Places.{first_is_some}
 use Rattle.tp4_world.proofs.hearing.hear.Goals as goal
 
@@ -39,3 +40,11 @@ returns-clause-hears g c =
     c.args.arrival.now c.in-Some.place c.args.now c.in-Some-own_at.own c.clear.new.self c.hear_at.new.out c.args.events.now.items c.follow.new.events.items found
     (λ one at. sym c.in-Some-own_at.is ∙ c.own_at.ensures one (ap (λ (ps : List Placed). slice_get ps c.in-Some.place) c.deref-2.ensures.value ∙ at))
     (sym c.is_for.ensures ∙ c.if-not-is_for.false) c.requires.clock c.clear.ensures c.in_ok-hear_at.ensures.changed c.in_ok-follow.ensures.follows
+
+pub hear_at-requires-clause-from : goal.hear_at-requires-clause-from
+hear_at-requires-clause-from g c = λ one at.
+    later_place c.args.now c.args.transport.now.entities.items c.args.arrival.now.system c.in-Some.place one c.requires.later (ap (position (is_of c.args.arrival.now.system)) (sym c.deref.ensures.value) ∙ sym c.place_of.ensures ∙ c.in-Some.is) at
+
+pub returns-clause-later : goal.returns-clause-later
+returns-clause-later g c =
+    later_changed c.args.now c.args.transport.now.entities.items c.hear_at.new.entities.items c.args.arrival.now.system c.in-Some.place (ap (position (is_of c.args.arrival.now.system)) (sym c.deref.ensures.value) ∙ sym c.place_of.ensures ∙ c.in-Some.is) c.requires.later c.in_ok-hear_at.ensures.later

@@ -17,6 +17,7 @@ loop-arrival-preserved g c = let p = c.in-Some.ensures in
           (λ rest last h. subst (λ (us : List _). HearsEach g.C.Carrier.link g.C.Carrier.steps wire mid us (t.made ++ rest) last) (sym e) (new, t.made, rest, t.are, h, refl))),
       c.in_ok-hear.ensures.clock,
       c.in_ok-hear.ensures.behind,
+      c.in_ok-hear.ensures.later,
     )
 
 pub returns-clause-hears : goal.returns-clause-hears

@@ -1,6 +1,6 @@
 use Rattle.std.proofs.Common.{◌≡◌, length}
 use Rattle.tp4_number.specs.Number.{wire}
-use Rattle.tp4_world.specs.steps.Parts.{AreBehind, HearsEach, world_of}
+use Rattle.tp4_world.specs.steps.Parts.{AreBehind, AreLaterAll, HearsEach, world_of}
 use Rattle.tp4_world.proofs.Going.{Going}
 use Rattle.tp4_world.proofs.hearing.hear_all.Given as goal
 
@@ -10,6 +10,7 @@ invariant-loop-arrival g l =
     (world_of l.carrier l.transport.entities.items l.transport.ends) l.events.items l.transport.units.items
     × ((g.C.Carrier.link l.carrier).clock ≡ l.now)
     × AreBehind l.now l.transport.entities.items
+    × AreLaterAll l.now l.transport.entities.items
 
 abbrev pub decreases-loop-arrival : goal.decreases-loop-arrival
 decreases-loop-arrival g l = length l.transport.units.items

@@ -3,6 +3,7 @@ use Rattle.std.proofs.lemmas.Grind.{common_steps}
 use Rattle.tp4_number.specs.Number.{wire}
 use Rattle.tp4_world.specs.steps.Parts.{systems_of, world_of}
 use Rattle.tp4_world.proofs.Entities.{systems_count}
+use Rattle.tp4_world.proofs.Later.{later_each, later_more}
 use Rattle.tp4_world.proofs.Ticked.{all_ticked, entity_more}
 use Rattle.tp4_world.proofs.ticking.tick_all.Goals as goal
 
@@ -15,6 +16,10 @@ loop-place-preserved g c = (
   c.in_ok-tick_system.ensures.clock,
   c.in_ok-tick_system.ensures.behind,
   c.in_ok-tick_system.ensures.systems ∙ c.loop-place.invariant.3,
+  c.in_ok-tick_system.ensures.from,
+  later_more c.args.now c.loop-place.transport.entities.items c.tick_system.new.transport.entities.items (systems_of c.args.transport.now.entities.items) c.loop-place.place c.in-Some.system
+      (ap (λ (ss : List ℕ). slice_get ss c.loop-place.place) (sym c.loop-place.invariant.3) ∙ sym c.system_at.ensures ∙ c.in-Some.is)
+      c.loop-place.invariant.5 c.in_ok-tick_system.ensures.kept c.in_ok-tick_system.ensures.rest,
 )
 
 pub returns-clause-ticks : goal.returns-clause-ticks
@@ -24,3 +29,9 @@ returns-clause-ticks g c =
     let over : drop c.loop-place.place (systems_of c.args.transport.now.entities.items) ≡ [] = grind (arith, common_steps) in
     all_ticked g.C.Carrier.link g.C.Carrier.steps wire (world_of c.args.carrier.now c.args.transport.now.entities.items c.args.transport.now.ends) c.args.transport.now.entities.items c.args.events.now.items
     (world_of c.loop-place.carrier c.loop-place.transport.entities.items c.loop-place.transport.ends) c.loop-place.events.items c.loop-place.place c.loop-place.invariant.0 over
+
+pub returns-clause-later : goal.returns-clause-later
+returns-clause-later g c =
+    let count : length (systems_of c.args.transport.now.entities.items) ≡ length c.args.transport.now.entities.items = systems_count c.args.transport.now.entities.items in
+    let whole : length (systems_of c.args.transport.now.entities.items) ≤ c.loop-place.place = search rules in
+    later_each c.args.now c.args.transport.now.entities.items c.loop-place.transport.entities.items c.loop-place.place c.loop-place.invariant.3 whole c.loop-place.invariant.5

@@ -1,6 +1,6 @@
-use Rattle.std.proofs.Common.{◌≡◌, drop}
+use Rattle.std.proofs.Common.{◌≡◌, ◌<◌, ℕ, Some, drop, slice_get}
 use Rattle.tp4_number.specs.Number.{wire}
-use Rattle.tp4_world.specs.steps.Parts.{AreBehind, TicksEach, systems_of, world_of}
+use Rattle.tp4_world.specs.steps.Parts.{AreBehind, AreFromAll, AreLaterAt, TicksEach, systems_of, world_of}
 use Rattle.tp4_world.proofs.Going.{Going}
 use Rattle.tp4_world.proofs.ticking.tick_all.Given as goal
 
@@ -11,3 +11,5 @@ invariant-loop-place g l =
     × ((g.C.Carrier.link l.carrier).clock ≡ l.now)
     × AreBehind l.now l.transport.entities.items
     × (systems_of l.transport.entities.items ≡ systems_of l.initial.transport.entities.items)
+    × AreFromAll l.now l.transport.entities.items
+    × ((k system : ℕ) → k < l.place → slice_get (systems_of l.initial.transport.entities.items) k ≡ Some system → AreLaterAt l.now l.transport.entities.items system)

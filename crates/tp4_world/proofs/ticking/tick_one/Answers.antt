@@ -4,6 +4,7 @@ use Rattle.std.proofs.lemmas.List.{append-nil}
 use Rattle.tp4_number.specs.Number.{wire}
 use Rattle.tp4_world.specs.World.{is_of}
 use Rattle.tp4_world.specs.declared.place.Placed.{Placed}
+use Rattle.tp4_world.proofs.Later.{from_changed, from_place, kept_changed, rest_changed}
 use Rattle.tp4_world.proofs.Ticked.{changed_systems, fewer_due, once_due, once_none}
 use Rattle.tp4_world.proofs.ticking.tick_one.Goals as goal
 
@@ -34,3 +35,27 @@ pub returns-clause-fewer : goal.returns-clause-fewer
 returns-clause-fewer g c = λ due.
     fewer_due c.args.now c.args.transport.now.entities.items c.tick_at.new.entities.items c.args.system c.in-Some.place
     (ap (position (is_of c.args.system)) (sym c.deref.ensures.value) ∙ sym c.place_of.ensures ∙ c.in-Some.is) (c.in_ok-was_due.ensures.fewer c.if-not-was_due.false)
+
+pub tick_at-requires-clause-from : goal.tick_at-requires-clause-from
+tick_at-requires-clause-from g c = λ one at.
+    from_place c.args.now c.args.transport.now.entities.items c.args.system c.in-Some.place one c.requires.from (ap (position (is_of c.args.system)) (sym c.deref.ensures.value) ∙ sym c.place_of.ensures ∙ c.in-Some.is) at
+
+pub returns-then-not-was_due-clause-from : goal.returns-then-not-was_due-clause-from
+returns-then-not-was_due-clause-from g c =
+    from_changed c.args.now c.args.transport.now.entities.items c.tick_at.new.entities.items c.args.system c.in-Some.place (ap (position (is_of c.args.system)) (sym c.deref.ensures.value) ∙ sym c.place_of.ensures ∙ c.in-Some.is) c.requires.from c.in_ok-was_due.ensures.from
+
+pub returns-then-not-was_due-clause-kept : goal.returns-then-not-was_due-clause-kept
+returns-then-not-was_due-clause-kept g c =
+    kept_changed c.args.now c.args.transport.now.entities.items c.tick_at.new.entities.items c.args.system c.in-Some.place (ap (position (is_of c.args.system)) (sym c.deref.ensures.value) ∙ sym c.place_of.ensures ∙ c.in-Some.is) c.in_ok-was_due.ensures.later
+
+pub returns-then-not-was_due-clause-rest : goal.returns-then-not-was_due-clause-rest
+returns-then-not-was_due-clause-rest g c = λ none.
+    rest_changed c.args.now c.args.transport.now.entities.items c.tick_at.new.entities.items c.args.system c.in-Some.place (ap (position (is_of c.args.system)) (sym c.deref.ensures.value) ∙ sym c.place_of.ensures ∙ c.in-Some.is) (c.in_ok-was_due.ensures.rest c.if-not-was_due.true)
+
+pub returns-clause-from : goal.returns-clause-from
+returns-clause-from g c =
+    from_changed c.args.now c.args.transport.now.entities.items c.tick_at.new.entities.items c.args.system c.in-Some.place (ap (position (is_of c.args.system)) (sym c.deref.ensures.value) ∙ sym c.place_of.ensures ∙ c.in-Some.is) c.requires.from c.in_ok-was_due.ensures.from
+
+pub returns-clause-kept : goal.returns-clause-kept
+returns-clause-kept g c =
+    kept_changed c.args.now c.args.transport.now.entities.items c.tick_at.new.entities.items c.args.system c.in-Some.place (ap (position (is_of c.args.system)) (sym c.deref.ensures.value) ∙ sym c.place_of.ensures ∙ c.in-Some.is) c.in_ok-was_due.ensures.later

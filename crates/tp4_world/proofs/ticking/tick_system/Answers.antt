@@ -22,6 +22,8 @@ loop-preserved g c =
       c.in_ok-tick_one.ensures.clock,
       c.in_ok-tick_one.ensures.behind,
       c.in_ok-tick_one.ensures.systems ∙ c.loop.invariant.3,
+      c.in_ok-tick_one.ensures.from,
+      λ other later. c.in_ok-tick_one.ensures.kept other (c.loop.invariant.5 other later),
     )
 
 pub loop-smaller : goal.loop-smaller

@@ -1,6 +1,6 @@
-use Rattle.std.proofs.Common.{◌≡◌, []}
+use Rattle.std.proofs.Common.{◌≡◌, ℕ, []}
 use Rattle.tp4_number.specs.Number.{wire}
-use Rattle.tp4_world.specs.steps.Parts.{AreBehind, dues_at, systems_of, world_of}
+use Rattle.tp4_world.specs.steps.Parts.{AreBehind, AreFromAll, AreLaterAt, dues_at, systems_of, world_of}
 use Rattle.tp4_world.proofs.Going.{Going}
 use Rattle.tp4_world.proofs.Ticked.{OfEntity}
 use Rattle.tp4_world.proofs.ticking.tick_system.Given as goal
@@ -12,6 +12,8 @@ invariant-loop g l =
     × ((g.C.Carrier.link l.carrier).clock ≡ l.now)
     × AreBehind l.now l.transport.entities.items
     × (systems_of l.transport.entities.items ≡ systems_of l.initial.transport.entities.items)
+    × AreFromAll l.now l.transport.entities.items
+    × ((other : ℕ) → AreLaterAt l.now l.initial.transport.entities.items other → AreLaterAt l.now l.transport.entities.items other)
 
 abbrev pub decreases-loop : goal.decreases-loop
 decreases-loop g l = dues_at l.now l.transport.entities.items l.system

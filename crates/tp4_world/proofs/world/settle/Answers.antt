@@ -20,6 +20,7 @@ loop-count-preserved g c =
           c.in_ok-deliver.ensures.taken c.in_ok-deliver.ensures.delivers,
       c.in_ok-deliver.ensures.clock,
       c.in_ok-deliver.ensures.behind,
+      c.in_ok-deliver.ensures.later,
     )
 
 pub returns-in-Some-fresh-clause-settles : goal.returns-in-Some-fresh-clause-settles

@@ -1,6 +1,6 @@
 use Rattle.std.proofs.Common.{◌≡◌, []}
 use Rattle.tp4_number.specs.Number.{wire}
-use Rattle.tp4_world.specs.steps.Parts.{AreBehind, world_of}
+use Rattle.tp4_world.specs.steps.Parts.{AreBehind, AreLaterAll, world_of}
 use Rattle.tp4_world.proofs.Going.{Going}
 use Rattle.tp4_world.proofs.Settled.{OfSettling}
 use Rattle.tp4_world.proofs.world.settle.Given as goal
@@ -11,3 +11,4 @@ invariant-loop-count g l =
     (l.count, world_of l.carrier l.transport.entities.items l.transport.ends) l.events.items []
     × ((g.C.Carrier.link l.carrier).clock ≡ l.now)
     × AreBehind l.now l.transport.entities.items
+    × AreLaterAll l.now l.transport.entities.items

@@ -1,8 +1,9 @@
-use Rattle.std.proofs.Common.{◌≡◌, ◌+◌, ◌-◌, ◌∙◌, false, refl, ap, sym, arith}
+use Rattle.std.proofs.Common.{◌≡◌, ◌+◌, ◌-◌, ◌∙◌, false, refl, ap, subst, sym, arith}
 use Rattle.std.proofs.lemmas.Option.{slice_get_read}
+use Rattle.tp4_entity.specs.Dues.{AreFrom, due_at}
 use Rattle.tp4_entity.specs.Entity.{Entity}
 use Rattle.tp4_entity.specs.steps.Places.{is_memory}
-use Rattle.tp4_entity.proofs.Empty.{used_set}
+use Rattle.tp4_entity.proofs.Dues.{due_put, from_get, lasts_set, moved}
 use Rattle.tp4_entity.proofs.PlaceLaws.{call_done, entity_over, entity_at, entity_now_set, is_not_memory, place_behind, refusal_at}
 use Rattle.tp4_entity.proofs.entity.TpEntity.user.Goals as goal
 
@@ -19,8 +20,7 @@ invariant_of-self-in-Ok c =
     let there = slice_get_read c.self.inside.ends.items _ at c.in-Some.place.now c.self.inside.ends.ok.0 (c.in-Some.ensures.variant.0 refl) c.in-Some.ensures.value in
     let clock = ap (λ (e : Entity). e.clock) c.self.view_is in (
       entity_now_set _ c.args.now at c.in-Some.place.now c.call_place.new.place (omega (arith, clock, c.requires.clock)) c.self.invariant.0 there (c.in-Ok.ensures.kept c.self.inside.timers (at + 1)),
-      tt,
-      used_set c.self.inside.used at c.self.inside.ends.items c.in-Some.place.now c.call_place.new.place c.self.invariant.2 there c.in-Ok.ensures.none,
+      due_put c.self.inside.due c.call_place.new.due c.self.inside.ends.items at c.call_place.new.place _ c.self.invariant.1 (moved c.self.inside.due (c.from-2.result - 1) at (due_at c.call_place.new.place) c.call_place.new.due (omega (arith, c.from.ensures, c.from-2.ensures)) c.in-Ok.ensures.due) refl,
     )
 
 pub invariant_of-self-in-Err : goal.invariant_of-self-in-Err
@@ -31,8 +31,7 @@ invariant_of-self-in-Err c =
     let same : is_memory c.in-Err.why ≡ false → c.call_place.new.place ≡ c.in-Some.place.now = λ off. (c.in-Err.ensures.same (is_not_memory c.in-Err.why off)).0 in (
       entity_over _ c.clock_after-self-inside.result (is_memory c.in-Err.why) c.args.now at c.in-Some.place.now c.call_place.new.place (omega (arith, clock, c.requires.clock)) c.self.invariant.0 there
           (c.in-Err.ensures.kept c.self.inside.timers (at + 1)) same c.clock_after-self-inside.ensures,
-      tt,
-      used_set c.self.inside.used at c.self.inside.ends.items c.in-Some.place.now c.call_place.new.place c.self.invariant.2 there c.in-Err.ensures.none,
+      due_put c.self.inside.due c.call_place.new.due c.self.inside.ends.items at c.call_place.new.place _ c.self.invariant.1 (moved c.self.inside.due (c.from-2.result - 1) at (due_at c.call_place.new.place) c.call_place.new.due (omega (arith, c.from.ensures, c.from-2.ensures)) c.in-Err.ensures.due) refl,
     )
 
 pub returns-in-Ok-clause-allowed : goal.returns-in-Ok-clause-allowed
@@ -65,3 +64,21 @@ returns-in-Err-clause-why c other =
     let at = c.from.result - 1 in
     let there = slice_get_read c.self.inside.ends.items _ at c.in-Some.place.now c.self.inside.ends.ok.0 (c.in-Some.ensures.variant.0 refl) c.in-Some.ensures.value in
     refusal_at _ _ c.args.reference at c.args.call c.in-Some.place.now c.self.view_is (omega arith) there ∙ c.in-Err.ensures.why other
+
+pub call_place-requires-clause-from : goal.call_place-requires-clause-from
+call_place-requires-clause-from c =
+    let at = c.from.result - 1 in
+    let there = slice_get_read c.self.inside.ends.items _ at c.in-Some.place.now c.self.inside.ends.ok.0 (c.in-Some.ensures.variant.0 refl) c.in-Some.ensures.value in
+    from_get c.args.now at c.self.inside.ends.items c.in-Some.place.now (subst (λ (e : Entity). AreFrom c.args.now e.ends) (sym c.self.view_is) c.requires.due) there
+
+pub returns-in-Ok-clause-from : goal.returns-in-Ok-clause-from
+returns-in-Ok-clause-from c =
+    let at = c.from.result - 1 in
+    let there = slice_get_read c.self.inside.ends.items _ at c.in-Some.place.now c.self.inside.ends.ok.0 (c.in-Some.ensures.variant.0 refl) c.in-Some.ensures.value in
+    (lasts_set c.args.now at _ _ c.in-Some.place.now c.call_place.new.place c.self.view_is c.requires.due there c.in-Ok.ensures.from c.in-Ok.ensures.later).0
+
+pub returns-in-Ok-clause-later : goal.returns-in-Ok-clause-later
+returns-in-Ok-clause-later c =
+    let at = c.from.result - 1 in
+    let there = slice_get_read c.self.inside.ends.items _ at c.in-Some.place.now c.self.inside.ends.ok.0 (c.in-Some.ensures.variant.0 refl) c.in-Some.ensures.value in
+    (lasts_set c.args.now at _ _ c.in-Some.place.now c.call_place.new.place c.self.view_is c.requires.due there c.in-Ok.ensures.from c.in-Ok.ensures.later).1

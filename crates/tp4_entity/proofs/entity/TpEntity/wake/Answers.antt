@@ -1,7 +1,5 @@
 use Rattle.std.proofs.Common.{◌≤◌, ap, subst, sym, arith}
 use Rattle.tp4_entity.specs.Entity.{Entity}
-use Rattle.tp4_entity.specs.steps.Places.{AreIdle}
-use Rattle.tp4_entity.proofs.Idle.{idle_later}
 use Rattle.tp4_entity.proofs.PlaceLaws.{entity_later}
 use Rattle.tp4_entity.proofs.entity.TpEntity.wake.Goals as goal
 
@@ -10,6 +8,5 @@ invariant_of-self c =
     let same = ap (λ (e : Entity). e.clock) c.self.view_is in
     let later : c.self.inside.clock ≤ c.args.now = omega (arith, same, c.requires) in (
       entity_later _ c.args.now later c.self.invariant.0,
-      subst (λ idle. AreIdle c.args.now idle c.self.inside.ends.items) (sym c.idle_after-self-inside.ensures) (idle_later c.self.inside.clock c.args.now c.self.inside.idle c.self.inside.ends.items c.self.invariant.1),
-      c.self.invariant.2,
+      c.self.invariant.1,
     )

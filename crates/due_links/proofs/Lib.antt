@@ -1,0 +1,10 @@
+pub mod Changes
+pub mod Comings
+pub mod Cuts
+pub mod Empty
+pub mod Firsts
+pub mod Froms
+pub mod Gaps
+pub mod Keys
+pub mod Maps
+pub mod Writes

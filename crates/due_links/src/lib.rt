@@ -1,0 +1,7 @@
+//! Ids that are due at ticks, in linked buckets (the timers of X.224, X.233 and ISO 9542 are kept so).
+#![tactic(auto)]
+
+mod bucket;
+mod due;
+
+pub use due::Due;

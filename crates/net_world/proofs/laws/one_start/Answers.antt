@@ -1,5 +1,0 @@
-use Rattle.net_world.proofs.OneRun.{one_start}
-use Rattle.net_world.proofs.laws.one_start.Goals as goal
-
-pub returns : goal.returns
-returns g c = one_start g.C.Carrier.link g.C.Carrier.steps c.one_gathering.ensures

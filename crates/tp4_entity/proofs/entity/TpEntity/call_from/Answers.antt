@@ -1,0 +1,9 @@
+use Rattle.std.proofs.Common.{◌+◌, ◌∙◌, ap}
+use Rattle.tp4_entity.specs.Entity.{Entity, with_end}
+use Rattle.tp4_entity.specs.steps.Places.{Lasts}
+use Rattle.tp4_entity.proofs.Dues.{lasts_put, lasts_woken}
+use Rattle.tp4_entity.proofs.entity.TpEntity.call_from.Goals as goal
+
+pub returns-clause-lasts : goal.returns-clause-lasts
+returns-clause-lasts c =
+    lasts_woken c.args.now (c.args.place + 1) c.args.self.now c.wake.new.self c.put.new.self c.in_ok-end.end c.wake.ensures c.put.ensures c.requires.due c.in_ok-end.ensures.later
