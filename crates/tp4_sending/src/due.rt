@@ -1,23 +1,37 @@
 //! When a sending half is to act again (X.224, retransmission on time-out; sequence numbering).
 
 ghost use Rattle.std.specs.Prelude.{◌≡◌, ◌+◌, nat_le};
+ghost use Rattle.std.specs.List.{All};
+ghost use Rattle.tp4_sending.specs.Kept.{IsTried};
 ghost use Rattle.tp4_sending.specs.FlowSender.{urgent_opens, normal_opens, urgent_last};
 ghost use Rattle.tp4_sending.specs.Pieces.{sooner, least_due};
 
 use crate::sending::Sending;
+use crate::tries::Tries;
 use osi_base::Tick;
 
 impl Sending {
     /// The first tick at which a DT of the window is to be sent again.
-    #[tactic(auto, using(crate::proofs::Leasts::least_on, crate::proofs::Leasts::least_all))]
+    #[tactic(auto, using(crate::proofs::Leasts::least_parts, crate::proofs::Leasts::tried_front))]
     pub(crate) fn window_due(&self) -> Option<Tick>
         ensures { result ≡ least_due self.now.rules.t1 self.now.window }
     {
-        let mut due = None;
-        for at in 0..self.window.len() {
-            due = sooner(due, Some(self.tries_at(at).last + self.rules.t1));
+        let (front, back) = self.window.as_slices();
+        sooner(self.first_due(front), self.first_due(back))
+    }
+
+    /// The first tick at which one of these DTs is to be sent again.
+    #[tactic(auto, using(crate::proofs::Leasts::least_on, crate::proofs::Leasts::least_all))]
+    fn first_due(&self, window: &[Tries]) -> Option<Tick>
+        requires { All (IsTried self.now.clock) window.now }
+        ensures { result ≡ least_due self.now.rules.t1 window.now }
+    {
+        let (first, others) = window.split_first()?;
+        let mut least = first.last;
+        for tries in others {
+            least = least.min(tries.last);
         }
-        due
+        Some(least + self.rules.t1)
     }
 
     /// The tick at which the ED is to be sent again.
