@@ -16,7 +16,7 @@ use Rattle.clnp_segment.specs.declared.store.Joined.{Joined}
 use Rattle.clnp_segment.specs.declared.store.Joined.TheVariants as joined
 use Rattle.clnp_segment.proofs.Joins.{get_within}
 use Rattle.clnp_segment.proofs.Rooms.{none_is_full}
-use Rattle.clnp_segment.proofs.Runs.{cut_alike}
+use Rattle.clnp_segment.proofs.CutRuns.{cut_alike}
 use Rattle.clnp_segment.proofs.Wholes.{is_key_false, is_key_true, none_at, whole_in_turn}
 
 -- ---- the pieces

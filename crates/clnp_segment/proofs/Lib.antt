@@ -1,3 +1,5 @@
+mod Clashes
+mod CutRuns
 mod Alone
 pub mod Cuttings
 mod Deliveries
@@ -5,12 +7,13 @@ pub mod Determined
 mod Dues
 pub mod Joins
 pub mod Lists
-mod Marks
+mod Meetings
+mod Fills
 mod Pieces
 mod Read
 mod Rooms
-mod Runs
 mod Slots
+mod Spans
 mod Storing
 mod Taking
 pub mod Units

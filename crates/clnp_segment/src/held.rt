@@ -1,10 +1,10 @@
 //! What is held of one unit (X.233, reassembly).
 
-ghost use Rattle.std.specs.Prelude.{◌≡◌, ◌≤◌, ◌+◌, length, count_by, is_some, IfOk};
+ghost use Rattle.std.specs.Prelude.{◌≡◌, ◌≤◌, ◌+◌, length, count_by, is_some, OnErr, OnOk};
 ghost use Rattle.clnp_segment.specs.Joining.{Filled, IsUnit, nothing_of};
 ghost use Rattle.clnp_segment.specs.steps.Places.{Compares, Judges, is_alone, segment_of, with_segment};
 
-use crate::places::Places;
+use crate::runs::Runs;
 use osi_base::NoMemory;
 use std::alloc::Global;
 use std::marker::Model;
@@ -39,12 +39,12 @@ pub enum Verdict {
     Fresh(usize),
 }
 
-/// What is held of one unit: a place for each position.
+/// What is held of one unit: runs of octets.
 #[derive(Drop)]
 pub struct Joint {
     header: usize,
     total: u16,
-    places: Places,
+    runs: Runs,
 }
 
 impl Model for Joint {
@@ -52,28 +52,28 @@ impl Model for Joint {
 
     ghost Value = { Held };
 
-    ghost view = { λ j. record { header = j.header; total = j.total; slots = j.places } };
+    ghost view = { λ j. record { header = j.header; total = j.total; slots = j.runs } };
 }
 
 impl Joint {
     /// Nothing, with the lengths of this segment.
-    pub fn new(alloc: Global, segment: &SegmentRef<'_>) -> Result<Joint, NoMemory>
+    pub fn new(alloc: Global, segment: &SegmentRef<'_>) -> Joint
         requires { segment.now.header ≤ segment.now.total }
-        ensures { IfOk result (λ joint. joint ≡ nothing_of (segment_of segment.now)) }
+        ensures { result ≡ nothing_of (segment_of segment.now) }
     {
         let places = usize::from(segment.total) - segment.header;
-        Ok(Joint {
+        Joint {
             header: segment.header,
             total: segment.total,
-            places: Places::new(alloc, places)?,
-        })
+            runs: Runs::new(alloc, places),
+        }
     }
 
     /// How many octets are held.
     pub fn count(&self) -> usize
         ensures { result ≡ count_by is_some self.now.slots }
     {
-        self.places.count()
+        self.runs.count()
     }
 
     /// What the segment does.
@@ -85,32 +85,32 @@ impl Joint {
         if self.header != segment.header || self.total != segment.total {
             return Verdict::Clash;
         }
-        self.compare(usize::from(segment.offset), segment.octets)
+        self.compare(segment.offset, segment.octets)
     }
 
     /// What octets from that position on do.
-    fn compare(&self, at: usize, octets: &[u8]) -> Verdict
+    fn compare(&self, at: u16, octets: &[u8]) -> Verdict
         requires { at + length octets.now ≤ length self.now.slots }
         ensures { Compares self.now.slots at octets.now result }
     {
-        if self.places.clash(at, octets) {
+        if self.runs.clash(at, octets) {
             return Verdict::Clash;
         }
-        let all = self.places.len();
-        let fresh = self.places.empty(at, octets.len());
-        if self.places.count() + fresh == all {
+        let all = self.runs.len();
+        let fresh = self.runs.empty(at, octets);
+        if self.runs.count() + fresh == all {
             return Verdict::Whole;
         }
         Verdict::Fresh(fresh)
     }
 
-    /// Writes the octets of the segment.
-    pub fn write(&mut self, segment: &SegmentRef<'_>)
+    /// Writes the octets of the segment. At NoMemory what is held is unchanged.
+    pub fn write(&mut self, segment: &SegmentRef<'_>) -> Result<(), NoMemory>
         requires { segment.now.offset + length segment.now.octets.now ≤ length self.old.slots }
-        ensures { self.new ≡ with_segment self.old (segment_of segment.now) }
+        ensures ok { OnOk result (self.new ≡ with_segment self.old (segment_of segment.now)) }
+        ensures err { OnErr result (self.new ≡ self.old) }
     {
-        self.places
-            .write(usize::from(segment.offset), segment.octets);
+        self.runs.write(segment.offset, segment.octets)
     }
 
     /// The unit, of which all octets are there.
@@ -118,6 +118,6 @@ impl Joint {
         requires { Filled self }
         ensures { IsUnit self result.items }
     {
-        self.places.into_octets()
+        self.runs.into_octets()
     }
 }

@@ -4,7 +4,7 @@
 mod cutting;
 mod held;
 mod laws;
-mod places;
+mod runs;
 mod store;
 mod unit;
 

@@ -1,17 +1,18 @@
 //! Units of which some segments came (X.233, reassembly, reassembly lifetime).
 
-ghost use Rattle.std.specs.Prelude.{◌≡◌, ◌<◌, ◌≤◌, ◌+◌, ◌↔◌, IsTrue, ℕ, [], drop, length, slice_get, take, IfOk, None, Some};
+ghost use Rattle.std.specs.Prelude.{◌≡◌, ◌<◌, ◌≤◌, ◌+◌, ◌↔◌, IsTrue, ℕ, [], drop, length, slice_get, slice_set, take, IfOk, None, Some};
 ghost use Rattle.std.specs.List.{position, remove};
 ghost use Rattle.clnp_header.specs.declared.pdu.SegmentPart.{SegmentPart};
 ghost use Rattle.clnp_segment.specs.Joining.{filled_places};
 ghost use Rattle.clnp_segment.specs.Store.{Expires, FitsIn, IsAt, IsWithin, MayCome, Takes, TakesAt, coming_of, has_key, octets_held};
-ghost use Rattle.clnp_segment.specs.steps.Due.{FindsDue};
+ghost use Rattle.clnp_segment.specs.steps.Due.{FindsDue, IsKept, deadline_at};
 ghost use Rattle.clnp_segment.specs.steps.Incoming.{incoming_of};
 ghost use Rattle.clnp_segment.specs.steps.Places.{with_segment};
 
 use crate::held::Verdict;
 use crate::unit::{HeldUnit, Incoming};
 use clnp_header::PduRef;
+use due_links::Due;
 use nsap::Nsap;
 use osi_base::{Bytes, NoMemory, Tick};
 use std::alloc::Global;
@@ -47,37 +48,42 @@ pub struct Expired {
 pub struct Store {
     alloc: Global,
     clock: Tick,
-    units: usize,
+    units: u32,
     octets: usize,
     used: usize,
     held: Vec<HeldUnit>,
+    /// Until when each unit is held, by its place among them.
+    due: Due,
 }
 
-// The octets used are those that are held.
+// The octets used are those that are held, and what is due is exactly the deadline of each unit.
 impl Model for Store {
     ghost use Rattle.std.specs.Prelude.{◌≡◌};
     ghost use Rattle.clnp_segment.specs.Store.{Holding, IsWithin, octets_held};
+    ghost use Rattle.clnp_segment.specs.steps.Due.{AreDeadlines};
 
     ghost Value = { Holding };
 
     ghost view = { λ s. record { clock = s.clock; units = s.units; octets = s.octets; held = s.held.items } };
 
     ghost invariant = { λ s. IsWithin (record { clock = s.clock; units = s.units; octets = s.octets; held = s.held.items })
-        × (s.used ≡ octets_held s.held.items) };
+        × (s.used ≡ octets_held s.held.items) × AreDeadlines s.units s.held.items s.due };
 }
 
 impl Store {
-    /// A store for so many units and so many octets of their data, with nothing in it.
+    /// A store for so many units and so many octets of their data, with nothing in it. The memory for their list and their
+    /// deadlines is taken here.
     pub fn new(alloc: Global, units: u32, octets: u32) -> Result<Store, NoMemory>
         ensures { IfOk result (λ store. store ≡ record { clock = 0; units = units; octets = octets; held = [] }) }
     {
         Ok(Store {
             alloc,
             clock: 0,
-            units: units as usize,
+            units,
             octets: octets as usize,
             used: 0,
-            held: Vec::new(alloc),
+            held: Vec::with_capacity(alloc, units as usize)?,
+            due: Due::new(alloc, units)?,
         })
     }
 
@@ -141,18 +147,14 @@ impl Store {
     }
 
     /// The place of the first unit of least deadline among those past it.
-    fn first_due(&self, now: Tick) -> Option<usize>
-        ensures { (least : ℕ) × FindsDue now self.now.held result least }
+    fn first_due(&mut self, now: Tick) -> Option<usize>
+        ensures found { FindsDue now self.old.held result }
+        ensures same { self.new ≡ self.old }
     {
-        let mut least = now;
-        let mut found = None;
-        for (place, unit) in self.held.iter().enumerate() {
-            if unit.deadline() < least {
-                least = unit.deadline();
-                found = Some(place);
-            }
-        }
-        found
+        let first = self.due.pop(now.checked_sub(1)?)? as usize;
+        // It stays due until it is withdrawn.
+        keep(&mut self.due, first, Some(self.held[first].deadline()));
+        Some(first)
     }
 
     /// Takes a segment of a unit that is held.
@@ -174,11 +176,13 @@ impl Store {
             }
             Verdict::Whole => {
                 let unit = self.withdraw(place);
-                Ok(Joined::Whole(unit.whole(&segment)))
+                Ok(Joined::Whole(unit.whole(&segment)?))
             }
             Verdict::Fresh(fresh) if self.octets - self.used < fresh => Ok(Joined::Full),
             Verdict::Fresh(fresh) => {
-                self.held[place].add(&segment, self.clock + incoming.left);
+                let unit = &mut self.held[place];
+                unit.add(&segment, self.clock + incoming.left)?;
+                keep(&mut self.due, place, Some(unit.deadline()));
                 self.used += fresh;
                 Ok(Joined::Held)
             }
@@ -218,11 +222,14 @@ impl Store {
         let mut unit = HeldUnit::new(self.alloc, deadline, incoming)?;
         match unit.judge(&segment) {
             Verdict::Clash => Ok(Joined::Interference),
-            Verdict::Whole => Ok(Joined::Whole(unit.whole(&segment))),
+            Verdict::Whole => Ok(Joined::Whole(unit.whole(&segment)?)),
             Verdict::Fresh(fresh) if !self.has_room(fresh) => Ok(Joined::Full),
             Verdict::Fresh(fresh) => {
-                unit.add(&segment, deadline);
+                unit.add(&segment, deadline)?;
+                let until = unit.deadline();
+                let place = self.held.len();
                 self.held.push(unit)?;
+                keep(&mut self.due, place, Some(until));
                 self.used += fresh;
                 Ok(Joined::Held)
             }
@@ -233,7 +240,7 @@ impl Store {
     fn has_room(&self, fresh: usize) -> bool
         ensures { IsTrue result ↔ (length self.now.held < self.now.units) × (octets_held self.now.held + fresh ≤ self.now.octets) }
     {
-        self.held.len() < self.units && fresh <= self.octets - self.used
+        self.held.len() < self.units as usize && fresh <= self.octets - self.used
     }
 
     /// Takes the unit at the place out.
@@ -243,8 +250,42 @@ impl Store {
         ensures rest { self.new ≡ record self.old { held = remove self.old.held place } }
         ensures within { IsWithin self.new }
     {
+        let count = self.held.len();
         let unit = self.held.remove(place);
+        keep_from(&mut self.due, &self.held, place, count);
         self.used -= unit.count();
         unit
+    }
+}
+
+/// A place is due at that tick, or at none.
+fn keep(due: &mut Due, place: usize, tick: Option<Tick>)
+    requires within { place < length due.old }
+    requires few { length due.old < 4294967296 }
+    ensures { due.new ≡ slice_set due.old place tick }
+{
+    let id = place as u32;
+    match tick {
+        Some(tick) => due.set(id, tick),
+        None => due.clear(id),
+    }
+}
+
+/// The deadline of the unit at a place, where one is there.
+fn deadline_at(held: &[HeldUnit], place: usize) -> Option<Tick>
+    ensures { result ≡ deadline_at held.now place }
+{
+    Some(held.get(place)?.deadline())
+}
+
+/// The places between those two are due as their units are.
+fn keep_from(due: &mut Due, held: &[HeldUnit], from: usize, count: usize)
+    requires order { from ≤ count }
+    requires within { count ≤ length due.old }
+    requires few { length due.old < 4294967296 }
+    ensures { IsKept held.now from count due.old due.new }
+{
+    for place in from..count {
+        keep(due, place, deadline_at(held, place));
     }
 }

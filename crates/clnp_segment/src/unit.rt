@@ -1,6 +1,6 @@
 //! A unit of which some segments came (X.233, reassembly).
 
-ghost use Rattle.std.specs.Prelude.{◌≡◌, ◌≤◌, ◌+◌, length, max, IfOk, None};
+ghost use Rattle.std.specs.Prelude.{◌≡◌, ◌≤◌, ◌+◌, length, max, IfOk, None, OnErr, OnOk};
 ghost use Rattle.clnp_segment.specs.Joining.{Filled, IsUnit, filled_places, nothing_of};
 ghost use Rattle.clnp_segment.specs.Store.{FitsIn, HasPlaces, has_key, partial_with};
 ghost use Rattle.clnp_segment.specs.steps.Incoming.{incoming_of};
@@ -77,7 +77,7 @@ impl HeldUnit {
             source: pdu.source,
             destination: pdu.destination,
             id: incoming.part.id,
-            joint: Joint::new(alloc, &incoming.segment())?,
+            joint: Joint::new(alloc, &incoming.segment()),
             deadline,
             reportable: incoming.reportable,
             first: Bytes::of(Vec::from_slice(alloc, pdu.header)?),
@@ -117,24 +117,26 @@ impl HeldUnit {
         self.joint.judge(segment)
     }
 
-    /// Holds the octets of the segment too, until the later deadline.
-    pub fn add(&mut self, segment: &SegmentRef<'_>, deadline: Tick)
+    /// Holds the octets of the segment too, until the later deadline. At NoMemory the unit is unchanged.
+    pub fn add(&mut self, segment: &SegmentRef<'_>, deadline: Tick) -> Result<(), NoMemory>
         requires { segment.now.offset + length segment.now.octets.now ≤ length self.old.held.slots }
-        ensures { self.new ≡ record self.old { held = with_segment self.old.held (segment_of segment.now); deadline = max self.old.deadline deadline } }
+        ensures ok { OnOk result (self.new ≡ record self.old { held = with_segment self.old.held (segment_of segment.now); deadline = max self.old.deadline deadline }) }
+        ensures err { OnErr result (self.new ≡ self.old) }
     {
-        self.joint.write(segment);
+        self.joint.write(segment)?;
         self.deadline = self.deadline.max(deadline);
+        Ok(())
     }
 
     /// The octets of the unit, which the segment fills.
-    pub fn whole(self, segment: &SegmentRef<'_>) -> Bytes
+    pub fn whole(self, segment: &SegmentRef<'_>) -> Result<Bytes, NoMemory>
         requires within { segment.now.offset + length segment.now.octets.now ≤ length self.held.slots }
         requires filled { Filled (with_segment self.held (segment_of segment.now)) }
-        ensures { IsUnit (with_segment self.held (segment_of segment.now)) result }
+        ensures { IfOk result (λ octets. IsUnit (with_segment self.held (segment_of segment.now)) octets) }
     {
         let mut joint = self.joint;
-        joint.write(segment);
-        Bytes::of(joint.unit())
+        joint.write(segment)?;
+        Ok(Bytes::of(joint.unit()))
     }
 
     /// What is told of it where it expires.

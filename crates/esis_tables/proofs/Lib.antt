@@ -1,4 +1,5 @@
 pub mod Fronts
+pub mod Keeping
 pub mod Lists
 pub mod Names
 pub mod Placing

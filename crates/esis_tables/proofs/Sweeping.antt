@@ -81,7 +81,7 @@ module _ (p : Row → Bool) where
   short_by row rows true rest = omega arith
   short_by row rows false rest = omega arith
 
-  short_filter : (rows : List Row) → length (filter p rows) ≤ length rows
+  pub short_filter : (rows : List Row) → length (filter p rows) ≤ length rows
   short_filter [] = omega arith
   short_filter (row ∷ rows) = short_by row rows (p row) (short_filter rows)
 

@@ -1,3 +1,4 @@
 -- What only carries a proof.
 pub mod Places
 pub mod Least
+pub mod Deadlines

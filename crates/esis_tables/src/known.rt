@@ -2,15 +2,17 @@
 //!
 //! Profile: a table has at most 256 rows.
 
-ghost use Rattle.std.specs.Prelude.{◌≡◌, ◌<◌, ◌≤◌, ◌↔◌, [], ◌∷◌, ◌++◌, false, Err, IsTrue, OnOk, OnErr, IfOk, length, position, take, option_copied, nat_eq};
+ghost use Rattle.std.specs.Prelude.{◌≡◌, ◌<◌, ◌≤◌, ◌↔◌, [], ◌∷◌, ◌++◌, false, Err, None, Some, IsTrue, OnOk, OnErr, IfOk, length, position, replicate, slice_set, take, option_copied, nat_eq};
 ghost use Rattle.std.specs.List.{All, filter};
 ghost use Rattle.std.specs.Cmp.Lexicographic.{pointwise};
 ghost use Rattle.esis_tables.specs.declared.known.HearRefusal.TheVariants.{Full};
 ghost use Rattle.esis_tables.specs.Rows.{IsTable, count_with, find_row, has_row, heard_table, is_row_known, no_rows, router_in, row_at, rows_with, swept_table};
 ghost use Rattle.esis_tables.specs.steps.Places.{ArePlaces, IsPlace, IsRenewed, row_added, told_by};
+ghost use Rattle.esis_tables.specs.steps.Deadlines.{AreDeadlines, IsKept, IsKeptBelow, IsMade, deadline_at};
 ghost use Rattle.esis_tables.specs.steps.Least.{IsLeastRouter, IsRouterHop, is_lesser};
 
 use crate::row::{Heard, Row};
+use due_links::Due;
 use nsap::{Hop, Nsap};
 use osi_base::{NoMemory, Tick};
 use std::alloc::Global;
@@ -45,17 +47,21 @@ pub struct Known {
     alloc: Global,
     clock: Tick,
     rows: Vec<Row>,
+    /// When rows are known no longer, by their places. Made by the first hello.
+    due: Option<Due>,
 }
 
-// An address has at most one row, and there are at most 256.
+// An address has at most one row, and there are at most 256. What is due is exactly the deadline of each row, and no row is
+// kept before that is made.
 impl Model for Known {
     ghost use Rattle.esis_tables.specs.Rows.{Rows, IsTable};
+    ghost use Rattle.esis_tables.specs.steps.Deadlines.{IsDue};
 
     ghost Value = { Rows };
 
     ghost view = { λ a. record { clock = a.clock; rows = a.rows.items } };
 
-    ghost invariant = { λ a. IsTable a.rows.items };
+    ghost invariant = { λ a. IsTable a.rows.items × IsDue a.due a.rows.items };
 }
 
 impl Known {
@@ -67,6 +73,7 @@ impl Known {
             alloc,
             clock: 0,
             rows: Vec::new(alloc),
+            due: None,
         }
     }
 
@@ -104,26 +111,32 @@ impl Known {
         ensures full { result ≡ Err Full → 256 < count_with self.old.rows (told_by names.now heard.now) }
         ensures unchanged { OnErr result (self.new ≡ self.old) }
     {
+        let mut due = made(self.due.take(), self.alloc)?;
         let stood = self.rows.len();
         match places_of(self.alloc, &mut self.rows, names, heard) {
             Ok(places) => {
                 renew(&mut self.rows, heard, &places);
+                keep_noted(&mut due, &self.rows, &places);
+                self.due = Some(due);
                 self.clock = heard.tick;
                 Ok(())
             }
             Err(refusal) => {
                 self.rows.truncate(stood);
+                self.due = Some(due);
                 Err(refusal)
             }
         }
     }
 
-    /// Takes away the rows that are no longer known.
+    /// Takes away the rows that are no longer known. Looks at none where none is due.
     pub fn tick(&mut self, now: Tick)
         ensures { self.new ≡ swept_table self.old now }
     {
-        sweep(&mut self.rows, now);
         self.clock = now;
+        if let Some(due) = &mut self.due {
+            sweep_due(due, &mut self.rows, now);
+        }
     }
 
     // The row of an address.
@@ -214,6 +227,73 @@ fn renew(rows: &mut Vec<Row>, heard: &Heard, places: &[usize])
 {
     for place in places {
         rows[*place].heard = *heard;
+    }
+}
+
+// What is due is the deadline of each row, made where it was not.
+fn made(due: Option<Due>, alloc: Global) -> Result<Due, NoMemory>
+    ensures ok { IfOk result (λ new. IsMade due new) }
+    ensures err { OnErr result (due ≡ None) }
+{
+    match due {
+        Some(due) => Ok(due),
+        None => Due::new(alloc, MOST_ROWS as u32),
+    }
+}
+
+// A place is due at that tick, or at none.
+fn keep(due: &mut Due, place: usize, tick: Option<Tick>)
+    requires within { place < length due.old }
+    requires few { length due.old ≡ 256 }
+    ensures { due.new ≡ slice_set due.old place tick }
+{
+    let id = place as u32;
+    match tick {
+        Some(tick) => due.set(id, tick),
+        None => due.clear(id),
+    }
+}
+
+// The deadline of the row at a place, where one stands there.
+fn deadline_at(rows: &[Row], place: usize) -> Option<Tick>
+    ensures { result ≡ deadline_at rows.now place }
+{
+    rows.get(place)?.deadline()
+}
+
+// The rows at these places are due at their deadlines.
+fn keep_noted(due: &mut Due, rows: &[Row], places: &[usize])
+    requires within { All (λ place. place < length due.old) places.now }
+    requires few { length due.old ≡ 256 }
+    ensures { IsKept rows.now places.now due.old due.new }
+{
+    for place in places {
+        keep(due, *place, deadline_at(rows, *place));
+    }
+}
+
+// The places below that one are due as their rows are.
+fn keep_below(due: &mut Due, rows: &[Row], count: usize)
+    requires within { count ≤ length due.old }
+    requires few { length due.old ≡ 256 }
+    ensures { IsKeptBelow rows.now count due.old due.new }
+{
+    for place in 0..count {
+        keep(due, place, deadline_at(rows, place));
+    }
+}
+
+// Only the rows that are known stay; none is looked at where none is due.
+fn sweep_due(due: &mut Due, rows: &mut Vec<Row>, now: Tick)
+    requires few { length rows.old.items ≤ 256 }
+    requires due { AreDeadlines rows.old.items due.old }
+    ensures due { AreDeadlines rows.new.items due.new }
+    ensures rows { rows.new.items ≡ filter (is_row_known now) rows.old.items }
+{
+    if due.pop(now).is_some() {
+        let stood = rows.len();
+        sweep(rows, now);
+        keep_below(due, rows, stood);
     }
 }
 

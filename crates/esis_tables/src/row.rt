@@ -2,6 +2,7 @@
 
 ghost use Rattle.std.specs.Prelude.{◌≡◌, ◌*◌};
 ghost use Rattle.esis_tables.specs.Rows.{is_row_known, is_router};
+ghost use Rattle.esis_tables.specs.steps.Deadlines.{deadline_of};
 
 use nsap::{Hop, Nsap, Port};
 use osi_base::Tick;
@@ -43,6 +44,13 @@ impl Row {
         ensures { result ≡ is_row_known now self.now }
     {
         u64::from(now) < u64::from(self.heard.tick) + u64::from(self.heard.ticks)
+    }
+
+    /// The tick from which on the holding time lasts no longer; None where that passes the last tick.
+    pub fn deadline(&self) -> Option<Tick>
+        ensures { result ≡ deadline_of self.now }
+    {
+        self.heard.tick.checked_add(self.heard.ticks)
     }
 
     /// Whether this is the row of an intermediate system that is known, by its title.

@@ -1,4 +1,4 @@
-//! Tests of the network: LANs, routes, what is known of neighbours, systems.
+//! Tests of the network: LANs, routes, what is known of neighbours, segments, systems.
 #![tactic(auto)]
 
 #[cfg(test)]
@@ -7,5 +7,7 @@ mod lans;
 mod neighbours;
 #[cfg(test)]
 mod routes;
+#[cfg(test)]
+mod segments;
 #[cfg(test)]
 mod systems;

@@ -95,6 +95,40 @@ fn the_router_of_least_title_is_told(rt: HostRuntime) {
     assert_eq!(rt; router(&table, 40), None);
 }
 
+/// Where an allocation fails, as the first or the second may be made to, the hello is not heard and the next one is.
+#[test]
+fn a_hello_without_memory_is_not_heard(rt: HostRuntime) {
+    let mut table = Neighbours::new(rt.alloc());
+    if hear(&mut table, 0, ONE, 1).is_err() {
+        finds(&rt, &table, 0, None);
+        assert!(rt; table.is_empty());
+        hears(&rt, &mut table, 0, ONE, 1);
+    }
+    finds(&rt, &table, 39, Some(hop(1, None)));
+    table.tick(40);
+    assert!(rt; table.is_empty());
+}
+
+#[test]
+fn only_the_rows_that_are_past_go(rt: HostRuntime) {
+    let mut table = Neighbours::new(rt.alloc());
+    hears(&rt, &mut table, 0, LEAST, 3);
+    hears(&rt, &mut table, 0, MIDDLE, 2);
+    hears(&rt, &mut table, 0, ONE, 1);
+    table.tick(9);
+    is_routed(&rt, &table, 9, 3, "63");
+    table.tick(10);
+    is_routed(&rt, &table, 10, 2, "6301");
+    hears(&rt, &mut table, 11, MIDDLE, 4);
+    table.tick(20);
+    is_routed(&rt, &table, 20, 4, "6301");
+    table.tick(31);
+    assert_eq!(rt; router(&table, 31), None);
+    finds(&rt, &table, 39, Some(hop(1, None)));
+    table.tick(40);
+    assert!(rt; table.is_empty());
+}
+
 /// A hop by a port of that LAN.
 fn hop(lan: u8, title: Option<Nsap>) -> Hop {
     let snpa = Snpa::of([2, 0, 0, 0, 0, lan]);

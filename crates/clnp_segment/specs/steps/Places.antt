@@ -16,18 +16,6 @@ abbrev pub is_clash : List (Option ℕ) → ℕ → List ℕ → Bool
 is_clash slots at [] = false
 is_clash slots at (octet ∷ octets) = differs (slice_get slots at) octet || is_clash slots (at + 1) octets
 
--- the places of these octets: one that is not filled is empty
-abbrev pub places_of : List ℕ → List Bool → List (Option ℕ)
-places_of [] filled = []
-places_of (octet ∷ octets) [] = []
-places_of (octet ∷ octets) (true ∷ filled) = Some octet ∷ places_of octets filled
-places_of (octet ∷ octets) (false ∷ filled) = None ∷ places_of octets filled
-
--- there is a mark for each octet, and so many are filled
-pub record ArePlaces (octets : List ℕ) (filled : List Bool) (count : ℕ) : Type 0 where
-  pub marked : length filled ≡ length octets
-  pub counted : count ≡ count_by is_some (places_of octets filled)
-
 -- the octets are written, one after another
 abbrev pub written : List (Option ℕ) → ℕ → List ℕ → List (Option ℕ)
 written slots at [] = slots

@@ -8,8 +8,8 @@ use Rattle.clnp_segment.proofs.held.Joint.compare.Goals as goal
 pub overflow_add-count : goal.overflow_add-count
 overflow_add-count c =
     let slots = c.args.self.now.slots in
-    let same : c.self.inside.places ≡ slots = ap (λ (h : Held). h.slots) c.self.view_is in
-    let counted = count_fresh c.self.inside.places slots c.args.at c.empty-fresh.result c.args.octets.now c.requires same c.empty-fresh.ensures in
+    let same : c.self.inside.runs ≡ slots = ap (λ (h : Held). h.slots) c.self.view_is in
+    let counted = count_fresh c.self.inside.runs slots c.args.at c.empty-fresh.result c.args.octets.now c.requires same c.empty-fresh.ensures in
     omega (
       arith,
       counted,
@@ -24,8 +24,8 @@ overflow_add-count c =
 pub returns-then-count-fresh : goal.returns-then-count-fresh
 returns-then-count-fresh c =
     let slots = c.args.self.now.slots in
-    let same : c.self.inside.places ≡ slots = ap (λ (h : Held). h.slots) c.self.view_is in
-    let counted = count_fresh c.self.inside.places slots c.args.at c.empty-fresh.result c.args.octets.now c.requires same c.empty-fresh.ensures in (
+    let same : c.self.inside.runs ≡ slots = ap (λ (h : Held). h.slots) c.self.view_is in
+    let counted = count_fresh c.self.inside.runs slots c.args.at c.empty-fresh.result c.args.octets.now c.requires same c.empty-fresh.ensures in (
       ap (λ (xs : List (Option ℕ)). is_clash xs c.args.at c.args.octets.now) (sym same) ∙ (sym c.clash.ensures ∙ c.if-clash.false),
       omega (
         arith,
@@ -42,8 +42,8 @@ returns-then-count-fresh c =
 pub returns : goal.returns
 returns c =
     let slots = c.args.self.now.slots in
-    let same : c.self.inside.places ≡ slots = ap (λ (h : Held). h.slots) c.self.view_is in
-    let counted = count_fresh c.self.inside.places slots c.args.at c.empty-fresh.result c.args.octets.now c.requires same c.empty-fresh.ensures in (
+    let same : c.self.inside.runs ≡ slots = ap (λ (h : Held). h.slots) c.self.view_is in
+    let counted = count_fresh c.self.inside.runs slots c.args.at c.empty-fresh.result c.args.octets.now c.requires same c.empty-fresh.ensures in (
       ap (λ (xs : List (Option ℕ)). is_clash xs c.args.at c.args.octets.now) (sym same) ∙ (sym c.clash.ensures ∙ c.if-clash.false),
       λ all. c.if-count-fresh.false (omega (
         arith,

@@ -1,6 +1,6 @@
-use Rattle.std.proofs.Common.{◌≡◌, ℕ, ◌+◌, ◌≤◌, length, sym, ◌∙◌, ap, subst, arith}
+use Rattle.std.proofs.Common.{◌≡◌, ◌+◌, ◌≤◌, length, sym, ◌∙◌, ap, arith}
 use Rattle.clnp_segment.specs.Joining.{Held}
-use Rattle.clnp_segment.specs.steps.Places.{Compares, segment_of}
+use Rattle.clnp_segment.specs.steps.Places.{segment_of}
 use Rattle.clnp_segment.proofs.Joins.{judged}
 use Rattle.clnp_segment.proofs.held.Joint.judge.Goals as goal
 
@@ -10,4 +10,4 @@ returns c =
     let total : c.args.self.now.total ≡ c.args.segment.now.total = sym (ap (λ (h : Held). h.total) c.self.view_is) ∙ c.if-self-segment-2.false in
     let fits : c.args.segment.now.offset + length c.args.segment.now.octets.now ≤ length c.args.self.now.slots = omega (arith, c.requires.places, c.requires.within, header, total) in
     judged c.args.self.now (segment_of c.args.segment.now) c.compare.result header total fits
-    (subst (λ (n : ℕ). Compares c.args.self.now.slots n c.args.segment.now.octets.now c.compare.result) c.from.ensures c.compare.ensures)
+    c.compare.ensures

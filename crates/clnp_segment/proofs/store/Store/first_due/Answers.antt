@@ -1,23 +1,24 @@
-use Rattle.std.proofs.Common.{◌≡◌, ◌<◌, ◌≤◌, List, get_or, length, ◌∙◌, ap, arith}
+use Rattle.std.proofs.Common.{◌≡◌, ℕ, ◌+◌, List, None, Option, ap, subst, sym, arith}
 use Rattle.clnp_segment.specs.Store.{Holding, Partial}
-use Rattle.clnp_segment.proofs.Dues.{due_else, due_then}
+use Rattle.clnp_segment.specs.steps.Due.{FindsDue, IsDue}
+use Rattle.clnp_segment.proofs.Dues.{finds_none, finds_some}
 use Rattle.clnp_segment.proofs.store.Store.first_due.Goals as goal
-use Rattle.clnp_segment.proofs.store.Store.first_due.Goals.{then-deadline-least, else-deadline-least}
 
-pub loop-place-preserved : goal.loop-place-preserved
-loop-place-preserved c =
-    let held = c.args.self.now.held in
-    let place = c.loop-place.place in
-    let unit = c.unit-item.result in
-    let is : c.deref-unit-items.result.now ≡ held = c.deref-unit-items.ensures.value ∙ ap (λ (s : Holding). s.held) c.self.view_is in
-    let inside : place < length held = omega (arith, c.loop-place-test.true, ap (λ (us : List Partial). length us) is) in
-    let got : unit ≡ get_or held place unit = c.unit-item.is ∙ ap (λ (us : List Partial). get_or us place unit) is in
-    elim c.if-deadline-least.branch [
-      | then-deadline-least w ↦
-          let sooner : unit.deadline < c.loop-place.least = omega (arith, w.if-deadline-least.true, c.deadline.ensures) in
-          due_then c.args.now held place unit c.loop-place.found c.if-deadline-least.found c.loop-place.least c.if-deadline-least.least c.loop-place.invariant inside got sooner w.found-is
-          (w.least-is ∙ w.deadline-least.ensures)
-      | else-deadline-least w ↦
-          let later : c.loop-place.least ≤ unit.deadline = omega (arith, w.if-deadline-least.false, c.deadline.ensures) in
-          due_else c.args.now held place unit c.loop-place.found c.if-deadline-least.found c.loop-place.least c.if-deadline-least.least c.loop-place.invariant inside got later w.found-is w.least-is
-    ]
+pub returns-in_err-first-clause-found : goal.returns-in_err-first-clause-found
+returns-in_err-first-clause-found c =
+    let is : c.self.inside.held.items ≡ c.args.self.now.held = ap (λ (s : Holding). s.held) c.self.view_is in
+    let h = c.in_ok-checked_sub.ensures in
+    let next : c.args.now ≡ c.in_ok-checked_sub.field-0 + 1 = omega (arith, h) in
+    subst (λ (found : Option ℕ). FindsDue c.args.now c.args.self.now.held found) (sym c.from_residual-in_err-first.ensures)
+    (subst (λ (us : List Partial). FindsDue c.args.now us None) is
+    (finds_none c.args.now c.in_ok-checked_sub.field-0 c.self.inside.units c.self.inside.held.items c.self.inside.due c.pop.new.self next c.self.invariant.2
+    c.in_err-first.ensures))
+
+pub returns-clause-found : goal.returns-clause-found
+returns-clause-found c =
+    let is : c.self.inside.held.items ≡ c.args.self.now.held = ap (λ (s : Holding). s.held) c.self.view_is in
+    let h = c.in_ok-checked_sub.ensures in
+    let next : c.args.now ≡ c.in_ok-checked_sub.field-0 + 1 = omega (arith, h) in
+    subst (λ (us : List Partial). IsDue c.args.now us c.in_ok-first.field-0) is
+    (finds_some c.args.now c.in_ok-checked_sub.field-0 c.self.inside.units c.self.inside.held.items c.self.inside.due c.pop.new.self c.in_ok-first.field-0 next
+    c.self.invariant.2 c.in_ok-first.ensures)

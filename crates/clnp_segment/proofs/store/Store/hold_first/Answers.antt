@@ -1,9 +1,11 @@
-use Rattle.std.proofs.Common.{◌≡◌, ℕ, ◌+◌, ◌≤◌, ◌<◌, ◌∷◌, ◌++◌, [], false, true, List, None, ap, length, max, refl, subst, sym, ◌∙◌, arith}
+use Rattle.std.proofs.Common.{◌≡◌, ℕ, ◌+◌, ◌≤◌, ◌<◌, ◌∷◌, ◌++◌, [], false, true, List, None, Some, ap, length, max, refl, subst, sym, ◌∙◌, arith}
 use Rattle.std.specs.List.{position}
 use Rattle.clnp_segment.specs.Joining.{Held, filled_places, nothing_of}
 use Rattle.clnp_segment.specs.Store.{Holding, HasPlaces, Key, Partial, has_key, key_of, octets_held, partial_with}
+use Rattle.clnp_segment.specs.steps.Due.{AreDeadlines}
 use Rattle.clnp_segment.specs.steps.Incoming.{incoming_of}
 use Rattle.clnp_segment.specs.steps.Places.{segment_of, with_segment}
+use Rattle.clnp_segment.proofs.Dues.{added_due}
 use Rattle.clnp_segment.proofs.Storing.{added}
 use Rattle.clnp_segment.proofs.Taking.{first_clash, first_filled, first_full, first_held, first_places, first_whole}
 use Rattle.clnp_segment.proofs.store.Store.hold_first.Goals as goal
@@ -13,10 +15,10 @@ returns-in-Clash-clause-takes c =
     first_clash c.args.self.now (incoming_of c.args.incoming.now) c.in_ok-unit.unit.held (segment_of c.segment-segment.result) (ap (λ (u : Partial). u.held) c.in_ok-unit.ensures)
     c.segment-segment.ensures c.in-Clash.ensures
 
-pub returns-in-Whole-clause-takes : goal.returns-in-Whole-clause-takes
-returns-in-Whole-clause-takes c =
-    first_whole c.args.self.now (incoming_of c.args.incoming.now) c.in_ok-unit.unit.held (segment_of c.segment-segment.result) c.whole.result
-    (ap (λ (u : Partial). u.held) c.in_ok-unit.ensures) c.segment-segment.ensures c.in-Whole.ensures c.whole.ensures
+pub returns-in_ok-whole-in-Whole-clause-takes : goal.returns-in_ok-whole-in-Whole-clause-takes
+returns-in_ok-whole-in-Whole-clause-takes c =
+    first_whole c.args.self.now (incoming_of c.args.incoming.now) c.in_ok-unit.unit.held (segment_of c.segment-segment.result) c.in_ok-whole-in-Whole.field-0
+    (ap (λ (u : Partial). u.held) c.in_ok-unit.ensures) c.segment-segment.ensures c.in-Whole.ensures c.in_ok-whole-in-Whole.ensures
 
 pub returns-in-Fresh-clause-takes : goal.returns-in-Fresh-clause-takes
 returns-in-Fresh-clause-takes c =
@@ -33,7 +35,7 @@ invariant_of-self-in-Fresh-2 c =
     let none : position (has_key key) c.self.inside.held.items ≡ None = ap (λ (us : List Partial). position (has_key key) us) is ∙ c.requires.none in
     let unit_is = c.in_ok-unit.ensures in
     let held : c.in_ok-unit.unit.held ≡ nothing_of (incoming_of c.args.incoming.now).segment = ap (λ (u : Partial). u.held) unit_is in
-    let made = c.add.ensures in
+    let made = c.in_ok-add-in-Fresh-2.ensures.ok in
     let same : key_of c.add.new.self ≡ key = ap key_of made ∙ ap key_of unit_is in
     let places : HasPlaces c.add.new.self = subst HasPlaces (sym made) (first_places c.in_ok-unit.unit.held (incoming_of c.args.incoming.now).segment
     (with_segment c.in_ok-unit.unit.held (segment_of c.segment-segment.result)) held (omega (arith, c.requires.segment)) refl refl c.in-Fresh.ensures.1.positions) in
@@ -45,7 +47,10 @@ invariant_of-self-in-Fresh-2 c =
     let octets : octets_held c.self.inside.held.items + c.in-Fresh.fresh ≤ c.self.inside.octets =
     omega (arith, room.1, ap octets_held is, ap (λ (s : Holding). s.octets) c.self.view_is) in
     let all = added _ key c.add.new.self c.push.new.self.items c.in-Fresh.fresh c.self.invariant.0 none c.in_ok-push-in-Fresh-2.ensures.items same places units filled octets in
-    (all.0, ap (λ (n : ℕ). n + c.in-Fresh.fresh) c.self.invariant.1 ∙ all.1)
+    let due : AreDeadlines c.self.inside.units c.push.new.self.items c.keep.new.due =
+    added_due c.self.inside.units c.self.inside.held.items c.push.new.self.items c.add.new.self c.len-place.result (Some c.deadline-until.result) c.self.inside.due
+    c.keep.new.due c.in_ok-push-in-Fresh-2.ensures.items (omega arith) units c.self.invariant.2 (ap Some c.deadline-until.ensures) c.keep.ensures in
+    (all.0, ap (λ (n : ℕ). n + c.in-Fresh.fresh) c.self.invariant.1 ∙ all.1, due)
 
 pub returns-in_ok-push-in-Fresh-2-clause-within : goal.returns-in_ok-push-in-Fresh-2-clause-within
 returns-in_ok-push-in-Fresh-2-clause-within c =
@@ -54,7 +59,7 @@ returns-in_ok-push-in-Fresh-2-clause-within c =
     let none : position (has_key key) c.self.inside.held.items ≡ None = ap (λ (us : List Partial). position (has_key key) us) is ∙ c.requires.none in
     let unit_is = c.in_ok-unit.ensures in
     let held : c.in_ok-unit.unit.held ≡ nothing_of (incoming_of c.args.incoming.now).segment = ap (λ (u : Partial). u.held) unit_is in
-    let made = c.add.ensures in
+    let made = c.in_ok-add-in-Fresh-2.ensures.ok in
     let same : key_of c.add.new.self ≡ key = ap key_of made ∙ ap key_of unit_is in
     let places : HasPlaces c.add.new.self = subst HasPlaces (sym made) (first_places c.in_ok-unit.unit.held (incoming_of c.args.incoming.now).segment
     (with_segment c.in_ok-unit.unit.held (segment_of c.segment-segment.result)) held (omega (arith, c.requires.segment)) refl refl c.in-Fresh.ensures.1.positions) in
@@ -77,7 +82,7 @@ returns-in_ok-push-in-Fresh-2-clause-takes c =
     let nothing : Held = nothing_of coming.segment in
     let unit_is : unit ≡ partial_with None coming nothing (old.clock + left) = c.in_ok-unit.ensures
     ∙ ap (λ (s : Holding). partial_with None coming nothing (s.clock + left)) c.self.view_is in
-    let made = c.add.ensures ∙ ap (λ (s : Holding). record unit { held = with_segment unit.held segment; deadline = max unit.deadline (s.clock + left) }) c.self.view_is in
+    let made = c.in_ok-add-in-Fresh-2.ensures.ok ∙ ap (λ (s : Holding). record unit { held = with_segment unit.held segment; deadline = max unit.deadline (s.clock + left) }) c.self.view_is in
     let room = c.if-not-has_room.ensures.0 refl in
     let after = ap (λ (us : List Partial). let h : Holding = record { clock = c.self.inside.clock; units = c.self.inside.units; octets = c.self.inside.octets; held = us } in h) c.in_ok-push-in-Fresh-2.ensures.items
     ∙ ap (λ (s : Holding). record s { held = s.held ++ c.add.new.self ∷ [] }) c.self.view_is in
