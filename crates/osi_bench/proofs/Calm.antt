@@ -52,15 +52,15 @@ use Rattle.osi_bench.specs.Calm.{AcceptsAreConfirmed, ActsCalmly, ConnectsAreInd
 use Rattle.osi_bench.specs.World.{Ends, Net, NetDoes, StartsUp, WorldRuns, WorldStep, link_of_net}
 use Rattle.osi_bench.specs.declared.world.World.{World}
 use Rattle.osi_bench.specs.declared.world.World.TheVariants.{Running}
-use Rattle.osi_bench.specs.steps.Moves.{line_moves}
-use Rattle.osi_bench.proofs.Agreement.{still_started}
-use Rattle.osi_bench.proofs.Begun.{begins_world, net_law}
+use Rattle.script_bench.specs.steps.Moves.{line_moves}
+use Rattle.law_setup.proofs.Started.{still_started}
+use Rattle.osi_bench.specs.steps.Begun.{begins_world, net_law}
 use Rattle.osi_bench.proofs.CalmNet.{MakesCalm}
 use Rattle.osi_bench.proofs.CalmRun.{RunsCalm, runs_calm}
 use Rattle.osi_bench.proofs.Headline.{distinct, untouched}
 use Rattle.osi_bench.proofs.Lawful.{RunsOn, runs_on}
-use Rattle.osi_bench.proofs.Placing.{present}
-use Rattle.osi_bench.proofs.Proper.{script_proper}
+use Rattle.osi_bench.specs.steps.Placing.{present}
+use Rattle.law_setup.proofs.Proper.{script_proper}
 
 -- ---- networks that run
 

@@ -19,14 +19,15 @@ use Rattle.osi_script.specs.Table.{all_words}
 use Rattle.osi_bench.specs.World.{SetsUp, StartsUp, WorldRun, WorldRuns, is_start}
 use Rattle.osi_bench.specs.declared.world.World.{World}
 use Rattle.osi_bench.specs.declared.world.World.TheVariants.{SettingUp}
-use Rattle.osi_bench.specs.steps.Agreeing.{AreOne}
-use Rattle.osi_bench.specs.steps.Came.{came}
-use Rattle.osi_bench.specs.steps.Known.{started_after}
-use Rattle.osi_bench.specs.steps.Moves.{line_moves, start_only, starts_not}
+use Rattle.law_setup.specs.Agreeing.{AreOne}
+use Rattle.script_bench.specs.steps.Came.{came}
+use Rattle.script_bench.specs.Script.{started_after}
+use Rattle.script_bench.specs.steps.Moves.{line_moves, start_only, starts_not}
 use Rattle.osi_bench.proofs.CalmDrawn.{SetBy}
-use Rattle.osi_bench.proofs.CalmNames.{AreAlike, HasEndsAlone, came_alike, came_ends, start_lives}
+use Rattle.osi_bench.proofs.CalmNames.{HasEndsAlone, came_ends}
 use Rattle.osi_bench.proofs.CalmNet.{MakesCalm, makes_calm}
-use Rattle.osi_bench.proofs.Kept.{Kept, line_kept}
+use Rattle.law_setup.specs.Lines.{Kept}
+use Rattle.law_setup.proofs.Kept.{line_kept}
 
 -- ---- the lines after the start
 
@@ -124,19 +125,19 @@ record StartsFrom (old : SetUp) (before after : List Line) (journal : List Event
   says : Says names texts after last_names
 
 abbrev FromHere : List Line → List Line → Declared → Type 0
-FromHere before after last_names = (names : Declared) (texts : List (List ℕ)) (setup : SetUp) (journal : List Event) (last : World) → AreOne names setup → AreAlike names setup → HasEndsAlone names → IsWell setup
+FromHere before after last_names = (names : Declared) (texts : List (List ℕ)) (setup : SetUp) (journal : List Event) (last : World) → AreOne names setup → HasEndsAlone names → IsWell setup
     → names.started ≡ false → intermediate_systems before ≡ [] → Says names texts (before ++ lines.Start ∷ after) last_names → WorldRuns (SettingUp setup) (before ++ lines.Start ∷ after) journal last
     → StartsFrom setup before after journal last last_names
 
 module _ (after : List Line) (last_names : Declared) where
   by_line : (start : Bool) (line : Line) (before : List Line) (names new : Declared) (texts : List (List ℕ)) (setup : SetUp) (made rest journal : List Event) (mid last : World) → is_start line ≡ start
-      → new.started ≡ started_after names.started line → names.started ≡ false → IsWell setup → Kept setup line new → AreAlike new (set_up setup line) → HasEndsAlone new → intermediate_systems before ≡ []
+      → new.started ≡ started_after names.started line → names.started ≡ false → IsWell setup → Kept setup line new → HasEndsAlone new → intermediate_systems before ≡ []
       → Says new texts (before ++ lines.Start ∷ after) last_names → SetsUp start setup line made mid → WorldRuns mid (before ++ lines.Start ∷ after) rest last → journal ≡ made ++ rest → FromHere before after last_names
       → StartsFrom setup (line ∷ before) after journal last last_names
-  by_line true line before names new texts setup made rest journal mid last start moves not w kept alike ends none says h runs is others =
+  by_line true line before names new texts setup made rest journal mid last start moves not w kept ends none says h runs is others =
       absurd (starts_once new last_names texts before after (moves ∙ ap (λ (l : Line). started_after names.started l) (start_only line start)) says)
-  by_line false line before names new texts setup made rest journal mid last start moves not w kept alike ends none says h runs is others =
-      let found = others new texts (set_up setup line) rest last kept.one alike ends (well_after setup line w kept.fits) (moves ∙ starts_not names.started line start ∙ not) none says
+  by_line false line before names new texts setup made rest journal mid last start moves not w kept ends none says h runs is others =
+      let found = others new texts (set_up setup line) rest last kept.one ends (well_after setup line w kept.fits) (moves ∙ starts_not names.started line start ∙ not) none says
       (subst (λ (world : World). WorldRuns world (before ++ lines.Start ∷ after) rest last) h.1 runs) in
       record {
         setup = found.setup;
@@ -157,8 +158,8 @@ module _ (after : List Line) (last_names : Declared) where
       }
 
   starts_from : (before : List Line) → FromHere before after last_names
-  starts_from [] names [] setup journal last one alike ends w not none says h = absurd says
-  starts_from [] names (text ∷ texts) setup journal last one alike ends w not none says h =
+  starts_from [] names [] setup journal last one ends w not none says h = absurd says
+  starts_from [] names (text ∷ texts) setup journal last one ends w not none says h =
       let reading : Reading = record { line = lines.Start; names = says.0 } in
       let read = came names text reading says.1 in
       let moves = line_moves names text lines.Start says.0 says.1 in
@@ -167,7 +168,7 @@ module _ (after : List Line) (last_names : Declared) where
         setup = setup;
         sets = refl;
         well = w;
-        lives = start_lives names setup reading read refl alike;
+        lives = kept.fits;
         made = h.1;
         rest = h.2;
         mid = h.0;
@@ -180,14 +181,14 @@ module _ (after : List Line) (last_names : Declared) where
         ends = (came_ends names setup [] reading read ends kept.fits (line_named names text reading says.1) refl).0;
         says = says.2;
       }
-  starts_from (line ∷ before) names [] setup journal last one alike ends w not none says h = absurd says
-  starts_from (line ∷ before) names (text ∷ texts) setup journal last one alike ends w not none says h =
+  starts_from (line ∷ before) names [] setup journal last one ends w not none says h = absurd says
+  starts_from (line ∷ before) names (text ∷ texts) setup journal last one ends w not none says h =
       let reading : Reading = record { line = line; names = says.0 } in
       let read = came names text reading says.1 in
       let kept = line_kept names setup text line says.0 one w not says.1 in
       let alone = came_ends names setup before reading read ends kept.fits (line_named names text reading says.1) none in
       by_line (is_start line) line before names says.0 texts setup h.1 h.2 journal h.0 last refl (line_moves names text line says.0 says.1).started not w kept
-      (came_alike names setup reading read alike) alone.0 alone.1 says.2 h.3.1 h.5 h.4 (starts_from before)
+      alone.0 alone.1 says.2 h.3.1 h.5 h.4 (starts_from before)
 
 -- ---- a calm script
 
@@ -213,7 +214,7 @@ pub runs_calm : (texts : List (List ℕ)) (script : List Line) (names : Declared
     → IsCalmScript script → RunsCalm script journal last names
 runs_calm texts script names journal last says run calm =
     let found = starts_from calm.after names calm.before (nothing_declared all_words) texts nothing_said journal last
-    (record { lans = refl; systems = refl; ports = λ n. refl; selectors = λ n s. refl }) (record { life = refl; bounds = refl }) (record { ends = tt; paths = refl }) nothing_well refl calm.one_lan.none
+    (record { lans = refl; bounds = refl; life = refl; systems = refl; ports = λ n. refl; selectors = λ n s. refl }) (record { ends = tt; paths = refl }) nothing_well refl calm.one_lan.none
     (subst (λ (s : List Line). Says (nothing_declared all_words) texts s names) calm.script_is says) (subst (λ (s : List Line). WorldRun s journal last) calm.script_is run) in
     record {
       setup = found.setup;

@@ -19,13 +19,14 @@ use Rattle.osi_script.specs.Table.{all_words}
 use Rattle.osi_bench.specs.World.{HasNoInject, NetDoes, SetsUp, StartsUp, WorldRun, WorldRuns, is_start, link_of_net, titles_of}
 use Rattle.osi_bench.specs.declared.world.World.{World}
 use Rattle.osi_bench.specs.declared.world.World.TheVariants.{SettingUp}
-use Rattle.osi_bench.specs.steps.Agreeing.{AreOne}
-use Rattle.osi_bench.specs.steps.Known.{started_after}
-use Rattle.osi_bench.specs.steps.Moves.{line_moves, start_only, starts_not}
-use Rattle.osi_bench.proofs.Begun.{begins_world, of_systems}
-use Rattle.osi_bench.proofs.Kept.{Kept, line_kept}
+use Rattle.law_setup.specs.Agreeing.{AreOne}
+use Rattle.script_bench.specs.Script.{started_after}
+use Rattle.script_bench.specs.steps.Moves.{line_moves, start_only, starts_not}
+use Rattle.osi_bench.specs.steps.Begun.{begins_world, of_systems}
+use Rattle.law_setup.specs.Lines.{Kept}
+use Rattle.law_setup.proofs.Kept.{line_kept}
 use Rattle.osi_bench.proofs.Lawful.{runs_on}
-use Rattle.osi_bench.proofs.Proper.{script_proper}
+use Rattle.law_setup.proofs.Proper.{script_proper}
 
 -- ---- journals
 
@@ -119,4 +120,4 @@ module _ (law : ReceivesWhatWasSubmitted link_of_net NetDoes) where
       → HasNoInject script → Lawful (titles_of last) journal
   script_lawful texts script names journal last says run none =
       set_up_lawful texts script (nothing_declared all_words) names nothing_said journal last
-      (record { lans = refl; systems = refl; ports = λ n. refl; selectors = λ n s. refl }) nothing_well refl says none run
+      (record { lans = refl; bounds = refl; life = refl; systems = refl; ports = λ n. refl; selectors = λ n s. refl }) nothing_well refl says none run

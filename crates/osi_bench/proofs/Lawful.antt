@@ -11,8 +11,8 @@ use Rattle.osi_setup.specs.SetUp.{SetUp, entities_of, nothing_said, set_up, titl
 use Rattle.osi_bench.specs.World.{Ends, HasNoInject, NetDoes, SetsUp, StartsUp, WorldRun, WorldRuns, is_start, life_of, link_of_net, titles_of}
 use Rattle.osi_bench.specs.declared.world.World.{World}
 use Rattle.osi_bench.specs.declared.world.World.TheVariants.{SettingUp, Running}
-use Rattle.osi_bench.proofs.Begun.{begins_life, begins_world, net_law}
-use Rattle.osi_bench.proofs.Moving.{line_near, start_near}
+use Rattle.osi_bench.specs.steps.Begun.{begins_life, begins_world, net_law}
+use Rattle.osi_bench.specs.steps.Moving.{line_near, start_near}
 
 -- ---- a running network
 

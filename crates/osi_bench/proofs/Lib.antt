@@ -1,5 +1,3 @@
-pub mod Agreement
-pub mod Begun
 pub mod Calm
 pub mod CalmDrawn
 pub mod CalmNames
@@ -8,20 +6,10 @@ pub mod CalmRows
 pub mod CalmRun
 pub mod Captured
 pub mod Capturing
-pub mod Courses
-pub mod Fields
-pub mod Fitted
 pub mod Framing
 pub mod Handled
 pub mod Headline
-pub mod InOctets
-pub mod Kept
 pub mod Lawful
-pub mod Moving
-pub mod NetServing
-pub mod Octets
-pub mod Placing
-pub mod Proper
 pub mod ScriptRuns
 pub mod Served
 pub mod StormWords
@@ -31,5 +19,4 @@ pub mod ToldFrames
 pub mod ToldLines
 pub mod ToldNet
 pub mod ToldSystems
-pub mod Values
 pub mod Words

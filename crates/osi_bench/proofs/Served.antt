@@ -7,16 +7,16 @@ use Rattle.tp4_calm.specs.Calm.{IsCalmScript}
 use Rattle.osi_bench.specs.Bench.{Bench, bench_meaning, first_bench}
 use Rattle.osi_bench.specs.Calm.{Serves, ServesCalmScripts}
 use Rattle.osi_bench.specs.Top.{IsRun, RanWhole, ServesWhereCalm, lines_handled, lines_run, texts_in}
-use Rattle.osi_bench.specs.World.{Ends, WorldRun}
+use Rattle.osi_bench.specs.World.{Ends, WorldRun, world_acts}
 use Rattle.osi_bench.specs.declared.world.World.{World}
 use Rattle.osi_bench.specs.declared.world.World.TheVariants.{Running}
-use Rattle.osi_bench.proofs.Handled.{ran}
+use Rattle.script_bench.proofs.Runs.{ran}
 
 module _ (law : ServesCalmScripts) where
   texts_served : (texts : List (List ℕ)) (journal : List Event) (last : Bench) (runs : Runs bench_meaning first_bench texts journal last) (titles : List (List ℕ)) (ends : Ends)
       → last.world ≡ Running titles ends → IsCalmScript (lines_run first_bench texts journal last runs) → Serves last.names journal titles ends
   texts_served texts journal last runs titles ends is calm =
-      let r = ran first_bench texts journal last runs in
+      let r = ran world_acts first_bench texts journal last runs in
       law texts (lines_run first_bench texts journal last runs) last.names journal titles ends
       (record { says = r.says; run = subst (λ (w : World). WorldRun (lines_run first_bench texts journal last runs) journal w) is r.runs; calm = calm })
 

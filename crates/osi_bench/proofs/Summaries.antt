@@ -11,7 +11,7 @@ use Rattle.osi_storm.specs.Summary.{summary_line}
 use Rattle.osi_bench.specs.Bench.{Bench, RunsLine, first_bench}
 use Rattle.osi_bench.specs.Storm.{AsksSummary, StormFills, StormRuns, SummaryOutcome, storm_lines}
 use Rattle.osi_bench.specs.Text.{done_line}
-use Rattle.osi_bench.specs.steps.BenchLaws.{bench_laws}
+use Rattle.osi_bench.specs.steps.WorldLaws.{bench_laws}
 
 -- ---- one course
 

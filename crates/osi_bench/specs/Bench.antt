@@ -1,71 +1,31 @@
--- The bench as a machine: what a line of a script does to the names declared, to the network and to the journal.
-use Rattle.std.specs.Prelude.{◌≡◌, ℕ, ◌+◌, ◌-◌, ◌<◌, ◌≤◌, false, List, [], length, take, Ok, Err}
-use Rattle.osi_script.specs.declared.fault.LineFault.{LineFault}
-use Rattle.osi_script.specs.declared.fault.LineCause.TheVariants as causes
-use Rattle.osi_script.specs.declared.line.Line.{Line}
-use Rattle.osi_script.specs.Grammar.{line_read, fault}
-use Rattle.osi_script.specs.Known.{Declared, nothing_declared}
-use Rattle.osi_script.specs.Table.{all_words}
-use Rattle.osi_script.specs.Tags.{tags_of}
+-- The machine of scripts, over the network: what a line of a script does to the names declared, to the network and to the journal.
+use Rattle.std.specs.Prelude.{ℕ, List}
 use Rattle.osi_journal.specs.declared.event.Event.{Event}
-use Rattle.osi_journal.specs.Told.{journal_text}
+use Rattle.osi_script.specs.declared.fault.LineFault.{LineFault}
 use Rattle.line_loop.specs.Meaning.{Meaning}
-use Rattle.osi_bench.specs.Text.{done_lines, refused_line, toomuch_line}
-use Rattle.osi_bench.specs.World.{first_world, strays_of, WorldStep}
+use Rattle.script_bench.specs.Bench.{Bench as BenchOf, FillsJournal as FillsJournalOf, RefusesLine as RefusesLineOf, RunsLine as RunsLineOf, bench_meaning as meaning_of, first_bench as first_of}
+pub use Rattle.script_bench.specs.Bench.{most_events}
+use Rattle.osi_bench.specs.World.{world_acts}
 use Rattle.osi_bench.specs.declared.world.World.{World}
 
--- the most events of a journal
-abbrev pub most_events : ℕ
-most_events = 4194304
-
 -- the names declared, the network, how many lines were run, and how many events there were
-pub record Bench : Type 0 where
-  pub names : Declared
-  pub world : World
-  pub lines : ℕ
-  pub events : ℕ
+abbrev pub Bench : Type 0
+Bench = BenchOf World
 
 abbrev pub first_bench : Bench
-first_bench = record { names = nothing_declared all_words; world = first_world; lines = 0; events = 0 }
+first_bench = first_of world_acts
 
 -- a line of a script is read, declares its names, and takes its step, and the journal has room for its events
-pub record RunsLine (old : Bench) (octets : List ℕ) (made : List Event) (new : Bench) : Type 0 where
-  pub line : Line
-  pub meaning : line_read old.names octets ≡ Ok (record { line = line; names = new.names })
-  pub steps : WorldStep old.world line made new.world
-  pub lines : new.lines ≡ old.lines + 1
-  pub events : new.events ≡ old.events + length made
-  pub room : new.events ≤ most_events
+abbrev pub RunsLine : Bench → List ℕ → List Event → Bench → Type 0
+RunsLine = RunsLineOf world_acts
 
 -- a line is refused by its first fault
 abbrev pub RefusesLine : Bench → List ℕ → LineFault → Type 0
-RefusesLine bench octets found = line_read bench.names octets ≡ Err found
+RefusesLine = RefusesLineOf world_acts
 
 -- the journal has no room for all events of a line: those before the first without room are told
-pub record FillsJournal (old : Bench) (octets : List ℕ) (made : List Event) (new : Bench) : Type 0 where
-  pub line : Line
-  pub whole : List Event
-  pub meaning : line_read old.names octets ≡ Ok (record { line = line; names = new.names })
-  pub steps : WorldStep old.world line whole new.world
-  pub lines : new.lines ≡ old.lines + 1
-  pub over : most_events < old.events + length whole
-  pub made_is : made ≡ take (most_events - old.events) whole
-  pub events : new.events ≡ most_events
-
--- events come only after the set-up, when all names are declared
-abbrev pub TellsEvents : Bench → List Event → Type 0
-TellsEvents bench journal = bench.names.started ≡ false → journal ≡ []
+abbrev pub FillsJournal : Bench → List ℕ → List Event → Bench → Type 0
+FillsJournal = FillsJournalOf world_acts
 
 abbrev pub bench_meaning : Meaning Bench Event LineFault
-bench_meaning = record {
-  step = RunsLine;
-  refuses = RefusesLine;
-  fills = FillsJournal;
-  too_long = λ bench. fault causes.Long 40001;
-  text = λ bench journal. journal_text (tags_of bench.names) journal;
-  tells = TellsEvents;
-  lines = λ bench. bench.lines;
-  done = λ bench. done_lines (strays_of bench.world);
-  refused = λ bench line found. refused_line line found;
-  too_much = λ bench. toomuch_line;
-}
+bench_meaning = meaning_of world_acts

@@ -1,6 +1,6 @@
 -- The network of a script: what was set up, and from its start on the systems over the LANs with their transport entities; and what each
 -- line does to it.
-use Rattle.std.specs.Prelude.{◌≡◌, ℕ, Bool, true, false, if◌then◌else◌, List, [], ◌∷◌, ◌++◌, Option, Some, None}
+use Rattle.std.specs.Prelude.{◌≡◌, ℕ, Bool, true, false, if◌then◌else◌, List, [], Option, Some, None}
 use Rattle.std.specs.List.{AllByRecursion}
 use Rattle.esis_tables.specs.Rows.{Rows}
 use Rattle.osi_base.specs.Link.{Link}
@@ -17,6 +17,8 @@ use Rattle.osi_journal.specs.declared.event.Event.{Event}
 use Rattle.osi_script.specs.declared.line.Line.{Line}
 use Rattle.osi_script.specs.declared.line.Line.TheVariants as lines
 use Rattle.osi_setup.specs.SetUp.{SetUp, entities_of, nodes_of, nothing_said, set_up, titles_of as titles_said}
+use Rattle.script_bench.specs.Acts.{Acts, RunsScript}
+pub use Rattle.script_bench.specs.Script.{is_start}
 use Rattle.osi_bench.specs.declared.world.World.{World}
 use Rattle.osi_bench.specs.declared.world.World.TheVariants.{SettingUp, Running}
 
@@ -69,10 +71,6 @@ IsOfSetUp (lines.Tsap system selector) = Unit {0}
 IsOfSetUp lines.Start = Unit {0}
 IsOfSetUp line = ⊥
 
-abbrev pub is_start : Line → Bool
-is_start lines.Start = true
-is_start line = false
-
 -- the systems are made over the LANs with their transport entities, and send their first hellos at tick 0
 abbrev pub StartsUp : SetUp → List Event → World → Type 0
 StartsUp setup made new =
@@ -89,11 +87,13 @@ abbrev pub WorldStep : World → Line → List Event → World → Type 0
 WorldStep (SettingUp setup) line made new = IsOfSetUp line × SetsUp (is_start line) setup line made new
 WorldStep (Running titles old) line made new = (ends : Ends) × RunsLine link_of_net NetDoes wire titles old line made ends × (new ≡ Running titles ends)
 
+-- the network as a stage of a script
+abbrev pub world_acts : Acts World
+world_acts = record { first = first_world; step = WorldStep; strays = strays_of }
+
 -- the lines have these events, one after another
 abbrev pub WorldRuns : World → List Line → List Event → World → Type 0
-WorldRuns first [] journal last = (journal ≡ []) × (last ≡ first)
-WorldRuns first (line ∷ lines) journal last =
-    (mid : World) × (made rest : List Event) × WorldStep first line made mid × (journal ≡ made ++ rest) × WorldRuns mid lines rest last
+WorldRuns = RunsScript world_acts
 
 -- from nothing said, the lines have this journal, and leave this network
 abbrev pub WorldRun : List Line → List Event → World → Type 0

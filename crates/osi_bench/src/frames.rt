@@ -11,9 +11,8 @@ ghost use Rattle.osi_bench.specs.Bench.{first_bench};
 ghost use Rattle.osi_bench.specs.Frames.{AreMade, AsksForCapture, IsFramesRun, bag_of, frames_meaning, sent_of, slots_of};
 ghost use Rattle.osi_storm.specs.Counted.{is_frame};
 
-use crate::bench::Bench;
 use crate::laws::ends_are_lawful;
-use crate::world::World;
+use crate::world::{Bench, World};
 use frame_capture::{push_frame, push_header};
 use lan_bag::{LanBag, Sent};
 use line_loop::{LineError, Machine, drive, write_all};

@@ -1,15 +1,13 @@
 //! The bench: a script in, the transcript of the whole network out.
 //!
-//! `bench` is the machine of scripts that `line_loop` drives: `osi_script` reads a line, `osi_setup` takes what the set-up says and
-//! makes the network of it, `world` does what a line says, by `tp4_world`, and `osi_journal` tells its events.
+//! `world` is the stage of the machine of scripts (`script_bench`): `osi_setup` takes what the set-up says and makes the network of it, and
+//! from then on `tp4_world` does what a line says.
 #![tactic(auto)]
 
 mod asking;
-mod bench;
 mod frames;
 mod laws;
 mod storm;
-mod text;
 mod top;
 mod world;
 

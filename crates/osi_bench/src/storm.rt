@@ -11,12 +11,12 @@ ghost use Rattle.osi_bench.specs.Bench.{Bench as BenchState, FillsJournal, RunsL
 ghost use Rattle.osi_bench.specs.Storm.{AsksSummary, SummaryOutcome, as_it_stands, line_after, storm_lines};
 ghost use Rattle.osi_bench.specs.steps.Storming.{Fills, Goes, HasJournal, IsKnown, IsReady};
 
-use crate::bench::Bench;
-use crate::text::{push_done, push_too_much};
+use crate::world::Bench;
 use line_loop::{LineError, write_last};
 use osi_base::{NoMemory, Sink, Status};
 use osi_journal::Event;
 use osi_storm::{Counts, Storm, Words, push_line, push_summary, set_up};
+use script_bench::{push_done, push_too_much};
 use std::alloc::Global;
 
 /// Why a generated script was not run to its end.

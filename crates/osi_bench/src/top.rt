@@ -16,11 +16,10 @@ ghost use Rattle.osi_bench.specs.Top.{is_run, is_frames, is_decode, IsStorm, IsT
 ghost use Rattle.osi_storm.specs.declared.request.Storm.{Storm as StormWords};
 ghost use Rattle.line_loop.specs.Writing.{IsPrefix, IsWritten};
 
-use crate::bench::Bench;
 use crate::frames::write_capture;
 use crate::laws::{calm_scripts_are_served, ends_are_lawful};
 use crate::storm::write_storm;
-use crate::text::usage;
+use crate::world::Bench;
 use line_loop::{drive, write_last};
 use osi_base::{Bytes, NoMemory, PlainSink, PlainSource, Sink, Source, Status};
 use osi_capture::decode;
@@ -234,4 +233,11 @@ pub fn run_in_memory(alloc: Global, words: &[String], input: &[u8]) -> Result<Tr
     let status = osi(alloc, words, &mut source, &mut sink);
     let octets = Bytes::of(sink.into_written());
     Ok(Transcript { status, octets })
+}
+
+/// The line for wrong words.
+fn usage() -> &'static [u8]
+    ensures { result.now ≡ usage_line }
+{
+    b"usage: osi run | frames | decode | storm SEED COUNT\n"
 }

@@ -3,9 +3,10 @@
 ghost use Rattle.std.specs.Prelude.{◌≡◌, [], length, IfOk, OnOk};
 ghost use Rattle.tp4_number.specs.Number.{wire};
 ghost use Rattle.tp4_world.specs.Run.{RunsLine};
-ghost use Rattle.osi_bench.specs.World.{NetDoes, StartsUp, WorldStep, first_world, is_start, link_of_net, strays_in, strays_of};
+ghost use Rattle.osi_bench.specs.World.{NetDoes, StartsUp, WorldStep, is_start, link_of_net, strays_in};
 ghost use Rattle.osi_bench.specs.declared.world.World.TheVariants.{SettingUp};
-ghost use Rattle.osi_bench.specs.steps.Known.{CanRun, RunsAt};
+ghost use Rattle.osi_bench.specs.steps.Known.{CanRun};
+ghost use Rattle.law_setup.specs.Lines.{RunsAt};
 ghost use Rattle.osi_setup.specs.SetUp.{SetUp as Said};
 
 use crate::asking::connect_call;
@@ -16,6 +17,7 @@ use osi_base::{Carrier, Items, NoMemory};
 use osi_journal::Event;
 use osi_script::Line;
 use osi_setup::SetUp;
+use script_bench::Stage;
 use std::alloc::Global;
 use std::mem;
 use tp4_conn::UserCall;
@@ -33,23 +35,36 @@ pub enum World {
     Running(Items<Nsap>, Ends),
 }
 
-impl World {
-    /// Nothing was said yet.
-    pub fn new(alloc: Global) -> World
-        ensures { result ≡ first_world }
-    {
+/// The machine of scripts over it.
+pub type Bench = script_bench::Bench<World>;
+
+impl Stage for World {
+    ghost use Rattle.osi_bench.specs.World.{world_acts};
+    ghost use Rattle.osi_bench.specs.steps.WorldLaws.{world_keeping, world_laws};
+
+    ghost acts = { world_acts };
+
+    ghost keeping = { world_keeping };
+
+    fn begin(alloc: Global) -> World {
         World::SettingUp(SetUp::new(alloc))
     }
 
-    /// How many arrivals equalled no unit afloat, where something was injected.
-    pub fn strays(&self) -> Option<u32>
-        ensures { result ≡ strays_of self.now }
-    {
+    fn step(&mut self, alloc: Global, line: Line, events: &mut Vec<Event>) -> Result<(), NoMemory> {
+        match self {
+            World::Running(titles, ends) => run_line(ends, titles.as_slice(), line, events),
+            World::SettingUp(_) => set_up(alloc, self, line, events),
+        }
+    }
+
+    fn strays(&self) -> Option<u32> {
         match self {
             World::SettingUp(_) => None,
             World::Running(_, ends) => strays_in(ends.carrier()),
         }
     }
+
+    ghost laws = { world_laws };
 }
 
 /// How many arrivals equalled no unit afloat, where something was injected.
@@ -60,23 +75,6 @@ fn strays_in(net: &ClnpNet<LanBag>) -> Option<u32>
         None
     } else {
         Some(net.strays())
-    }
-}
-
-/// Does what a line that the network has says, and adds its events.
-pub fn step(
-    alloc: Global,
-    world: &mut World,
-    line: Line,
-    events: &mut Vec<Event>,
-) -> Result<(), NoMemory>
-    requires none { events.old.items ≡ [] }
-    requires known { CanRun world.old line }
-    ensures { OnOk result (WorldStep world.old line events.new.items world.new) }
-{
-    match world {
-        World::Running(titles, ends) => run_line(ends, titles.as_slice(), line, events),
-        World::SettingUp(_) => set_up(alloc, world, line, events),
     }
 }
 

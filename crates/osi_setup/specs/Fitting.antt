@@ -2,6 +2,7 @@
 use Rattle.std.specs.Prelude.{◌≡◌, ℕ, ◌<◌, ◌≤◌, false, if◌then◌else◌, List, [], ◌∷◌, ◌++◌, length, IsSome}
 use Rattle.std.specs.List.{AllByRecursion}
 use Rattle.nsap.specs.Address.{selector_of, is_same_system}
+use Rattle.lan_bag.specs.declared.setup.Lan.{Lan}
 use Rattle.lan_bag.specs.Rows.{IsLan, AreAllApart, same_snpa}
 use Rattle.clnp_route.specs.Routes.{has_prefix}
 use Rattle.clnp_system.specs.Setting.{IsPath, is_group}
@@ -101,7 +102,7 @@ pub record IsNewSelector (setup : SetUp) (system : ℕ) (selector : List ℕ) : 
   pub known : system < length setup.systems
   pub fresh : is_registered (selectors_at setup.systems system) selector ≡ false
 
--- the line is one of a set-up, and what it says fits what was said before
+-- the line is one of a set-up, and what it says fits what was said before; at the start no bound of a LAN is above the lifetime
 abbrev pub Fits : SetUp → Line → Type 0
 Fits setup lines.Nothing = Unit {0}
 Fits setup (lines.Set key value) = (least_of key ≤ value) × (value ≤ most_of key)
@@ -112,5 +113,5 @@ Fits setup (lines.Port system lan snpa) = IsNewPort setup system lan snpa
 Fits setup (lines.Route system prefix next lan) = IsNewRoute setup system prefix next lan
 Fits setup (lines.Path name kind systems) = IsNewPath setup systems
 Fits setup (lines.Tsap system selector) = IsNewSelector setup system selector
-Fits setup lines.Start = Unit {0}
+Fits setup lines.Start = AllByRecursion (λ (lan : Lan). lan.bound ≤ setup.life) setup.lans
 Fits setup line = ⊥

@@ -8,7 +8,7 @@ use Rattle.osi_journal.specs.declared.event.Event.{Event}
 use Rattle.osi_storm.specs.Counted.{is_frame}
 use Rattle.osi_bench.specs.Bench.{Bench}
 use Rattle.osi_bench.specs.Frames.{MakesFrames, FillsWithFrames, frames_meaning, new_slots, sent_in}
-use Rattle.osi_bench.specs.steps.BenchLaws.{bench_laws}
+use Rattle.osi_bench.specs.steps.WorldLaws.{bench_laws}
 
 one_list : (old : Bench) (octets : List ℕ) (frames other : List SentFrame) (new next : Bench) → MakesFrames old octets frames new → MakesFrames old octets other next
     → (frames ≡ other) × (new ≡ next)

@@ -1,7 +1,10 @@
 use Rattle.std.proofs.Common.{◌≡◌, rules, map, string_bytes, refl, subst, sym, ◌∙◌}
 use Rattle.osi_bench.proofs.Handled.{shows_submitted}
 use Rattle.osi_bench.proofs.Served.{serves_where_calm}
-use Rattle.osi_bench.proofs.ScriptRuns.{gives_transcript, gives_exact, gives_complete}
+use Rattle.osi_bench.proofs.ScriptRuns.{transcript}
+use Rattle.osi_bench.specs.World.{world_acts}
+use Rattle.osi_bench.specs.steps.WorldLaws.{world_keeping, world_laws}
+use Rattle.script_bench.proofs.Given.{gives_complete, gives_exact, gives_outcome}
 use Rattle.osi_storm.specs.declared.request.Storm.{Storm}
 use Rattle.osi_base.specs.Ends.{Put}
 use Rattle.osi_bench.specs.Storm.{SummaryOutcome}
@@ -11,18 +14,19 @@ use Rattle.osi_bench.proofs.top.osi.Goals as goal
 
 pub returns-then-is_run-clause-run : goal.returns-then-is_run-clause-run
 returns-then-is_run-clause-run g c is =
-    gives_transcript g.S.Source.left g.K.Sink.held
-    c.args.source.now c.args.sink.now c.new.result c.drive.new.source c.drive.new.sink c.drive.result c.new.ensures c.drive.ensures.outcome
-    (shows_submitted c.ends_are_lawful.ensures) (serves_where_calm c.calm_scripts_are_served.ensures) _ (search rules)
+    transcript g.S.Source.left g.K.Sink.held c.args.source.now c.args.sink.now c.drive.new.source c.drive.new.sink _
+    (shows_submitted c.ends_are_lawful.ensures) (serves_where_calm c.calm_scripts_are_served.ensures)
+    (gives_outcome world_acts world_keeping world_laws g.S.Source.left g.K.Sink.held
+    c.args.source.now c.args.sink.now c.new.result c.drive.new.source c.drive.new.sink c.drive.result c.new.ensures c.drive.ensures.outcome _ (search rules))
 
 pub returns-then-is_run-clause-exact : goal.returns-then-is_run-clause-exact
 returns-then-is_run-clause-exact g c is all text asked tells asks =
-    gives_exact g.S.Source.left g.K.Sink.held
+    gives_exact world_acts world_keeping world_laws g.S.Source.left g.K.Sink.held
     c.args.source.now c.args.sink.now c.new.result c.drive.new.source c.drive.new.sink c.drive.result c.new.ensures c.drive.ensures.outcome all text asked tells asks _ (search rules)
 
 pub returns-then-is_run-clause-complete : goal.returns-then-is_run-clause-complete
 returns-then-is_run-clause-complete g c is all tells accepted no_read no_write =
-    gives_complete g.S.Source.left g.K.Sink.held
+    gives_complete world_acts world_keeping world_laws g.S.Source.left g.K.Sink.held
     c.args.source.now c.args.sink.now c.new.result c.drive.new.source c.drive.new.sink c.drive.result c.new.ensures c.drive.ensures.outcome all tells accepted
     (g.S.Source.faults c.args.source.now) (g.S.Source.faults c.drive.new.source) (g.K.Sink.faults c.args.sink.now) (g.K.Sink.faults c.drive.new.sink)
     c.drive.ensures.read_fault c.drive.ensures.write_fault no_read no_write _ (search rules)

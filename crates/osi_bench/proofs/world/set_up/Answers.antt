@@ -1,5 +1,5 @@
 use Rattle.std.proofs.Common.{rules}
-use Rattle.osi_bench.proofs.Agreement.{start_step}
+use Rattle.osi_bench.specs.steps.Agreement.{start_step}
 use Rattle.osi_bench.proofs.world.set_up.Goals as goal
 
 pub returns : goal.returns

@@ -3,7 +3,7 @@ use Rattle.std.specs.List.{AllByRecursion}
 use Rattle.tp4_world.specs.declared.place.Placed.{Placed}
 use Rattle.osi_bench.specs.World.{link_of_net}
 use Rattle.tp4_world.specs.steps.Parts.{AreLaterAll}
-use Rattle.osi_bench.proofs.Begun.{begins_first, entities_behind, entities_later}
+use Rattle.osi_bench.specs.steps.Begun.{begins_first, entities_behind, entities_later}
 use Rattle.osi_bench.proofs.world.start.Goals as goal
 
 pub start-requires-2-clause-low : goal.start-requires-2-clause-low

@@ -1,0 +1,4 @@
+pub mod Claimed
+pub mod Courses
+pub mod Given
+pub mod Runs

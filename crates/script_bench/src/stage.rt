@@ -1,0 +1,36 @@
+//! What a script sets up and runs.
+
+ghost use Rattle.std.specs.Prelude.{◌≡◌, [], OnOk};
+
+use osi_base::NoMemory;
+use osi_journal::Event;
+use osi_script::Line;
+use std::alloc::Global;
+
+/// What a script sets up and runs: each line that is read has its events.
+pub trait Stage: Sized {
+    ghost use Rattle.script_bench.specs.Acts.{Acts, Keeping, StageLaws};
+
+    /// How it begins, what a line does, and how many arrivals were strays.
+    ghost acts: { Acts Self };
+
+    /// Which lines it has, and what it has in common with the names declared.
+    ghost keeping: { Keeping Self };
+
+    /// Nothing was said yet.
+    fn begin(alloc: Global) -> Self
+        ensures { result ≡ acts.first };
+
+    /// Does what a line that it has says, and adds the events.
+    fn step(&mut self, alloc: Global, line: Line, events: &mut Vec<Event>) -> Result<(), NoMemory>
+        requires none { events.old.items ≡ [] }
+        requires known { keeping.runs self.old line }
+        ensures { OnOk result (acts.step self.old line events.new.items self.new) };
+
+    /// How many arrivals equalled no unit afloat, where something was injected.
+    fn strays(&self) -> Option<u32>
+        ensures { result ≡ acts.strays self.now };
+
+    /// A line has one step; the stage goes on agreeing with the names; and it has each line that is read, with a step.
+    ghost laws: { StageLaws acts keeping };
+}
