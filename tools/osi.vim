@@ -4,7 +4,7 @@ if exists("b:current_syntax")
 endif
 syn match osiComment "^#.*"
 syn match osiExpected "^#= .*"
-syn match osiSetup "^\(set\|lan\|es\|is\|port\|route\|path\|tsap\|start\)\>"
+syn match osiSetup "^\(version\|set\|lan\|es\|is\|port\|route\|path\|tsap\|start\)\>"
 syn match osiEvent "^\(unit\|connect\|accept\|refuse\|data\|expedite\|window\|disconnect\|tick\|deliver\|settle\|inject\)\>"
 syn match osiWord " \(normal\|extended\|exp\|noexp\|sum\|nosum\|partial\|complete\)\>"
 syn match osiNumber " \d\+\>"

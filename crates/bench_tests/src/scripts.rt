@@ -14,6 +14,7 @@ mod injected;
 mod network;
 mod refused;
 mod settled;
+mod sizes;
 mod timed;
 
 /// Two end systems on one LAN: seven lines.
@@ -172,6 +173,28 @@ fn connections_have_their_transcripts(rt: HostRuntime) -> Result<(), Fail> {
             &[SET_UP, lines, "start\n", events],
             &[shown, "done\n"],
         )?;
+    }
+    Ok(())
+}
+
+#[test]
+fn preferred_sizes_have_their_transcripts(rt: HostRuntime) -> Result<(), Fail> {
+    for [answer, shown] in sizes::ANSWERED {
+        expect(
+            &rt,
+            rt.alloc(),
+            &[
+                sizes::VERSION,
+                SET_UP,
+                connected::STARTED,
+                sizes::ASKED,
+                answer,
+            ],
+            &[sizes::ASKED_SHOWN, shown, "done\n"],
+        )?;
+    }
+    for [lines, shown] in sizes::REFUSED {
+        expect(&rt, rt.alloc(), &[lines], &[shown])?;
     }
     Ok(())
 }

@@ -17,9 +17,9 @@ use Rattle.tpdu.specs.Writing.{is_summed, kind_for}
 use Rattle.tp4_number.specs.Number.{whole}
 use Rattle.tp4_flow.specs.declared.rules.Options.{Options}
 use Rattle.tp4_flow.specs.declared.step.Sent.{Sent}
-use Rattle.tp4_conn.specs.Agreeing.{agreed_by, confirm, is_within}
+use Rattle.tp4_conn.specs.Agreeing.{agreed_by, confirm, is_confirmed}
 use Rattle.tp4_conn.specs.CrWait.{confirmed}
-use Rattle.tp4_conn.specs.End.{End, IsSize, Moved, end_of}
+use Rattle.tp4_conn.specs.End.{End, IsProposal, IsSized, Moved, end_of}
 use Rattle.tp4_conn.specs.Table.{Called, Took, at as now_at, on_call, stepped, takes}
 use Rattle.tp4_conn.specs.UserWait.{accepted, user_wait_accept}
 use Rattle.tp4_conn.specs.Calls.{call_refusal}
@@ -38,7 +38,10 @@ use Rattle.tp4_entity.specs.Step.{calling as calling_at, calling_end, end_refusa
 use Rattle.tp4_entity.specs.declared.refusal.EntityRefusal.{EntityRefusal}
 use Rattle.tp4_calm.specs.Claim.{IsUndropped}
 use Rattle.tp4_calm.specs.steps.Standing.{HasLeft}
-use Rattle.tp4_calm.proofs.Confirming.{confirms, within}
+use Rattle.tp4_conn.specs.declared.proposed.Proposed.{Proposed}
+use Rattle.tp4_conn.proofs.Agreed.{agreed_within}
+use Rattle.tp4_conn.proofs.Sizes.{agreed_sized}
+use Rattle.tp4_calm.proofs.Confirming.{confirms}
 use Rattle.tp4_world.specs.Run.{transport_address}
 use Rattle.tp4_world.specs.Telling.{asked_options, call_events, ends_after, events_after, told_options}
 use Rattle.tp4_world.specs.World.{entity_at, latest, with_entity}
@@ -102,15 +105,16 @@ unfolding user_wait_accept
 accepts_so now y since options octets is = ap (λ (stage : Stage). on_call (now_at now y.base) stage (Accept options octets)) is
 
 -- the calling end takes the CC
-confirms_so : (now : ℕ) (x y : End) (r : Requesting) (options : Options) (octets : List ℕ) → x.stage ≡ CrWait r → y.base.proposed ≡ x.base.proposed
+confirms_so : (now : ℕ) (x y : End) (r : Requesting) (options : Options) (octets : List ℕ) → x.stage ≡ CrWait r → y.base.proposed ≡ x.base.proposed → IsProposal y.base.proposed → IsSized options
     → let c = answering now y options in let agreed = agreed_by y.base.proposed options in
     stepped whole now x (Took (confirm c agreed octets).tpdu (confirm c agreed octets).sum)
     ≡ confirmed (record x.base { partner = c.own; credit = c.timers.credit; agreed = Some agreed; clock = now }) agreed octets
-confirms_so now x y r options octets is same =
+confirms_so now x y r options octets is same proposal sized =
     let c : Base = answering now y options in
     let agreed : Options = agreed_by y.base.proposed options in
     ap (λ (stage : Stage). takes whole now x.base stage (confirm c agreed octets).tpdu (confirm c agreed octets).sum) is
-    ∙ confirms x.base c r agreed octets now refl (subst (λ (o : Options). is_within o agreed ≡ true) same (within y.base.proposed options))
+    ∙ confirms x.base c r agreed octets now refl (agreed_sized y.base.proposed options proposal sized)
+    (subst (λ (p : Proposed). is_confirmed p agreed ≡ true) same (agreed_within y.base.proposed options proposal sized))
 
 or_false : (b : Bool) → (b || false) ≡ b
 or_false true = refl
@@ -120,7 +124,7 @@ or_false false = refl
 
 module _ (titles : List (List ℕ)) (timers : Timers) (laws : Laws timers (address_of titles) (IsTicking timers (address_of titles))) (hall : Hall) (journal : List Event) (proper : AreAllProper hall.entities)
     (s : Story timers (address_of titles) hall journal) (calling called : ℕ) (are : AreEnds journal calling called) (x : End) (r : Requesting) (x_at : IsWhere hall.entities hall.ends calling x) (x_waits : x.stage ≡ CrWait r)
-    (options : Options) (octets : List ℕ) (made : List Event) (next : Hall) (c : Calls hall made next) (number_is : c.number ≡ called) (call_is : c.call ≡ Accept options octets) (size : IsSize options.size)
+    (options : Options) (octets : List ℕ) (made : List Event) (next : Hall) (c : Calls hall made next) (number_is : c.number ≡ called) (call_is : c.call ≡ Accept options octets) (size : IsSized options)
     (proper_then : AreAllProper next.entities) where
   abbrev own : ℕ → List ℕ
   own = address_of titles
@@ -298,7 +302,7 @@ module _ (titles : List (List ℕ)) (timers : Timers) (laws : Laws timers (addre
         let hands = laws.handed hall.clock next.entities all waits [] meets.entity b stands (are_proper next.entities proper_then) at_k there_is in
         let may = laws.accepts hall.clock hall.entities s.all k a x y asked.since r options stood (are_proper hall.entities proper) o.called_party.is o.calling_is o.called_party.end_is asked.waits x_waits size in
         heard ∙ taken_by (at hall.clock meets.entity) _ hands.others hands.b hands.takes
-        ∙ ap (moved (at hall.clock meets.entity) x.base.own) (confirms_so hall.clock x y r options octets x_waits may.proposed)
+        ∙ ap (moved (at hall.clock meets.entity) x.base.own) (confirms_so hall.clock x y r options octets x_waits may.proposed may.size may.size_asked)
 
     number_is_calling : latest next.ends meets.system x.base.own ≡ calling
     number_is_calling =

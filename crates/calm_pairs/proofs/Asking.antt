@@ -5,7 +5,7 @@ use Rattle.osi_journal.specs.declared.event.Event.{Event as JournalEvent}
 use Rattle.tp4_number.specs.Number.{whole}
 use Rattle.tp4_flow.specs.declared.rules.Options.{Options}
 use Rattle.tp4_conn.specs.Calls.{IsCall, call_refusal}
-use Rattle.tp4_conn.specs.End.{End, IsSize, Moved, end_of}
+use Rattle.tp4_conn.specs.End.{End, IsSized, Moved, end_of}
 use Rattle.tp4_conn.specs.Table.{Called, stepped}
 use Rattle.tp4_conn.specs.declared.call.CallRefusal.{CallRefusal}
 use Rattle.tp4_conn.specs.declared.call.UserCall.{UserCall}
@@ -62,7 +62,7 @@ latest_number now ends number end e is = by_same (latest ends end.system end.ref
     by_same true at is = same_numbers (latest ends end.system end.reference) number at
     by_same false at is = absurd (cc is)
 
-accept_size : (call : UserCall) (asked : Options) (octets : List ℕ) → call ≡ Accept asked octets → IsCall call → IsSize asked.size
+accept_size : (call : UserCall) (asked : Options) (octets : List ℕ) → call ≡ Accept asked octets → IsCall call → IsSized asked
 accept_size call asked octets is proper = subst IsCall is proper
 
 module _ (timers : Timers) (own : ℕ → List ℕ) (called : WasCalled timers own) (answerable : Answerable timers own) (may_accept : MayAccept timers own) (old new : Hall) (journal made : List JournalEvent)

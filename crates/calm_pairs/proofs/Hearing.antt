@@ -33,9 +33,9 @@ or_false false = refl
 
 -- a CR has its checksum in any case
 same_sum : (now : ℕ) (e : Entity) (from : List ℕ) (tpdu : Tpdu) (sum : Bool) → met whole now e from (tpdu, is_summed sum tpdu) ≡ met whole now e from (tpdu, sum)
-same_sum now e from (Cr credit source width calling called size extra version classes ack_time text) sum = refl
-same_sum now e from (Cc credit destination source width calling called size extra version classes ack_time text) sum =
-    ap (λ (b : Bool). met whole now e from (Cc credit destination source width calling called size extra version classes ack_time text, b)) (or_false sum)
+same_sum now e from (Cr credit source width calling called size preferred extra version classes ack_time text) sum = refl
+same_sum now e from (Cc credit destination source width calling called size preferred extra version classes ack_time text) sum =
+    ap (λ (b : Bool). met whole now e from (Cc credit destination source width calling called size preferred extra version classes ack_time text, b)) (or_false sum)
 same_sum now e from (Dr destination source reason info text) sum = ap (λ (b : Bool). met whole now e from (Dr destination source reason info text, b)) (or_false sum)
 same_sum now e from (Dc destination source) sum = ap (λ (b : Bool). met whole now e from (Dc destination source, b)) (or_false sum)
 same_sum now e from (Dt destination last number text) sum = ap (λ (b : Bool). met whole now e from (Dt destination last number text, b)) (or_false sum)

@@ -152,8 +152,8 @@ module _ (own : ℕ) where
         sending_of o (acknowledged (at b.clock o.halves.sending) number credit subsequence) halves (acknowledged_of (at b.clock o.halves.sending) number credit subsequence halves.0)
     opened_of o (wires.Ea destination number) halves =
         sending_of o (urgent_done (at b.clock o.halves.sending) number) halves (done_of (at b.clock o.halves.sending) number halves.0)
-    opened_of o (wires.Cc credit destination source width calling called size extra version classes ack_time text) halves = record { base = is; stage = halves; held = tt }
-    opened_of o (wires.Cr credit source width calling called size extra version classes ack_time text) halves = record { base = is; stage = halves; held = tt }
+    opened_of o (wires.Cc credit destination source width calling called size preferred extra version classes ack_time text) halves = record { base = is; stage = halves; held = tt }
+    opened_of o (wires.Cr credit source width calling called size preferred extra version classes ack_time text) halves = record { base = is; stage = halves; held = tt }
     opened_of o (wires.Dc destination source) halves = record { base = is; stage = halves; held = tt }
 
     opens_of : (h : Halves) (tpdu : Tpdu) → AreHalvesOf own h → IsRowOf (opening wrap b h tpdu)
@@ -170,16 +170,16 @@ module _ (own : ℕ) where
 
     cr_of : (w : Requesting) (tpdu : Tpdu) → IsRowOf (cr_wait_tpdu b w tpdu)
     unfolding cr_wait_tpdu
-    cr_of w (wires.Cc credit destination source width calling called size extra version classes ack_time text) =
-        if_kept IsRowOf (is_within b.proposed (options_in width size extra)) _ _
-        (λ _. confirmed_of (record b { partner = source; credit = credit; agreed = Some (options_in width size extra) }) (options_in width size extra) text is)
+    cr_of w (wires.Cc credit destination source width calling called size preferred extra version classes ack_time text) =
+        if_kept IsRowOf (is_within b.proposed width size preferred extra) _ _
+        (λ _. confirmed_of (record b { partner = source; credit = credit; agreed = Some (options_in width size preferred extra) }) (options_in width size preferred extra) text is)
         (λ _. record { base = is; stage = tt; held = (tt, tt) })
     cr_of w (wires.Dr destination source reason info text) = record { base = is; stage = tt; held = (tt, tt) }
     cr_of w other = record { base = is; stage = tt; held = tt }
 
     wait_of : (w : Parting) (tpdu : Tpdu) → IsRowOf (wait_before_close_tpdu b w tpdu)
     unfolding wait_before_close_tpdu
-    wait_of w (wires.Cc credit destination source width calling called size extra version classes ack_time text) = record { base = is; stage = tt; held = tt }
+    wait_of w (wires.Cc credit destination source width calling called size preferred extra version classes ack_time text) = record { base = is; stage = tt; held = tt }
     wait_of w (wires.Dr destination source reason info text) = record { base = is; stage = tt; held = tt }
     wait_of w other = record { base = is; stage = tt; held = tt }
 

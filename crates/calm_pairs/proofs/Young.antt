@@ -68,8 +68,8 @@ module _ (b : Base) where
   opened_old o (wires.Ed destination last number text) = if_kept IsOld (is_expedited b.agreed) _ _ (λ _ h. h) (λ _ h. h)
   opened_old o (wires.Ak destination number credit subsequence confirmation) = λ h. h
   opened_old o (wires.Ea destination number) = λ h. h
-  opened_old o (wires.Cc credit destination source width calling called size extra version classes ack_time text) = λ h. h
-  opened_old o (wires.Cr credit source width calling called size extra version classes ack_time text) = λ h. h
+  opened_old o (wires.Cc credit destination source width calling called size preferred extra version classes ack_time text) = λ h. h
+  opened_old o (wires.Cr credit source width calling called size preferred extra version classes ack_time text) = λ h. h
   opened_old o (wires.Dc destination source) = λ h. h
 
   ak_old : (w : Answering) (tpdu : Tpdu) → IsOld (ak_wait_tpdu whole b w tpdu)
@@ -84,14 +84,14 @@ module _ (b : Base) where
 
   cr_follows : (w : Requesting) (tpdu : Tpdu) → Follows (stages.CrWait w) (cr_wait_tpdu b w tpdu)
   unfolding cr_wait_tpdu
-  cr_follows w (wires.Cc credit destination source width calling called size extra version classes ack_time text) =
-      if_kept (Follows (stages.CrWait w)) (is_within b.proposed (options_in width size extra)) _ _ (λ _ h. absurd h) (λ _ h. absurd h)
+  cr_follows w (wires.Cc credit destination source width calling called size preferred extra version classes ack_time text) =
+      if_kept (Follows (stages.CrWait w)) (is_within b.proposed width size preferred extra) _ _ (λ _ h. absurd h) (λ _ h. absurd h)
   cr_follows w (wires.Dr destination source reason info text) = λ h. absurd h
   cr_follows w other = λ h. (tt, refl)
 
   parting_old : (w : Parting) (tpdu : Tpdu) → IsOld (wait_before_close_tpdu b w tpdu)
   unfolding wait_before_close_tpdu
-  parting_old w (wires.Cc credit destination source width calling called size extra version classes ack_time text) = λ h. h
+  parting_old w (wires.Cc credit destination source width calling called size preferred extra version classes ack_time text) = λ h. h
   parting_old w (wires.Dr destination source reason info text) = λ h. h
   parting_old w other = λ h. h
 

@@ -22,7 +22,7 @@ use Rattle.net_world.specs.Run.{SendsUnit, raw_unit}
 use Rattle.net_world.specs.Told.{sent_event, told}
 use Rattle.tp4_number.specs.Number.{whole}
 use Rattle.tp4_conn.specs.Calls.{IsCall}
-use Rattle.tp4_conn.specs.End.{IsSize}
+use Rattle.tp4_conn.specs.End.{IsSized}
 use Rattle.tp4_conn.specs.Proper.{IsProperCall}
 use Rattle.tp4_conn.specs.declared.call.ConnectCall.{ConnectCall}
 use Rattle.tp4_conn.specs.declared.call.UserCall.{UserCall}
@@ -46,9 +46,9 @@ use Rattle.calm_world.specs.steps.Posting.{AreUnitsOf, IsHall}
 use Rattle.calm_world.proofs.Going.{Stands, Went, acts_go, have_after, kept_after, one_step, still, waiting_after}
 use Rattle.calm_world.proofs.Queueing.{all_parts, none_dropped, raw_behind}
 
--- what a connect line may ask: a size of the seven, selectors of 32 octets at most, and the address of a system
+-- what a connect line may ask: one of the sizes, selectors of 32 octets at most, and the address of a system
 pub record IsAsked (titles : List (List ℕ)) (call : ConnectCall) : Type 0 where
-  pub size : IsSize call.options.size
+  pub size : IsSized call.options
   pub calling : length call.from_selector ≤ 32
   pub called : length call.to_selector ≤ 32
   pub address : IsAddress titles call.to

@@ -21,8 +21,8 @@ use Rattle.tpdu.specs.Writing.{is_summed, kind_for}
 use Rattle.tp4_number.specs.Number.{whole}
 use Rattle.tp4_flow.specs.declared.rules.Options.{Options}
 use Rattle.tp4_flow.specs.declared.step.Sent.{Sent}
-use Rattle.tp4_conn.specs.Agreeing.{request}
-use Rattle.tp4_conn.specs.End.{IsSize}
+use Rattle.tp4_conn.specs.Agreeing.{proposed_by, request}
+use Rattle.tp4_conn.specs.End.{IsSized}
 use Rattle.tp4_conn.specs.Making.{called_end, caller, indicated}
 use Rattle.tp4_conn.specs.Proper.{IsProperCall}
 use Rattle.tp4_conn.specs.declared.call.ConnectCall.{ConnectCall}
@@ -193,21 +193,21 @@ module _ {C : Type 0} (link : C → Link (List ℕ)) (steps : C → Call (List �
       reads = inl (ap (λ (p : Post). has_number (kind_for p.sent.tpdu)) post_is)
 
       -- so it is indicated, where it may be
-      indicates : (may : MayIndicate hall.clock m.entity entity.own reference call.to_selector)
-          → m.acted ≡ moved (at hall.clock m.entity) may.own (indicated (called_end hall.clock may.own entity.own m.entity.timers entity.timers.credit reference call.from_selector call.to_selector call.options) call.octets)
-      indicates may =
+      indicates : IsSized call.options → (may : MayIndicate hall.clock m.entity entity.own reference call.to_selector)
+          → m.acted ≡ moved (at hall.clock m.entity) may.own (indicated (called_end hall.clock may.own entity.own m.entity.timers entity.timers.credit reference call.from_selector call.to_selector (proposed_by call.options)) call.octets)
+      indicates sized may =
           m.heard reads
           ∙ ap (λ (f : List ℕ). met whole hall.clock (at hall.clock m.entity) f (m.post.sent.tpdu, is_summed m.post.sent.sum m.post.sent.tpdu)) from_is
           ∙ ap (λ (p : Post). met whole hall.clock (at hall.clock m.entity) entity.own (p.sent.tpdu, is_summed p.sent.sum p.sent.tpdu)) post_is
-          ∙ incoming hall.clock hall.clock may.own (at hall.clock m.entity) entity.own (call_of entity reference call) (is_summed cr.sum cr.tpdu) may.none may.none_frozen may.registered may.free
+          ∙ incoming hall.clock hall.clock may.own (at hall.clock m.entity) entity.own (call_of entity reference call) (is_summed cr.sum cr.tpdu) sized may.none may.none_frozen may.registered may.free
 
       -- and its line says what the request does
-      told : (may : MayIndicate hall.clock m.entity entity.own reference call.to_selector)
+      told : IsSized call.options → (may : MayIndicate hall.clock m.entity entity.own reference call.to_selector)
           → (heard : Indication) × Contains here (events.Incoming heard) × IsIndicationOf (asked_by (length hall.ends + 1) system reference entity.own call) heard
-      told may =
-          let b = called_end hall.clock may.own entity.own m.entity.timers entity.timers.credit reference call.from_selector call.to_selector call.options in
+      told sized may =
+          let b = called_end hall.clock may.own entity.own m.entity.timers entity.timers.credit reference call.from_selector call.to_selector (proposed_by call.options) in
           let lines : here ≡ events_after next.ends m.system m.entity.own (indicated b call.octets).events ++ m.does.aside =
-          m.does.made_is ∙ ap (λ (a : Acted). events_after next.ends m.system m.entity.own a.events ++ m.does.aside) (indicates may) in
+          m.does.made_is ∙ ap (λ (a : Acted). events_after next.ends m.system m.entity.own a.events ++ m.does.aside) (indicates sized may) in
           let heard : Indication = record {
             end = latest (next.ends ++ record { system = m.system; reference = may.own } ∷ []) m.system may.own;
             system = m.system;
@@ -274,7 +274,7 @@ module _ {C : Type 0} (link : C → Link (List ℕ)) (steps : C → Call (List �
         (subst (λ (n : ℕ). MayIndicate n c.entity entity.own reference call.to_selector) r.stands.shows.clock
         (subst (λ (s : List ℕ). MayIndicate (link c.between.carrier).clock c.entity entity.own reference s) (sym selects)
         (subst (λ (q : Request). MayIndicate (link c.between.carrier).clock c.entity q.calling q.reference called) asked_is c.may))) in
-        let found = told start.distinct done.went.next idle system to receiver to_is reference entity call address there_now known.kept m.here m.next m.meets r.stands.kept may in (
+        let found = told start.distinct done.went.next idle system to receiver to_is reference entity call address there_now known.kept m.here m.next m.meets r.stands.kept is_asked.size may in (
           found.0,
           subst (λ (es : List Event). Contains es (events.Incoming found.0)) (sym m.made_is) (Contains-append_right m.before (m.here ++ m.rest) (events.Incoming found.0) (Contains-append_left m.here m.rest (events.Incoming found.0) found.1)),
           record {
@@ -300,7 +300,7 @@ module _ {C : Type 0} (link : C → Link (List ℕ)) (steps : C → Call (List �
         let asks = step.4 in
         by_why step.0 step.1 asks.4.0 (connect_refusal (clock_of link steps before) asks.4.0 step.1.octets) step.2 asks.1 asks.2
         (record {
-          size = subst (λ (o : Options). IsSize o.size) (sym step.3) c.proper.0;
+          size = subst (λ (o : Options). IsSized o) (sym step.3) c.proper.0;
           calling = subst (λ (o : List ℕ). length o ≤ 32) (sym asks.0) c.proper.1;
           called = subst (λ (o : List ℕ). length o ≤ 32) (sym asks.2) c.proper.2;
           address = record { system = to; title = step.0; title_is = step.2; address_is = asks.1 };

@@ -10,7 +10,7 @@ use Rattle.osi_script.specs.declared.line.Line.TheVariants as lines
 use Rattle.net_world.specs.Fifo.{IsFifo}
 use Rattle.tp4_number.specs.Number.{whole}
 use Rattle.tp4_flow.specs.declared.rules.Options.{Options}
-use Rattle.tp4_conn.specs.End.{IsSize}
+use Rattle.tp4_conn.specs.End.{IsSized}
 use Rattle.tp4_conn.specs.declared.call.UserCall.TheVariants as asks
 use Rattle.tp4_calm.specs.Calm.{IsSettled, Settles as IsSettledNext}
 use Rattle.tp4_calm.specs.Claim.{IsUndropped}
@@ -58,7 +58,7 @@ module _ {C : Type 0} (link : C → Link (List ℕ)) (steps : C → Call (List �
       let asks = step.4 in
       connected link steps law titles Waits fifo old new hall queue made system step.1 s none all
       (record {
-        size = subst (λ (o : Options). IsSize o.size) (sym step.3) proper.0;
+        size = subst (λ (o : Options). IsSized o) (sym step.3) proper.0;
         calling = subst (λ (o : List ℕ). length o ≤ 32) (sym asks.0) proper.1;
         called = subst (λ (o : List ℕ). length o ≤ 32) (sym asks.2) proper.2;
         address = record { system = to; title = step.0; title_is = step.2; address_is = asks.1 };
@@ -75,6 +75,7 @@ module _ {C : Type 0} (link : C → Link (List ℕ)) (steps : C → Call (List �
   asked (lines.Deliver number system) script old new hall queue made s none calm proper path all step other = absurd calm
   asked lines.Settle script old new hall queue made s none calm proper path all step other = absurd (other refl)
   asked (lines.Inject lan system octets) script old new hall queue made s none calm proper path all step other = absurd calm
+  asked (lines.Version version) script old new hall queue made s none calm proper path all step other = absurd step
   asked (lines.Set key value) script old new hall queue made s none calm proper path all step other = absurd step
   asked (lines.Lan name bound room) script old new hall queue made s none calm proper path all step other = absurd step
   asked (lines.Es name title) script old new hall queue made s none calm proper path all step other = absurd step

@@ -39,7 +39,7 @@ fn check_row(rt: &impl Abort, alloc: Global, row: &str) -> Result<(), Fail> {
 
 #[test]
 fn each_row_of_the_table_is_read(rt: HostRuntime) -> Result<(), Fail> {
-    assert_eq!(rt; TABLE.lines().count(), 127);
+    assert_eq!(rt; TABLE.lines().count(), 139);
     for row in TABLE.lines() {
         check_row(&rt, rt.alloc(), row)?;
     }
@@ -80,7 +80,8 @@ fn request(alloc: Global, calling: &[u8]) -> Result<Tpdu, Fail> {
         format: Format::Normal,
         calling: bytes(alloc, calling)?,
         called: bytes(alloc, &[0xbb])?,
-        size: 1024,
+        size: Some(1024),
+        preferred: None,
         extra: 1,
         version: None,
         classes: None,
@@ -119,6 +120,30 @@ fn a_request_is_written(rt: HostRuntime) -> Result<(), Fail> {
     assert_eq!(rt;
         octets.as_slice(),
         b"\x16\xe8\x00\x00\x00\x01\x40\xc1\x01\xaa\xc2\x01\xbb\xc0\x01\x0a\xc6\x01\x01\xc3\x02\x3f\x39".as_slice()
+    );
+    Ok(())
+}
+
+#[test]
+fn a_request_with_a_preferred_size_is_written(rt: HostRuntime) -> Result<(), Fail> {
+    let request = Tpdu::Cr {
+        credit: 8,
+        source: 1,
+        format: Format::Normal,
+        calling: bytes(rt.alloc(), &[0xaa])?,
+        called: bytes(rt.alloc(), &[0xbb])?,
+        size: Some(1024),
+        preferred: Some(11),
+        extra: 1,
+        version: None,
+        classes: None,
+        ack_time: None,
+        octets: Bytes::of(Vec::new(rt.alloc())),
+    };
+    let octets = written(rt.alloc(), &request, Format::Normal, false)?;
+    assert_eq!(rt;
+        octets.as_slice(),
+        b"\x19\xe8\x00\x00\x00\x01\x40\xc1\x01\xaa\xc2\x01\xbb\xc0\x01\x0a\xf0\x01\x0b\xc6\x01\x01\xc3\x02\x3b\x3d".as_slice()
     );
     Ok(())
 }

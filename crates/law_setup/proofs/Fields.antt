@@ -1,13 +1,14 @@
--- What each field of a line keeps of what was read before it: a size that is listed, a credit in its bounds, and octets; so each line that
+-- What each field of a line keeps of what was read before it: a size that is one, a credit in its bounds, and octets; so each line that
 -- was read has these.
-use Rattle.std.proofs.Common.{◌≡◌, ◌==◌, ℕ, ◌≤◌, Bool, true, false, List, [], ◌∷◌, ◌++◌, length, None, Result, Ok, Err, refl, sym, subst, append_assoc, arith}
+use Rattle.std.proofs.Common.{◌≡◌, ◌==◌, ℕ, ◌*◌, ◌≤◌, drop, Bool, true, false, List, [], ◌∷◌, ◌++◌, length, None, Result, Ok, Err, refl, sym, subst, append_assoc, arith}
 use Rattle.std.specs.Prelude.{◌||◌, ◌&&◌, if◌then◌else◌, nat_le}
 use Rattle.std.specs.List.{AllByRecursion, list_any}
 use Rattle.std.proofs.lemmas.Bool.Decides.{nat_tests}
 use Rattle.carrier_answers.specs.Answers.{AreOctets}
-use Rattle.tp4_conn.specs.End.{IsSize}
+use Rattle.tp4_conn.specs.End.{IsSize, IsSizedBy}
 use Rattle.osi_script.specs.declared.fault.LineCause.{LineCause}
 use Rattle.osi_script.specs.declared.fault.LineCause.TheVariants as causes
+use Rattle.osi_script.specs.declared.field.TpduSize.{TpduSize}
 use Rattle.osi_script.specs.declared.form.Form.{Form}
 use Rattle.osi_script.specs.declared.form.Form.TheVariants as forms
 use Rattle.osi_script.specs.declared.form.Named.TheVariants as named
@@ -17,7 +18,7 @@ use Rattle.osi_script.specs.Field.{number_of, octets_of, within}
 use Rattle.osi_script.specs.Gives.{into, then_read}
 use Rattle.osi_script.specs.Grammar.{at_column, count_fault, fields_read, next_column}
 use Rattle.osi_script.specs.Known.{Declared, no_parts}
-use Rattle.osi_script.specs.Reading.{as_size, field_read, is_size, new_selector, passing, selector_of, size_of}
+use Rattle.osi_script.specs.Reading.{as_listed, as_preferred, field_read, is_preferred, is_size, new_selector, passing, selector_of, size_of, with_size}
 use Rattle.osi_script.specs.Table.{agreement}
 use Rattle.law_setup.specs.Lines.{IsShort}
 use Rattle.law_setup.proofs.InOctets.{unit_octets}
@@ -37,19 +38,33 @@ sizes_listed : AllByRecursion IsSize (128 ∷ 256 ∷ 512 ∷ 1024 ∷ 2048 ∷ 
 unfolding IsSize
 sizes_listed = (refl, (refl, (refl, (refl, (refl, (refl, (refl, tt)))))))
 
-size_by : (read : Result ℕ LineCause) (size : ℕ) → as_size read ≡ Ok size → IsSize size
-size_by (Err cause) size is = absurd (cc)
-size_by (Ok first) size is = by (is_size first) refl is
+abbrev IsSizeRead : TpduSize → Type 0
+IsSizeRead size = IsSizedBy size.preferred size.octets
+
+listed_by : (read : Result ℕ LineCause) (size : TpduSize) → as_listed read ≡ Ok size → IsSizeRead size
+listed_by (Err cause) size is = absurd (cc)
+listed_by (Ok first) size is = by (is_size first) refl is
   where
-    by : (b : Bool) → is_size first ≡ b → passing b causes.Syntax first ≡ Ok size → IsSize size
+    by : (b : Bool) → is_size first ≡ b → passing b causes.Syntax (record { octets = first; preferred = false }) ≡ Ok size → IsSizeRead size
     by true listed i =
-        let same : first ≡ size = cc in
-        subst IsSize same (any_listed IsSize (128 ∷ 256 ∷ 512 ∷ 1024 ∷ 2048 ∷ 4096 ∷ 8192 ∷ []) first sizes_listed listed)
+        let same : record { octets = first; preferred = false } ≡ size = cc in
+        subst IsSizeRead same (any_listed IsSize (128 ∷ 256 ∷ 512 ∷ 1024 ∷ 2048 ∷ 4096 ∷ 8192 ∷ []) first sizes_listed listed)
     by false listed i = absurd (cc)
 
-size_read : (field : List ℕ) (size : ℕ) → size_of field ≡ Ok size → IsSize size
+preferred_by : (digits : List ℕ) (read : Result ℕ LineCause) (size : TpduSize) → number_of 1 128 digits ≡ read → as_preferred read ≡ Ok size → IsSizeRead size
+preferred_by digits (Err cause) size reads is = absurd (cc)
+preferred_by digits (Ok number) size reads is =
+    let within = number_within 1 128 digits number reads in
+    let same : record { octets = 128 * number; preferred = true } ≡ size = cc in
+    subst IsSizeRead same (number, refl, within.least_is, within.most_is)
+
+size_read : (second : Bool) (field : List ℕ) (size : TpduSize) → size_of second field ≡ Ok size → IsSizeRead size
 unfolding size_of
-size_read field size is = size_by (number_of 0 999999999 field) size is
+size_read second field size is = by (second && is_preferred field) is
+  where
+    by : (b : Bool) → (if b then as_preferred (number_of 1 128 (drop 1 field)) else as_listed (number_of 0 999999999 field)) ≡ Ok size → IsSizeRead size
+    by true i = preferred_by (drop 1 field) (number_of 1 128 (drop 1 field)) size refl i
+    by false i = listed_by (number_of 0 999999999 field) size i
 
 bounded_by : (all selector : List ℕ) (b : Bool) → (nat_le 1 (length all) && nat_le (length all) 32) ≡ b → AreOctets all → (if b then Ok all else Err causes.Range) ≡ Ok selector → IsShort selector
 bounded_by all selector true here are is = let same : all ≡ selector = cc in subst IsShort same (record { few = grind (arith, nat_tests); octets = are })
@@ -69,9 +84,9 @@ new_selector_short names system field selector is = selector_short field selecto
 
 -- ---- what all fields keep
 
--- the credit is in its bounds, octets are octets, and where a size was read it is listed
+-- the credit is in its bounds, octets are octets, and where a size was read it is one
 pub record AreFine (sized : Bool) (parts : Parts) : Type 0 where
-  pub size : sized ≡ true → IsSize parts.options.size
+  pub size : sized ≡ true → IsSizedBy parts.options.preferred parts.options.size
   pub credit : parts.credit ≤ 255
   pub octets : AreOctets parts.octets
   pub selector : IsShort parts.selector
@@ -109,7 +124,7 @@ module _ (names : Declared) (sized : Bool) where
   field_fine (forms.Plain plain.Credit) parts more field is f =
       through sized _ _ more is (λ value read. record { size = f.size; credit = (number_within 0 255 field value read).most_is; octets = f.octets; selector = f.selector; called = f.called })
   field_fine (forms.Plain plain.Size) parts more field is f =
-      through sized _ _ more is (λ value read. record { size = λ asked. size_read field value read; credit = f.credit; octets = f.octets; selector = f.selector; called = f.called })
+      through sized _ _ more is (λ value read. record { size = λ asked. size_read names.second field value read; credit = f.credit; octets = f.octets; selector = f.selector; called = f.called })
   field_fine forms.NewLan parts more field is f = through sized _ _ more is (λ value read. record { size = f.size; credit = f.credit; octets = f.octets; selector = f.selector; called = f.called })
   field_fine forms.NewSystem parts more field is f = through sized _ _ more is (λ value read. record { size = f.size; credit = f.credit; octets = f.octets; selector = f.selector; called = f.called })
   field_fine forms.NewPath parts more field is f = through sized _ _ more is (λ value read. record { size = f.size; credit = f.credit; octets = f.octets; selector = f.selector; called = f.called })
@@ -140,8 +155,8 @@ module _ (names : Declared) (sized : Bool) where
 -- the field of a size
 size_fine : (names : Declared) (parts more : Parts) (field : List ℕ) → field_read names parts (forms.Plain plain.Size) field ≡ Ok more → AreFine false parts → AreFine true more
 size_fine names parts more field is f =
-    through true (size_of field) (λ size. record parts { options = record parts.options { size = size } }) more is
-    (λ value read. record { size = λ asked. size_read field value read; credit = f.credit; octets = f.octets; selector = f.selector; called = f.called })
+    through true (size_of names.second field) (λ size. record parts { options = with_size parts.options size }) more is
+    (λ value read. record { size = λ asked. size_read names.second field value read; credit = f.credit; octets = f.octets; selector = f.selector; called = f.called })
 
 -- fields among which a size stands
 sized_fine : (names : Declared) (before others : List Form) (fields : List (List ℕ)) (past column : ℕ) (parts out : Parts)
@@ -170,7 +185,7 @@ all_fine names forms fields column out is = left_fine names false forms fields c
 
 -- a line with an agreement has a size
 pub agreed_size : (names : Declared) (before : List Form) (fields : List (List ℕ)) (past column : ℕ) (out : Parts) → count_fault past column (before ++ agreement) fields ≡ None
-    → fields_read names no_parts column (before ++ agreement) fields ≡ Ok out → IsSize out.options.size
+    → fields_read names no_parts column (before ++ agreement) fields ≡ Ok out → IsSizedBy out.options.preferred out.options.size
 agreed_size names before fields past column out count is =
     let same : before ++ agreement ≡ (before ++ forms.Plain plain.Format ∷ []) ++ forms.Plain plain.Size ∷ left = sym (append_assoc before (forms.Plain plain.Format ∷ []) (forms.Plain plain.Size ∷ left)) in
     (sized_fine names (before ++ forms.Plain plain.Format ∷ []) left fields past column no_parts out

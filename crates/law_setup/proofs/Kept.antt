@@ -1,5 +1,5 @@
 -- After a set-up line the names and the set-up know the same again, and a line that was read is one that the network has.
-use Rattle.std.proofs.Common.{◌≡◌, ◌==◌, ◌⊎◌, ℕ, zero, suc, ◌<◌, ◌≤◌, Bool, true, false, List, [], ◌∷◌, ◌++◌, length, map, Option, Some, None, Ok, inl, inr, refl, sym, ◌∙◌, ap, subst, arith, length-append}
+use Rattle.std.proofs.Common.{◌≡◌, ◌==◌, ◌⊎◌, ℕ, zero, suc, ◌<◌, ◌≤◌, Bool, true, false, List, [], ◌∷◌, ◌++◌, length, map, Option, Some, None, Ok, inl, inr, refl, sym, ◌∙◌, ap, subst, arith, length-append, ◌||◌}
 use Rattle.std.specs.Prelude.{◌&&◌, ◌||◌, if◌then◌else◌, nat_eq, nat_lt, not, slice_get, slice_set, IsSome, option_map}
 use Rattle.std.specs.List.{AllByRecursion, list_any}
 use Rattle.std.specs.Cmp.Lexicographic.{pointwise, slice_cmp}
@@ -389,6 +389,7 @@ module _ (names : Declared) (setup : SetUp) (past column : ℕ) (fields : List (
       record { fits = fit; one = route_one names setup parts one known.0 fit.there }
   word_kept words.Path placed count filled limit known =
       record { fits = path_fits names setup parts.hops one (path_values names past column fields parts count filled) known.1; one = record { lans = one.lans; bounds = one.bounds; life = one.life; systems = one.systems; ports = one.ports; selectors = one.selectors } }
+  word_kept words.Version placed count filled limit known = record { fits = tt; one = record { lans = one.lans; bounds = one.bounds; life = one.life; systems = one.systems; ports = one.ports; selectors = one.selectors } }
   word_kept words.Start placed count filled limit known = record { fits = start_fits names setup one limit; one = record { lans = one.lans; bounds = one.bounds; life = one.life; systems = one.systems; ports = one.ports; selectors = one.selectors } }
   word_kept words.Unit placed count filled limit known = absurd (not_out names.started begun placed)
   word_kept words.Tick placed count filled limit known = absurd (not_out names.started begun placed)
@@ -424,6 +425,10 @@ line_kept names setup octets line new one w begun is =
 
 -- ---- a line of a running network
 
+none_behind : (a b : Bool) → (a || b) ≡ false → b ≡ true → ⊥
+none_behind true b is begun = absurd (cc)
+none_behind false b is begun = cc
+
 module _ (names : Declared) (clock : ℕ) (past column : ℕ) (fields : List (List ℕ)) (parts : Parts) (begun : names.started ≡ true) (low : clock < 4000000000) where
   word_runs : (word : Word) → is_out_of_order names word ≡ false → count_fault past column (row_of word).fields fields ≡ None → fields_read names no_parts column (row_of word).fields fields ≡ Ok parts
       → NamesDeclared names (line_for (next_number names (row_of word).effect) word parts)
@@ -449,6 +454,7 @@ module _ (names : Declared) (clock : ℕ) (past column : ℕ) (fields : List (Li
   word_runs words.Route placed count filled known = absurd (cc)
   word_runs words.Path placed count filled known = absurd (cc)
   word_runs words.Tsap placed count filled known = absurd (cc)
+  word_runs words.Version placed count filled known = absurd (none_behind _ names.started placed begun)
   word_runs words.Start placed count filled known = absurd (cc)
 
 came_runs : (names : Declared) (clock : ℕ) (reading : Reading) → names.started ≡ true → clock < 4000000000 → NamesDeclared names reading.line → Came names reading

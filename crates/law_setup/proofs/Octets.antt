@@ -58,6 +58,7 @@ word_octets names past column number fields parts words.Set count filled = tt
 word_octets names past column number fields parts words.Lan count filled = tt
 word_octets names past column number fields parts words.Route count filled = tt
 word_octets names past column number fields parts words.Path count filled = tt
+word_octets names past column number fields parts words.Version count filled = tt
 word_octets names past column number fields parts words.Start count filled = tt
 word_octets names past column number fields parts words.Window count filled = tt
 word_octets names past column number fields parts words.Tick count filled = tt
@@ -169,6 +170,7 @@ time_in setup keys.Credit value o = same_in setup _ o refl refl refl
 pub octets_after : (setup : SetUp) (line : Line) → IsInOctets setup → Fits setup line → LineInOctets line → IsInOctets (set_up setup line)
 octets_after setup lines.Nothing o f is = o
 octets_after setup lines.Start o f is = o
+octets_after setup (lines.Version version) o f is = o
 octets_after setup (lines.Set key value) o f is = time_in setup key value o
 octets_after setup (lines.Lan name bound room) o f is = same_in setup _ o refl refl refl
 octets_after setup (lines.Es name title) o f is = system_in setup true title o is

@@ -115,6 +115,7 @@ word_short number words.Port parts s = tt
 word_short number words.Route parts s = tt
 word_short number words.Path parts s = tt
 word_short number words.Tsap parts s = tt
+word_short number words.Version parts s = tt
 word_short number words.Start parts s = tt
 word_short number words.Connect parts s = s
 word_short number words.Accept parts s = tt
@@ -137,6 +138,7 @@ came_short names reading (Worded word h) =
 
 line_proper : (count clock : ℕ) (line : Line) → RunsAt count clock line → HasShort line → IsProperLine line
 line_proper count clock lines.Nothing runs s = tt
+line_proper count clock (lines.Version version) runs s = tt
 line_proper count clock (lines.Set key value) runs s = tt
 line_proper count clock (lines.Lan name bound room) runs s = tt
 line_proper count clock (lines.Es name title) runs s = tt

@@ -4,7 +4,8 @@ use Rattle.std.specs.List.{AllByRecursion}
 use Rattle.nsap.specs.declared.port.Hop.{Hop}
 use Rattle.carrier_answers.specs.Answers.{AreOctets}
 use Rattle.clnp_outcome.specs.Standing.{IsNsap, IsSnpa}
-use Rattle.tp4_conn.specs.End.{IsSize}
+use Rattle.tp4_conn.specs.End.{IsSized}
+use Rattle.tp4_world.specs.Telling.{asked_options}
 use Rattle.osi_script.specs.declared.line.Line.{Line}
 use Rattle.osi_script.specs.declared.line.Line.TheVariants as lines
 use Rattle.osi_script.specs.Known.{Declared}
@@ -20,8 +21,8 @@ pub record Kept (setup : SetUp) (line : Line) (new : Declared) : Type 0 where
 -- a running network of so many systems has the line, and the systems that it names; a tick passes below the last value of the clock
 abbrev pub RunsAt : ℕ → ℕ → Line → Type 0
 RunsAt count clock lines.Nothing = Unit {0}
-RunsAt count clock (lines.Connect system selector to called options octets) = (system < count) × (to < count) × IsSize options.size
-RunsAt count clock (lines.Accept end options octets) = IsSize options.size
+RunsAt count clock (lines.Connect system selector to called options octets) = (system < count) × (to < count) × IsSized (asked_options options)
+RunsAt count clock (lines.Accept end options octets) = IsSized (asked_options options)
 RunsAt count clock (lines.Refuse end octets) = Unit {0}
 RunsAt count clock (lines.Disconnect end octets) = Unit {0}
 RunsAt count clock (lines.Data end octets) = Unit {0}

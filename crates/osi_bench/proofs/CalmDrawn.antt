@@ -110,6 +110,8 @@ line_ends : (old : SetUp) (line : Line) (script : List Line) (new : SetUp) → F
     → ((mid : SetUp) → SetBy mid script new → intermediate_systems script ≡ [] → ends_all mid.systems → AreEndSystems mid script new) → AreEndSystems old (line ∷ script) new
 line_ends old lines.Nothing script new fits sets none all go =
     let rest = kept_ends old old new script (same_systems old.systems) all (λ every. go old sets none every) in record { titles = rest.titles; ends = rest.ends }
+line_ends old (lines.Version version) script new fits sets none all go =
+    let rest = kept_ends old old new script (same_systems old.systems) all (λ every. go old sets none every) in record { titles = rest.titles; ends = rest.ends }
 line_ends old (lines.Set key value) script new fits sets none all go =
     let same = time_leaves old key value in
     let keeps : KeepsSystems old.systems (with_time old key value).systems = subst (KeepsSystems old.systems) (sym same.systems) (same_systems old.systems) in
@@ -152,6 +154,7 @@ are_ends old (line ∷ script) new h none all = line_ends old line script new h.
 line_lans : (old : SetUp) (line : Line) (script : List Line) (new : SetUp) → Fits old line → SetBy (set_up old line) script new
     → ((mid : SetUp) → SetBy mid script new → length new.lans ≡ length mid.lans + length (lans script)) → length new.lans ≡ length old.lans + length (lans (line ∷ script))
 line_lans old lines.Nothing script new fits sets go = go (set_up old lines.Nothing) sets
+line_lans old (lines.Version version) script new fits sets go = go (set_up old (lines.Version version)) sets
 line_lans old (lines.Set key value) script new fits sets go =
     let same = time_leaves old key value in
     go (with_time old key value) sets ∙ ap (λ (l : ℕ). l + length (lans script)) (ap length same.lans)

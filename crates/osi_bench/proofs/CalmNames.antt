@@ -56,6 +56,7 @@ word_ends names setup parts script words.Port h fits known none = (record { ends
 word_ends names setup parts script words.Route h fits known none = (record { ends = ends_changed names.systems parts.system _ (λ s. refl) h.ends; paths = h.paths }, none)
 word_ends names setup parts script words.Path h fits known none = absurd (no_path names parts.hops h fits.some known.1)
 word_ends names setup parts script words.Tsap h fits known none = (record { ends = ends_changed names.systems parts.system _ (λ s. refl) h.ends; paths = h.paths }, none)
+word_ends names setup parts script words.Version h fits known none = (record { ends = h.ends; paths = h.paths }, none)
 word_ends names setup parts script words.Start h fits known none = (record { ends = h.ends; paths = h.paths }, none)
 word_ends names setup parts script words.Connect h fits known none = (h, none)
 word_ends names setup parts script words.Accept h fits known none = (h, none)

@@ -31,6 +31,7 @@ port_new rows row =
 
 line_ports : (old : SetUp) (line : Line) (system : ℕ) (port : Port) → Fits old line → Contains (ports_at old.ports system) port → Contains (ports_at (set_up old line).ports system) port
 line_ports old lines.Nothing system port fits stands = stands
+line_ports old (lines.Version version) system port fits stands = stands
 line_ports old (lines.Set key value) system port fits stands = subst (λ (rows : List PortRow). Contains (ports_at rows system) port) (sym (time_leaves old key value).ports) stands
 line_ports old (lines.Lan name bound room) system port fits stands = stands
 line_ports old (lines.Es name title) system port fits stands = stands
@@ -152,6 +153,7 @@ module _ (Q : ℕ → RouteRow → Type 0) where
   line_rows : (old : SetUp) (line : Line) → Fits old line → ((system next lan : ℕ) (prefix : List ℕ) (hop : Hop) → line ≡ lines.Route system prefix next lan → Q system (row_of prefix hop))
       → ((n : ℕ) → AllByRecursion (Q n) (rows_at old.systems n)) → (n : ℕ) → AllByRecursion (Q n) (rows_at (set_up old line).systems n)
   line_rows old lines.Nothing fits new all n = all n
+  line_rows old (lines.Version version) fits new all n = all n
   line_rows old (lines.Set key value) fits new all n = subst (λ (systems : List System). AllByRecursion (Q n) (rows_at systems n)) (sym (time_leaves old key value).systems) (all n)
   line_rows old (lines.Lan name bound room) fits new all n = all n
   line_rows old (lines.Es name title) fits new all n = subst (AllByRecursion (Q n)) (sym (rows_more old.systems true title n)) (all n)
@@ -200,6 +202,7 @@ rows_drawn whole old (line ∷ script) new among h all n =
 
 line_row_stays : (old : SetUp) (line : Line) (row : RouteRow) (n : ℕ) → Fits old line → Contains (rows_at old.systems n) row → Contains (rows_at (set_up old line).systems n) row
 line_row_stays old lines.Nothing row n fits stands = stands
+line_row_stays old (lines.Version version) row n fits stands = stands
 line_row_stays old (lines.Set key value) row n fits stands = subst (λ (systems : List System). Contains (rows_at systems n) row) (sym (time_leaves old key value).systems) stands
 line_row_stays old (lines.Lan name bound room) row n fits stands = stands
 line_row_stays old (lines.Es name title) row n fits stands = subst (λ (rows : List RouteRow). Contains rows row) (sym (rows_more old.systems true title n)) stands
@@ -270,6 +273,7 @@ rows_named old (line ∷ script) new system next lan prefix h named =
 
 line_distinct : (old : SetUp) (line : Line) → Fits old line → ((n : ℕ) → AreDistinct (rows_at old.systems n)) → (n : ℕ) → AreDistinct (rows_at (set_up old line).systems n)
 line_distinct old lines.Nothing fits all n = all n
+line_distinct old (lines.Version version) fits all n = all n
 line_distinct old (lines.Set key value) fits all n = subst (λ (systems : List System). AreDistinct (rows_at systems n)) (sym (time_leaves old key value).systems) (all n)
 line_distinct old (lines.Lan name bound room) fits all n = all n
 line_distinct old (lines.Es name title) fits all n = subst AreDistinct (sym (rows_more old.systems true title n)) (all n)

@@ -33,6 +33,7 @@ use Rattle.law_setup.proofs.Kept.{line_kept}
 
 unrouted : (names : Declared) (line : Line) → HasEndsAlone names → NamesDeclared names line → IsUnrouted line
 unrouted names lines.Nothing h known = tt
+unrouted names (lines.Version version) h known = tt
 unrouted names (lines.Set key value) h known = tt
 unrouted names (lines.Lan name bound room) h known = tt
 unrouted names (lines.Es name title) h known = tt
@@ -58,6 +59,7 @@ unrouted names (lines.Inject lan system octets) h known = tt
 -- where the start was, names stay
 begun : (started : Bool) (line : Line) → started ≡ true → started_after started line ≡ true
 begun started lines.Nothing is = is
+begun started (lines.Version version) is = is
 begun started (lines.Set key value) is = is
 begun started (lines.Lan name bound room) is = is
 begun started (lines.Es name title) is = is

@@ -359,6 +359,7 @@ line_tells titles (lines.Deliver number system) old new made quiet h =
 line_tells titles lines.Settle old new made quiet h = at_once old.carrier new.carrier made (settles_tell 0 old made new h quiet)
 line_tells titles (lines.Inject lan system octets) old new made quiet h =
     at_once old.carrier new.carrier made (arrives_tell old new _ (inject_event system h.0) made (InjectsOctets lan system octets h.0) (inject_plain system h.0) quiet h.1)
+line_tells titles (lines.Version version) old new made quiet h = absurd h
 line_tells titles (lines.Set key value) old new made quiet h = absurd h
 line_tells titles (lines.Lan name bound room) old new made quiet h = absurd h
 line_tells titles (lines.Es name title) old new made quiet h = absurd h

@@ -60,6 +60,7 @@ strays_of (Running titles ends) = strays_in ends.carrier
 -- the lines of a set-up
 abbrev pub IsOfSetUp : Line → Type 0
 IsOfSetUp lines.Nothing = Unit {0}
+IsOfSetUp (lines.Version version) = Unit {0}
 IsOfSetUp (lines.Set key value) = Unit {0}
 IsOfSetUp (lines.Lan name bound room) = Unit {0}
 IsOfSetUp (lines.Es name title) = Unit {0}

@@ -181,7 +181,8 @@ fn run_line(
             octets,
         } => ends.inject(lan, system, octets.into_vec(), events),
         // These lines are of the set-up.
-        Line::Set { .. }
+        Line::Version(_)
+        | Line::Set { .. }
         | Line::Lan { .. }
         | Line::Es { .. }
         | Line::Is { .. }

@@ -1,5 +1,5 @@
 -- The texts of a line tell what kinds of cells it has: by the word in front, and further where a word is shared.
-use Rattle.std.proofs.Common.{◌≡◌, ℕ, ◌<◌, ◌≤◌, ◌^◌, Bool, true, false, List, [], ◌∷◌, map, refl, arith}
+use Rattle.std.proofs.Common.{◌≡◌, ℕ, ◌<◌, ◌≤◌, ◌^◌, Bool, true, false, List, [], ◌∷◌, map, refl, ap, arith}
 use Rattle.std.specs.Prelude.{◌&&◌, not, if◌then◌else◌, codes, nat_lt, slice_index}
 use Rattle.std.specs.Fmt.{decimal}
 use Rattle.std.specs.Str.Parse.{AllDigits}
@@ -8,17 +8,19 @@ use Rattle.std.proofs.lemmas.Fmt.{digits_decimal, decimal_nonempty}
 use Rattle.std.proofs.lemmas.Str.Parse.{numerals_by_value, tells_digits, digit_at}
 use Rattle.osi_script.specs.Field.{is_word, is_name}
 use Rattle.osi_script.specs.Tags.{Tags, AreNames, name_at}
+use Rattle.osi_script.specs.declared.line.Options.{Options}
 use Rattle.osi_journal.specs.declared.event.Event.{Event}
 use Rattle.osi_journal.specs.declared.event.Event.TheVariants as events
 use Rattle.osi_journal.specs.declared.cause.GoneCause.TheVariants as gone
 use Rattle.osi_journal.specs.declared.cause.Refused.TheVariants as refused
 use Rattle.osi_journal.specs.declared.cause.Settled.TheVariants as settled
-use Rattle.osi_journal.specs.Told.{Cell, Word, Number, System, Lan, Digits, Octets, cells_of, texts_of}
-use Rattle.osi_journal.specs.Injective.{AreTold}
+use Rattle.osi_journal.specs.Told.{Cell, Word, Number, Preferred, System, Lan, Digits, Octets, cell_text, size_cell, cells_of, texts_of}
+use Rattle.osi_journal.specs.Injective.{AreTold, IsTold}
 
 pub data Kind : Type 0 where
   OfWord : Kind
   OfNumber : Kind
+  OfPreferred : Kind
   OfSystem : Kind
   OfLan : Kind
   OfDigits : Kind
@@ -27,6 +29,7 @@ pub data Kind : Type 0 where
 abbrev pub kind : Cell → Kind
 kind (Word text) = OfWord
 kind (Number number) = OfNumber
+kind (Preferred size) = OfPreferred
 kind (System system) = OfSystem
 kind (Lan lan) = OfLan
 kind (Digits octets) = OfDigits
@@ -54,16 +57,30 @@ inject_shape texts = OfWord ∷ OfSystem ∷ []
 words_shape : List (List ℕ) → List Kind
 words_shape texts = map (λ text. OfWord) texts
 
-agreed : List Kind
-agreed = OfNumber ∷ OfWord ∷ OfNumber ∷ OfWord ∷ OfWord ∷ OfOctets ∷ []
+size_kind : List ℕ → Kind
+size_kind size = if nat_lt 57 (slice_index size 0) then OfPreferred else OfNumber
+
+agreed : Kind → List Kind
+agreed size = OfNumber ∷ OfWord ∷ size ∷ OfWord ∷ OfWord ∷ OfOctets ∷ []
+
+agreed_shape : List (List ℕ) → List Kind
+agreed_shape (end ∷ extended ∷ size ∷ texts) = agreed (size_kind size)
+agreed_shape texts = []
+
+indicated : Kind → List Kind
+indicated size = OfNumber ∷ OfSystem ∷ OfNumber ∷ OfDigits ∷ OfNumber ∷ OfOctets ∷ OfDigits ∷ OfOctets ∷ OfWord ∷ size ∷ OfWord ∷ OfWord ∷ OfOctets ∷ []
+
+indicated_shape : List (List ℕ) → List Kind
+indicated_shape (end ∷ system ∷ reference ∷ calling ∷ partner ∷ from ∷ called ∷ to ∷ extended ∷ size ∷ texts) = indicated (size_kind size)
+indicated_shape texts = []
 
 shapes : List Shape
 shapes =
     (codes "tick", these (OfNumber ∷ []))
     ∷ (codes "connect", these (OfNumber ∷ OfSystem ∷ OfNumber ∷ OfDigits ∷ OfOctets ∷ OfDigits ∷ OfOctets ∷ OfOctets ∷ []))
-    ∷ (codes "incoming", these (OfNumber ∷ OfSystem ∷ OfNumber ∷ OfDigits ∷ OfNumber ∷ OfOctets ∷ OfDigits ∷ OfOctets ∷ OfWord ∷ OfNumber ∷ OfWord ∷ OfWord ∷ OfOctets ∷ []))
-    ∷ (codes "accept", these agreed)
-    ∷ (codes "confirm", these agreed)
+    ∷ (codes "incoming", indicated_shape)
+    ∷ (codes "accept", agreed_shape)
+    ∷ (codes "confirm", agreed_shape)
     ∷ (codes "data", these (OfNumber ∷ OfOctets ∷ []))
     ∷ (codes "got", these (OfNumber ∷ OfOctets ∷ []))
     ∷ (codes "expedite", these (OfNumber ∷ OfOctets ∷ []))
@@ -124,14 +141,24 @@ decimal_first n fits =
     let range = digit_at (decimal n) 0 digits (decimal_nonempty n fits) in
     not_above (slice_index (decimal n) 0) range.1
 
+-- the text of a size begins with a digit, or with `p`
+size_shaped : (tags : Tags) (o : Options) → IsTold tags (size_cell o) → size_kind (cell_text tags (size_cell o)) ≡ kind (size_cell o)
+unfolding size_kind
+size_shaped tags o told = by o.preferred o.size told
+  where
+    by : (preferred : Bool) (size : ℕ) → IsTold tags (if preferred then Preferred size else Number size)
+        → size_kind (cell_text tags (if preferred then Preferred size else Number size)) ≡ kind (if preferred then Preferred size else Number size)
+    by true size t = refl
+    by false size t = rw (decimal_first size t) refl
+
 -- the texts of an event tell the kinds of its cells
 pub shaped : (tags : Tags) (event : Event) → AreNames tags.systems → AreTold tags (cells_of event) → shape_of (texts_of tags event) ≡ map kind (cells_of event)
-unfolding shape_of by_shape shapes these gone_shape drop_shape inject_shape words_shape agreed
+unfolding shape_of by_shape shapes these gone_shape drop_shape inject_shape words_shape agreed agreed_shape indicated indicated_shape
 shaped tags (events.Tick now) names told = refl
 shaped tags (events.Connect asked) names told = refl
-shaped tags (events.Incoming heard) names told = refl
-shaped tags (events.Accept end options octets) names told = refl
-shaped tags (events.Confirm end options octets) names told = refl
+shaped tags (events.Incoming heard) names told = ap (λ (k : Kind). OfWord ∷ indicated k) (size_shaped tags heard.options told.1.1.1.1.1.1.1.1.1.1.0)
+shaped tags (events.Accept end options octets) names told = ap (λ (k : Kind). OfWord ∷ agreed k) (size_shaped tags options told.1.1.1.0)
+shaped tags (events.Confirm end options octets) names told = ap (λ (k : Kind). OfWord ∷ agreed k) (size_shaped tags options told.1.1.1.0)
 shaped tags (events.Data end octets) names told = refl
 shaped tags (events.Got end octets) names told = refl
 shaped tags (events.Expedite end octets) names told = refl

@@ -13,7 +13,7 @@ use Rattle.hex.proofs.HexLemmas.{decode_of-encode_lower}
 use Rattle.osi_script.specs.Field.{is_name, is_lower_letter, is_letter_or_digit}
 use Rattle.osi_script.specs.Tags.{Tags, AreNames}
 use Rattle.osi_journal.specs.declared.event.Event.{Event}
-use Rattle.osi_journal.specs.Told.{Cell, Word, Number, System, Lan, Digits, Octets, cell_text, cells_of, texts_of, octets_text, line, journal_text}
+use Rattle.osi_journal.specs.Told.{Cell, Word, Number, Preferred, System, Lan, Digits, Octets, cell_text, cells_of, texts_of, octets_text, line, journal_text}
 use Rattle.osi_journal.specs.Injective.{IsTold, AreTold, EachTold}
 use Rattle.osi_journal.proofs.Cutting.{IsPlain, ArePlain, plain_from, plain_at, plain_more, line_same}
 use Rattle.osi_journal.proofs.CellKinds.{kind, shape_of, shaped}
@@ -80,6 +80,12 @@ octets_same (a ∷ as_) (b ∷ bs) ba bb is = digits_same (a ∷ as_) (b ∷ bs)
 cell_same : (tags : Tags) (c d : Cell) → AreNames tags.systems → AreNames tags.lans → IsTold tags c → IsTold tags d → kind c ≡ kind d → cell_text tags c ≡ cell_text tags d → c ≡ d
 cell_same tags (Word a) (Word b) systems lans tc td k is = ap Word is
 cell_same tags (Number a) (Number b) systems lans tc td k is = ap Number (decimal_injective a b tc td is)
+cell_same tags (Preferred a) (Preferred b) systems lans tc td k is =
+    let one : a / 128 < 2 ^ 64 = omega (arith, tc.1, tc.2) in
+    let other : b / 128 < 2 ^ 64 = omega (arith, td.1, td.2) in
+    let text : decimal (a / 128) ≡ decimal (b / 128) = cc in
+    let same = decimal_injective (a / 128) (b / 128) one other text in
+    ap Preferred (let size : a ≡ b = omega (arith, tc.1, td.1, same) in size)
 cell_same tags (System a) (System b) systems lans tc td k is = ap System (systems.one a b tc td is)
 cell_same tags (Lan a) (Lan b) systems lans tc td k is = ap Lan (lans.one a b tc td is)
 cell_same tags (Digits a) (Digits b) systems lans tc td k is = ap Digits (digits_same a b tc.0 td.0 is)
@@ -110,6 +116,9 @@ event_same tags first second systems lans tf ts is =
 cell_plain : (tags : Tags) (c : Cell) → AreNames tags.systems → AreNames tags.lans → IsTold tags c → IsPlain (cell_text tags c)
 cell_plain tags (Word text) systems lans told = told
 cell_plain tags (Number n) systems lans told = decimal_plain n told
+cell_plain tags (Preferred size) systems lans told =
+    let fits : size / 128 < 2 ^ 64 = omega (arith, told.1, told.2) in
+    plain_more 112 (decimal (size / 128)) (omega arith) (decimal_plain (size / 128) fits)
 cell_plain tags (System s) systems lans told = name_plain _ (systems.named s told)
 cell_plain tags (Lan l) systems lans told = name_plain _ (lans.named l told)
 cell_plain tags (Digits octets) systems lans told = digits_plain octets told.0

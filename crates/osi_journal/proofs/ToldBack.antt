@@ -1,5 +1,5 @@
 -- The cells of an event tell it: the word in front names a row, and the row makes an event of the cells behind it.
-use Rattle.std.proofs.Common.{◌≡◌, ℕ, Bool, true, false, List, [], ◌∷◌, refl, Some, None}
+use Rattle.std.proofs.Common.{◌≡◌, ℕ, Bool, true, false, List, [], ◌∷◌, refl, sym, ap, Some, None}
 use Rattle.std.specs.Prelude.{if◌then◌else◌, Option, codes}
 use Rattle.osi_base.specs.declared.note.HelloCause.{HelloCause}
 use Rattle.osi_base.specs.declared.note.HelloCause.TheVariants as hello_causes
@@ -11,6 +11,7 @@ use Rattle.osi_script.specs.Field.{is_word}
 use Rattle.osi_script.specs.declared.line.Options.{Options}
 use Rattle.osi_journal.specs.declared.event.Event.{Event}
 use Rattle.osi_journal.specs.declared.event.Event.TheVariants as events
+use Rattle.osi_journal.specs.declared.event.Indication.{Indication}
 use Rattle.osi_journal.specs.declared.cause.GoneCause.{GoneCause}
 use Rattle.osi_journal.specs.declared.cause.GoneCause.TheVariants as gone
 use Rattle.osi_journal.specs.declared.cause.Refused.TheVariants as refused
@@ -21,7 +22,7 @@ use Rattle.osi_journal.specs.declared.cause.TpduCause.{TpduCause}
 use Rattle.osi_journal.specs.declared.cause.TpduCause.TheVariants as tpdu_causes
 use Rattle.osi_journal.specs.declared.cause.TpduKind.{TpduKind}
 use Rattle.osi_journal.specs.declared.cause.TpduKind.TheVariants as tpdus
-use Rattle.osi_journal.specs.Told.{Cell, Word, Number, System, Lan, Digits, Octets, cells_of}
+use Rattle.osi_journal.specs.Told.{Cell, Word, Number, Preferred, System, Lan, Digits, Octets, cells_of, option_cells, size_cell}
 
 -- the words of causes and kinds
 standing_of : List ℕ → Standing
@@ -131,12 +132,24 @@ raw_of : (ℕ → List ℕ → List ℕ → Event) → List Cell → Option Even
 raw_of make (System s ∷ Digits a ∷ Octets o ∷ []) = Some (make s a o)
 raw_of make cells = None
 
-options_of : List ℕ → ℕ → List ℕ → List ℕ → Options
-options_of extended size expedited sum =
-    record { extended = is_word (codes "extended") extended; size = size; expedited = is_word (codes "exp") expedited; sum = is_word (codes "sum") sum }
+options_of : List ℕ → Bool → ℕ → List ℕ → List ℕ → Options
+options_of extended preferred size expedited sum =
+    record { extended = is_word (codes "extended") extended; size = size; preferred = preferred; expedited = is_word (codes "exp") expedited; sum = is_word (codes "sum") sum }
+
+-- the cells of a line with options, by the cell of the size
+abbrev sized_cells : Options → Cell → List Cell → List Cell
+sized_cells options size cells =
+    Word (if options.extended then codes "extended" else codes "normal") ∷ size
+    ∷ Word (if options.expedited then codes "exp" else codes "noexp") ∷ Word (if options.sum then codes "sum" else codes "nosum") ∷ cells
+
+abbrev indication_cells : Indication → Cell → List Cell
+indication_cells heard size =
+    Number heard.end ∷ System heard.system ∷ Number heard.reference ∷ Digits heard.calling ∷ Number heard.partner ∷ Octets heard.calling_selector
+    ∷ Digits heard.called ∷ Octets heard.called_selector ∷ sized_cells heard.options size (Octets heard.octets ∷ [])
 
 agreed_of : (ℕ → Options → List ℕ → Event) → List Cell → Option Event
-agreed_of make (Number n ∷ Word extended ∷ Number size ∷ Word expedited ∷ Word sum ∷ Octets o ∷ []) = Some (make n (options_of extended size expedited sum) o)
+agreed_of make (Number n ∷ Word extended ∷ Number size ∷ Word expedited ∷ Word sum ∷ Octets o ∷ []) = Some (make n (options_of extended false size expedited sum) o)
+agreed_of make (Number n ∷ Word extended ∷ Preferred size ∷ Word expedited ∷ Word sum ∷ Octets o ∷ []) = Some (make n (options_of extended true size expedited sum) o)
 agreed_of make cells = None
 
 connect_of : List Cell → Option Event
@@ -154,7 +167,20 @@ incoming_of (Number n ∷ System s ∷ Number r ∷ Digits a ∷ Number p ∷ Oc
       calling_selector = b;
       called = c;
       called_selector = d;
-      options = options_of extended size expedited sum;
+      options = options_of extended false size expedited sum;
+      octets = o;
+    }))
+incoming_of (Number n ∷ System s ∷ Number r ∷ Digits a ∷ Number p ∷ Octets b ∷ Digits c ∷ Octets d ∷ Word extended ∷ Preferred size ∷ Word expedited ∷ Word sum ∷ Octets o ∷ []) =
+    Some (events.Incoming (record {
+      end = n;
+      system = s;
+      reference = r;
+      calling = a;
+      partner = p;
+      calling_selector = b;
+      called = c;
+      called_selector = d;
+      options = options_of extended true size expedited sum;
       octets = o;
     }))
 incoming_of cells = None
@@ -274,10 +300,29 @@ sum_back : (b : Bool) → is_word (codes "sum") (if b then codes "sum" else code
 sum_back true = refl
 sum_back false = refl
 
-options_back : (o : Options)
-    → options_of (if o.extended then codes "extended" else codes "normal") o.size (if o.expedited then codes "exp" else codes "noexp") (if o.sum then codes "sum" else codes "nosum") ≡ o
+options_back : (o : Options) (preferred : Bool) → o.preferred ≡ preferred
+    → options_of (if o.extended then codes "extended" else codes "normal") preferred o.size (if o.expedited then codes "exp" else codes "noexp") (if o.sum then codes "sum" else codes "nosum") ≡ o
 unfolding options_of
-options_back o = λ i. record { extended = extended_back o.extended i; size = o.size; expedited = expedited_back o.expedited i; sum = sum_back o.sum i }
+options_back o preferred is =
+    λ i. record { extended = extended_back o.extended i; size = o.size; preferred = sym is i; expedited = expedited_back o.expedited i; sum = sum_back o.sum i }
+
+-- the two forms of a size
+agreed_back : (make : ℕ → Options → List ℕ → Event) (end : ℕ) (o : Options) (octets : List ℕ) → agreed_of make (Number end ∷ option_cells o (Octets octets ∷ [])) ≡ Some (make end o octets)
+unfolding agreed_of
+agreed_back make end o octets = by o.preferred refl
+  where
+    by : (preferred : Bool) → o.preferred ≡ preferred → agreed_of make (Number end ∷ sized_cells o (if preferred then Preferred o.size else Number o.size) (Octets octets ∷ [])) ≡ Some (make end o octets)
+    by true is = ap (λ (p : Options). Some (make end p octets)) (options_back o true is)
+    by false is = ap (λ (p : Options). Some (make end p octets)) (options_back o false is)
+
+indicated_back : (heard : Indication) → incoming_of (indication_cells heard (size_cell heard.options)) ≡ Some (events.Incoming heard)
+unfolding incoming_of
+indicated_back heard = by heard.options.preferred refl
+  where
+    by : (preferred : Bool) → heard.options.preferred ≡ preferred
+        → incoming_of (indication_cells heard (if preferred then Preferred heard.options.size else Number heard.options.size)) ≡ Some (events.Incoming heard)
+    by true is = ap (λ (p : Options). Some (events.Incoming (record heard { options = p }))) (options_back heard.options true is)
+    by false is = ap (λ (p : Options). Some (events.Incoming (record heard { options = p }))) (options_back heard.options false is)
 
 -- the cells of an event make it
 pub told_back : (event : Event) → event_of (cells_of event) ≡ Some event
@@ -285,9 +330,9 @@ unfolding event_of by_row rows number_of system_of answer_of octets_of raw_of ag
     standing_of frame_of drop_of drop_cause_of inject_of discard_of told_of hello_cause_of hello_line_of hello_of redirect_of badtpdu_of tpdu_cause_of tpdu_of
 told_back (events.Tick now) = refl
 told_back (events.Connect asked) = refl
-told_back (events.Incoming heard) = λ i. Some (events.Incoming (record heard { options = options_back heard.options i }))
-told_back (events.Accept end options octets) = λ i. Some (events.Accept end (options_back options i) octets)
-told_back (events.Confirm end options octets) = λ i. Some (events.Confirm end (options_back options i) octets)
+told_back (events.Incoming heard) = indicated_back heard
+told_back (events.Accept end options octets) = agreed_back events.Accept end options octets
+told_back (events.Confirm end options octets) = agreed_back events.Confirm end options octets
 told_back (events.Data end octets) = refl
 told_back (events.Got end octets) = refl
 told_back (events.Expedite end octets) = refl

@@ -1,8 +1,8 @@
 -- What is asked of names and events for that their text tells them.
-use Rattle.std.specs.Prelude.{◌≡◌, ℕ, ◌<◌, ◌^◌, Bool, true, false, if◌then◌else◌, List, [], ◌∷◌, length, nat_lt}
+use Rattle.std.specs.Prelude.{◌≡◌, ℕ, ◌<◌, ◌^◌, ◌*◌, Bool, true, false, if◌then◌else◌, List, [], ◌∷◌, length, nat_lt}
 use Rattle.hex.specs.Hex.{IsBytes}
 use Rattle.osi_script.specs.Tags.{Tags}
-use Rattle.osi_journal.specs.Told.{Cell, Word, Number, System, Lan, Digits, Octets, cells_of}
+use Rattle.osi_journal.specs.Told.{Cell, Word, Number, Preferred, System, Lan, Digits, Octets, cells_of}
 use Rattle.osi_journal.specs.declared.event.Event.{Event}
 
 -- each octet is above the blank
@@ -10,10 +10,11 @@ abbrev pub plain : List ℕ → Bool
 plain [] = true
 plain (c ∷ cs) = if nat_lt 32 c then plain cs else false
 
--- what is asked of a cell: a number of 64 bits, a declared name, octets, and at least one where no `-` stands for none
+-- what is asked of a cell: a number of 64 bits, a size of whole units of 128 octets, a declared name, octets, and at least one where no `-` stands for none
 abbrev pub IsTold : Tags → Cell → Type 0
 IsTold tags (Word text) = plain text ≡ true
 IsTold tags (Number number) = number < 2 ^ 64
+IsTold tags (Preferred size) = (n : ℕ) × (size ≡ 128 * n) × (n < 2 ^ 64)
 IsTold tags (System system) = system < length tags.systems
 IsTold tags (Lan lan) = lan < length tags.lans
 IsTold tags (Digits octets) = IsBytes octets × (0 < length octets)

@@ -1,5 +1,5 @@
 -- The transcript: each event is a line of cells, and each cell has its text.
-use Rattle.std.specs.Prelude.{ℕ, if◌then◌else◌, List, [], ◌∷◌, ◌++◌, length, map, flat_map, codes}
+use Rattle.std.specs.Prelude.{ℕ, ◌/◌, if◌then◌else◌, List, [], ◌∷◌, ◌++◌, length, map, flat_map, codes}
 use Rattle.std.specs.Fmt.{decimal}
 use Rattle.hex.specs.Hex.{encode_lower}
 use Rattle.osi_base.specs.declared.note.HelloCause.{HelloCause}
@@ -28,6 +28,8 @@ use Rattle.osi_journal.specs.declared.cause.TpduKind.TheVariants as tpdus
 pub data Cell : Type 0 where
   Word : (text : List ℕ) → Cell
   Number : (number : ℕ) → Cell
+  -- a preferred size of a TPDU, in octets
+  Preferred : (size : ℕ) → Cell
   System : (system : ℕ) → Cell
   Lan : (lan : ℕ) → Cell
   Digits : (octets : List ℕ) → Cell
@@ -41,6 +43,7 @@ octets_text (octet ∷ octets) = encode_lower (octet ∷ octets)
 abbrev pub cell_text : Tags → Cell → List ℕ
 cell_text tags (Word text) = text
 cell_text tags (Number number) = decimal number
+cell_text tags (Preferred size) = codes "p" ++ decimal (size / 128)
 cell_text tags (System system) = name_at tags.systems system
 cell_text tags (Lan lan) = name_at tags.lans lan
 cell_text tags (Digits octets) = encode_lower octets
@@ -123,9 +126,12 @@ refused_cells refused.NoRoute = Word (codes "noroute") ∷ []
 refused_cells refused.Full = Word (codes "full") ∷ []
 refused_cells refused.IdsSpent = Word (codes "idsspent") ∷ []
 
+abbrev pub size_cell : Options → Cell
+size_cell options = if options.preferred then Preferred options.size else Number options.size
+
 abbrev pub option_cells : Options → List Cell → List Cell
 option_cells options cells =
-    Word (if options.extended then codes "extended" else codes "normal") ∷ Number options.size
+    Word (if options.extended then codes "extended" else codes "normal") ∷ size_cell options
     ∷ Word (if options.expedited then codes "exp" else codes "noexp") ∷ Word (if options.sum then codes "sum" else codes "nosum") ∷ cells
 
 -- the line of each event

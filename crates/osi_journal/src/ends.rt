@@ -7,7 +7,7 @@ ghost use Rattle.osi_journal.specs.steps.Written.{Appends};
 use crate::cause::{GoneCause, Refused};
 use crate::event::{Indication, Request};
 use crate::pieces::{Piece, write};
-use crate::words::{cause_piece, choice, number, standing_piece};
+use crate::words::{cause_piece, choice, number, size_piece, standing_piece};
 use osi_base::{Bytes, NoMemory};
 use osi_script::{Names, Options};
 
@@ -44,7 +44,7 @@ pub fn write_incoming(heard: &Indication, names: &Names, out: &mut Vec<u8>) -> R
         ∷ Digits heard.now.called ∷ Octets heard.now.called_selector ∷ option_cells heard.now.options (Octets heard.now.octets ∷ []))
         out.old.items out.new.items result }
 {
-    let options = &heard.options;
+    let options = heard.options;
     write(
         &[
             Piece::Word("incoming"),
@@ -57,7 +57,7 @@ pub fn write_incoming(heard: &Indication, names: &Names, out: &mut Vec<u8>) -> R
             Piece::Digits(heard.called.as_slice()),
             Piece::Octets(heard.called_selector.as_slice()),
             choice(options.extended, "extended", "normal"),
-            Piece::Number(u64::from(options.size)),
+            size_piece(options),
             choice(options.expedited, "exp", "noexp"),
             choice(options.sum, "sum", "nosum"),
             Piece::Octets(heard.octets.as_slice()),
@@ -83,7 +83,7 @@ pub fn write_agreed(
             Piece::Word(word),
             number(end),
             choice(options.extended, "extended", "normal"),
-            Piece::Number(u64::from(options.size)),
+            size_piece(options),
             choice(options.expedited, "exp", "noexp"),
             choice(options.sum, "sum", "nosum"),
             Piece::Octets(octets.as_slice()),

@@ -14,6 +14,8 @@ use text_parts::{push, push_hex, push_number};
 pub enum Piece<'a> {
     Word(&'static str),
     Number(u64),
+    /// A preferred size, in units of 128 octets.
+    Preferred(u64),
     System(u8),
     Lan(u8),
     /// Octets, at least one.
@@ -53,6 +55,10 @@ fn push_piece(piece: Piece<'_>, names: &Names, out: &mut Vec<u8>) -> Result<(), 
     match piece {
         Piece::Word(text) => push(text.as_bytes(), out),
         Piece::Number(number) => push_number(number, out),
+        Piece::Preferred(number) => {
+            out.push(b'p')?;
+            push_number(number, out)
+        }
         Piece::System(system) => push(names.system_name(system), out),
         Piece::Lan(lan) => push(names.lan_name(lan), out),
         Piece::Digits(octets) => push_hex(octets, out),

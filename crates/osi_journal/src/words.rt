@@ -2,12 +2,13 @@
 
 ghost use Rattle.std.specs.Prelude.{◌≡◌, if◌then◌else◌};
 ghost use Rattle.osi_script.specs.Tags.{Tags};
-ghost use Rattle.osi_journal.specs.Told.{cell_text, gone_cell, standing_text, drop_text, hello_cause_text, hello_text, tpdu_cause_text, tpdu_text};
+ghost use Rattle.osi_journal.specs.Told.{cell_text, size_cell, gone_cell, standing_text, drop_text, hello_cause_text, hello_text, tpdu_cause_text, tpdu_text};
 ghost use Rattle.osi_journal.specs.steps.Written.{piece_text};
 
 use crate::cause::{GoneCause, Standing, TpduCause, TpduKind};
 use crate::pieces::Piece;
 use osi_base::{DropCause, HelloCause, HelloKind};
+use osi_script::Options;
 
 pub fn number(number: u32) -> Piece<'static>
     ensures { result ≡ Piece.Number number }
@@ -22,6 +23,17 @@ pub fn choice(first: bool, yes: &'static str, other: &'static str) -> Piece<'sta
         Piece::Word(yes)
     } else {
         Piece::Word(other)
+    }
+}
+
+pub fn size_piece(options: Options) -> Piece<'static>
+    ensures { (tags : Tags) → piece_text tags result ≡ cell_text tags (size_cell options) }
+{
+    let size = u64::from(options.size);
+    if options.preferred {
+        Piece::Preferred(size / 128)
+    } else {
+        Piece::Number(size)
     }
 }
 

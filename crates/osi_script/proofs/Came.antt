@@ -11,7 +11,7 @@ use Rattle.osi_script.specs.declared.parts.Parts.{Parts}
 use Rattle.osi_script.specs.Field.{fields_of}
 use Rattle.osi_script.specs.Known.{Declared, no_parts}
 use Rattle.osi_script.specs.Table.{row_of}
-use Rattle.osi_script.specs.Grammar.{Reading, fault, next_column, count_fault, fields_read, next_number, line_for, declared_by, with_limit, whole_read, counted_read, is_out_of_order, worded_read, split_read, is_idle, text_read, printable_read, line_read}
+use Rattle.osi_script.specs.Grammar.{Reading, fault, next_column, count_fault, fields_read, next_number, line_for, declared_by, with_limit, whole_read, counted_read, is_of_later_version, is_out_of_order, worded_read, split_read, is_idle, text_read, printable_read, line_read}
 use Rattle.osi_script.proofs.Filled.{AllGood, are_clear, onto, all_good}
 
 abbrev ok : Reading → Result Reading LineFault
@@ -21,6 +21,7 @@ ok_same : (first second : Reading) → ok first ≡ ok second → first ≡ seco
 ok_same first second is = cc
 
 row_clear : (word : Word) → are_clear [] (row_of word).fields ≡ true
+row_clear words.Version = refl
 row_clear words.Set = refl
 row_clear words.Lan = refl
 row_clear words.Es = refl
@@ -66,14 +67,15 @@ counted : (names : Declared) (word : Word) (past column : ℕ) (fields : List (L
 counted names word past column fields (Some found) reading count i = absurd (cc)
 counted names word past column fields None reading count i = whole names word past column fields _ reading count refl i
 
-ordered : (names : Declared) (word : Word) (past column : ℕ) (fields : List (List ℕ)) (out : Bool) (reading : Reading)
-    → (if out then Err (fault causes.Order 1) else counted_read names word column fields (count_fault past column (row_of word).fields fields)) ≡ Ok reading → Came names reading
-ordered names word past column fields true reading i = absurd (cc)
-ordered names word past column fields false reading i = counted names word past column fields _ reading refl i
+ordered : (names : Declared) (word : Word) (past column : ℕ) (fields : List (List ℕ)) (late out : Bool) (reading : Reading)
+    → (if late then Err (fault causes.Word 1) else if out then Err (fault causes.Order 1) else counted_read names word column fields (count_fault past column (row_of word).fields fields)) ≡ Ok reading → Came names reading
+ordered names word past column fields true out reading i = absurd (cc)
+ordered names word past column fields false true reading i = absurd (cc)
+ordered names word past column fields false false reading i = counted names word past column fields _ reading refl i
 
 worded : (names : Declared) (past column : ℕ) (fields : List (List ℕ)) (word : Option Word) (reading : Reading) → worded_read names past column fields word ≡ Ok reading → Came names reading
 worded names past column fields None reading i = absurd (cc)
-worded names past column fields (Some word) reading i = ordered names word past column fields (is_out_of_order names word) reading i
+worded names past column fields (Some word) reading i = ordered names word past column fields (is_of_later_version names word) (is_out_of_order names word) reading i
 
 split : (names : Declared) (past : ℕ) (fields : List (List ℕ)) (reading : Reading) → split_read names past fields ≡ Ok reading → Came names reading
 split names past [] reading i = absurd (cc)

@@ -1,7 +1,6 @@
 -- One turn of the table's two loops, and how the answers of the steps make the answer of a line.
 use Rattle.std.proofs.Common.{◌≡◌, ℕ, ◌+◌, ◌<◌, Bool, true, false, List, [], ◌∷◌, length, drop, refl, subst, add-one, drop-cons}
-use mathlib.Core.Bool.{beq}
-use Rattle.std.specs.Prelude.{Err, Some, None, Option, Result, not, if◌then◌else◌}
+use Rattle.std.specs.Prelude.{Err, Some, None, Option, Result, ◌&&◌, not}
 use Rattle.osi_script.specs.declared.fault.LineCause.TheVariants as causes
 use Rattle.osi_script.specs.declared.fault.LineFault.{LineFault}
 use Rattle.osi_script.specs.declared.fault.LineRefusal.{LineRefusal}
@@ -11,9 +10,10 @@ use Rattle.osi_script.specs.declared.form.Form.{Form}
 use Rattle.osi_script.specs.declared.form.Form.TheVariants as kinds
 use Rattle.osi_script.specs.declared.form.Word.{Word}
 use Rattle.osi_script.specs.declared.parts.Parts.{Parts}
+use Rattle.osi_script.specs.declared.table.Row.{Row}
 use Rattle.osi_script.specs.Known.{Declared, no_parts}
 use Rattle.osi_script.specs.Table.{row_of}
-use Rattle.osi_script.specs.Grammar.{fault, next_column, count_fault, fields_read, counted_read, is_out_of_order, whole_read, worded_read, Reads}
+use Rattle.osi_script.specs.Grammar.{fault, next_column, count_fault, fields_read, counted_read, is_of_later_version, is_out_of_order, stands_wrong, whole_read, worded_read, Reads}
 use Rattle.osi_script.specs.Gives.{GivesAt}
 use Rattle.osi_script.specs.steps.Counted.{counted, all_read}
 
@@ -28,12 +28,6 @@ pub count_ends : (past column : ℕ) (forms : List Form) (i : ℕ) (fields : Lis
     → i < length forms → fields ≡ [] → count_fault past column (drop i forms) fields ≡ Some (fault causes.Fields past)
 count_ends past column forms i fields lt is = rw (is, drop-cons forms i kinds.Octets) refl
 
-pub in_order : (set_up started : Bool) → beq set_up started ≡ false → (if set_up then started else not started) ≡ false
-in_order true true differ = absurd (cc)
-in_order true false differ = refl
-in_order false true differ = refl
-in_order false false differ = absurd (cc)
-
 -- the fields gone over once answer as those that are counted first
 counted_whole : (names : Declared) (word : Word) (column : ℕ) (fields : List (List ℕ)) (found : Option LineFault)
     → counted_read names word column fields found ≡ whole_read names word (counted found (fields_read names no_parts column (row_of word).fields fields))
@@ -42,35 +36,37 @@ counted_whole names word column fields (Some found) = refl
 
 -- the answer of the steps after a word is that of the line
 worded_by : (names : Declared) (word : Word) (past column : ℕ) (fields : List (List ℕ)) (read : Result Parts LineFault)
+    → is_of_later_version names word ≡ false
     → is_out_of_order names word ≡ false
     → all_read names no_parts past column (row_of word).fields fields ≡ read
     → (result : Result Line LineRefusal) (new : Declared)
     → Reads (whole_read names word read) names result new
     → Reads (worded_read names past column fields (Some word)) names result new
-worded_by names word past column fields read order is result new r =
-    rw (order, counted_whole names word column fields (count_fault past column (row_of word).fields fields), is) r
+worded_by names word past column fields read known order is result new r =
+    rw (known, order, counted_whole names word column fields (count_fault past column (row_of word).fields fields), is) r
 
 -- the same by what the code knows of its row
-pub worded_from : (names : Declared) (word : Word) (past column : ℕ) (fields : List (List ℕ)) (read : Result Parts LineFault) (first : Parts) (set_up started : Bool) (forms : List Form)
-    → set_up ≡ (row_of word).of_set_up → started ≡ names.started → forms ≡ (row_of word).fields → first ≡ no_parts
-    → beq set_up started ≡ false
-    → all_read names first past column forms fields ≡ read
+pub worded_from : (names : Declared) (word : Word) (past column : ℕ) (fields : List (List ℕ)) (read : Result Parts LineFault) (first : Parts) (row : Row)
+    → row.of_set_up ≡ (row_of word).of_set_up → row.is_later ≡ (row_of word).is_later → row.is_first ≡ (row_of word).is_first → row.fields.now ≡ (row_of word).fields → first ≡ no_parts
+    → (row.is_later && not names.second) ≡ false → stands_wrong names row.of_set_up row.is_first ≡ false
+    → all_read names first past column row.fields.now fields ≡ read
     → (result : Result Line LineRefusal) (new : Declared)
     → Reads (whole_read names word read) names result new
     → Reads (worded_read names past column fields (Some word)) names result new
-worded_from names word past column fields read first set_up started forms is_set_up is_started is_forms is_first differ is result new r =
+worded_from names word past column fields read first row is_set_up is_later is_the_first is_forms is_first known order is result new r =
     worded_by names word past column fields read
-    (in_order (row_of word).of_set_up names.started (subst (λ (b : Bool). beq b names.started ≡ false) is_set_up (subst (λ (b : Bool). beq set_up b ≡ false) is_started differ)))
-    (subst (λ (f : List Form). all_read names no_parts past column f fields ≡ read) is_forms (subst (λ (p : Parts). all_read names p past column forms fields ≡ read) is_first is))
+    (subst (λ (b : Bool). (b && not names.second) ≡ false) is_later known)
+    (subst (λ (b : Bool). stands_wrong names b (row_of word).is_first ≡ false) is_set_up (subst (λ (b : Bool). stands_wrong names row.of_set_up b ≡ false) is_the_first order))
+    (subst (λ (f : List Form). all_read names no_parts past column f fields ≡ read) is_forms (subst (λ (p : Parts). all_read names p past column row.fields.now fields ≡ read) is_first is))
     result new r
 
 -- the same where a field is refused
-pub worded_refused : (names : Declared) (word : Word) (past column : ℕ) (fields : List (List ℕ)) (first after : Parts) (set_up started : Bool) (forms : List Form)
-    → set_up ≡ (row_of word).of_set_up → started ≡ names.started → forms ≡ (row_of word).fields → first ≡ no_parts
-    → beq set_up started ≡ false
+pub worded_refused : (names : Declared) (word : Word) (past column : ℕ) (fields : List (List ℕ)) (first after : Parts) (row : Row)
+    → row.of_set_up ≡ (row_of word).of_set_up → row.is_later ≡ (row_of word).is_later → row.is_first ≡ (row_of word).is_first → row.fields.now ≡ (row_of word).fields → first ≡ no_parts
+    → (row.is_later && not names.second) ≡ false → stands_wrong names row.of_set_up row.is_first ≡ false
     → (refusal : LineRefusal)
-    → GivesAt {A = Parts} {U = Unit {0}} (all_read names first past column forms fields) (Err refusal) after
+    → GivesAt {A = Parts} {U = Unit {0}} (all_read names first past column row.fields.now fields) (Err refusal) after
     → Reads (worded_read names past column fields (Some word)) names (Err refusal) names
-worded_refused names word past column fields first after set_up started forms is_set_up is_started is_forms is_first differ (refusals.Fault found) is =
-    worded_from names word past column fields (Err found) first set_up started forms is_set_up is_started is_forms is_first differ is (Err (refusals.Fault found)) names (refl, refl)
-worded_refused names word past column fields first after set_up started forms is_set_up is_started is_forms is_first differ refusals.NoMemory is = refl
+worded_refused names word past column fields first after row is_set_up is_later is_the_first is_forms is_first known order (refusals.Fault found) is =
+    worded_from names word past column fields (Err found) first row is_set_up is_later is_the_first is_forms is_first known order is (Err (refusals.Fault found)) names (refl, refl)
+worded_refused names word past column fields first after row is_set_up is_later is_the_first is_forms is_first known order refusals.NoMemory is = refl

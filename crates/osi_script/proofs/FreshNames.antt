@@ -97,6 +97,7 @@ kept_by names words.Is parts g h =
 kept_by names words.Port parts g h = (subst AreNames (sym (kept names.systems parts.system _ (λ system. refl))) h.0, h.1)
 kept_by names words.Route parts g h = (subst AreNames (sym (kept names.systems parts.system _ (λ system. refl))) h.0, h.1)
 kept_by names words.Tsap parts g h = (subst AreNames (sym (kept names.systems parts.system _ (λ system. refl))) h.0, h.1)
+kept_by names words.Version parts g h = h
 kept_by names words.Set parts g h = h
 kept_by names words.Path parts g h = h
 kept_by names words.Start parts g h = h

@@ -12,6 +12,7 @@ use Rattle.osi_script.proofs.Came.{Came, Idle, Worded, came}
 use Rattle.osi_script.proofs.Filled.{AllGood, onto}
 
 named : (names : Declared) (word : Word) (parts : Parts) → AllGood names (onto (row_of word).fields []) parts → NamesDeclared names (line_for (next_number names (row_of word).effect) word parts)
+named names words.Version parts g = tt
 named names words.Set parts g = tt
 named names words.Lan parts g = refl
 named names words.Es parts g = refl

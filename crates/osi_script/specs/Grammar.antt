@@ -1,5 +1,5 @@
 -- The lines of the script: what each says, and the first fault of each that is refused.
-use Rattle.std.specs.Prelude.{◌≡◌, ◌==◌, ℕ, ◌+◌, Bool, true, false, not, nat_lt, if◌then◌else◌, List, [], ◌∷◌, ◌++◌, length}
+use Rattle.std.specs.Prelude.{◌≡◌, ◌==◌, ℕ, ◌+◌, Bool, true, false, not, ◌&&◌, ◌||◌, nat_lt, if◌then◌else◌, List, [], ◌∷◌, ◌++◌, length}
 use Rattle.std.specs.Prelude.{position, Option, Some, None, slice_get, Result, Ok, Err}
 use Rattle.std.specs.List.{list_any}
 use Rattle.nsap.specs.declared.port.Port.{Port}
@@ -19,7 +19,7 @@ use Rattle.osi_script.specs.declared.parts.Parts.{Parts}
 use Rattle.osi_script.specs.declared.settings.Key.TheVariants as keys
 use Rattle.osi_script.specs.Settings.{setting_or, with_setting}
 use Rattle.osi_script.specs.Field.{fields_of, is_printable}
-use Rattle.osi_script.specs.Known.{Declared, KnownSystem, with, no_parts, given_title, given_station, given_prefix, is_end, ports_of, routes_of, changed}
+use Rattle.osi_script.specs.Known.{Declared, KnownSystem, with, no_parts, given_title, given_station, given_prefix, is_end, ports_of, routes_of, changed, is_untouched}
 use Rattle.osi_script.specs.Table.{row_of, word_of}
 use Rattle.osi_script.specs.Reading.{field_read}
 
@@ -59,6 +59,7 @@ life_cause names = if list_any (λ lan. nat_lt (setting_or names.settings keys.L
 -- a limit that the line would pass
 abbrev pub limit_cause : Declared → Effect → Parts → Option LineCause
 limit_cause names effects.Nothing parts = None
+limit_cause names effects.Version parts = None
 limit_cause names effects.Setting parts = None
 limit_cause names effects.Lan parts = many_from 16 (length names.lans)
 limit_cause names effects.EndSystem parts = many_from 16 (length names.systems)
@@ -79,6 +80,7 @@ next_number names effect = 0
 
 -- the line that the fields make
 abbrev pub line_for : ℕ → Word → Parts → Line
+line_for number words.Version parts = lines.Version parts.number
 line_for number words.Set parts = lines.Set parts.key parts.number
 line_for number words.Lan parts = lines.Lan number parts.number parts.amount
 line_for number words.Es parts = lines.Es number (given_title parts)
@@ -109,6 +111,7 @@ new_port parts = record { lan = parts.lan; snpa = given_station parts }
 
 -- what is declared after a line
 abbrev pub declared_by : Declared → Effect → Parts → Declared
+declared_by names effects.Version parts = record names { second = parts.number == 2; versioned = true }
 declared_by names effects.Setting parts = record names { settings = with_setting names.settings parts.key parts.number }
 declared_by names effects.Lan parts = record names { lans = names.lans ++ record { name = parts.name; bound = parts.number } ∷ [] }
 declared_by names effects.EndSystem parts = record names { systems = names.systems ++ new_system true parts ∷ [] }
@@ -141,14 +144,23 @@ abbrev pub counted_read : Declared → Word → ℕ → List (List ℕ) → Opti
 counted_read names word column fields (Some found) = Err found
 counted_read names word column fields None = whole_read names word (fields_read names no_parts column (row_of word).fields fields)
 
+-- a line that has to come first behind one that did something, a line of the set-up behind `start`, or another before it
+abbrev pub stands_wrong : Declared → Bool → Bool → Bool
+stands_wrong names of_set_up is_first = (is_first && not (is_untouched names)) || (if of_set_up then names.started else not names.started)
+
 abbrev pub is_out_of_order : Declared → Word → Bool
-is_out_of_order names word = if (row_of word).of_set_up then names.started else not names.started
+is_out_of_order names word = stands_wrong names (row_of word).of_set_up (row_of word).is_first
+
+-- a line of version 2 in a script of version 1
+abbrev pub is_of_later_version : Declared → Word → Bool
+is_of_later_version names word = (row_of word).is_later && not names.second
 
 -- the line of a word, of so many columns, with the fields after the word
 abbrev pub worded_read : Declared → ℕ → ℕ → List (List ℕ) → Option Word → Result Reading LineFault
 worded_read names past column fields None = Err (fault causes.Word 1)
 worded_read names past column fields (Some word) =
-    if is_out_of_order names word then Err (fault causes.Order 1)
+    if is_of_later_version names word then Err (fault causes.Word 1)
+    else if is_out_of_order names word then Err (fault causes.Order 1)
     else counted_read names word column fields (count_fault past column (row_of word).fields fields)
 
 abbrev pub split_read : Declared → ℕ → List (List ℕ) → Result Reading LineFault

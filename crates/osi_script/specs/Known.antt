@@ -1,5 +1,5 @@
 -- What the lines so far declare, and what the fields of a line give.
-use Rattle.std.specs.Prelude.{ℕ, ◌==◌, Bool, false, nat_eq, List, [], ◌∷◌, Option, Some, None, slice_get, slice_set, position}
+use Rattle.std.specs.Prelude.{ℕ, ◌==◌, ◌&&◌, not, Bool, false, nat_eq, List, [], ◌∷◌, length, Option, Some, None, slice_get, slice_set, position}
 use Rattle.std.specs.List.{list_any}
 use Rattle.std.specs.Option.{unwrap_or}
 use Rattle.std.specs.BTreeSet.{insert_key}
@@ -9,6 +9,7 @@ use Rattle.nsap.specs.declared.port.Port.{Port}
 use Rattle.osi_script.specs.declared.settings.Settings.{Settings}
 use Rattle.osi_script.specs.declared.settings.Key.TheVariants as keys
 use Rattle.osi_script.specs.declared.form.Word.{Word}
+use Rattle.osi_script.specs.Settings.{is_unset}
 use Rattle.osi_script.specs.declared.line.PathKind.TheVariants as kinds
 use Rattle.osi_script.specs.declared.parts.Parts.{Parts}
 use Rattle.osi_script.specs.declared.system.LanRow.{LanRow}
@@ -34,6 +35,10 @@ pub record Declared : Type 0 where
   pub systems : List KnownSystem
   pub paths : List (List ℕ)
   pub started : Bool
+  -- the lines are those of version 2
+  pub second : Bool
+  -- a line named the version
+  pub versioned : Bool
 
 abbrev pub nothing_declared : List Word → Declared
 nothing_declared words = record {
@@ -43,7 +48,14 @@ nothing_declared words = record {
   systems = [];
   paths = [];
   started = false;
+  second = false;
+  versioned = false;
 }
+
+-- no line that does anything was read before `start`: each declares a LAN or a system, sets a key, names the version, or needs one of these
+abbrev pub is_untouched : Declared → Bool
+is_untouched names =
+    not names.versioned && (not names.started && (length names.lans == 0 && (length names.systems == 0 && is_unset names.settings)))
 
 -- the fields of a line before the first
 abbrev pub no_parts : Parts
@@ -63,7 +75,7 @@ no_parts = record {
   hops = [];
   selector = [];
   called = [];
-  options = record { extended = false; size = 0; expedited = false; sum = false };
+  options = record { extended = false; size = 0; preferred = false; expedited = false; sum = false };
   wish = record { cut = false; report = false; trace = false; path = 0 };
   octets = [];
 }

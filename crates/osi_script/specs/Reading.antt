@@ -1,10 +1,11 @@
 -- What a field of each kind gives: its form first, then its bounds, then what is declared.
-use Rattle.std.specs.Prelude.{◌==◌, ℕ, ◌+◌, Bool, true, false, not, ◌&&◌, nat_lt, nat_eq, if◌then◌else◌, List, [], ◌∷◌, length, Option, Some, None}
+use Rattle.std.specs.Prelude.{◌==◌, ℕ, ◌+◌, ◌*◌, Bool, true, false, not, ◌&&◌, nat_lt, nat_eq, if◌then◌else◌, List, [], ◌∷◌, length, drop, Option, Some, None}
 use Rattle.std.specs.Prelude.{is_some, slice_get, Result, Ok, Err, codes}
 use Rattle.std.specs.List.{list_all, list_any, slice_split}
 use Rattle.std.specs.Cmp.Lexicographic.{pointwise}
 use Rattle.osi_script.specs.declared.fault.LineCause.{LineCause}
 use Rattle.osi_script.specs.declared.fault.LineCause.TheVariants as causes
+use Rattle.osi_script.specs.declared.field.TpduSize.{TpduSize}
 use Rattle.osi_script.specs.declared.form.Form.{Form}
 use Rattle.osi_script.specs.declared.form.Form.TheVariants as forms
 use Rattle.osi_script.specs.declared.form.Named.{Named}
@@ -13,6 +14,7 @@ use Rattle.osi_script.specs.declared.form.Plain.{Plain}
 use Rattle.osi_script.specs.declared.form.Plain.TheVariants as plain
 use Rattle.osi_script.specs.declared.parts.Parts.{Parts}
 use Rattle.osi_base.specs.declared.unit.Wish.{Wish}
+use Rattle.osi_script.specs.declared.line.Options.{Options}
 use Rattle.osi_script.specs.declared.line.PathKind.{PathKind}
 use Rattle.osi_script.specs.declared.line.PathKind.TheVariants as kinds
 use Rattle.osi_script.specs.declared.settings.Key.{Key}
@@ -77,12 +79,23 @@ value_of settings key field =
 abbrev pub is_size : ℕ → Bool
 is_size size = list_any (λ listed. listed == size) (128 ∷ 256 ∷ 512 ∷ 1024 ∷ 2048 ∷ 4096 ∷ 8192 ∷ [])
 
-abbrev pub as_size : Result ℕ LineCause → Result ℕ LineCause
-as_size (Ok size) = passing (is_size size) causes.Syntax size
-as_size (Err cause) = Err causes.Syntax
+abbrev pub as_listed : Result ℕ LineCause → Result TpduSize LineCause
+as_listed (Ok size) = passing (is_size size) causes.Syntax (record { octets = size; preferred = false })
+as_listed (Err cause) = Err causes.Syntax
 
-unfoldable pub size_of : List ℕ → Result ℕ LineCause
-size_of field = as_size (number_of 0 999999999 field)
+-- a preferred size, by how many times 128 octets
+abbrev pub as_preferred : Result ℕ LineCause → Result TpduSize LineCause
+as_preferred (Ok number) = Ok (record { octets = 128 * number; preferred = true })
+as_preferred (Err cause) = Err cause
+
+-- it begins with `p`
+abbrev pub is_preferred : List ℕ → Bool
+is_preferred [] = false
+is_preferred (octet ∷ octets) = octet == 112
+
+-- a listed size; in version 2 also `p` and how many times 128 octets, 1 to 128
+unfoldable pub size_of : Bool → List ℕ → Result TpduSize LineCause
+size_of second field = if second && is_preferred field then as_preferred (number_of 1 128 (drop 1 field)) else as_listed (number_of 0 999999999 field)
 
 -- FLAGS: `-` or letters of `s` (cut), `e` (report) and `r` (record) in this order
 abbrev pub wish : Bool → Bool → Bool → Wish
@@ -157,6 +170,9 @@ named_read names parts named.PortLan field = into (port_lan_of names parts.syste
 named_read names parts named.RouteLan field = into (route_lan_of names parts.system parts.other field) (λ lan. record parts { lan = lan })
 named_read names parts named.Path field = into (path_of names field) (λ path. record parts { wish = record parts.wish { path = path } })
 
+abbrev pub with_size : Options → TpduSize → Options
+with_size options size = record options { size = size.octets; preferred = size.preferred }
+
 -- what a word or a number gives
 abbrev pub plain_read : Declared → Parts → Plain → List ℕ → Result Parts LineCause
 plain_read names parts plain.Key field = into (unset_key names.settings (key_of field)) (λ key. record parts { key = key })
@@ -167,7 +183,7 @@ plain_read names parts plain.Credit field = into (number_of 0 255 field) (λ cre
 plain_read names parts plain.PathKind field = into (path_kind_of field) (λ kind. record parts { kind = kind })
 plain_read names parts plain.Format field =
     into (choice_of (codes "extended") (codes "normal") field) (λ extended. record parts { options = record parts.options { extended = extended } })
-plain_read names parts plain.Size field = into (size_of field) (λ size. record parts { options = record parts.options { size = size } })
+plain_read names parts plain.Size field = into (size_of names.second field) (λ size. record parts { options = with_size parts.options size })
 plain_read names parts plain.Expedited field =
     into (choice_of (codes "exp") (codes "noexp") field) (λ expedited. record parts { options = record parts.options { expedited = expedited } })
 plain_read names parts plain.Sum field =

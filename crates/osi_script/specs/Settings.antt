@@ -1,5 +1,5 @@
 -- The settings of a run: nine keys, each with its bounds and its default.
-use Rattle.std.specs.Prelude.{ℕ, Bool, nat_lt, List, if◌then◌else◌, Option, Some, None, codes}
+use Rattle.std.specs.Prelude.{ℕ, Bool, ◌&&◌, not, is_some, nat_lt, List, if◌then◌else◌, Option, Some, None, codes}
 use Rattle.osi_script.specs.Field.{is_word}
 use Rattle.osi_script.specs.declared.settings.Key.{Key}
 use Rattle.osi_script.specs.declared.settings.Key.TheVariants as keys
@@ -71,6 +71,12 @@ or_default None default = default
 -- the value of a key, set or not
 abbrev pub setting_or : Settings → Key → ℕ
 setting_or settings key = or_default (setting settings key) (default_of key)
+
+-- no key is set
+abbrev pub is_unset : Settings → Bool
+is_unset s =
+    not (is_some s.life) && (not (is_some s.t1) && (not (is_some s.w) && (not (is_some s.i) && (not (is_some s.n)
+    && (not (is_some s.refs) && (not (is_some s.credit) && (not (is_some s.ct) && not (is_some s.hold))))))))
 
 -- with this value for a key
 abbrev pub with_setting : Settings → Key → ℕ → Settings

@@ -1,4 +1,5 @@
--- The lines of the script as a table: for each line word its text, whether it belongs to the set-up, its fields and what it does.
+-- The lines of the script as a table: for each line word its text, whether it belongs to the set-up, to version 2 alone and to the front of the
+-- script, its fields and what it does.
 use Rattle.std.specs.Prelude.{ℕ, Bool, true, false, List, [], ◌∷◌, Option, codes, find}
 use Rattle.osi_script.specs.Field.{is_word}
 use Rattle.osi_script.specs.declared.form.Word.{Word}
@@ -14,14 +15,18 @@ use Rattle.osi_script.specs.declared.form.Plain.TheVariants as plain
 pub record LineRow : Type 0 where
   pub text : List ℕ
   pub of_set_up : Bool
+  -- of version 2 alone
+  pub is_later : Bool
+  -- before every other line that does anything
+  pub is_first : Bool
   pub fields : List Form
   pub effect : Effect
 
 abbrev pub set_up : List ℕ → List Form → Effect → LineRow
-set_up text fields effect = record { text = text; of_set_up = true; fields = fields; effect = effect }
+set_up text fields effect = record { text = text; of_set_up = true; is_later = false; is_first = false; fields = fields; effect = effect }
 
 abbrev pub event : List ℕ → List Form → LineRow
-event text fields = record { text = text; of_set_up = false; fields = fields; effect = effects.Nothing }
+event text fields = record { text = text; of_set_up = false; is_later = false; is_first = false; fields = fields; effect = effects.Nothing }
 
 -- a number of an end or a frame
 abbrev pub any_number : Form
@@ -35,6 +40,8 @@ abbrev pub agreement : List Form
 agreement = forms.Plain plain.Format ∷ forms.Plain plain.Size ∷ forms.Plain plain.Expedited ∷ forms.Plain plain.Sum ∷ forms.Octets ∷ []
 
 abbrev pub row_of : Word → LineRow
+row_of words.Version =
+    record { text = codes "version"; of_set_up = true; is_later = false; is_first = true; fields = forms.Plain (plain.Number 1 2) ∷ []; effect = effects.Version }
 row_of words.Set = set_up (codes "set") (forms.Plain plain.Key ∷ forms.Plain plain.Value ∷ []) effects.Setting
 row_of words.Lan = set_up (codes "lan") (forms.NewLan ∷ forms.Plain (plain.Number 1 16) ∷ forms.Plain (plain.Amount 264 1497) ∷ []) effects.Lan
 row_of words.Es = set_up (codes "es") (forms.NewSystem ∷ forms.Title ∷ []) effects.EndSystem
@@ -61,7 +68,7 @@ row_of words.Inject = event (codes "inject") (name named.Lan ∷ name named.Syst
 abbrev pub all_words : List Word
 all_words =
     words.Deliver ∷ words.Data ∷ words.Tick ∷ words.Settle ∷ words.Unit ∷ words.Expedite ∷ words.Window ∷ words.Connect ∷ words.Accept ∷ words.Disconnect
-    ∷ words.Refuse ∷ words.Inject ∷ words.Route ∷ words.Port ∷ words.Es ∷ words.Is ∷ words.Tsap ∷ words.Lan ∷ words.Path ∷ words.Set ∷ words.Start ∷ []
+    ∷ words.Refuse ∷ words.Inject ∷ words.Route ∷ words.Port ∷ words.Es ∷ words.Is ∷ words.Tsap ∷ words.Lan ∷ words.Path ∷ words.Set ∷ words.Start ∷ words.Version ∷ []
 
 -- the word that a field is, among those that name a line
 abbrev pub word_of : List Word → List ℕ → Option Word

@@ -18,6 +18,9 @@ use std::alloc::Global;
 /// The most LANs, systems and source routes.
 const DECLARED: usize = 16;
 
+/// The version in which sizes may be preferred.
+const SECOND: u32 = 2;
+
 /// The most routes of a system.
 const ROUTES: usize = 256;
 
@@ -41,7 +44,7 @@ impl Names {
             Effect::Route => many_from(self.routes_count(parts.system), ROUTES),
             Effect::Path => many_from(self.paths.len(), DECLARED),
             Effect::Start => self.life_cause(),
-            Effect::Nothing | Effect::Setting | Effect::Selector => None,
+            Effect::Nothing | Effect::Version | Effect::Setting | Effect::Selector => None,
         }
     }
 
@@ -54,6 +57,7 @@ impl Names {
             Effect::EndSystem | Effect::IntermediateSystem => self.systems.len() as u8,
             Effect::Path => self.paths.len() as u8 + 1,
             Effect::Nothing
+            | Effect::Version
             | Effect::Setting
             | Effect::Port
             | Effect::Route
@@ -98,6 +102,10 @@ impl Names {
         ensures err { OnErr result (self.new ≡ self.old) }
     {
         match effect {
+            Effect::Version => {
+                self.second = parts.number == SECOND;
+                self.versioned = true;
+            }
             Effect::Setting => self.settings = self.settings.with(parts.key, parts.number),
             Effect::Lan => {
                 let name = Bytes::copy(self.alloc, parts.name.as_slice())?;

@@ -4,7 +4,7 @@ ghost use Rattle.std.specs.Prelude.{◌≡◌, ◌<◌, ◌≤◌, ◌^◌, ◌%
 ghost use Rattle.hex.specs.Hex.{decode_pairs};
 ghost use Rattle.osi_script.specs.Field.{is_word, is_name, number_of, title_of, station_of, prefix_of, octets_of, as_octets, within, choice_of, digits_cause};
 ghost use Rattle.osi_script.specs.Field.{is_digit, is_letter_or_digit, is_number};
-ghost use Rattle.osi_script.specs.Reading.{flags_of, path_kind_of, size_of, selector_of, is_size};
+ghost use Rattle.osi_script.specs.Reading.{flags_of, path_kind_of, size_of, as_listed, as_preferred, selector_of, is_size};
 ghost use Rattle.osi_script.specs.Gives.{Found};
 ghost use Rattle.std.specs.List.{list_all};
 ghost use Rattle.std.specs.Str.Parse.{digits_value};
@@ -18,6 +18,13 @@ use std::alloc::Global;
 
 /// The most digits of a number.
 const DIGITS: usize = 9;
+
+/// The most octets of a TPDU, and whether they are a preferred size.
+#[derive(Clone, Copy)]
+pub struct TpduSize {
+    pub octets: u16,
+    pub preferred: bool,
+}
 
 /// Whether the field is a name: a lower-case letter and up to seven letters or digits, but not `frame`.
 #[tactic(auto, unfolding(crate::specs::Field::is_name))]
@@ -48,11 +55,17 @@ fn is_letter_or_digit(octet: u8) -> bool
 }
 
 /// The number that the field stands for, from `least` to `most`.
-#[tactic(auto, unfolding(crate::specs::Field::number_of))]
 pub fn number(least: u32, most: u32, field: &str) -> Result<u32, LineCause>
     ensures { result ≡ number_of least most field.now }
 {
-    let digits = field.as_bytes();
+    number_in(least, most, field.as_bytes())
+}
+
+/// The number that the digits stand for, from `least` to `most`.
+#[tactic(auto, unfolding(crate::specs::Field::number_of))]
+fn number_in(least: u32, most: u32, digits: &[u8]) -> Result<u32, LineCause>
+    ensures { result ≡ number_of least most digits.now }
+{
     if !is_number(digits) {
         return Err(LineCause::Syntax);
     }
@@ -214,13 +227,40 @@ pub fn credit(field: &str) -> Result<u16, LineCause>
     }
 }
 
-/// A listed size.
+/// A listed size; in version 2 also `p` and how many times 128 octets.
 #[tactic(auto, unfolding(crate::specs::Reading::size_of))]
-pub fn size(field: &str) -> Result<u16, LineCause>
-    ensures { result ≡ size_of field.now }
+pub fn size(second: bool, field: &str) -> Result<TpduSize, LineCause>
+    ensures { result ≡ size_of second field.now }
 {
-    match number(0, 999_999_999, field) {
-        Ok(size) if matches!(size, 128 | 256 | 512 | 1024 | 2048 | 4096 | 8192) => Ok(size as u16),
+    match field.as_bytes() {
+        [b'p', number @ ..] if second => preferred_size(number),
+        digits => listed_size(digits),
+    }
+}
+
+/// A preferred size, by how many times 128 octets.
+#[tactic(auto, unfolding(crate::specs::Field::number_of))]
+fn preferred_size(digits: &[u8]) -> Result<TpduSize, LineCause>
+    ensures { result ≡ as_preferred (number_of 1 128 digits.now) }
+{
+    match number_in(1, 128, digits) {
+        Ok(number) => Ok(TpduSize {
+            octets: 128 * number as u16,
+            preferred: true,
+        }),
+        Err(cause) => Err(cause),
+    }
+}
+
+/// A listed size.
+fn listed_size(digits: &[u8]) -> Result<TpduSize, LineCause>
+    ensures { result ≡ as_listed (number_of 0 999999999 digits.now) }
+{
+    match number_in(0, 999_999_999, digits) {
+        Ok(size) if matches!(size, 128 | 256 | 512 | 1024 | 2048 | 4096 | 8192) => Ok(TpduSize {
+            octets: size as u16,
+            preferred: false,
+        }),
         Ok(_) | Err(_) => Err(LineCause::Syntax),
     }
 }

@@ -3,6 +3,7 @@
 /// The first field of a line.
 #[derive(Clone, Copy)]
 pub enum Word {
+    Version,
     Set,
     Lan,
     Es,
@@ -64,7 +65,7 @@ pub enum Plain {
     PathKind,
     /// `extended` or `normal`.
     Format,
-    /// A listed size.
+    /// A listed size, or in version 2 a preferred one.
     Size,
     /// `exp` or `noexp`.
     Expedited,
@@ -108,6 +109,8 @@ pub enum Form {
 pub enum Effect {
     /// It declares nothing.
     Nothing,
+    /// It sets the version of the script.
+    Version,
     /// It sets a key.
     Setting,
     /// It declares a LAN.

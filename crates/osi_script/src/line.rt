@@ -11,6 +11,8 @@ pub struct Options {
     pub extended: bool,
     /// The most octets of a TPDU.
     pub size: u16,
+    /// Whether the size is a preferred one, in units of 128 octets.
+    pub preferred: bool,
     /// Expedited data.
     pub expedited: bool,
     /// A checksum in each TPDU.
@@ -32,6 +34,8 @@ pub enum PathKind {
 pub enum Line {
     /// An empty line or a comment.
     Nothing,
+    /// The version of the script, 1 or 2.
+    Version(u32),
     /// A setting.
     Set {
         key: Key,

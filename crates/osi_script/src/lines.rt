@@ -1,6 +1,6 @@
 //! What a line says, or its first fault.
 
-ghost use Rattle.std.specs.Prelude.{◌≡◌, ◌≤◌, ◌<◌, not, length, position, IfSome};
+ghost use Rattle.std.specs.Prelude.{◌≡◌, ◌≤◌, ◌<◌, ◌&&◌, not, length, position, IfSome};
 ghost use Rattle.std.specs.List.{list_all};
 ghost use Rattle.osi_script.specs.Field.{is_printable};
 ghost use Rattle.osi_script.specs.Grammar.{fault, count_fault, line_for, is_idle};
@@ -12,7 +12,7 @@ use crate::form::{Form, Word};
 use crate::line::Line;
 use crate::names::Names;
 use crate::parts::Parts;
-use crate::table::{row_of, word_of};
+use crate::table::{Row, row_of, word_of};
 use osi_base::NoMemory;
 
 /// The most octets of a line.
@@ -52,8 +52,8 @@ fn count_fault(past: u32, forms: &[Form], mut fields: Fields<'_>) -> Option<Line
 
 impl Names {
     ghost use Rattle.osi_script.specs.Gives.{GivesAt};
-    ghost use Rattle.osi_script.specs.Known.{no_parts};
-    ghost use Rattle.osi_script.specs.Grammar.{line_read, text_read, split_read, worded_read, whole_read, Reads};
+    ghost use Rattle.osi_script.specs.Known.{no_parts, is_untouched};
+    ghost use Rattle.osi_script.specs.Grammar.{line_read, text_read, split_read, worded_read, whole_read, stands_wrong, Reads};
     ghost use Rattle.osi_script.specs.steps.Counted.{all_read};
 
     /// What a line says after the lines before it. A line that is refused declares nothing.
@@ -107,7 +107,10 @@ impl Names {
         ensures { Reads (worded_read self.old past fields.entry.column fields.entry.fields (Some word)) self.old result self.new }
     {
         let row = row_of(word);
-        if row.of_set_up == self.started {
+        if self.is_of_later_version(row) {
+            return Err(LineRefusal::Fault(fault(LineCause::Word, 1)));
+        }
+        if self.is_out_of_order(row) {
             return Err(LineRefusal::Fault(fault(LineCause::Order, 1)));
         }
         let mut parts = Parts::new(self.alloc);
@@ -115,6 +118,31 @@ impl Names {
             Ok(()) => self.take_up(word, parts),
             Err(refusal) => Err(refusal),
         }
+    }
+
+    /// Whether a line of this row is of version 2, and the script is of version 1.
+    fn is_of_later_version(&self, row: Row) -> bool
+        ensures { result ≡ (row.is_later && not self.now.second) }
+    {
+        row.is_later && !self.second
+    }
+
+    /// Whether a line of this row stands behind a line that it has to come before, or on the wrong side of `start`.
+    fn is_out_of_order(&self, row: Row) -> bool
+        ensures { result ≡ stands_wrong self.now row.of_set_up row.is_first }
+    {
+        (row.is_first && !self.is_untouched()) || row.of_set_up == self.started
+    }
+
+    /// Whether no line did anything yet.
+    fn is_untouched(&self) -> bool
+        ensures { result ≡ is_untouched self.now }
+    {
+        !self.versioned
+            && !self.started
+            && self.lans.is_empty()
+            && self.systems.is_empty()
+            && self.settings.is_unset()
     }
 
     /// The fields one after another, each once.
@@ -173,6 +201,7 @@ fn line_for(number: u8, word: Word, parts: Parts) -> Line
     ensures { result ≡ line_for number word parts }
 {
     match word {
+        Word::Version => Line::Version(parts.number),
         Word::Set => Line::Set {
             key: parts.key,
             value: parts.number,

@@ -16,7 +16,7 @@ use osi_base::Bytes;
 use std::alloc::Global;
 use std::marker::Model;
 
-/// The words that name a line; the settings, LANs, systems and source routes that were declared; and whether the set-up has ended.
+/// The words that name a line; the settings, LANs, systems and source routes that were declared; the version; and whether the set-up has ended.
 #[derive(Drop)]
 pub struct Names {
     pub(crate) alloc: Global,
@@ -26,6 +26,10 @@ pub struct Names {
     pub(crate) systems: Vec<SystemRow>,
     pub(crate) paths: Vec<Bytes>,
     pub(crate) started: bool,
+    /// Whether the lines are those of version 2.
+    pub(crate) second: bool,
+    /// Whether a line named the version.
+    pub(crate) versioned: bool,
 }
 
 // There are at most sixteen LANs, systems and source routes.
@@ -42,6 +46,8 @@ impl Model for Names {
       systems = n.systems.items;
       paths = n.paths.items;
       started = n.started;
+      second = n.second;
+      versioned = n.versioned;
     } };
 
     ghost invariant = { λ n. (length n.lans.items ≤ 16) × (length n.systems.items ≤ 16) × (length n.paths.items ≤ 16) };
@@ -63,6 +69,8 @@ impl Names {
             systems: Vec::new(alloc),
             paths: Vec::new(alloc),
             started: false,
+            second: false,
+            versioned: false,
         }
     }
 

@@ -57,6 +57,7 @@ impl Parts {
             options: Options {
                 extended: false,
                 size: 0,
+                preferred: false,
                 expedited: false,
                 sum: false,
             },

@@ -1,16 +1,33 @@
 //! What a field of each kind gives.
 
 ghost use Rattle.std.specs.Prelude.{◌≡◌};
+ghost use Rattle.osi_script.specs.Gives.{Gives, into};
+ghost use Rattle.osi_script.specs.Reading.{with_size};
 
 use crate::fault::{FieldRefusal, LineCause, put, put_found, put_some};
-use crate::field;
+use crate::field::{self, TpduSize};
 use crate::fields::{Listed, are_many, are_names};
 use crate::form::{Form, Named, Plain};
+use crate::line::Options;
 use crate::names::Names;
 use crate::parts::Parts;
 use crate::settings::{self, Key};
 use nsap::{Nsap, Prefix, Snpa};
 use osi_base::{Bytes, Items};
+
+/// Puts a size that was read into its place.
+fn put_size(options: &mut Options, read: Result<TpduSize, LineCause>) -> Result<(), FieldRefusal>
+    ensures { Gives (into read (λ size. with_size options.old size)) result options.new }
+{
+    match read {
+        Ok(size) => {
+            options.size = size.octets;
+            options.preferred = size.preferred;
+            Ok(())
+        }
+        Err(cause) => Err(FieldRefusal::Cause(cause)),
+    }
+}
 
 impl Names {
     ghost use Rattle.osi_script.specs.Gives.{Gives, Found};
@@ -242,7 +259,7 @@ impl Names {
     }
 
     /// What a word or a number gives.
-    #[tactic(auto, using(crate::proofs::Readings::gives_into))]
+    #[tactic(auto, using(crate::proofs::Readings::gives_into, crate::proofs::Readings::gives_size))]
     fn read_plain(&self, form: Plain, field: &str, parts: &mut Parts) -> Result<(), FieldRefusal>
         ensures { Gives (plain_read self.now parts.old form field.now) result parts.new }
     {
@@ -264,7 +281,7 @@ impl Names {
                 &mut options.extended,
                 field::choice("extended", "normal", field),
             ),
-            Plain::Size => put(&mut options.size, field::size(field)),
+            Plain::Size => put_size(options, field::size(self.second, field)),
             Plain::Expedited => put(&mut options.expedited, field::choice("exp", "noexp", field)),
             Plain::Sum => put(&mut options.sum, field::choice("sum", "nosum", field)),
             Plain::Flags => put(&mut parts.wish, field::flags(field)),

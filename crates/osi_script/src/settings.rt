@@ -1,7 +1,7 @@
 //! The settings of a run, by their keys.
 
 ghost use Rattle.std.specs.Prelude.{◌≡◌};
-ghost use Rattle.osi_script.specs.Settings.{setting, with_setting, least_of, most_of, default_of, key_of, setting_or, keeps_order};
+ghost use Rattle.osi_script.specs.Settings.{setting, with_setting, least_of, most_of, default_of, key_of, setting_or, keeps_order, is_unset};
 
 /// What a `set` line sets.
 #[derive(Clone, Copy)]
@@ -123,6 +123,21 @@ impl Settings {
             ct: None,
             hold: None,
         }
+    }
+
+    /// Whether no key is set.
+    pub fn is_unset(self) -> bool
+        ensures { result ≡ is_unset self }
+    {
+        self.life.is_none()
+            && self.t1.is_none()
+            && self.w.is_none()
+            && self.i.is_none()
+            && self.n.is_none()
+            && self.refs.is_none()
+            && self.credit.is_none()
+            && self.ct.is_none()
+            && self.hold.is_none()
     }
 
     /// The value that was set for a key.

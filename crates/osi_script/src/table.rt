@@ -13,6 +13,10 @@ pub struct Row {
     pub text: &'static str,
     /// Whether it stands before `start`.
     pub of_set_up: bool,
+    /// Whether it is of version 2 alone.
+    pub is_later: bool,
+    /// Whether it stands before every other line that does anything.
+    pub is_first: bool,
     /// The fields after the first.
     pub fields: &'static [Form],
     /// What it does.
@@ -20,7 +24,7 @@ pub struct Row {
 }
 
 /// All words, those of long scripts first.
-pub const WORDS: [Word; 21] = [
+pub const WORDS: [Word; 22] = [
     Word::Deliver,
     Word::Data,
     Word::Tick,
@@ -42,6 +46,7 @@ pub const WORDS: [Word; 21] = [
     Word::Path,
     Word::Set,
     Word::Start,
+    Word::Version,
 ];
 
 /// The number of an end or of a frame.
@@ -49,6 +54,9 @@ const ANY_NUMBER: Form = Form::Plain(Plain::Number {
     least: 0,
     most: 999_999_999,
 });
+
+/// The version of a script.
+const VERSION: Form = Form::Plain(Plain::Number { least: 1, most: 2 });
 
 /// The bound of a LAN, in ticks.
 const BOUND: Form = Form::Plain(Plain::Number { least: 1, most: 16 });
@@ -73,11 +81,13 @@ const SUM: Form = Form::Plain(Plain::Sum);
 
 /// A line of the set-up.
 const fn set_up(text: &'static str, fields: &'static [Form], effect: Effect) -> Row
-    ensures { result ≡ record { text = text.entry; of_set_up = true; fields = fields.entry; effect = effect } }
+    ensures { result ≡ record { text = text.entry; of_set_up = true; is_later = false; is_first = false; fields = fields.entry; effect = effect } }
 {
     Row {
         text,
         of_set_up: true,
+        is_later: false,
+        is_first: false,
         fields,
         effect,
     }
@@ -85,11 +95,13 @@ const fn set_up(text: &'static str, fields: &'static [Form], effect: Effect) -> 
 
 /// A line after the set-up.
 const fn event(text: &'static str, fields: &'static [Form]) -> Row
-    ensures { result ≡ record { text = text.entry; of_set_up = false; fields = fields.entry; effect = Effect.Nothing } }
+    ensures { result ≡ record { text = text.entry; of_set_up = false; is_later = false; is_first = false; fields = fields.entry; effect = Effect.Nothing } }
 {
     Row {
         text,
         of_set_up: false,
+        is_later: false,
+        is_first: false,
         fields,
         effect: Effect::Nothing,
     }
@@ -99,10 +111,20 @@ const fn event(text: &'static str, fields: &'static [Form]) -> Row
 pub fn row_of(word: Word) -> Row
     ensures text { result.text.now ≡ (row_of word).text }
     ensures of_set_up { result.of_set_up ≡ (row_of word).of_set_up }
+    ensures is_later { result.is_later ≡ (row_of word).is_later }
+    ensures is_first { result.is_first ≡ (row_of word).is_first }
     ensures fields { result.fields.now ≡ (row_of word).fields }
     ensures effect { result.effect ≡ (row_of word).effect }
 {
     match word {
+        Word::Version => Row {
+            text: "version",
+            of_set_up: true,
+            is_later: false,
+            is_first: true,
+            fields: &[VERSION],
+            effect: Effect::Version,
+        },
         Word::Set => set_up(
             "set",
             &[Form::Plain(Plain::Key), Form::Plain(Plain::Value)],

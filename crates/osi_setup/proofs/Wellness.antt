@@ -392,6 +392,7 @@ selector_well setup system selector w new = by (slice_get setup.systems system) 
 pub well_after : (setup : SetUp) (line : Line) → IsWell setup → Fits setup line → IsWell (set_up setup line)
 well_after setup lines.Nothing w f = w
 well_after setup lines.Start w f = w
+well_after setup (lines.Version version) w f = w
 well_after setup (lines.Set key value) w f = time_well setup key value w f.0 f.1
 well_after setup (lines.Lan name bound room) w f = lan_well setup (record { bound = bound; room = room }) w f
 well_after setup (lines.Es name title) w f = system_well setup true title w f

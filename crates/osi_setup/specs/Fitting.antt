@@ -105,6 +105,7 @@ pub record IsNewSelector (setup : SetUp) (system : ℕ) (selector : List ℕ) : 
 -- the line is one of a set-up, and what it says fits what was said before; at the start no bound of a LAN is above the lifetime
 abbrev pub Fits : SetUp → Line → Type 0
 Fits setup lines.Nothing = Unit {0}
+Fits setup (lines.Version version) = Unit {0}
 Fits setup (lines.Set key value) = (least_of key ≤ value) × (value ≤ most_of key)
 Fits setup (lines.Lan name bound room) = IsLan (record { bound = bound; room = room })
 Fits setup (lines.Es name title) = IsNewTitle setup title

@@ -69,7 +69,7 @@ impl SetUp {
         ensures { OnOk result (self.new ≡ set_up self.old line) }
     {
         match line {
-            Line::Nothing | Line::Start => Ok(()),
+            Line::Nothing | Line::Version(_) | Line::Start => Ok(()),
             Line::Set { key, value } => {
                 self.set(key, value);
                 Ok(())

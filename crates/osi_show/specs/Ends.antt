@@ -32,5 +32,5 @@ named end ends = last_of 1024 (without (position (λ other. is_same other end) e
 
 -- what a TPDU on its way to an address and from one names: a CC with extended formats its two ends, the one that it goes to first
 abbrev pub learned : List ℕ → List ℕ → Tpdu → List End → List End
-learned to from (tpdus.Cc _ destination source Extended _ _ _ _ _ _ _ _) ends = named (end from source) (named (end to destination) ends)
+learned to from (tpdus.Cc _ destination source Extended _ _ _ _ _ _ _ _ _) ends = named (end from source) (named (end to destination) ends)
 learned to from _ ends = ends

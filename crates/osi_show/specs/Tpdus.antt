@@ -24,9 +24,9 @@ format_bit Extended = 1
 
 -- the kind, and what its code and its fixed part hold
 abbrev pub fixed_texts : Tpdu → List (List ℕ)
-fixed_texts (tpdus.Cr credit source format _ _ _ _ _ _ _ _) =
+fixed_texts (tpdus.Cr credit source format _ _ _ _ _ _ _ _ _) =
     codes "cr" ∷ decimal credit ∷ decimal source ∷ decimal (format_bit format) ∷ []
-fixed_texts (tpdus.Cc credit destination source format _ _ _ _ _ _ _ _) =
+fixed_texts (tpdus.Cc credit destination source format _ _ _ _ _ _ _ _ _) =
     codes "cc" ∷ decimal credit ∷ decimal destination ∷ decimal source ∷ decimal (format_bit format) ∷ []
 fixed_texts (tpdus.Dr destination source reason _ _) = codes "dr" ∷ decimal destination ∷ decimal source ∷ decimal reason ∷ []
 fixed_texts (tpdus.Dc destination source) = codes "dc" ∷ decimal destination ∷ decimal source ∷ []

@@ -24,6 +24,9 @@ const CALLING: u8 = 0xc1;
 /// Called transport selector.
 const CALLED: u8 = 0xc2;
 
+/// Preferred maximum TPDU size.
+const PREFERRED: u8 = 0xf0;
+
 /// TPDU size.
 const SIZE: u8 = 0xc0;
 
@@ -121,7 +124,7 @@ fn knows(kind: Kind, code: u8) -> bool
     match kind {
         Kind::Cr | Kind::Cc => matches!(
             code,
-            CALLING | CALLED | SIZE | VERSION | EXTRA | CHECKSUM | CLASSES | ACK_TIME
+            CALLING | CALLED | SIZE | PREFERRED | VERSION | EXTRA | CHECKSUM | CLASSES | ACK_TIME
         ),
         Kind::Dr => matches!(code, INFO | CHECKSUM),
         Kind::Ak => matches!(code, SUBSEQUENCE | CONFIRMATION | CHECKSUM),

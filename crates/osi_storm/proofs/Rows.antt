@@ -71,7 +71,7 @@ bb_read : selector_of (codes "bb") ≡ Ok (187 ∷ [])
 unfolding selector_of octets_of decode_pairs
 bb_read = refl
 
-size_read : size_of (codes "128") ≡ Ok 128
+size_read : size_of false (codes "128") ≡ Ok (record { octets = 128; preferred = false })
 unfolding size_of number_of
 size_read = refl
 
@@ -110,7 +110,7 @@ pub apart : (word field next : List ℕ) → word ++ field ++ codes " " ++ next 
 apart word field next = append_assoc (word ++ field) (codes " ") next ∙ append_assoc word field (32 ∷ next)
 
 abbrev options : Bool → Options
-options extended = record { extended = extended; size = 128; expedited = true; sum = true }
+options extended = record { extended = extended; size = 128; preferred = false; expedited = true; sum = true }
 
 pub back_small : (count back : ℕ) → count < 1000000000 → number_back count back < 1000000000
 back_small count back small = grind (arith, nat_tests)

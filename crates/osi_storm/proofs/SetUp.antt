@@ -17,7 +17,7 @@ use Rattle.osi_storm.specs.Read.{RunsStorms}
 
 abbrev pub stage : List Word → List LanRow → List KnownSystem → Bool → Declared
 stage known lans systems started =
-    record { words = known; settings = (nothing_declared known).settings; lans = lans; systems = systems; paths = []; started = started }
+    record { words = known; settings = (nothing_declared known).settings; lans = lans; systems = systems; paths = []; started = started; second = false; versioned = false }
 
 abbrev pub x : LanRow
 x = record { name = codes "x"; bound = 2 }

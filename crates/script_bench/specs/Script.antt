@@ -16,6 +16,7 @@ IsPlaced started (lines.Es name title) = started ≡ false
 IsPlaced started (lines.Port system lan snpa) = started ≡ false
 IsPlaced started (lines.Route system prefix next lan) = started ≡ false
 IsPlaced started lines.Start = started ≡ false
+IsPlaced started (lines.Version version) = started ≡ false
 IsPlaced started (lines.Set key value) = started ≡ false
 IsPlaced started (lines.Is name title) = started ≡ false
 IsPlaced started (lines.Path name kind systems) = started ≡ false

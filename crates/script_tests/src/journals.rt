@@ -15,6 +15,7 @@ use std::test::Fail;
 const NORMAL: Options = Options {
     extended: false,
     size: 1024,
+    preferred: false,
     expedited: true,
     sum: true,
 };
@@ -22,8 +23,17 @@ const NORMAL: Options = Options {
 const EXTENDED: Options = Options {
     extended: true,
     size: 8192,
+    preferred: false,
     expedited: false,
     sum: false,
+};
+
+const PREFERRED: Options = Options {
+    extended: false,
+    size: 1408,
+    preferred: true,
+    expedited: true,
+    sum: true,
 };
 
 const SNPA: [u8; 6] = [2, 0, 0, 0, 0, 0x0b];
@@ -144,7 +154,7 @@ fn connecting(alloc: Global) -> Result<Vec<Event>, Fail> {
         octets: bytes(alloc, &[0, 0xff])?,
     };
     events.push(Event::Incoming(boxed(alloc, indication)?))?;
-    for (options, first) in [(NORMAL, 5), (EXTENDED, 7)] {
+    for (options, first) in [(NORMAL, 5), (EXTENDED, 7), (PREFERRED, 9)] {
         let (end, octets) = (2, bytes(alloc, &[first])?);
         events.push(Event::Accept {
             end,

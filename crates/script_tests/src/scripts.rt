@@ -2,7 +2,10 @@
 
 mod rows;
 
-use self::rows::{AFTER_START, BEFORE_START, FAULTS, FULL, LATE, LIFE, LINES, ROUTES, SHORT_LIFE};
+use self::rows::{
+    AFTER_START, BEFORE_START, FAULTS, FULL, LATE, LIFE, LINES, ROUTES, SHORT_LIFE, VERSION_1,
+    VERSION_2, VERSIONS,
+};
 use osi_base::Wish;
 use osi_script::{Line, LineRefusal, Names, Options};
 use std::alloc::Global;
@@ -13,6 +16,7 @@ use std::test::Fail;
 fn numbers_of(line: &Line) -> (&'static str, [u32; 6]) {
     match line {
         Line::Nothing => ("nothing", [0; 6]),
+        Line::Version(version) => ("version", [*version, 0, 0, 0, 0, 0]),
         Line::Set { key, value } => ("set", [*key as u32, *value, 0, 0, 0, 0]),
         Line::Lan { name, bound, room } => ("lan", [u32::from(*name), *bound, *room, 0, 0, 0]),
         Line::Es { name, .. } => ("es", [u32::from(*name), 0, 0, 0, 0, 0]),
@@ -113,6 +117,7 @@ fn octets_of(line: &Line) -> [&[u8]; 3] {
         | Line::Unit { octets, .. }
         | Line::Inject { octets, .. } => [octets.as_slice(), &[], &[]],
         Line::Nothing
+        | Line::Version(_)
         | Line::Set { .. }
         | Line::Lan { .. }
         | Line::Start
@@ -165,6 +170,48 @@ fn a_line_has_its_answer(rt: HostRuntime) -> Result<(), Fail> {
     let mut names = Names::new(rt.alloc());
     for rows in [FAULTS, BEFORE_START, "start", AFTER_START] {
         check(&rt, rt.alloc(), &mut names, rows)?;
+    }
+    Ok(())
+}
+
+#[test]
+fn a_version_is_named_first(rt: HostRuntime) -> Result<(), Fail> {
+    for rows in [VERSION_1, VERSION_2] {
+        let mut names = Names::new(rt.alloc());
+        check(&rt, rt.alloc(), &mut names, rows)?;
+    }
+    for before in VERSIONS {
+        let mut names = Names::new(rt.alloc());
+        check(&rt, rt.alloc(), &mut names, before)?;
+        check(
+            &rt,
+            rt.alloc(),
+            &mut names,
+            "version 2 | 1 order\nversion 3 | 1 order",
+        )?;
+    }
+    Ok(())
+}
+
+/// Whether the options of the answer to a connect line have a preferred size, and which size.
+#[test]
+fn a_preferred_size_is_told_apart(rt: HostRuntime) -> Result<(), Fail> {
+    let mut names = Names::new(rt.alloc());
+    for line in ["version 2", "es a 490a00", "start"] {
+        assert!(&rt; names.read_line(line.as_bytes()).is_ok(), "{line}");
+    }
+    for (size, wanted, preferred) in [
+        ("8192", 8192, false),
+        ("p64", 8192, true),
+        ("p1", 128, true),
+        ("p128", 16384, true),
+    ] {
+        let line = format!(in rt.alloc(); "accept 1 normal {size} exp sum -")?;
+        let Ok(Line::Accept { options, .. }) = names.read_line(line.as_bytes()) else {
+            panic!(rt; "no accept");
+        };
+        assert_eq!(rt; options.size, wanted);
+        assert_eq!(rt; options.preferred, preferred);
     }
     Ok(())
 }

@@ -159,6 +159,7 @@ fn two_ends(alloc: Global) -> Result<[Event; 2], Fail> {
         options: Options {
             extended: false,
             size: 128,
+            preferred: false,
             expedited: true,
             sum: true,
         },

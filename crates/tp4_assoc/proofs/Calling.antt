@@ -11,14 +11,16 @@ use Rattle.tp4_conn.specs.declared.stage.Requesting.{Requesting}
 use Rattle.tp4_conn.specs.declared.stage.Stage.{Stage}
 use Rattle.tp4_conn.specs.declared.stage.Stage.TheVariants.{CrWait, WaitBeforeClose, UserWait, AkWait, Opened, Closing, Frozen}
 use Rattle.tp4_conn.specs.declared.timers.Timers.{Timers}
-use Rattle.tp4_conn.specs.Agreeing.{agreed_by, is_within}
+use Rattle.tp4_conn.specs.Agreeing.{agreed_by, is_confirmed}
 use Rattle.tp4_conn.specs.Calls.{IsCall, call_refusal}
-use Rattle.tp4_conn.specs.End.{End, IsSize, IsTimed, Moved, agreed_sum, end_of, frozen}
+use Rattle.tp4_conn.specs.End.{End, IsProposal, IsSized, IsTimed, Moved, agreed_sum, end_of, frozen}
 use Rattle.tp4_conn.specs.Table.{Called, at, on_call, stepped}
 use Rattle.tp4_conn.specs.UserWait.{accepted, refusing, user_wait_accept, user_wait_refuse}
 use Rattle.tp4_calm.specs.Pair.{Accepts, Asks_called, Pair, next}
 use Rattle.tp4_calm.specs.steps.Standing.{HasLeft, Stands}
-use Rattle.tp4_calm.proofs.Confirming.{within}
+use Rattle.tp4_conn.specs.declared.proposed.Proposed.{Proposed}
+use Rattle.tp4_conn.proofs.Agreed.{agreed_within}
+use Rattle.tp4_conn.proofs.Sizes.{proposal_by}
 use Rattle.tp4_calm.proofs.Resting.{accepts_stands}
 use Rattle.tp4_assoc.specs.Association.{Association}
 use Rattle.tp4_assoc.specs.Phase.{AreAll, AreParting, Answered, Asking, Asks, IsAsking, IsConfirming, IsFrozen, IsHeld, IsIndicated, IsPaired, IsRefusal, Late, Leaving, Over, Paired, Phase, Refused, Rejected, Waiting, WillFreeze}
@@ -168,7 +170,7 @@ module _ (timers : Timers) (own : ℕ → List ℕ) (now : ℕ) (a : Association
 
     -- the row of an end whose user answers
     data Answer : Type 0 where
-      Accepts_it : (asked : Options) (octets : List ℕ) → call ≡ Accept asked octets → IsSize asked.size
+      Accepts_it : (asked : Options) (octets : List ℕ) → call ≡ Accept asked octets → IsSized asked
           → n ≡ accepted (record (at now y.base) { agreed = Some (agreed_by y.base.proposed asked) }) (agreed_by y.base.proposed asked) octets → Answer
       Refuses_it : (octets : List ℕ) → n ≡ frozen (at now y.base) [] (refusing (at now y.base) octets ∷ []) → Answer
 
@@ -195,7 +197,7 @@ module _ (timers : Timers) (own : ℕ → List ℕ) (now : ℕ) (a : Association
         by (Disconnect octets) same ok fit = absurd (cc ok)
 
     -- the user accepts
-    pair_begun : (x : End) (r : Requesting) (since : ℕ) (asked : Options) (octets : List ℕ) → a.calling ≡ Some x → x.stage ≡ CrWait r → y.stage ≡ UserWait since → y.base.proposed ≡ x.base.proposed → IsSize asked.size
+    pair_begun : (x : End) (r : Requesting) (since : ℕ) (asked : Options) (octets : List ℕ) → a.calling ≡ Some x → x.stage ≡ CrWait r → y.stage ≡ UserWait since → y.base.proposed ≡ x.base.proposed → IsSized asked
         → call ≡ Accept asked octets
         → n ≡ accepted (record (at now y.base) { agreed = Some (agreed_by y.base.proposed asked) }) (agreed_by y.base.proposed asked) octets → Then
     pair_begun x r since asked octets calling waits stage proposed size call_is row =
@@ -211,10 +213,11 @@ module _ (timers : Timers) (own : ℕ → List ℕ) (now : ℕ) (a : Association
           stays = λ any. elim any [ inl left ↦ subst HasLeft waits left | inr left ↦ subst (λ (m : Moved). HasLeft m.stage) row left ];
         })
       where
-        fits : (options : Options) → Some options ≡ Some (agreed_by y.base.proposed asked) → is_within x.base.proposed options ≡ true
+        fits : (options : Options) → Some options ≡ Some (agreed_by y.base.proposed asked) → is_confirmed x.base.proposed options ≡ true
         fits options same =
             let o : options ≡ agreed_by y.base.proposed asked = same_some options (agreed_by y.base.proposed asked) same in
-            ap (is_within x.base.proposed) o ∙ ap (λ (d : Options). is_within x.base.proposed (agreed_by d asked)) proposed ∙ within x.base.proposed asked
+            ap (is_confirmed x.base.proposed) o ∙ ap (λ (d : Proposed). is_confirmed x.base.proposed (agreed_by d asked)) proposed
+            ∙ agreed_within x.base.proposed asked (subst (λ (d : Proposed). IsProposal d) (sym (i.caller x calling).proposed) (proposal_by x.base.proposed.options (i.caller x calling).size)) size
 
     answered_late : (x : End) (w : Parting) (asked : Options) (octets : List ℕ) → a.calling ≡ Some x → Asks x → x.stage ≡ WaitBeforeClose w
         → n ≡ accepted (record (at now y.base) { agreed = Some (agreed_by y.base.proposed asked) }) (agreed_by y.base.proposed asked) octets → Then
@@ -223,7 +226,7 @@ module _ (timers : Timers) (own : ℕ → List ℕ) (now : ℕ) (a : Association
         (subst (λ (m : Moved). IsConfirming (end_of m) m.tpdus) (sym row) (record { answering = _; stage = refl; options = agreed_by y.base.proposed asked; agreed = refl; octets = octets; back_is = refl })) refl
 
     asking_answered : (x : End) (stage : Stage) (since : ℕ) (asked : Options) (octets : List ℕ) → a.calling ≡ Some x → Asks x → x.stage ≡ stage → IsAsking stage → y.stage ≡ UserWait since → y.base.proposed ≡ x.base.proposed
-        → IsSize asked.size → call ≡ Accept asked octets → n ≡ accepted (record (at now y.base) { agreed = Some (agreed_by y.base.proposed asked) }) (agreed_by y.base.proposed asked) octets → Then
+        → IsSized asked → call ≡ Accept asked octets → n ≡ accepted (record (at now y.base) { agreed = Some (agreed_by y.base.proposed asked) }) (agreed_by y.base.proposed asked) octets → Then
     asking_answered x (CrWait r) since asked octets calling asks at asking stage proposed size call_is row = pair_begun x r since asked octets calling at stage proposed size call_is row
     asking_answered x (WaitBeforeClose w) since asked octets calling asks at asking stage proposed size call_is row = answered_late x w asked octets calling asks at row
     asking_answered x other since asked octets calling asks at asking stage proposed size call_is row = absurd asking

@@ -309,7 +309,7 @@ after_tick ticked now a = record { from = a.from; to = a.to; calling = ticked_en
 
 clocked_caller : (timers : Timers) (reference : ℕ) (address : List ℕ) (old end : End) (clock : ℕ) → end.base ≡ record old.base { clock = clock } → IsCaller timers reference address old → IsCaller timers reference address end
 clocked_caller timers reference address old end clock is c =
-    subst (λ (b : Base). IsCaller timers reference address (record { base = b; stage = end.stage })) (sym is) (record { own_is = c.own_is; to = c.to; is_called = c.is_called; timers_are = c.timers_are; size = c.size })
+    subst (λ (b : Base). IsCaller timers reference address (record { base = b; stage = end.stage })) (sym is) (record { own_is = c.own_is; to = c.to; is_called = c.is_called; timers_are = c.timers_are; size = c.size; proposed = c.proposed })
 
 clocked_called : (timers : Timers) (reference : ℕ) (address : List ℕ) (old end : End) (clock : ℕ) → end.base ≡ record old.base { clock = clock } → IsCalled timers reference address old → IsCalled timers reference address end
 clocked_called timers reference address old end clock is c =

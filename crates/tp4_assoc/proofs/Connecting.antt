@@ -107,7 +107,7 @@ module _ (timers : Timers) (own : ℕ → List ℕ) where
             (subst (IsAssociation timers own now new acted.tpdus) (sym (waiting_apart (length all) (length all) true false acted.tpdus (λ both. cc (both.1))))
             (record {
               phase = Asking z _ refl refl (record { stage = tt; unagreed = refl }) refl refl refl;
-              caller = λ x is. subst (IsCaller timers reference (own to)) (same_some z x is) (record { own_is = refl; to = to_is; is_called = refl; timers_are = timers_are; size = is_call.size });
+              caller = λ x is. subst (IsCaller timers reference (own to)) (same_some z x is) (record { own_is = refl; to = to_is; is_called = refl; timers_are = timers_are; size = is_call.size; proposed = refl });
               called = λ y is. absurd (cc is);
               some = low;
             })))))

@@ -52,8 +52,8 @@ may_come_on : (end next : End) (other : ℕ) (tpdu : Tpdu) → next.base.own ≡
     → (HearsData end.stage → HearsData next.stage) → (IsFrozen end.stage → IsFrozen next.stage) → MayCome end other tpdu → MayCome next other tpdu
 may_come_on end next other (Dr destination source reason info text) own partner called hears frozen m = (m.0 ∙ sym own, m.1)
 may_come_on end next other (Dc destination source) own partner called hears frozen m = (m.0 ∙ sym own, m.1)
-may_come_on end next other (Cc credit destination source width calling called_one size extra version classes ack_time text) own partner called hears frozen m = (m.0 ∙ sym own, m.1, frozen m.2)
-may_come_on end next other (Cr credit source width calling called_one size extra version classes ack_time text) own partner called hears frozen m = (m.0, partner ∙ m.1, called ∙ m.2, frozen m.3)
+may_come_on end next other (Cc credit destination source width calling called_one size preferred extra version classes ack_time text) own partner called hears frozen m = (m.0 ∙ sym own, m.1, frozen m.2)
+may_come_on end next other (Cr credit source width calling called_one size preferred extra version classes ack_time text) own partner called hears frozen m = (m.0, partner ∙ m.1, called ∙ m.2, frozen m.3)
 may_come_on end next other (Dt destination last number text) own partner called hears frozen m = (m.0 ∙ sym own, hears m.1)
 may_come_on end next other (Ed destination last number text) own partner called hears frozen m = (m.0 ∙ sym own, hears m.1)
 may_come_on end next other (Ak destination number credit subsequence confirmation) own partner called hears frozen m = (m.0 ∙ sym own, hears m.1)

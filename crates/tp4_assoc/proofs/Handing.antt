@@ -7,6 +7,7 @@ use Rattle.tpdu.specs.Writing.{kind_for}
 use Rattle.tpdu.specs.declared.tpdu.Tpdu.{Tpdu}
 use Rattle.tpdu.specs.declared.tpdu.Tpdu.TheVariants.{Cr, Dr, Dc}
 use Rattle.tp4_flow.specs.declared.rules.Options.{Options}
+use Rattle.tp4_conn.specs.declared.proposed.Proposed.{Proposed}
 use Rattle.tp4_flow.specs.declared.step.Sent.{Sent}
 use Rattle.tp4_number.specs.Number.{whole}
 use Rattle.tp4_conn.specs.declared.base.Base.{Base}
@@ -17,12 +18,12 @@ use Rattle.tp4_conn.specs.declared.stage.Requesting.{Requesting}
 use Rattle.tp4_conn.specs.declared.stage.Stage.{Stage}
 use Rattle.tp4_conn.specs.declared.stage.Stage.TheVariants.{CrWait, WaitBeforeClose, UserWait, AkWait, Frozen}
 use Rattle.tp4_conn.specs.declared.timers.Timers.{Timers}
-use Rattle.tp4_conn.specs.Agreeing.{confirm, extra_of, request}
-use Rattle.tp4_conn.specs.End.{End, IsSize, Moved, agreed_sum, closing, confirms, end_of, send}
+use Rattle.tp4_conn.specs.Agreeing.{confirm, extra_of, proposed_by, request}
+use Rattle.tp4_conn.specs.End.{End, IsSized, Moved, agreed_sum, closing, confirms, end_of, send}
 use Rattle.tp4_conn.specs.CrWait.{cr_wait_tpdu}
 use Rattle.tp4_conn.specs.WaitBeforeClose.{wait_before_close_tpdu}
 use Rattle.tp4_conn.specs.Matching.{fits, sum_agreed, wants_sum}
-use Rattle.tp4_conn.specs.Making.{called_end, indicated}
+use Rattle.tp4_conn.specs.Making.{called_end, indicated, on_cr}
 use Rattle.tp4_conn.specs.Table.{Event, Took, at, on_tpdu, stepped, takes, untaken}
 use Rattle.tp4_entity.specs.Association.{calls, is_called, met, refusal, requested}
 use Rattle.tp4_entity.specs.Entity.{Acted, Entity, end_at, moved}
@@ -64,7 +65,8 @@ caller_on timers reference address x m c s = record {
   to = s.to ∙ c.to;
   is_called = s.is_called ∙ c.is_called;
   timers_are = s.timers ∙ c.timers_are;
-  size = subst (λ (o : Options). IsSize o.size) (sym s.proposed) c.size;
+  size = subst (λ (p : Proposed). IsSized p.options) (sym s.proposed) c.size;
+  proposed = subst (λ (p : Proposed). p ≡ proposed_by p.options) (sym s.proposed) c.proposed;
 }
 
 called_on : (timers : Timers) (reference : ℕ) (address : List ℕ) (y : End) (m : Moved) → IsCalled timers reference address y → IsSame y.base m.base → m.base.partner ≡ y.base.partner → IsCalled timers reference address (end_of m)
@@ -213,7 +215,7 @@ module _ (timers : Timers) (own : ℕ → List ℕ) (now : ℕ) (a : Association
 
   -- the CR
   abbrev call_of_request : (x : End) (r : Requesting) → ConnectCall
-  call_of_request x r = record { own = x.base.own; from = []; to = x.base.to; from_selector = x.base.calling; to_selector = x.base.called; options = x.base.proposed; octets = r.octets; rules = x.base.timers }
+  call_of_request x r = record { own = x.base.own; from = []; to = x.base.to; from_selector = x.base.calling; to_selector = x.base.called; options = x.base.proposed.options; octets = r.octets; rules = x.base.timers }
 
   asked : (x : End) (r : Requesting) → a.calling ≡ Some x → a.called ≡ None → Asks x → x.stage ≡ CrWait r → rest ≡ [] → back ≡ []
       → (acted : Acted) → Asked now e here x.base.own x.base.called (request x.base r.octets).tpdu acted → Dealt acted
@@ -224,7 +226,11 @@ module _ (timers : Timers) (own : ℕ → List ℕ) (now : ℕ) (a : Association
       let c = i.caller x calling in
       let base : Base = called_end now reference here e.timers x.base.timers.credit x.base.own x.base.calling x.base.called x.base.proposed in
       let m : Moved = indicated base r.octets in
-      let acted_is : acted ≡ moved e reference m = is ∙ ap (λ (o : Option Moved). calls e reference o) (indicates now now reference here e.timers (call_of_request x r)) in
+      let is_indicated : on_cr now reference here e.timers (request x.base r.octets).tpdu ≡ Some m =
+      subst (λ (p : Proposed). on_cr now reference here e.timers (request (record x.base { proposed = p }) r.octets).tpdu
+      ≡ Some (indicated (called_end now reference here e.timers x.base.timers.credit x.base.own x.base.calling x.base.called p) r.octets)) (sym c.proposed)
+      (indicates now now reference here e.timers (call_of_request x r) c.size) in
+      let acted_is : acted ≡ moved e reference m = is ∙ ap (λ (o : Option Moved). calls e reference o) is_indicated in
       let late : now < now + timers.inactive = omega (arith, some) in
       record {
         b = record a { called = Some (end_of m) };
@@ -239,8 +245,8 @@ module _ (timers : Timers) (own : ℕ → List ℕ) (now : ℕ) (a : Association
 
   -- a copy of it
   copy : (n : ℕ) (tpdu : Tpdu) (P : Acted → Type 0) → IsRequest n tpdu → ((called : List ℕ) → P (requested now e here n called tpdu)) → P (met whole now e here (tpdu, sent.sum))
-  copy n (Cr credit source width calling called size extra version classes ack_time text) P is more =
-      subst (λ (s : ℕ). P (requested now e here s called (Cr credit source width calling called size extra version classes ack_time text))) (sym is) (more called)
+  copy n (Cr credit source width calling called size preferred extra version classes ack_time text) P is more =
+      subst (λ (s : ℕ). P (requested now e here s called (Cr credit source width calling called size preferred extra version classes ack_time text))) (sym is) (more called)
   copy n other P is more = absurd is
 
   forth_waiting : (x y : End) (since : ℕ) → a.calling ≡ Some x → a.called ≡ Some y → Asks x → IsIndicated timers now x y since → AreAll (IsRequest x.base.own) there (sent ∷ rest) → back ≡ []
@@ -415,11 +421,11 @@ module _ (timers : Timers) (own : ℕ → List ℕ) (now : ℕ) (a : Association
   )
     where
       kind : (tpdu : Tpdu) → IsRequest other tpdu → MayCome y other tpdu
-      kind (Cr credit source width calling called_one size extra version classes ack_time text) is = (is, partner, called, frozen)
+      kind (Cr credit source width calling called_one size preferred extra version classes ack_time text) is = (is, partner, called, frozen)
       kind tpdu is = absurd is
 
       unnumbered : (tpdu : Tpdu) → IsRequest other tpdu → has_number (kind_for tpdu) ≡ true → ⊥
-      unnumbered (Cr credit source width calling called_one size extra version classes ack_time text) is e = cc e
+      unnumbered (Cr credit source width calling called_one size preferred extra version classes ack_time text) is e = cc e
       unnumbered tpdu is e = is
 
   back_refused : (x y : End) → a.calling ≡ Some x → a.called ≡ Some y → Asks x → IsFrozen y.stage → IsHeld now y → y.base.agreed ≡ None → AreAll (IsRequest x.base.own) theirs forth

@@ -46,13 +46,13 @@ module _ (ticks : ℕ) where
 
   cr_wait_holds : (b : Base) (w : Requesting) (tpdu : Tpdu) → Holds b.clock (cr_wait_tpdu b w tpdu)
   unfolding cr_wait_tpdu
-  cr_wait_holds b w (Cc credit destination source width calling called size extra version classes ack_time text) = either (Holds b.clock) (is_within b.proposed (options_in width size extra)) _ _ refl refl
+  cr_wait_holds b w (Cc credit destination source width calling called size preferred extra version classes ack_time text) = either (Holds b.clock) (is_within b.proposed width size preferred extra) _ _ refl refl
   cr_wait_holds b w (Dr destination source reason info text) = not_late b.clock ticks
   cr_wait_holds b w other = refl
 
   parting_holds : (b : Base) (w : Parting) (tpdu : Tpdu) → Holds b.clock (wait_before_close_tpdu b w tpdu)
   unfolding wait_before_close_tpdu
-  parting_holds b w (Cc credit destination source width calling called size extra version classes ack_time text) = refl
+  parting_holds b w (Cc credit destination source width calling called size preferred extra version classes ack_time text) = refl
   parting_holds b w (Dr destination source reason info text) = not_late b.clock ticks
   parting_holds b w other = refl
 
@@ -86,7 +86,7 @@ module _ (ticks : ℕ) where
   unfolding opened_tpdu
   opened_holds b o (Dt destination last number text) = dt_holds (dt_arrival o.halves.receiving number (record { last = last; octets = text })).got b o _
   opened_holds b o (Ed destination last number text) = either (Holds b.clock) (is_expedited b.agreed) _ _ refl refl
-  opened_holds b o (Cc credit destination source width calling called size extra version classes ack_time text) = refl
+  opened_holds b o (Cc credit destination source width calling called size preferred extra version classes ack_time text) = refl
   opened_holds b o (Dr destination source reason info text) = not_late b.clock ticks
   opened_holds b o (Er destination cause rejected) = refl
   opened_holds b o (Ak destination number credit subsequence confirmation) = refl

@@ -59,14 +59,14 @@ all_same b m e = record { same = subst (IsSame b) (sym e) same; partner = ap (λ
 
 cr_wait_same : (b : Base) (w : Requesting) (tpdu : Tpdu) → IsSameIn b (cr_wait_tpdu b w tpdu)
 unfolding cr_wait_tpdu
-cr_wait_same b w (Cc credit destination source width calling called size extra version classes ack_time text) =
-    either (IsSameIn b) (is_within b.proposed (options_in width size extra)) _ _ (record { own = refl; to = refl; is_called = refl; timers = refl; proposed = refl }) (record { own = refl; to = refl; is_called = refl; timers = refl; proposed = refl })
+cr_wait_same b w (Cc credit destination source width calling called size preferred extra version classes ack_time text) =
+    either (IsSameIn b) (is_within b.proposed width size preferred extra) _ _ (record { own = refl; to = refl; is_called = refl; timers = refl; proposed = refl }) (record { own = refl; to = refl; is_called = refl; timers = refl; proposed = refl })
 cr_wait_same b w (Dr destination source reason info text) = same
 cr_wait_same b w other = same
 
 parting_same : (b : Base) (w : Parting) (tpdu : Tpdu) → IsSameIn b (wait_before_close_tpdu b w tpdu)
 unfolding wait_before_close_tpdu
-parting_same b w (Cc credit destination source width calling called size extra version classes ack_time text) = record { own = refl; to = refl; is_called = refl; timers = refl; proposed = refl }
+parting_same b w (Cc credit destination source width calling called size preferred extra version classes ack_time text) = record { own = refl; to = refl; is_called = refl; timers = refl; proposed = refl }
 parting_same b w (Dr destination source reason info text) = same
 parting_same b w other = same
 
@@ -102,7 +102,7 @@ opened_same : (b : Base) (o : Open) (tpdu : Tpdu) → (opened_tpdu whole b o tpd
 unfolding opened_tpdu
 opened_same b o (Dt destination last number text) = dt_same (dt_arrival o.halves.receiving number (record { last = last; octets = text })).got b o _
 opened_same b o (Ed destination last number text) = either (λ (m : Moved). m.base ≡ b) (is_expedited b.agreed) _ _ refl refl
-opened_same b o (Cc credit destination source width calling called size extra version classes ack_time text) = refl
+opened_same b o (Cc credit destination source width calling called size preferred extra version classes ack_time text) = refl
 opened_same b o (Dr destination source reason info text) = refl
 opened_same b o (Er destination cause rejected) = refl
 opened_same b o (Ak destination number credit subsequence confirmation) = refl

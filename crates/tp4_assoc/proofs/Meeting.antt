@@ -28,13 +28,13 @@ same_address l m e = subst (λ (x : List ℕ). pointwise nat_eq l x ≡ true) e 
 -- ---- by reference
 
 abbrev pub IsNoRequest : Tpdu → Type 0
-IsNoRequest (Cr credit source width calling called size extra version classes ack_time text) = ⊥
+IsNoRequest (Cr credit source width calling called size preferred extra version classes ack_time text) = ⊥
 IsNoRequest other = Unit {0}
 
 -- it has a destination
 abbrev pub IsFor : ℕ → Tpdu → Type 0
-IsFor own (Cr credit source width calling called size extra version classes ack_time text) = ⊥
-IsFor own (Cc credit destination source width calling called size extra version classes ack_time text) = destination ≡ own
+IsFor own (Cr credit source width calling called size preferred extra version classes ack_time text) = ⊥
+IsFor own (Cc credit destination source width calling called size preferred extra version classes ack_time text) = destination ≡ own
 IsFor own (Dr destination source reason info text) = destination ≡ own
 IsFor own (Dc destination source) = destination ≡ own
 IsFor own (Dt destination last number text) = destination ≡ own
@@ -44,11 +44,11 @@ IsFor own (Ea destination number) = destination ≡ own
 IsFor own (Er destination cause rejected) = destination ≡ own
 
 pub for_end : (z : End) (other : ℕ) (tpdu : Tpdu) → MayCome z other tpdu → IsNoRequest tpdu → IsFor z.base.own tpdu
-for_end z other (Cr credit source width calling called size extra version classes ack_time text) m never = absurd never
+for_end z other (Cr credit source width calling called size preferred extra version classes ack_time text) m never = absurd never
 for_end z other (Er destination cause rejected) m never = absurd m
 for_end z other (Dr destination source reason info text) m never = m.0
 for_end z other (Dc destination source) m never = m.0
-for_end z other (Cc credit destination source width calling called size extra version classes ack_time text) m never = m.0
+for_end z other (Cc credit destination source width calling called size preferred extra version classes ack_time text) m never = m.0
 for_end z other (Dt destination last number text) m never = m.0
 for_end z other (Ed destination last number text) m never = m.0
 for_end z other (Ak destination number credit subsequence confirmation) m never = m.0
@@ -59,8 +59,8 @@ module _ (now : ℕ) (e : Entity) (from : List ℕ) (sum : Bool) where
   at_reference tpdu n m is = ap (λ (x : ℕ). met_at whole now e from (tpdu, sum) (Some x)) is
 
   met_there : (own : ℕ) (tpdu : Tpdu) → IsFor own tpdu → met whole now e from (tpdu, sum) ≡ met_at whole now e from (tpdu, sum) (Some own)
-  met_there own (Cr credit source width calling called size extra version classes ack_time text) is = absurd is
-  met_there own (Cc credit destination source width calling called size extra version classes ack_time text) is = at_reference (Cc credit destination source width calling called size extra version classes ack_time text) destination own is
+  met_there own (Cr credit source width calling called size preferred extra version classes ack_time text) is = absurd is
+  met_there own (Cc credit destination source width calling called size preferred extra version classes ack_time text) is = at_reference (Cc credit destination source width calling called size preferred extra version classes ack_time text) destination own is
   met_there own (Dr destination source reason info text) is = at_reference (Dr destination source reason info text) destination own is
   met_there own (Dc destination source) is = at_reference (Dc destination source) destination own is
   met_there own (Dt destination last number text) is = at_reference (Dt destination last number text) destination own is
@@ -190,8 +190,8 @@ module _ (now : ℕ) (e : Entity) (z w : End) (here there : List ℕ) (sent : Se
           Unmatched left (subst (λ (l : List Sent). AreParting z w here there rest (out ++ l)) (sym (ap (λ (x : Acted). x.tpdus) left)) (leaves_it z.base w here there now sent rest out low mine z.stage p fit))
 
   a_request : (tpdu : Tpdu) → sent.tpdu ≡ tpdu → MayCome z w.base.own tpdu → IsHeard now e z w here there sent rest out (met whole now e there (tpdu, sent.sum))
-  a_request (Cr credit source width calling called size extra version classes ack_time text) is m =
-      let r = copy_refused now e there source called (Cr credit source width calling called size extra version classes ack_time text) z stands p.one.knows.to (m.1 ∙ sym m.0) m.2 m.3 in
+  a_request (Cr credit source width calling called size preferred extra version classes ack_time text) is m =
+      let r = copy_refused now e there source called (Cr credit source width calling called size preferred extra version classes ack_time text) z stands p.one.knows.to (m.1 ∙ sym m.0) m.2 m.3 in
       subst (IsHeard now e z w here there sent rest out) (sym r.1) (Answered_so refl refl (by z.stage m.3 refl r.0))
     where
       by : (stage : Stage) → IsFrozen stage → z.stage ≡ stage → (answered : Bool) → AreParting z w here there rest (out ++ (if answered then refusal there source 131 ∷ [] else []))

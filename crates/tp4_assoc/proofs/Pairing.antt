@@ -180,7 +180,7 @@ module _ (p : Pair) (here there : List ℕ) (to : p.calling.base.to ≡ there) (
         by (First o w mine theirs f) = absurd (not_empty sent rest (sym i.back_is ∙ f.back_is))
         by (Confirming r w mine theirs new c) =
             let is : confirm p.called.base c.options c.octets ≡ sent = first_one (confirm p.called.base c.options c.octets) sent [] rest (sym c.back_is ∙ i.back_is) in
-            let row = confirms p.calling.base p.called.base r c.options c.octets p.clock c.agreed (i.within r c.options mine c.agreed) in
+            let row = confirms p.calling.base p.called.base r c.options c.octets p.clock c.agreed c.size (i.within r c.options mine c.agreed) in
             let opens : n.stage ≡ Opened _ =
             ap (λ (s : Sent). (takes whole p.clock p.calling.base p.calling.stage s.tpdu s.sum).stage) (sym is)
             ∙ ap (λ (stage : Stage). (takes whole p.clock p.calling.base stage (confirm p.called.base c.options c.octets).tpdu (confirm p.called.base c.options c.octets).sum).stage) mine

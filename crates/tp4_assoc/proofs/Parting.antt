@@ -127,8 +127,8 @@ module _ (b : Base) (o : Open) (w : End) (here there : List ℕ) (now : ℕ) (se
   opened_row (Ed destination last number text) e m fit = opened_data (Ed destination last number text) (λ r. subst (IsReleaseOf w.base.own) e r) m.0
   opened_row (Ak destination number credit subsequence confirmation) e m fit = opened_data (Ak destination number credit subsequence confirmation) (λ r. subst (IsReleaseOf w.base.own) e r) m.0
   opened_row (Ea destination number) e m fit = opened_data (Ea destination number) (λ r. subst (IsReleaseOf w.base.own) e r) m.0
-  opened_row (Cc credit destination source width calling called size extra version classes ack_time text) e m fit = absurd m.2
-  opened_row (Cr credit source width calling called size extra version classes ack_time text) e m fit = absurd m.3
+  opened_row (Cc credit destination source width calling called size preferred extra version classes ack_time text) e m fit = absurd m.2
+  opened_row (Cr credit source width calling called size preferred extra version classes ack_time text) e m fit = absurd m.3
   opened_row (Er destination cause rejected) e m fit = absurd m
 
 -- ---- AkWait
@@ -166,8 +166,8 @@ module _ (b : Base) (a : Answering) (w : End) (here there : List ℕ) (now : ℕ
   waiting_row (Ed destination last number text) e m = absurd m.1
   waiting_row (Ak destination number credit subsequence confirmation) e m = absurd m.1
   waiting_row (Ea destination number) e m = absurd m.1
-  waiting_row (Cc credit destination source width calling called size extra version classes ack_time text) e m = absurd m.2
-  waiting_row (Cr credit source width calling called size extra version classes ack_time text) e m = absurd m.3
+  waiting_row (Cc credit destination source width calling called size preferred extra version classes ack_time text) e m = absurd m.2
+  waiting_row (Cr credit source width calling called size preferred extra version classes ack_time text) e m = absurd m.3
   waiting_row (Er destination cause rejected) e m = absurd m
 
 -- ---- Closing
@@ -190,8 +190,8 @@ module _ (b : Base) (c : Releasing) (w : End) (here there : List ℕ) (now : ℕ
   closing_row (Ed destination last number text) e m = closing_stays now (λ r. subst (IsReleaseOf w.base.own) e r) (λ r. subst IsDone e r)
   closing_row (Ak destination number credit subsequence confirmation) e m = closing_stays now (λ r. subst (IsReleaseOf w.base.own) e r) (λ r. subst IsDone e r)
   closing_row (Ea destination number) e m = closing_stays now (λ r. subst (IsReleaseOf w.base.own) e r) (λ r. subst IsDone e r)
-  closing_row (Cc credit destination source width calling called size extra version classes ack_time text) e m = absurd m.2
-  closing_row (Cr credit source width calling called size extra version classes ack_time text) e m = absurd m.3
+  closing_row (Cc credit destination source width calling called size preferred extra version classes ack_time text) e m = absurd m.2
+  closing_row (Cr credit source width calling called size preferred extra version classes ack_time text) e m = absurd m.3
   closing_row (Er destination cause rejected) e m = absurd m
 
 -- ---- a TPDU that the end takes
@@ -239,8 +239,8 @@ module _ (b : Base) (w : End) (here there : List ℕ) (now : ℕ) (sent : Sent) 
   ]
   left_open o (Dc destination source) e p m unfit =
       absurd (not_both (source == b.partner) (eq-eqb source b.partner (m.1 ∙ sym (partner_is b (Opened o) w here there now sent rest out low mine p (λ f. f)))) unfit)
-  left_open o (Cc credit destination source width calling called size extra version classes ack_time text) e p m unfit = absurd m.2
-  left_open o (Cr credit source width calling called size extra version classes ack_time text) e p m unfit = absurd m.3
+  left_open o (Cc credit destination source width calling called size preferred extra version classes ack_time text) e p m unfit = absurd m.2
+  left_open o (Cr credit source width calling called size preferred extra version classes ack_time text) e p m unfit = absurd m.3
   left_open o other e p m unfit = absurd (cc unfit)
 
   left_closing : (c : Releasing) (tpdu : Tpdu) → sent.tpdu ≡ tpdu → AreParting (record { base = b; stage = Closing c }) w here there (sent ∷ rest) out → MayCome (record { base = b; stage = Closing c }) w.base.own tpdu
@@ -254,8 +254,8 @@ module _ (b : Base) (w : End) (here there : List ℕ) (now : ℕ) (sent : Sent) 
   ]
   left_closing c (Dc destination source) e p m unfit =
       absurd (not_both (source == b.partner) (eq-eqb source b.partner (m.1 ∙ sym (partner_is b (Closing c) w here there now sent rest out low mine p (λ f. f)))) unfit)
-  left_closing c (Cc credit destination source width calling called size extra version classes ack_time text) e p m unfit = absurd m.2
-  left_closing c (Cr credit source width calling called size extra version classes ack_time text) e p m unfit = absurd m.3
+  left_closing c (Cc credit destination source width calling called size preferred extra version classes ack_time text) e p m unfit = absurd m.2
+  left_closing c (Cr credit source width calling called size preferred extra version classes ack_time text) e p m unfit = absurd m.3
   left_closing c other e p m unfit = absurd (cc unfit)
 
   left_waiting : (a : Answering) (tpdu : Tpdu) → AreParting (record { base = b; stage = AkWait a }) w here there (sent ∷ rest) out → MayCome (record { base = b; stage = AkWait a }) w.base.own tpdu
@@ -268,8 +268,8 @@ module _ (b : Base) (w : End) (here there : List ℕ) (now : ℕ) (sent : Sent) 
       ]
   left_waiting a (Dc destination source) p m unfit =
       not_both (source == b.partner) (eq-eqb source b.partner (m.1 ∙ sym (partner_is b (AkWait a) w here there now sent rest out low mine p (λ f. f)))) (or_false (source == b.partner) false unfit).0
-  left_waiting a (Cc credit destination source width calling called size extra version classes ack_time text) p m unfit = m.2
-  left_waiting a (Cr credit source width calling called size extra version classes ack_time text) p m unfit = m.3
+  left_waiting a (Cc credit destination source width calling called size preferred extra version classes ack_time text) p m unfit = m.2
+  left_waiting a (Cr credit source width calling called size preferred extra version classes ack_time text) p m unfit = m.3
   left_waiting a other p m unfit = cc unfit
 
   -- a frozen end
@@ -286,9 +286,9 @@ module _ (b : Base) (w : End) (here there : List ℕ) (now : ℕ) (sent : Sent) 
     | inr none ↦ subst (λ (z : Bool). AreParting (record { base = b; stage = Frozen t }) w here there rest (out ++ (if z then [] else answer there (Dc source destination) ∷ []))) (sym (eq-eqb source 0 none))
         (stays_frozen t [] p tt (λ r. absurd (other_release w.base.own b.own sent.tpdu low (subst (IsReleaseOf 0) (sym e) none) r)) (λ c. absurd (subst IsConfirm e c)))
   ]
-  left_frozen t (Cc credit destination source width calling called size extra version classes ack_time text) e p m =
+  left_frozen t (Cc credit destination source width calling called size preferred extra version classes ack_time text) e p m =
       stays_frozen t (refusal there source 132 ∷ []) p (refused_comes w b.own there source 132 m.1, tt) (λ r. absurd (subst (IsReleaseOf w.base.own) e r)) (λ c. inl refl)
-  left_frozen t (Cr credit source width calling called size extra version classes ack_time text) e p m = stays_frozen t [] p tt (λ r. absurd (subst (IsReleaseOf w.base.own) e r)) (λ c. absurd (subst IsConfirm e c))
+  left_frozen t (Cr credit source width calling called size preferred extra version classes ack_time text) e p m = stays_frozen t [] p tt (λ r. absurd (subst (IsReleaseOf w.base.own) e r)) (λ c. absurd (subst IsConfirm e c))
   left_frozen t (Dc destination source) e p m = stays_frozen t [] p tt (λ r. absurd (subst (IsReleaseOf w.base.own) e r)) (λ c. absurd (subst IsConfirm e c))
   left_frozen t (Dt destination last number text) e p m = stays_frozen t [] p tt (λ r. absurd (subst (IsReleaseOf w.base.own) e r)) (λ c. absurd (subst IsConfirm e c))
   left_frozen t (Ed destination last number text) e p m = stays_frozen t [] p tt (λ r. absurd (subst (IsReleaseOf w.base.own) e r)) (λ c. absurd (subst IsConfirm e c))

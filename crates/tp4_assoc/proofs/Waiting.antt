@@ -12,8 +12,9 @@ use Rattle.tp4_conn.specs.declared.stage.Stage.{Stage}
 use Rattle.tp4_conn.specs.declared.stage.Stage.TheVariants.{CrWait, WaitBeforeClose, UserWait, Frozen}
 use Rattle.tp4_conn.specs.declared.timers.Timers.{Timers}
 use Rattle.tp4_conn.specs.Agreeing.{confirm, request}
-use Rattle.tp4_conn.specs.End.{End, IsSize, IsTimed, agreed_format}
-use Rattle.tp4_conn.proofs.Sizes.{size_least}
+use Rattle.tp4_conn.specs.declared.proposed.Proposed.{Proposed}
+use Rattle.tp4_conn.specs.End.{End, IsProposal, IsSized, IsTimed, agreed_format}
+use Rattle.tp4_conn.proofs.Sizes.{proposal_by}
 use Rattle.tp4_entity.specs.Entity.{Entity}
 use Rattle.tp4_world.specs.World.{entity_at}
 use Rattle.tp4_world.specs.declared.place.Placed.{Placed}
@@ -39,7 +40,7 @@ none_first x l e = absurd (cc e)
 -- ---- kinds
 
 request_plain : (n : ℕ) (tpdu : Tpdu) → IsRequest n tpdu → has_number (kind_for tpdu) ≡ true → ⊥
-request_plain n (Cr credit source width calling called size extra version classes ack_time text) is e = cc e
+request_plain n (Cr credit source width calling called size preferred extra version classes ack_time text) is e = cc e
 request_plain n other is e = is
 
 refusal_plain : (n : ℕ) (tpdu : Tpdu) → IsRefusal n tpdu → has_number (kind_for tpdu) ≡ true → ⊥
@@ -59,8 +60,8 @@ numbered_for z other (Ed destination last number text) m e = ap Some m.0
 numbered_for z other (Ak destination number credit subsequence confirmation) m e = ap Some m.0
 numbered_for z other (Ea destination number) m e = ap Some m.0
 numbered_for z other (Er destination cause rejected) m e = absurd m
-numbered_for z other (Cr credit source width calling called size extra version classes ack_time text) m e = absurd (cc e)
-numbered_for z other (Cc credit destination source width calling called size extra version classes ack_time text) m e = absurd (cc e)
+numbered_for z other (Cr credit source width calling called size preferred extra version classes ack_time text) m e = absurd (cc e)
+numbered_for z other (Cc credit destination source width calling called size preferred extra version classes ack_time text) m e = absurd (cc e)
 numbered_for z other (Dr destination source reason info text) m e = absurd (cc e)
 numbered_for z other (Dc destination source) m e = absurd (cc e)
 
@@ -216,7 +217,7 @@ module _ (timers : Timers) (own : ℕ → List ℕ) (now : ℕ) (a : Association
       by (Over calling called forth_is back_is) = absurd (frozen_not since y.stage stage (frozen_called a.called y is_y called))
 
   -- an accept of the called end's user
-  pub may_accept : (r : Requesting) (asked : Options) → x.stage ≡ CrWait r → IsTimed timers → IsSize asked.size
+  pub may_accept : (r : Requesting) (asked : Options) → x.stage ≡ CrWait r → IsTimed timers → IsSized asked
       → Accepts (record { clock = now; calling = x; called = y; forth = []; back = []; calling_gave = []; called_gave = []; calling_showed = []; called_showed = []; calling_told = []; called_told = [] }) asked
   may_accept r asked waits timed size = by i.phase
     where
@@ -225,9 +226,6 @@ module _ (timers : Timers) (own : ℕ → List ℕ) (now : ℕ) (a : Association
       made proposed credit =
           let c = i.caller x is_x in
           let d = i.called y is_y in
-          let least = size_least x.base.proposed.size c.size in
-          let some = size_least asked.size size in
-          let same : y.base.proposed.size ≡ x.base.proposed.size = ap (λ (o : Options). o.size) proposed in
           let low : x.base.timers.credit ≤ 15 = subst (λ (t : Timers). t.credit ≤ 15) (sym c.timers_are) timed.credit in
           let low_there : y.base.timers.credit ≤ 15 = subst (λ (t : Timers). t.credit ≤ 15) (sym d.timers_are) timed.credit in
           record {
@@ -241,8 +239,8 @@ module _ (timers : Timers) (own : ℕ → List ℕ) (now : ℕ) (a : Association
             known = credit;
             low = low;
             low_there = low_there;
-            size = omega (arith, least, same);
-            size_asked = omega (arith, some);
+            size = subst (λ (p : Proposed). IsProposal p) (sym (proposed ∙ c.proposed)) (proposal_by x.base.proposed.options c.size);
+            size_asked = size;
             new = record { calling_gave = refl; called_gave = refl; calling_showed = refl; called_showed = refl };
           }
 

@@ -10,7 +10,7 @@ use Rattle.tp4_flow.specs.declared.rules.Options.{Options}
 use Rattle.tp4_flow.specs.declared.step.EndEvent.{EndEvent}
 use Rattle.tp4_flow.specs.declared.step.What.TheVariants.{Unknown}
 use Rattle.tp4_conn.specs.Calls.{IsCall}
-use Rattle.tp4_conn.specs.End.{End, IsSize, agreed_format, end_of}
+use Rattle.tp4_conn.specs.End.{End, IsSized, agreed_format, end_of}
 use Rattle.tp4_conn.specs.Making.{connected, indicated}
 use Rattle.tp4_conn.specs.Proper.{IsProper, IsProperCall}
 use Rattle.tp4_conn.specs.Table.{Called, Ticked, Took, due, stepped}
@@ -135,7 +135,7 @@ module _ (timers : Timers) (own : ℕ → List ℕ) where
 
   abbrev pub MayAccept : Type 0
   MayAccept = (now : ℕ) (entities : List Placed) (all : List Association) (k : ℕ) (a : Association) (x y : End) (since : ℕ) (r : Requesting) (asked : Options) → Standing timers own now entities all []
-      → AreProperEnds entities → slice_get all k ≡ Some a → a.calling ≡ Some x → a.called ≡ Some y → y.stage ≡ UserWait since → x.stage ≡ CrWait r → IsSize asked.size
+      → AreProperEnds entities → slice_get all k ≡ Some a → a.calling ≡ Some x → a.called ≡ Some y → y.stage ≡ UserWait since → x.stage ≡ CrWait r → IsSized asked
       → Accepts (record { clock = now; calling = x; called = y; forth = []; back = []; calling_gave = []; called_gave = []; calling_showed = []; called_showed = []; calling_told = []; called_told = [] }) asked
 
   pub record Laws (IsTicking : ℕ → List Placed → List Association → List Association → List Posted → Type 0) : Type 0 where

@@ -15,7 +15,7 @@ use Rattle.tp4_conn.specs.declared.stage.Requesting.{Requesting}
 use Rattle.tp4_conn.specs.declared.stage.Stage.{Stage}
 use Rattle.tp4_conn.specs.declared.stage.Stage.TheVariants.{CrWait, WaitBeforeClose, UserWait, AkWait, Opened, Closing, Frozen}
 use Rattle.tp4_conn.specs.declared.timers.Timers.{Timers}
-use Rattle.tp4_conn.specs.Agreeing.{confirm, is_within, request}
+use Rattle.tp4_conn.specs.Agreeing.{confirm, is_confirmed, request}
 use Rattle.tp4_conn.specs.End.{End, agreed_format, agreed_sum, frozen_for}
 use Rattle.tp4_conn.specs.Matching.{sum_agreed}
 use Rattle.tp4_entity.specs.References.{was_frozen}
@@ -53,7 +53,7 @@ Has P (sent ∷ tpdus) = P sent.tpdu ⊎ Has P tpdus
 
 -- a CR of the end of that reference
 abbrev pub IsRequest : ℕ → Tpdu → Type 0
-IsRequest from (Cr credit source width calling called size extra version classes ack_time text) = source ≡ from
+IsRequest from (Cr credit source width calling called size preferred extra version classes ack_time text) = source ≡ from
 IsRequest from other = ⊥
 
 -- a DR with source 0 to the end of that reference
@@ -71,7 +71,7 @@ IsDone (Dc destination source) = Unit {0}
 IsDone other = ⊥
 
 abbrev pub IsConfirm : Tpdu → Type 0
-IsConfirm (Cc credit destination source width calling called size extra version classes ack_time text) = Unit {0}
+IsConfirm (Cc credit destination source width calling called size preferred extra version classes ack_time text) = Unit {0}
 IsConfirm other = ⊥
 
 -- all go to that address, and are of that kind
@@ -92,8 +92,8 @@ HearsData stage = ⊥
 abbrev pub MayCome : End → ℕ → Tpdu → Type 0
 MayCome end other (Dr destination source reason info text) = (destination ≡ end.base.own) × ((source ≡ other) ⊎ (source ≡ 0))
 MayCome end other (Dc destination source) = (destination ≡ end.base.own) × (source ≡ other)
-MayCome end other (Cc credit destination source width calling called size extra version classes ack_time text) = (destination ≡ end.base.own) × (source ≡ other) × IsFrozen end.stage
-MayCome end other (Cr credit source width calling called size extra version classes ack_time text) = (source ≡ other) × (end.base.partner ≡ other) × (end.base.is_called ≡ true) × IsFrozen end.stage
+MayCome end other (Cc credit destination source width calling called size preferred extra version classes ack_time text) = (destination ≡ end.base.own) × (source ≡ other) × IsFrozen end.stage
+MayCome end other (Cr credit source width calling called size preferred extra version classes ack_time text) = (source ≡ other) × (end.base.partner ≡ other) × (end.base.is_called ≡ true) × IsFrozen end.stage
 MayCome end other (Dt destination last number text) = (destination ≡ end.base.own) × HearsData end.stage
 MayCome end other (Ed destination last number text) = (destination ≡ end.base.own) × HearsData end.stage
 MayCome end other (Ak destination number credit subsequence confirmation) = (destination ≡ end.base.own) × HearsData end.stage
@@ -172,7 +172,7 @@ pub record IsPaired (now : ℕ) (p : Pair) (forth back : List Sent) : Type 0 whe
   pub forth_is : p.forth ≡ forth
   pub back_is : p.back ≡ back
   pub stands : Stands p
-  pub within : (r : Requesting) (options : Options) → p.calling.stage ≡ CrWait r → p.called.base.agreed ≡ Some options → is_within p.calling.base.proposed options ≡ true
+  pub within : (r : Requesting) (options : Options) → p.calling.stage ≡ CrWait r → p.called.base.agreed ≡ Some options → is_confirmed p.calling.base.proposed options ≡ true
   pub stays : HasLeft p.calling.stage ⊎ HasLeft p.called.stage → ⊥
 
 -- the CR was indicated, and the user may still answer

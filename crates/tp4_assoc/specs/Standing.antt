@@ -3,7 +3,8 @@
 use Rattle.std.specs.Prelude.{◌≡◌, ℕ, ◌<◌, ◌≤◌, Bool, true, false, List, length, slice_get, Some}
 use Rattle.std.specs.List.{AllByRecursion}
 use Rattle.tp4_flow.specs.declared.step.Sent.{Sent}
-use Rattle.tp4_conn.specs.End.{End, IsSize, IsTimed}
+use Rattle.tp4_conn.specs.Agreeing.{proposed_by}
+use Rattle.tp4_conn.specs.End.{End, IsSized, IsTimed}
 use Rattle.tp4_conn.specs.declared.timers.Timers.{Timers}
 use Rattle.tp4_entity.specs.Entity.{Entity, end_at}
 use Rattle.tp4_world.specs.World.{entity_at}
@@ -37,7 +38,8 @@ pub record IsCaller (timers : Timers) (reference : ℕ) (address : List ℕ) (x 
   pub to : x.base.to ≡ address
   pub is_called : x.base.is_called ≡ false
   pub timers_are : x.base.timers ≡ timers
-  pub size : IsSize x.base.proposed.size
+  pub size : IsSized x.base.proposed.options
+  pub proposed : x.base.proposed ≡ proposed_by x.base.proposed.options
 
 pub record IsCalled (timers : Timers) (reference : ℕ) (address : List ℕ) (y : End) : Type 0 where
   pub partner : y.base.partner ≡ reference

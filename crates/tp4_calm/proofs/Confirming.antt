@@ -20,10 +20,11 @@ use Rattle.tp4_conn.specs.declared.stage.Answering.{Answering}
 use Rattle.tp4_conn.specs.declared.stage.Open.{Open}
 use Rattle.tp4_conn.specs.declared.stage.Requesting.{Requesting}
 use Rattle.tp4_conn.specs.declared.stage.Stage.TheVariants.{AkWait, CrWait, Opened, UserWait}
-use Rattle.tp4_conn.specs.Agreeing.{agreed_by, confirm, extra_of, flow_rules, format_of_both, halves_of, is_extended, is_within, request}
+use Rattle.tp4_conn.specs.Agreeing.{agreed_by, confirm, extra_of, flow_rules, halves_of, is_confirmed, proposed_by, request}
 use Rattle.tp4_conn.specs.AkWait.{ak_wait_tpdu}
 use Rattle.tp4_conn.specs.CrWait.{confirmed, cr_wait_tpdu}
-use Rattle.tp4_conn.specs.End.{Moved, end_of as end_of_row, agreed_sum, closing, gone}
+use Rattle.tp4_conn.specs.declared.proposed.Proposed.{Proposed}
+use Rattle.tp4_conn.specs.End.{IsProposal, IsSized, Moved, end_of as end_of_row, agreed_sum, closing, gone}
 use Rattle.tp4_conn.specs.declared.call.ConnectCall.{ConnectCall}
 use Rattle.tp4_conn.specs.declared.timers.Timers.{Timers}
 use Rattle.tp4_conn.specs.Making.{called_end, caller, indicated, on_cr}
@@ -39,42 +40,22 @@ use Rattle.tp4_entity.specs.Entity.{Entity, moved}
 use Rattle.tp4_entity.specs.References.{least_free}
 use Rattle.tp4_calm.specs.Pair.{AreOpened, Asks_called, Comes_back, Comes_forth, IsIdle, Pair, next}
 use Rattle.tp4_calm.proofs.Handing.{has_sum}
-use Rattle.tp4_calm.proofs.Opening.{confirm_sum, options_back}
-
--- what is agreed is within what was proposed
-pub within : (proposed asked : Options) → is_within proposed (agreed_by proposed asked) ≡ true
-within proposed asked = λ i. by_format proposed.format asked.format i && (by_expedited proposed.expedited asked.expedited i && (by_sum proposed.sum asked.sum i && low i))
-  where
-    by_format : (p a : Format) → (not (is_extended (format_of_both p a)) || is_extended p) ≡ true
-    by_format Normal a = refl
-    by_format Extended Normal = refl
-    by_format Extended Extended = refl
-
-    by_expedited : (p a : Bool) → (not (p && a) || p) ≡ true
-    by_expedited true true = refl
-    by_expedited true false = refl
-    by_expedited false a = refl
-
-    by_sum : (p a : Bool) → ((p || a) || not p) ≡ true
-    by_sum true a = refl
-    by_sum false true = refl
-    by_sum false false = refl
-
-    low : nat_le (min proposed.size asked.size) proposed.size ≡ true
-    low = le-leb _ _ (omega arith)
+use Rattle.tp4_conn.proofs.Agreed.{agreed_within, options_back, request_back}
+use Rattle.tp4_conn.proofs.Sizes.{agreed_sized}
+use Rattle.tp4_calm.proofs.Opening.{confirm_sum}
 
 -- the row of the calling end
-pub confirms : (b c : Base) (r : Requesting) (options : Options) (octets : List ℕ) (now : ℕ) → c.agreed ≡ Some options → is_within b.proposed options ≡ true
+pub confirms : (b c : Base) (r : Requesting) (options : Options) (octets : List ℕ) (now : ℕ) → c.agreed ≡ Some options → IsSized options → is_confirmed b.proposed options ≡ true
     → takes whole now b (CrWait r) (confirm c options octets).tpdu (confirm c options octets).sum
     ≡ confirmed (record b { partner = c.own; credit = c.timers.credit; agreed = Some options; clock = now }) options octets
 unfolding cr_wait_tpdu
-confirms b c r options octets now agreed fits =
+confirms b c r options octets now agreed sized fits =
     let sum : agreed_sum c.agreed ≡ options.sum = ap agreed_sum agreed in
     let taken : (wants_sum b (CrWait r) (confirm c options octets).tpdu && not (agreed_sum c.agreed)) ≡ false =
     ap (λ (s : Bool). (extra_of options / 2 % 2 == 0) && not s) sum ∙ confirm_sum options in
     ap (λ (wants : Bool). if wants then untaken b (CrWait r) else on_tpdu whole (now_at now b) (CrWait r) (confirm c options octets).tpdu) taken
-    ∙ ap (λ (o : Options). if is_within b.proposed o then confirmed (record b { partner = c.own; credit = c.timers.credit; agreed = Some o; clock = now }) o octets
-    else closing (record b { partner = c.own; clock = now }) (gone (now_at now b) Protocol []) 133 [] now) (options_back options)
+    ∙ ap (λ (o : Options). if is_confirmed b.proposed options then confirmed (record b { partner = c.own; credit = c.timers.credit; agreed = Some o; clock = now }) o octets
+    else closing (record b { partner = c.own; clock = now }) (gone (now_at now b) Protocol []) 133 [] now) (options_back options sized)
     ∙ ap (λ (fit : Bool). if fit then confirmed (record b { partner = c.own; credit = c.timers.credit; agreed = Some options; clock = now }) options octets
     else closing (record b { partner = c.own; clock = now }) (gone (now_at now b) Protocol []) 133 [] now) fits
 
@@ -138,13 +119,14 @@ waits_for_cc p b c r asked octets = record {
 }
 
 -- by the CC and the first AK
-cc_and_ak : (p : Pair) (b c : Base) (r : Requesting) (asked : Options) (octets : List ℕ) → c.proposed ≡ b.proposed
+cc_and_ak : (p : Pair) (b c : Base) (r : Requesting) (asked : Options) (octets : List ℕ) → c.proposed ≡ b.proposed → IsProposal c.proposed → IsSized asked
     → AreOpened (next (next (waits_for_cc p b c r asked octets) Comes_back) Comes_forth)
-cc_and_ak p b c r asked octets same =
+cc_and_ak p b c r asked octets same proposal sized =
     let options : Options = agreed_by c.proposed asked in
     let d : Base = accepted_base c p.clock asked in
-    let fits : is_within b.proposed options ≡ true = subst (λ (o : Options). is_within o options ≡ true) same (within c.proposed asked) in
-    subst (λ (m : Moved). AreOpened (next (came m) Comes_forth)) (sym (confirms b d r options octets p.clock refl fits))
+    let all : IsSized options = agreed_sized c.proposed asked proposal sized in
+    let fits : is_confirmed b.proposed options ≡ true = subst (λ (o : Proposed). is_confirmed o options ≡ true) same (agreed_within c.proposed asked proposal sized) in
+    subst (λ (m : Moved). AreOpened (next (came m) Comes_forth)) (sym (confirms b d r options octets p.clock refl all fits))
     (by (record b { partner = d.own; credit = d.timers.credit; agreed = Some options; clock = p.clock }))
   where
     came : Moved → Pair
@@ -155,10 +137,10 @@ cc_and_ak p b c r asked octets same =
         let a = answers (accepted_base c p.clock asked) (agreed_by c.proposed asked) (answering c p.clock asked octets) (empty (flow_rules e (agreed_by c.proposed asked)) e.timers.credit) p.clock refl refl refl in
         (_, a.open_is, refl, a.stage, record { forth = refl; back = ap (λ (l : List Sent). [] ++ l) a.tpdus })
 
-pub opens : (p : Pair) (r : Requesting) (since : ℕ) (asked : Options) (octets : List ℕ) → IsIdle p → p.calling.stage ≡ CrWait r → p.called.stage ≡ UserWait since → p.called.base.proposed ≡ p.calling.base.proposed
+pub opens : (p : Pair) (r : Requesting) (since : ℕ) (asked : Options) (octets : List ℕ) → IsIdle p → p.calling.stage ≡ CrWait r → p.called.stage ≡ UserWait since → p.called.base.proposed ≡ p.calling.base.proposed → IsProposal p.called.base.proposed → IsSized asked
     → AreOpened (next (next (next p (Asks_called (Accept asked octets))) Comes_back) Comes_forth)
 unfolding user_wait_accept
-opens p r since asked octets idle mine theirs same =
+opens p r since asked octets idle mine theirs same proposal sized =
     let plain : Pair = record p { calling = record p.calling { stage = CrWait r }; called = record p.called { stage = UserWait since }; forth = []; back = [] } in
     let is : plain ≡ p = λ i. record p {
       calling = record p.calling { stage = sym mine i };
@@ -167,20 +149,20 @@ opens p r since asked octets idle mine theirs same =
       back = sym idle.back i;
     } in
     subst (λ (x : Pair). AreOpened (next (next (next x (Asks_called (Accept asked octets))) Comes_back) Comes_forth)) is
-    (cc_and_ak p p.calling.base p.called.base r asked octets same)
+    (cc_and_ak p p.calling.base p.called.base r asked octets same proposal sized)
 
 -- the CR of a connect call is indicated
-pub indicates : (made now own : ℕ) (from : List ℕ) (rules : Timers) (call : ConnectCall) → on_cr now own from rules (request (caller made call) call.octets).tpdu
-    ≡ Some (indicated (called_end now own from rules call.rules.credit call.own call.from_selector call.to_selector call.options) call.octets)
-indicates made now own from rules call =
-    ap (λ (o : Options). Some (indicated (called_end now own from rules call.rules.credit call.own call.from_selector call.to_selector o) call.octets)) (options_back call.options)
+pub indicates : (made now own : ℕ) (from : List ℕ) (rules : Timers) (call : ConnectCall) → IsSized call.options → on_cr now own from rules (request (caller made call) call.octets).tpdu
+    ≡ Some (indicated (called_end now own from rules call.rules.credit call.own call.from_selector call.to_selector (proposed_by call.options)) call.octets)
+indicates made now own from rules call sized =
+    ap (λ (o : Proposed). Some (indicated (called_end now own from rules call.rules.credit call.own call.from_selector call.to_selector o) call.octets)) (request_back call.options sized)
 
 -- the entity makes an end for it, where it has a free reference and no end of that caller, and the selector is registered
-pub incoming : (made now reference : ℕ) (e : Entity) (from : List ℕ) (call : ConnectCall) (sum : Bool) → list_any (is_called false from call.own) e.ends ≡ false → list_any (is_called true from call.own) e.ends ≡ false
+pub incoming : (made now reference : ℕ) (e : Entity) (from : List ℕ) (call : ConnectCall) (sum : Bool) → IsSized call.options → list_any (is_called false from call.own) e.ends ≡ false → list_any (is_called true from call.own) e.ends ≡ false
     → is_registered e.selectors call.to_selector ≡ true → least_free now e ≡ Some reference
     → met whole now e from ((request (caller made call) call.octets).tpdu, sum)
-    ≡ moved e reference (indicated (called_end now reference from e.timers call.rules.credit call.own call.from_selector call.to_selector call.options) call.octets)
-incoming made now reference e from call sum none frozen registered free =
+    ≡ moved e reference (indicated (called_end now reference from e.timers call.rules.credit call.own call.from_selector call.to_selector (proposed_by call.options)) call.octets)
+incoming made now reference e from call sum sized none frozen registered free =
     let cr : Tpdu = (request (caller made call) call.octets).tpdu in
     ap (λ (b : Bool). if b then answers_of e [] else if list_any (is_called true from call.own) e.ends then answers_of e (refusal from call.own 131 ∷ [])
     else if not (is_registered e.selectors call.to_selector) then answers_of e (refusal from call.own 3 ∷ []) else new_end now e from call.own cr (least_free now e)) none
@@ -188,4 +170,4 @@ incoming made now reference e from call sum none frozen registered free =
     else if not (is_registered e.selectors call.to_selector) then answers_of e (refusal from call.own 3 ∷ []) else new_end now e from call.own cr (least_free now e)) frozen
     ∙ ap (λ (b : Bool). if not b then answers_of e (refusal from call.own 3 ∷ []) else new_end now e from call.own cr (least_free now e)) registered
     ∙ ap (λ (r : Option ℕ). new_end now e from call.own cr r) free
-    ∙ ap (λ (m : Option Moved). calls e reference m) (indicates made now reference from e.timers call)
+    ∙ ap (λ (m : Option Moved). calls e reference m) (indicates made now reference from e.timers call sized)

@@ -22,7 +22,7 @@ Leaves m = HasLeft m.stage
 
 parting_tpdu : (b : Base) (w : Parting) (tpdu : Tpdu) → Leaves (wait_before_close_tpdu b w tpdu)
 unfolding wait_before_close_tpdu
-parting_tpdu b w (Cc credit destination source width calling called size extra version classes ack_time text) = tt
+parting_tpdu b w (Cc credit destination source width calling called size preferred extra version classes ack_time text) = tt
 parting_tpdu b w (Dr destination source reason info text) = tt
 parting_tpdu b w other = tt
 

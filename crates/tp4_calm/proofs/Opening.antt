@@ -17,10 +17,12 @@ use Rattle.tp4_conn.specs.declared.stage.Answering.{Answering}
 use Rattle.tp4_conn.specs.declared.stage.Open.{Open}
 use Rattle.tp4_conn.specs.declared.stage.Requesting.{Requesting}
 use Rattle.tp4_conn.specs.declared.stage.Stage.TheVariants.{CrWait, AkWait, Opened}
-use Rattle.tp4_conn.specs.Agreeing.{confirm, extra_of, flow_rules, halves_of, header_of, is_extended, is_within, options_in}
+use Rattle.tp4_conn.specs.Agreeing.{confirm, extra_of, flow_rules, halves_of, header_of, is_confirmed, is_extended}
 use Rattle.tp4_conn.specs.AkWait.{ak_wait_tpdu, opening}
 use Rattle.tp4_conn.specs.CrWait.{confirmed, cr_wait_tpdu}
-use Rattle.tp4_conn.specs.End.{Moved, agreed_sum, closing, gone, led_by}
+use Rattle.tp4_conn.proofs.Agreed.{options_back}
+use Rattle.tp4_conn.proofs.Sizes.{sized_least}
+use Rattle.tp4_conn.specs.End.{IsSized, Moved, agreed_sum, closing, gone, led_by}
 use Rattle.tp4_conn.specs.Matching.{wants_sum}
 use Rattle.tp4_conn.specs.Opened.{opened_tpdu}
 use Rattle.tp4_conn.specs.Table.{at as now_at, on_tpdu, takes, untaken}
@@ -59,20 +61,6 @@ least_most Normal = omega arith
 least_most Extended = omega arith
 
 -- ---- the CC
-
--- a CC says what was agreed
-pub options_back : (o : Options) → options_in o.format o.size (extra_of o) ≡ o
-options_back o = by o.expedited o.sum refl refl
-  where
-    says : (expedited sum : Bool) → options_in o.format o.size ((if expedited then 1 else 0) + (if sum then 0 else 2)) ≡ record o { expedited = expedited; sum = sum }
-    says true true = refl
-    says true false = refl
-    says false true = refl
-    says false false = refl
-
-    by : (expedited sum : Bool) → o.expedited ≡ expedited → o.sum ≡ sum
-        → options_in o.format o.size ((if o.expedited then 1 else 0) + (if o.sum then 0 else 2)) ≡ o
-    by expedited sum e s = (λ i. options_in o.format o.size ((if e i then 1 else 0) + (if s i then 0 else 2))) ∙ says expedited sum ∙ (λ i. record o { expedited = sym e i; sum = sym s i })
 
 -- it has its checksum where one is agreed
 pub confirm_sum : (o : Options) → ((extra_of o / 2 % 2 == 0) && not o.sum) ≡ false
@@ -134,23 +122,23 @@ opens_as b c options octets agreed known low low_there size named partner mine t
       back_is = refl;
     })
 
-cc_opens : (b c : Base) (r : Requesting) (options : Options) (octets : List ℕ) (sum : Bool) → c.agreed ≡ Some options → c.credit ≡ b.timers.credit → b.timers.credit ≤ 15 → c.timers.credit ≤ 15 → 12 < options.size → c.partner ≡ b.own
+cc_opens : (b c : Base) (r : Requesting) (options : Options) (octets : List ℕ) (sum : Bool) → c.agreed ≡ Some options → c.credit ≡ b.timers.credit → b.timers.credit ≤ 15 → c.timers.credit ≤ 15 → IsSized options → c.partner ≡ b.own
     → Opens c (halves_of c options) (cr_wait_tpdu b r (confirm c options octets).tpdu)
 unfolding cr_wait_tpdu
 cc_opens b c r options octets sum agreed known low low_there size named =
-    subst (λ (o : Options). Opens c (halves_of c options) (if is_within b.proposed o
+    subst (λ (o : Options). Opens c (halves_of c options) (if is_confirmed b.proposed options
     then confirmed (record b { partner = c.own; credit = c.timers.credit; agreed = Some o }) o octets
-    else closing (record b { partner = c.own }) (gone b Protocol []) 133 [] b.clock)) (sym (options_back options))
-    (by (is_within b.proposed options))
+    else closing (record b { partner = c.own }) (gone b Protocol []) 133 [] b.clock)) (sym (options_back options size))
+    (by (is_confirmed b.proposed options))
   where
     by : (within : Bool) → Opens c (halves_of c options) (if within
         then confirmed (record b { partner = c.own; credit = c.timers.credit; agreed = Some options }) options octets
         else closing (record b { partner = c.own }) (gone b Protocol []) 133 [] b.clock)
-    by true = opens_as (record b { partner = c.own; credit = c.timers.credit; agreed = Some options }) c options octets agreed known low low_there size named refl refl refl
+    by true = opens_as (record b { partner = c.own; credit = c.timers.credit; agreed = Some options }) c options octets agreed known low low_there (let least = sized_least options size in omega (arith, least)) named refl refl refl
     by false = Gone tt
 
 -- the row of the calling end
-pub confirmed_opens : (b c : Base) (r : Requesting) (options : Options) (octets : List ℕ) (now : ℕ) → c.agreed ≡ Some options → c.credit ≡ b.timers.credit → b.timers.credit ≤ 15 → c.timers.credit ≤ 15 → 12 < options.size → c.partner ≡ b.own
+pub confirmed_opens : (b c : Base) (r : Requesting) (options : Options) (octets : List ℕ) (now : ℕ) → c.agreed ≡ Some options → c.credit ≡ b.timers.credit → b.timers.credit ≤ 15 → c.timers.credit ≤ 15 → IsSized options → c.partner ≡ b.own
     → Opens c (halves_of c options) (takes whole now b (CrWait r) (confirm c options octets).tpdu (confirm c options octets).sum)
 confirmed_opens b c r options octets now agreed known low low_there size named =
     let sum : agreed_sum c.agreed ≡ options.sum = ap agreed_sum agreed in

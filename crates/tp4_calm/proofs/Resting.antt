@@ -18,7 +18,8 @@ use Rattle.tp4_conn.specs.declared.stage.Stage.{Stage}
 use Rattle.tp4_conn.specs.declared.stage.Stage.TheVariants.{CrWait, UserWait, AkWait, Opened}
 use Rattle.tp4_conn.specs.declared.base.Base.{Base}
 use Rattle.tp4_conn.specs.Agreeing.{agreed_by, confirm, halves_of}
-use Rattle.tp4_conn.specs.End.{Moved, end_of as end_of_row}
+use Rattle.tp4_conn.proofs.Sizes.{agreed_sized}
+use Rattle.tp4_conn.specs.End.{IsProposal, IsSized, Moved, end_of as end_of_row}
 use Rattle.tp4_flow.specs.declared.step.Sent.{Sent}
 use Rattle.tp4_sending.specs.Pieces.{once}
 use Rattle.tp4_moves.specs.Lines.{given, shown_in}
@@ -156,7 +157,7 @@ pair_rests p o q (Both n m is was both) idle mine theirs =
 -- the called end accepts
 accepts : (p : Pair) (r : Requesting) (since : ℕ) (asked : Options) (octets : List ℕ) → IsIdle p → p.calling.stage ≡ CrWait r → p.called.stage ≡ UserWait since
     → p.called.base.credit ≡ p.calling.base.timers.credit → p.calling.base.timers.credit ≤ 15 → p.called.base.timers.credit ≤ 15
-    → 12 < p.called.base.proposed.size → 12 < asked.size → p.called.base.partner ≡ p.calling.base.own → IsNew p → Stands (next p (Asks_called (Accept asked octets)))
+    → IsProposal p.called.base.proposed → IsSized asked → p.called.base.partner ≡ p.calling.base.own → IsNew p → Stands (next p (Asks_called (Accept asked octets)))
 unfolding user_wait_accept
 accepts p r since asked octets idle mine theirs known low low_there size size_asked named new =
     let options : Options = agreed_by p.called.base.proposed asked in
@@ -170,7 +171,7 @@ accepts p r since asked octets idle mine theirs known low low_there size size_as
       known = known;
       low = low;
       low_there = low_there;
-      size = omega (arith, size, size_asked);
+      size = agreed_sized p.called.base.proposed asked size size_asked;
       octets = octets;
       forth_is = idle.forth;
       back_is = ap (λ (l : List Sent). l ++ confirm b options octets ∷ []) idle.back;

@@ -73,7 +73,7 @@ dt_tells b o Outside r told h = more_told o.halves.sending told r.events h
 
 opened_tells : (b : Base) (o : Open) (tpdu : Tpdu) (told : List EndEvent) → HasTold o.halves.sending told → TellsRow told (opened_tpdu whole b o tpdu)
 unfolding opened_tpdu
-opened_tells b o (Cc credit destination source width calling called size extra version classes ack_time text) told h = more_told o.halves.sending told [] h
+opened_tells b o (Cc credit destination source width calling called size preferred extra version classes ack_time text) told h = more_told o.halves.sending told [] h
 opened_tells b o (Dr destination source reason info text) told h = tt
 opened_tells b o (Er destination cause rejected) told h = tt
 opened_tells b o (Dt destination last number text) told h =
@@ -136,9 +136,9 @@ confirmed_tells b o octets told =
 
 cr_wait_tells : (b : Base) (w : Requesting) (tpdu : Tpdu) (told : List EndEvent) → TellsRow told (cr_wait_tpdu b w tpdu)
 unfolding cr_wait_tpdu
-cr_wait_tells b w (Cc credit destination source width calling called size extra version classes ack_time text) told =
-    if_kept (TellsRow told) (is_within b.proposed (options_in width size extra)) _ _
-    (λ _. confirmed_tells (record b { partner = source; credit = credit; agreed = Some (options_in width size extra) }) (options_in width size extra) text told)
+cr_wait_tells b w (Cc credit destination source width calling called size preferred extra version classes ack_time text) told =
+    if_kept (TellsRow told) (is_within b.proposed width size preferred extra) _ _
+    (λ _. confirmed_tells (record b { partner = source; credit = credit; agreed = Some (options_in width size preferred extra) }) (options_in width size preferred extra) text told)
     (λ _. tt)
 cr_wait_tells b w (Dr destination source reason info text) told = tt
 cr_wait_tells b w other told = tt

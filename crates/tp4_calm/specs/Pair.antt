@@ -11,7 +11,7 @@ use Rattle.tp4_conn.specs.declared.stage.Requesting.{Requesting}
 use Rattle.tp4_conn.specs.declared.stage.Stage.TheVariants.{CrWait, Opened, UserWait}
 use Rattle.tp4_flow.specs.declared.rules.Options.{Options}
 use Rattle.tp4_conn.specs.Calls.{call_refusal}
-use Rattle.tp4_conn.specs.End.{End, Moved, end_of, stays}
+use Rattle.tp4_conn.specs.End.{End, IsProposal, IsSized, Moved, end_of, stays}
 use Rattle.tp4_conn.specs.Table.{Called, Took, Ticked, stepped}
 use Rattle.tp4_moves.specs.Lines.{given, shown_in}
 
@@ -155,6 +155,6 @@ pub record Accepts (p : Pair) (asked : Options) : Type 0 where
   pub known : p.called.base.credit ≡ p.calling.base.timers.credit
   pub low : p.calling.base.timers.credit ≤ 15
   pub low_there : p.called.base.timers.credit ≤ 15
-  pub size : 12 < p.called.base.proposed.size
-  pub size_asked : 12 < asked.size
+  pub size : IsProposal p.called.base.proposed
+  pub size_asked : IsSized asked
   pub new : IsNew p

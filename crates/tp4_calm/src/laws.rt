@@ -17,10 +17,11 @@ ghost use Rattle.tp4_conn.specs.declared.stage.Stage.TheVariants.{CrWait, Opened
 ghost use Rattle.tp4_conn.specs.declared.base.Base.{Base};
 ghost use Rattle.tp4_conn.specs.declared.call.ConnectCall.{ConnectCall};
 ghost use Rattle.tp4_conn.specs.declared.timers.Timers.{Timers};
-ghost use Rattle.tp4_conn.specs.Agreeing.{agreed_by, confirm, is_within, request};
+ghost use Rattle.tp4_conn.specs.Agreeing.{agreed_by, confirm, is_confirmed, proposed_by, request};
 ghost use Rattle.tp4_flow.specs.declared.step.EndEvent.{EndEvent};
 ghost use Rattle.tp4_flow.specs.declared.step.Sent.{Sent};
-ghost use Rattle.tp4_conn.specs.End.{End};
+ghost use Rattle.tp4_conn.specs.End.{End, IsProposal, IsSized};
+ghost use Rattle.tp4_conn.specs.declared.proposed.Proposed.{Proposed};
 ghost use Rattle.tp4_conn.specs.CrWait.{confirmed};
 ghost use Rattle.tp4_conn.specs.Making.{called_end, caller, indicated, on_cr};
 ghost use Rattle.tp4_conn.specs.Table.{Event, stepped, takes};
@@ -78,14 +79,14 @@ pub fn nothing_missing()
 /// waits for its user. An accept has its confirm: what is agreed is within what was proposed, and both ends are Opened by
 /// the CC and the first AK, after which nothing waits.
 pub fn opens()
-    ensures indicated { (made now own : ℕ) (from : List ℕ) (rules : Timers) (call : ConnectCall) → on_cr now own from rules (request (caller made call) call.octets).tpdu
-        ≡ Some (indicated (called_end now own from rules call.rules.credit call.own call.from_selector call.to_selector call.options) call.octets) }
-    ensures incoming { (made now reference : ℕ) (e : Entity) (from : List ℕ) (call : ConnectCall) (sum : Bool) → list_any (is_called false from call.own) e.ends ≡ false
+    ensures indicated { (made now own : ℕ) (from : List ℕ) (rules : Timers) (call : ConnectCall) → IsSized call.options → on_cr now own from rules (request (caller made call) call.octets).tpdu
+        ≡ Some (indicated (called_end now own from rules call.rules.credit call.own call.from_selector call.to_selector (proposed_by call.options)) call.octets) }
+    ensures incoming { (made now reference : ℕ) (e : Entity) (from : List ℕ) (call : ConnectCall) (sum : Bool) → IsSized call.options → list_any (is_called false from call.own) e.ends ≡ false
         → list_any (is_called true from call.own) e.ends ≡ false → is_registered e.selectors call.to_selector ≡ true → least_free now e ≡ Some reference
         → met whole now e from ((request (caller made call) call.octets).tpdu, sum)
-        ≡ moved e reference (indicated (called_end now reference from e.timers call.rules.credit call.own call.from_selector call.to_selector call.options) call.octets) }
-    ensures within { (proposed asked : Options) → is_within proposed (agreed_by proposed asked) ≡ true }
-    ensures confirm { (b c : Base) (r : Requesting) (options : Options) (octets : List ℕ) (now : ℕ) → c.agreed ≡ Some options → is_within b.proposed options ≡ true
+        ≡ moved e reference (indicated (called_end now reference from e.timers call.rules.credit call.own call.from_selector call.to_selector (proposed_by call.options)) call.octets) }
+    ensures within { (proposed : Proposed) (asked : Options) → IsProposal proposed → IsSized asked → is_confirmed proposed (agreed_by proposed asked) ≡ true }
+    ensures confirm { (b c : Base) (r : Requesting) (options : Options) (octets : List ℕ) (now : ℕ) → c.agreed ≡ Some options → IsSized options → is_confirmed b.proposed options ≡ true
         → takes whole now b (CrWait r) (confirm c options octets).tpdu (confirm c options octets).sum
         ≡ confirmed (record b { partner = c.own; credit = c.timers.credit; agreed = Some options; clock = now }) options octets }
     ensures both { (p : Pair) (asked : Options) (octets : List ℕ) → Accepts p asked → AreOpened (next (next (next p (Asks_called (Accept asked octets))) Comes_back) Comes_forth) }

@@ -1,3 +1,4 @@
+pub mod Agreed
 pub mod Calms
 pub mod Credits
 pub mod Dues

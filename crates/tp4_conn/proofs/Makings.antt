@@ -13,9 +13,9 @@ use Rattle.tp4_conn.specs.Making.{on_cr}
 
 pub called_now : (now own : ℕ) (from : List ℕ) (rules : Timers) (tpdu : Tpdu) (b : Base) (stage : Stage) (was new : Told) → kind_for tpdu ≡ kinds.Cr
     → ((m : Moved) → on_cr now own from rules tpdu ≡ Some m → Does m b stage was new) → b.clock ≡ now
-called_now now own from rules (Cr credit source width calling called size extra version classes ack_time text) b stage was new kind h =
+called_now now own from rules (Cr credit source width calling called size preferred extra version classes ack_time text) b stage was new kind h =
     ap (λ (c : Base). c.clock) (h _ refl).base_is
-called_now now own from rules (Cc _ _ _ _ _ _ _ _ _ _ _ _) b stage was new kind h = absurd cc
+called_now now own from rules (Cc _ _ _ _ _ _ _ _ _ _ _ _ _) b stage was new kind h = absurd cc
 called_now now own from rules (Dr _ _ _ _ _) b stage was new kind h = absurd cc
 called_now now own from rules (Dc _ _) b stage was new kind h = absurd cc
 called_now now own from rules (Dt _ _ _ _) b stage was new kind h = absurd cc

@@ -37,12 +37,12 @@ use Rattle.tp4_conn.specs.declared.stage.Requesting.{Requesting}
 use Rattle.tp4_conn.specs.declared.stage.Stage.{Stage}
 use Rattle.tp4_conn.specs.declared.stage.Stage.TheVariants.{CrWait, WaitBeforeClose, UserWait, AkWait, Opened, Closing, Frozen}
 use Rattle.tp4_conn.specs.declared.timers.Timers.{Timers}
-use Rattle.tp4_conn.specs.Agreeing.{options_in, is_within, agreed_by, halves_of, request, confirm, confirms_again}
+use Rattle.tp4_conn.specs.Agreeing.{options_in, proposed_in, is_within, agreed_by, halves_of, request, confirm, confirms_again}
 use Rattle.tp4_conn.specs.AkWait.{ak_wait_tpdu, ak_wait_tick, opening, queueing}
 use Rattle.tp4_conn.specs.Calls.{IsCall, call_refusal, too_long, urgent_unit_refusal}
 use Rattle.tp4_conn.specs.Closing.{closing_tpdu, closing_tick}
 use Rattle.tp4_conn.specs.CrWait.{cr_wait_tpdu, cr_wait_tick, confirmed}
-use Rattle.tp4_conn.specs.End.{End, Moved, IsTimed, IsSize, agreed_format, send, confirms, led_by, span}
+use Rattle.tp4_conn.specs.End.{End, Moved, IsTimed, IsProposal, IsSized, agreed_format, send, confirms, led_by, span}
 use Rattle.tp4_conn.specs.Living.{Life, Leads, after, sent_by}
 use Rattle.tp4_conn.specs.Making.{caller, connected, called_end, on_cr}
 use Rattle.tp4_conn.specs.Matching.{wants_sum}
@@ -53,7 +53,7 @@ use Rattle.tp4_conn.specs.Table.{at as base_at}
 use Rattle.tp4_conn.specs.UserWait.{user_wait_accept, user_wait_refuse, user_wait_tick}
 use Rattle.tp4_conn.specs.WaitBeforeClose.{wait_before_close_tpdu, wait_before_close_tick}
 use Rattle.tp4_conn.proofs.Sendables.{Sends, Ready, appended, opened_fits, submitted_fits, urged_fits, acknowledged_fits, done_fits, ticked_fits, ak_fits, aks_fit, same_credit, ea_fits, granted_fits}
-use Rattle.tp4_conn.proofs.Sizes.{known_size, size_known, size_lesser}
+use Rattle.tp4_conn.proofs.Sizes.{agreed_sized, confirmed_known, known_size, number_known, proposal_by, read_proposal}
 use Rattle.tp4_conn.proofs.Timely.{if_kept}
 
 -- what an end keeps for good
@@ -61,7 +61,7 @@ record Steady (b : Base) : Type 0 where
   timers : IsTimed b.timers
   calling : length b.calling ≤ 32
   called : length b.called ≤ 32
-  size : IsSize b.proposed.size
+  size : IsProposal b.proposed
 
 steady : (b : Base) (stage : Stage) → IsProper b stage → Steady b
 steady b stage p = record { timers = p.timers; calling = p.calling; called = p.called; size = p.size }
@@ -73,10 +73,14 @@ row b stage events tpdus s p fits = record { proper = record { timers = s.timers
 
 -- the TPDUs of an end
 cr_fits : (b : Base) (octets : List ℕ) → Steady b → length octets ≤ 32 → AreSendable (request b octets ∷ [])
-cr_fits b octets s few = (((refl, refl, refl), record { few_credits = omega (arith, s.timers.credit); calling_fits = s.calling; called_fits = s.called; size_known = known_size b.proposed.size s.size; octets_fit = few }), tt)
+cr_fits b octets s few =
+    let n = number_known b.proposed.options s.size.sized in
+    (((n.0, refl, refl, refl), record { few_credits = omega (arith, s.timers.credit); calling_fits = s.calling; called_fits = s.called; size_known = known_size b.proposed.listed s.size.listed; preferred_known = n.1; octets_fit = few }), tt)
 
-cc_fits : (b : Base) (o : Options) (octets : List ℕ) → Steady b → IsSize o.size → length octets ≤ 32 → AreSendable (confirm b o octets ∷ [])
-cc_fits b o octets s size few = (((refl, refl, refl), record { few_credits = omega (arith, s.timers.credit); calling_fits = s.calling; called_fits = s.called; size_known = known_size o.size size; octets_fit = few }), tt)
+cc_fits : (b : Base) (o : Options) (octets : List ℕ) → Steady b → IsSized o → length octets ≤ 32 → AreSendable (confirm b o octets ∷ [])
+cc_fits b o octets s size few =
+    let n = number_known o size in
+    (((n.0, refl, refl, refl), record { few_credits = omega (arith, s.timers.credit); calling_fits = s.calling; called_fits = s.called; size_known = confirmed_known o size; preferred_known = n.1; octets_fit = few }), tt)
 
 confirms_fit : (b : Base) (agreed : Option Options) (octets : List ℕ) → Steady b → HasSize agreed → length octets ≤ 32 → AreSendable (confirms_again b agreed octets)
 confirms_fit b None octets s size few = tt
@@ -157,8 +161,8 @@ sending_row b o x s p sends settled = row b _ _ _ s (sent_open b.agreed o.halves
 opened_tpdu_row : (wrap : ℕ → ℕ → ℕ) (b : Base) (o : Open) (tpdu : Tpdu) → Steady b → AreOpen b.agreed o.halves → IsAllowed (agreed_format b.agreed) tpdu
     → IsProperRow (opened_tpdu wrap b o tpdu)
 unfolding opened_tpdu
-opened_tpdu_row wrap b o (Cr credit source width calling called size extra version classes ack_time text) s p a = row b _ _ _ s p tt
-opened_tpdu_row wrap b o (Cc credit destination source width calling called size extra version classes ack_time text) s p a =
+opened_tpdu_row wrap b o (Cr credit source width calling called size preferred extra version classes ack_time text) s p a = row b _ _ _ s p tt
+opened_tpdu_row wrap b o (Cc credit destination source width calling called size preferred extra version classes ack_time text) s p a =
     row b _ _ _ s p (ak_fits o.halves.receiving p.halves.credit)
 opened_tpdu_row wrap b o (Dr destination source reason info text) s p a = row b _ _ _ s tt (dc_fits b source)
 opened_tpdu_row wrap b o (Dc destination source) s p a = row b _ _ _ s p tt
@@ -206,9 +210,9 @@ partner_known b partner s = record { timers = s.timers; calling = s.calling; cal
 
 cr_wait_row : (b : Base) (w : Requesting) (tpdu : Tpdu) → Steady b → length w.octets ≤ 32 → IsProperRow (cr_wait_tpdu b w tpdu)
 unfolding cr_wait_tpdu
-cr_wait_row b w (Cc credit destination source width calling called size extra version classes ack_time text) s few =
-    if_kept IsProperRow (is_within b.proposed (options_in width size extra)) _ _
-    (λ _. confirmed_row (record b { partner = source; credit = credit; agreed = Some (options_in width size extra) }) (options_in width size extra) text
+cr_wait_row b w (Cc credit destination source width calling called size preferred extra version classes ack_time text) s few =
+    if_kept IsProperRow (is_within b.proposed width size preferred extra) _ _
+    (λ _. confirmed_row (record b { partner = source; credit = credit; agreed = Some (options_in width size preferred extra) }) (options_in width size preferred extra) text
     (record { timers = s.timers; calling = s.calling; called = s.called; size = s.size }) refl)
     (λ _. row (record b { partner = source }) _ _ _ (partner_known b source s) (omega arith) (dr_fits (record b { partner = source }) b.own 133 [] (omega arith)))
 cr_wait_row b w (Dr destination source reason info text) s few = row b _ _ _ s tt (dc_fits b source)
@@ -216,7 +220,7 @@ cr_wait_row b w other s few = row b _ _ _ s few tt
 
 wait_row : (b : Base) (w : Parting) (tpdu : Tpdu) → Steady b → (length w.request.octets ≤ 32) × (length w.octets ≤ 64) → IsProperRow (wait_before_close_tpdu b w tpdu)
 unfolding wait_before_close_tpdu
-wait_row b w (Cc credit destination source width calling called size extra version classes ack_time text) s few =
+wait_row b w (Cc credit destination source width calling called size preferred extra version classes ack_time text) s few =
     row (record b { partner = source }) _ _ _ (partner_known b source s) few.1 (dr_fits (record b { partner = source }) b.own 128 w.octets few.1)
 wait_row b w (Dr destination source reason info text) s few = row b _ _ _ s tt (dc_fits b source)
 wait_row b w other s few = row b _ _ _ s few tt
@@ -318,13 +322,13 @@ granting_row b o credit s p =
 at_steady : (now : ℕ) (b : Base) → Steady b → Steady (base_at now b)
 at_steady now b s = record { timers = s.timers; calling = s.calling; called = s.called; size = s.size }
 
-accepted_row : (b : Base) (asked : Options) (octets : List ℕ) → Steady b → IsSize asked.size → length octets ≤ 32 → IsProperRow (user_wait_accept b asked octets)
+accepted_row : (b : Base) (asked : Options) (octets : List ℕ) → Steady b → IsSized asked → length octets ≤ 32 → IsProperRow (user_wait_accept b asked octets)
 unfolding user_wait_accept
 accepted_row b asked octets s size few =
     let o = agreed_by b.proposed asked in
     let c = record b { agreed = Some o } in
     let steady : Steady c = record { timers = s.timers; calling = s.calling; called = s.called; size = s.size } in
-    let agreed : IsSize o.size = size_lesser b.proposed.size asked.size s.size size in
+    let agreed : IsSized o = agreed_sized b.proposed asked s.size size in
     row c _ _ _ steady (few, agreed, fresh_halves c o s.timers) (cc_fits c o octets steady agreed few)
 
 refused_row : (b : Base) (octets : List ℕ) → Steady b → length octets ≤ 64 → IsProperRow (user_wait_refuse b octets)
@@ -380,14 +384,14 @@ step_row wrap now e Ticked p may = tick_row (base_at now e.base) e.stage (at_ste
 -- the two ways in which an end is made
 pub connected_row : (now : ℕ) (call : ConnectCall) → IsProperCall call → IsProperRow (connected now call)
 connected_row now call c =
-    let steady : Steady (caller now call) = record { timers = c.timers; calling = c.calling; called = c.called; size = c.size } in
+    let steady : Steady (caller now call) = record { timers = c.timers; calling = c.calling; called = c.called; size = proposal_by call.options c.size } in
     row (caller now call) _ _ _ steady c.octets (cr_fits (caller now call) call.octets steady c.octets)
 
 pub called_row : (now own : ℕ) (from : List ℕ) (rules : Timers) (tpdu : Tpdu) (m : Moved) → IsTimed rules → IsAllowed Plain tpdu
     → on_cr now own from rules tpdu ≡ Some m → IsProperRow m
-called_row now own from rules (Cr credit source width calling called size extra version classes ack_time text) m timed a e =
+called_row now own from rules (Cr credit source width calling called size preferred extra version classes ack_time text) m timed a e =
     subst (λ (x : Moved). IsProperRow x) (same_Some _ _ e)
-    (row (called_end now own from rules credit source calling called (options_in width size extra)) _ _ [] (record { timers = timed; calling = a.calling_fits; called = a.called_fits; size = size_known size a.size_known }) tt tt)
+    (row (called_end now own from rules credit source calling called (proposed_in width size preferred extra)) _ _ [] (record { timers = timed; calling = a.calling_fits; called = a.called_fits; size = read_proposal width size preferred extra a.size_known a.preferred_known }) tt tt)
 called_row now own from rules other m timed a e = absurd (none-some _ e)
 
 -- a list of events

@@ -1,14 +1,11 @@
 -- By cases on the state and the event: where an end is not due by a tick that is not after now, a call or a TPDU leaves it not due by it;
 -- and each row leaves an end that sent a CC as one that sent nothing else. With now for that tick the end is due later as it was, and with
 -- each tick before now it is due no sooner than now.
-use Rattle.std.proofs.Common.{◌≡◌, ℕ, zero, suc, ◌||◌, length, is_some, ◌+◌, ◌*◌, ◌<◌, ◌≤◌, Bool, true, false, ◌==◌, ◌&&◌, not, nat_lt, nat_le, List, [], Option, Some, None, refl, sym, ◌∙◌, ap, subst, arith, if◌then◌else◌}
+use Rattle.std.proofs.Common.{◌≡◌, ℕ, ◌+◌, ◌*◌, ◌<◌, ◌≤◌, Bool, true, false, ◌==◌, nat_lt, nat_le, List, [], Option, Some, None, refl, sym, ◌∙◌, ap, subst, arith, if◌then◌else◌}
 use Rattle.std.proofs.Math.Nat.{mul-le-mul_right}
 use Rattle.std.proofs.lemmas.Bool.{ltb-false, ltb-true}
-use Rattle.std.proofs.lemmas.Option.{none-some, same_Some}
-use Rattle.tpdu.specs.Writing.{IsAllowed}
-use Rattle.tpdu.specs.declared.tpdu.Format.TheVariants.{Normal as Plain}
 use Rattle.tpdu.specs.declared.tpdu.Tpdu.{Tpdu}
-use Rattle.tpdu.specs.declared.tpdu.Tpdu.TheVariants.{Cr, Cc, Dr, Dc, Dt, Ed, Ak, Ea, Er}
+use Rattle.tpdu.specs.declared.tpdu.Tpdu.TheVariants.{Cc, Dr, Dc, Dt, Ed, Ak, Ea, Er}
 use Rattle.tp4_number.specs.declared.got.Got.{Got}
 use Rattle.tp4_number.specs.declared.got.Got.TheVariants.{Kept, Old, Outside, TooLarge}
 use Rattle.tp4_flow.specs.Half.{Half, Received, dt_arrival, half_granted, taken_dt}
@@ -16,15 +13,13 @@ use Rattle.tp4_flow.specs.Told.{Told}
 use Rattle.tp4_number.specs.Number.{wire}
 use Rattle.tp4_flow.specs.declared.rules.Life.{Life as Ends}
 use Rattle.tp4_flow.specs.declared.rules.Life.TheVariants.{Goes, Exhausted}
-use Rattle.tp4_flow.specs.declared.rules.FlowRules.{FlowRules}
 use Rattle.tp4_flow.specs.declared.rules.Options.{Options}
 use Rattle.tp4_flow.specs.declared.step.EndEvent.{EndEvent}
 use Rattle.tp4_flow.specs.declared.step.Sent.{Sent}
-use Rattle.tp4_sending.specs.FlowSender.{FlowSender, Sendings, all_normals, at, has_next, held_normal, held_urgent, is_noted, is_urgent, normals, rule_allows, sent_normal, sent_urgent, due_of, life_of, new_sends, normals_where, nothing, one_urgent, opened, then_sends}
+use Rattle.tp4_sending.specs.FlowSender.{FlowSender, Sendings, at, due_of, life_of, new_sends, normals_where, nothing, one_urgent, opened, then_sends}
 use Rattle.tp4_sending.specs.Pieces.{again, sooner}
 use Rattle.tp4_sending.specs.Settled.{IsDue}
 use Rattle.tp4_conn.specs.declared.base.Base.{Base}
-use Rattle.tp4_conn.specs.declared.call.ConnectCall.{ConnectCall}
 use Rattle.tp4_conn.specs.declared.call.UserCall.{UserCall}
 use Rattle.tp4_conn.specs.declared.call.UserCall.TheVariants.{Accept, Refuse, Normal, Urgent, Window, Disconnect}
 use Rattle.tp4_conn.specs.declared.halves.Halves.{Halves}
@@ -41,14 +36,11 @@ use Rattle.tp4_conn.specs.AkWait.{ak_wait_tick, ak_wait_tpdu, opening}
 use Rattle.tp4_conn.specs.Closing.{closing_tick, closing_tpdu}
 use Rattle.tp4_conn.specs.CrWait.{cr_wait_tick, cr_wait_tpdu}
 use Rattle.tp4_conn.specs.Dues.{IsBefore}
-use Rattle.tp4_conn.specs.End.{Does, End, IsTimed, Moved, closing, end_of, frozen, frozen_for, led_by, span}
+use Rattle.tp4_conn.specs.End.{Does, End, IsTimed, Moved, closing, frozen, frozen_for, led_by, span}
 use Rattle.tp4_conn.specs.Frozen.{frozen_due}
 use Rattle.tp4_conn.specs.Living.{IsInTime}
-use Rattle.tp4_conn.specs.Making.{connected, on_cr}
-use Rattle.tp4_conn.specs.Matching.{wants_sum}
 use Rattle.tp4_conn.specs.Opened.{dt_as, granting, hearing, is_expedited, opened_as, opened_tick, opened_tpdu, sending}
-use Rattle.tp4_conn.specs.Proper.{AreHalves, AreSendable, IsProper, IsProperCall, IsProperEvent, IsProperRow, IsProperStage}
-use Rattle.tp4_conn.specs.Table.{Called, Took, Ticked, due, on_call, on_tick, on_tpdu, stepped}
+use Rattle.tp4_conn.specs.Table.{due, on_call, on_tick, on_tpdu}
 use Rattle.tp4_conn.specs.Table.{at as base_at}
 use Rattle.tp4_conn.specs.UserWait.{user_wait_accept, user_wait_refuse, user_wait_tick}
 use Rattle.tp4_conn.specs.WaitBeforeClose.{wait_before_close_tick, wait_before_close_tpdu}
@@ -154,7 +146,7 @@ calm_at n b o r = calm n (at b.clock o.halves.sending) r.is_open r.t1 r.passes.b
 
 opened_tpdu_lasts : (wrap : ℕ → ℕ → ℕ) (n : ℕ) (b : Base) (o : Open) (tpdu : Tpdu) → Runs n b o → Lasts b.timers n (opened_tpdu wrap b o tpdu)
 unfolding opened_tpdu
-opened_tpdu_lasts wrap n b o (Cc credit destination source width calling called size extra version classes ack_time text) r =
+opened_tpdu_lasts wrap n b o (Cc credit destination source width calling called size preferred extra version classes ack_time text) r =
     open_lasts n b _ _ _ (record { took = r.waits.took; acked = acking_waits n b o r; half = r.waits.half })
 opened_tpdu_lasts wrap n b o (Dr destination source reason info text) r = frozen_lasts n b _ _ r.passes.bound
 opened_tpdu_lasts wrap n b o (Er destination cause rejected) r = closing_now n b _ 133 [] r.passes
@@ -185,16 +177,16 @@ confirmed_lasts n b o events tpdus p =
 
 cr_wait_lasts : (n : ℕ) (b : Base) (w : Requesting) (tpdu : Tpdu) → Passes b.timers n b.clock → (w.tries.last + b.timers.t1 ≤ n → ⊥) → Lasts b.timers n (cr_wait_tpdu b w tpdu)
 unfolding cr_wait_tpdu
-cr_wait_lasts n b w (Cc credit destination source width calling called size extra version classes ack_time text) p low =
-    if_kept (Lasts b.timers n) (is_within b.proposed (options_in width size extra)) _ _
-    (λ _. let now = record b { partner = source; credit = credit; agreed = Some (options_in width size extra) } in confirmed_lasts n now (options_in width size extra) _ _ p)
+cr_wait_lasts n b w (Cc credit destination source width calling called size preferred extra version classes ack_time text) p low =
+    if_kept (Lasts b.timers n) (is_within b.proposed width size preferred extra) _ _
+    (λ _. let now = record b { partner = source; credit = credit; agreed = Some (options_in width size preferred extra) } in confirmed_lasts n now (options_in width size preferred extra) _ _ p)
     (λ _. closing_now n (record b { partner = source }) _ 133 [] p)
 cr_wait_lasts n b w (Dr destination source reason info text) p low = frozen_lasts n b _ _ p.bound
 cr_wait_lasts n b w other p low = record { timers = refl; waiting = tt; late = low }
 
 wait_lasts : (n : ℕ) (b : Base) (w : Parting) (tpdu : Tpdu) → Passes b.timers n b.clock → (w.request.tries.last + b.timers.t1 ≤ n → ⊥) → Lasts b.timers n (wait_before_close_tpdu b w tpdu)
 unfolding wait_before_close_tpdu
-wait_lasts n b w (Cc credit destination source width calling called size extra version classes ack_time text) p low =
+wait_lasts n b w (Cc credit destination source width calling called size preferred extra version classes ack_time text) p low =
     closing_now n (record b { partner = source }) [] 128 w.octets p
 wait_lasts n b w (Dr destination source reason info text) p low = frozen_lasts n b _ _ p.bound
 wait_lasts n b w other p low = record { timers = refl; waiting = tt; late = low }
@@ -434,7 +426,7 @@ in_time_not (Some tick) n now low h k = absurd (omega (arith, low, h, k))
 
 opened_waits : (wrap : ℕ → ℕ → ℕ) (t : Timers) (b : Base) (o : Open) (tpdu : Tpdu) → IsWaiting t (opened_tpdu wrap b o tpdu).stage
 unfolding opened_tpdu
-opened_waits wrap t b o (Cc credit destination source width calling called size extra version classes ack_time text) = tt
+opened_waits wrap t b o (Cc credit destination source width calling called size preferred extra version classes ack_time text) = tt
 opened_waits wrap t b o (Dr destination source reason info text) = tt
 opened_waits wrap t b o (Er destination cause rejected) = tt
 opened_waits wrap t b o (Dt destination last number text) = by (dt_arrival o.halves.receiving number (record { last = last; octets = text })).got
@@ -451,11 +443,11 @@ opened_waits wrap t b o other = tt
 
 tpdu_waits : (wrap : ℕ → ℕ → ℕ) (t : Timers) (b : Base) (stage : Stage) (tpdu : Tpdu) → IsWaiting t stage → IsWaiting t (on_tpdu wrap b stage tpdu).stage
 unfolding cr_wait_tpdu wait_before_close_tpdu ak_wait_tpdu closing_tpdu
-tpdu_waits wrap t b (CrWait w) (Cc credit destination source width calling called size extra version classes ack_time text) u =
-    if_kept (λ (m : Moved). IsWaiting t m.stage) (is_within b.proposed (options_in width size extra)) _ _ (λ _. tt) (λ _. tt)
+tpdu_waits wrap t b (CrWait w) (Cc credit destination source width calling called size preferred extra version classes ack_time text) u =
+    if_kept (λ (m : Moved). IsWaiting t m.stage) (is_within b.proposed width size preferred extra) _ _ (λ _. tt) (λ _. tt)
 tpdu_waits wrap t b (CrWait w) (Dr destination source reason info text) u = tt
 tpdu_waits wrap t b (CrWait w) other u = tt
-tpdu_waits wrap t b (WaitBeforeClose w) (Cc credit destination source width calling called size extra version classes ack_time text) u = tt
+tpdu_waits wrap t b (WaitBeforeClose w) (Cc credit destination source width calling called size preferred extra version classes ack_time text) u = tt
 tpdu_waits wrap t b (WaitBeforeClose w) (Dr destination source reason info text) u = tt
 tpdu_waits wrap t b (WaitBeforeClose w) other u = tt
 tpdu_waits wrap t b (UserWait since) tpdu u = tt

@@ -27,7 +27,7 @@ use Rattle.tp4_conn.specs.declared.stage.Requesting.{Requesting}
 use Rattle.tp4_conn.specs.declared.stage.Stage.{Stage}
 use Rattle.tp4_conn.specs.declared.stage.Stage.TheVariants.{CrWait, WaitBeforeClose, UserWait, AkWait, Opened, Closing, Frozen}
 use Rattle.tp4_conn.specs.declared.timers.Timers.{Timers}
-use Rattle.tp4_conn.specs.Agreeing.{is_within, options_in}
+use Rattle.tp4_conn.specs.Agreeing.{is_within}
 use Rattle.tp4_conn.specs.AkWait.{ak_wait_tpdu, ak_wait_tick}
 use Rattle.tp4_conn.specs.Closing.{closing_tpdu, closing_tick}
 use Rattle.tp4_conn.specs.CrWait.{cr_wait_tpdu, cr_wait_tick}
@@ -68,8 +68,8 @@ later t took now tries low h = record { runs = omega arith; few = h.few }
 cr_tpdu : (b : Base) (w : Requesting) (tpdu : Tpdu) (took : ℕ) → took ≤ b.clock → Trying b.timers took w.tries
     → Holds b.timers b.clock (cr_wait_tpdu b w tpdu)
 unfolding cr_wait_tpdu
-cr_tpdu b w (Cc credit destination source width calling called size extra version classes ack_time text) took low h =
-    if_kept (Holds b.timers b.clock) (is_within b.proposed (options_in width size extra)) _ _
+cr_tpdu b w (Cc credit destination source width calling called size preferred extra version classes ack_time text) took low h =
+    if_kept (Holds b.timers b.clock) (is_within b.proposed width size preferred extra) _ _
     (λ _. record { timers = refl; timely = omega arith })
     (λ _. record { timers = refl; timely = omega arith })
 cr_tpdu b w (Dr destination source reason info text) took low h = record { timers = refl; timely = omega arith }
@@ -78,7 +78,7 @@ cr_tpdu b w other took low h = record { timers = refl; timely = later _ _ _ _ lo
 wait_tpdu : (b : Base) (w : Parting) (tpdu : Tpdu) (took : ℕ) → took ≤ b.clock → Trying b.timers took w.request.tries
     → Holds b.timers b.clock (wait_before_close_tpdu b w tpdu)
 unfolding wait_before_close_tpdu
-wait_tpdu b w (Cc credit destination source width calling called size extra version classes ack_time text) took low h =
+wait_tpdu b w (Cc credit destination source width calling called size preferred extra version classes ack_time text) took low h =
     record { timers = refl; timely = omega arith }
 wait_tpdu b w (Dr destination source reason info text) took low h = record { timers = refl; timely = omega arith }
 wait_tpdu b w other took low h = record { timers = refl; timely = later _ _ _ _ low h }

@@ -91,7 +91,7 @@ dt_same b o w piece =
 
 opened_same : (b : Base) (o : Open) (tpdu : Tpdu) → Same (opened_tpdu whole b o tpdu) (opened_tpdu wire b (open_on o) tpdu)
 unfolding opened_tpdu
-opened_same b o (Cc credit destination source width calling called size extra version classes ack_time text) =
+opened_same b o (Cc credit destination source width calling called size preferred extra version classes ack_time text) =
     record { base = refl; stage = refl; events = refl; tpdus = ap (λ (s : Sent). s ∷ []) (ak_on o.halves.receiving) }
 opened_same b o (Dt destination last number text) = dt_same b o number (record { last = last; octets = text })
 opened_same b o (Ed destination last number text) =
@@ -142,15 +142,15 @@ confirmed_same b o text = alike (confirmed b o text)
 
 cr_wait_same : (b : Base) (w : Requesting) (tpdu : Tpdu) → Same (cr_wait_tpdu b w tpdu) (cr_wait_tpdu b w tpdu)
 unfolding cr_wait_tpdu
-cr_wait_same b w (Cc credit destination source width calling called size extra version classes ack_time text) =
-    if_same (is_within b.proposed (options_in width size extra)) _ _ _ _
-    (confirmed_same (record b { partner = source; credit = credit; agreed = Some (options_in width size extra) }) (options_in width size extra) text)
+cr_wait_same b w (Cc credit destination source width calling called size preferred extra version classes ack_time text) =
+    if_same (is_within b.proposed width size preferred extra) _ _ _ _
+    (confirmed_same (record b { partner = source; credit = credit; agreed = Some (options_in width size preferred extra) }) (options_in width size preferred extra) text)
     (alike (closing (record b { partner = source }) (gone b Protocol []) 133 [] b.clock) refl)
 cr_wait_same b w other = record { base = refl; stage = refl; events = refl; tpdus = refl }
 
 wait_same : (b : Base) (w : Parting) (tpdu : Tpdu) → Same (wait_before_close_tpdu b w tpdu) (wait_before_close_tpdu b w tpdu)
 unfolding wait_before_close_tpdu
-wait_same b w (Cc credit destination source width calling called size extra version classes ack_time text) =
+wait_same b w (Cc credit destination source width calling called size preferred extra version classes ack_time text) =
     record { base = refl; stage = refl; events = refl; tpdus = refl }
 wait_same b w other = record { base = refl; stage = refl; events = refl; tpdus = refl }
 

@@ -12,7 +12,7 @@ use Rattle.tp4_conn.specs.declared.stage.Stage.{Stage}
 use Rattle.tp4_conn.specs.declared.stage.Stage.TheVariants.{CrWait, WaitBeforeClose, UserWait, AkWait, Opened, Closing, Frozen}
 use Rattle.tp4_conn.specs.declared.stage.State.{State}
 use Rattle.tp4_conn.specs.declared.stage.State.TheVariants as states
-use Rattle.tp4_conn.specs.End.{IsSize}
+use Rattle.tp4_conn.specs.End.{IsSized}
 use Rattle.tp4_conn.specs.Opened.{is_expedited}
 
 abbrev pub state_of : Stage → State
@@ -86,6 +86,6 @@ call_refusal b stage call = if is_listed stage call then listed_refusal b stage 
 
 -- the conditions of a call
 abbrev pub IsCall : UserCall → Type 0
-IsCall (Accept options octets) = IsSize options.size
+IsCall (Accept options octets) = IsSized options
 IsCall (Window credit) = credit ≤ 255
 IsCall other = Unit {0}

@@ -29,9 +29,9 @@ confirmed b o octets = confirmed_with b o octets (halves_of b o)
 
 unfoldable pub cr_wait_tpdu : Base → Requesting → Tpdu → Moved
 -- CC: partner reference set; where it is within what was proposed, confirm, AK, Opened; else gone protocol, DR 133, Closing
-cr_wait_tpdu b w (Cc credit destination source width calling called size extra version classes ack_time text) =
-    if is_within b.proposed (options_in width size extra)
-    then confirmed (record b { partner = source; credit = credit; agreed = Some (options_in width size extra) }) (options_in width size extra) text
+cr_wait_tpdu b w (Cc credit destination source width calling called size preferred extra version classes ack_time text) =
+    if is_within b.proposed width size preferred extra
+    then confirmed (record b { partner = source; credit = credit; agreed = Some (options_in width size preferred extra) }) (options_in width size preferred extra) text
     else closing (record b { partner = source }) (gone b Protocol []) 133 [] b.clock
 -- DR: gone with its reason and data; DC where its source is not 0; Frozen
 cr_wait_tpdu b w (Dr destination source reason info text) = frozen b (gone b (Reason reason) text) (confirms b source)

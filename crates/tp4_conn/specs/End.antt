@@ -1,5 +1,5 @@
 -- One end of a connection, and what a row of its state table does (X.224, class 4 state tables).
-use Rattle.std.specs.Prelude.{◌≡◌, ◌≤◌, ℕ, ◌+◌, ◌-◌, ◌*◌, Bool, true, ◌==◌, List, [], ◌∷◌, ◌++◌, Option, Some, None, IsSome, if◌then◌else◌}
+use Rattle.std.specs.Prelude.{◌≡◌, ◌≤◌, ℕ, ◌+◌, ◌-◌, ◌*◌, Bool, true, false, ◌==◌, List, [], ◌∷◌, ◌++◌, Option, Some, None, IsSome, if◌then◌else◌}
 use Rattle.tpdu.specs.Parameters.{sizes}
 use Rattle.tpdu.specs.Writing.{code_in}
 use Rattle.tpdu.specs.declared.tpdu.Format.{Format}
@@ -14,6 +14,7 @@ use Rattle.tp4_flow.specs.declared.step.Sent.{Sent}
 use Rattle.tp4_flow.specs.declared.step.What.{What}
 use Rattle.tp4_flow.specs.declared.step.What.TheVariants.{Gone}
 use Rattle.tp4_conn.specs.declared.base.Base.{Base}
+use Rattle.tp4_conn.specs.declared.proposed.Proposed.{Proposed}
 use Rattle.tp4_conn.specs.declared.stage.Stage.{Stage}
 use Rattle.tp4_conn.specs.declared.stage.Stage.TheVariants.{Closing, Frozen}
 use Rattle.tp4_conn.specs.declared.timers.Timers.{Timers}
@@ -127,3 +128,16 @@ pub record IsTimed (t : Timers) : Type 0 where
 -- the most octets of a TPDU are one of the sizes that have a code: 128, 256, 512, 1024, 2048, 4096, 8192
 unfoldable pub IsSize : ℕ → Type 0
 IsSize size = IsSome (code_in sizes size)
+
+-- or, where it is preferred, 128 octets 1 to 128 times
+abbrev pub IsSizedBy : Bool → ℕ → Type 0
+IsSizedBy false size = IsSize size
+IsSizedBy true size = (n : ℕ) × (size ≡ 128 * n) × (1 ≤ n) × (n ≤ 128)
+
+abbrev pub IsSized : Options → Type 0
+IsSized o = IsSizedBy o.preferred o.size
+
+-- what a CR proposes, with the size of its C0
+pub record IsProposal (p : Proposed) : Type 0 where
+  pub sized : IsSized p.options
+  pub listed : IsSize p.listed

@@ -10,7 +10,7 @@ use Rattle.tp4_conn.specs.declared.stage.Stage.TheVariants.{CrWait, WaitBeforeCl
 
 -- the source of a CC, DR or DC is the partner's reference
 abbrev pub is_source : Base → Tpdu → Bool
-is_source b (Cc credit destination source width calling called size extra version classes ack_time text) = source == b.partner
+is_source b (Cc credit destination source width calling called size preferred extra version classes ack_time text) = source == b.partner
 is_source b (Dc destination source) = source == b.partner
 is_source b (Dr destination source reason info text) = source == b.partner
 is_source b other = true
@@ -22,7 +22,7 @@ is_refusal other = false
 
 -- a CC or a DR
 abbrev pub is_answer : Tpdu → Bool
-is_answer (Cc credit destination source width calling called size extra version classes ack_time text) = true
+is_answer (Cc credit destination source width calling called size preferred extra version classes ack_time text) = true
 is_answer (Dr destination source reason info text) = true
 is_answer other = false
 
@@ -51,7 +51,7 @@ sum_agreed (Some o) = o.sum
 
 -- a CC whose additional options do not say no checksum
 abbrev pub is_summed_confirm : Tpdu → Bool
-is_summed_confirm (Cc credit destination source width calling called size extra version classes ack_time text) = extra / 2 % 2 == 0
+is_summed_confirm (Cc credit destination source width calling called size preferred extra version classes ack_time text) = extra / 2 % 2 == 0
 is_summed_confirm other = false
 
 -- the TPDU has to have a checksum

@@ -57,7 +57,7 @@ is_expedited (Some o) = o.expedited
 -- A TPDU, which counts as taken now. `wrap` is what a half keeps of a number, by its block
 unfoldable pub opened_tpdu : (ℕ → ℕ → ℕ) → Base → Open → Tpdu → Moved
 -- CC: AK
-opened_tpdu wrap b o (Cc credit destination source width calling called size extra version classes ack_time text) = acknowledging b o
+opened_tpdu wrap b o (Cc credit destination source width calling called size preferred extra version classes ack_time text) = acknowledging b o
 -- DR: gone; a DC, where its source is not 0; Frozen
 opened_tpdu wrap b o (Dr destination source reason info text) = frozen b (gone b (Reason reason) text) (confirms b source)
 -- ER: gone protocol; DR 133; Closing

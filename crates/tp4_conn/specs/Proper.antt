@@ -11,7 +11,7 @@ use Rattle.tp4_conn.specs.declared.halves.Halves.{Halves}
 use Rattle.tp4_conn.specs.declared.stage.Stage.{Stage}
 use Rattle.tp4_conn.specs.declared.stage.Stage.TheVariants.{CrWait, WaitBeforeClose, UserWait, AkWait, Opened, Closing, Frozen}
 use Rattle.tp4_conn.specs.Calls.{IsCall, call_refusal}
-use Rattle.tp4_conn.specs.End.{End, Moved, IsSize, IsTimed, agreed_format}
+use Rattle.tp4_conn.specs.End.{End, Moved, IsProposal, IsSized, IsTimed, agreed_format}
 use Rattle.tp4_conn.specs.Living.{Life, after}
 use Rattle.tp4_conn.specs.Table.{Event, Called, Took, Ticked}
 
@@ -43,7 +43,7 @@ pub record AreOpen (agreed : Option Options) (h : Halves) : Type 0 where
 
 abbrev pub HasSize : Option Options → Type 0
 HasSize None = Unit {0}
-HasSize (Some o) = IsSize o.size
+HasSize (Some o) = IsSized o
 
 -- the octets that a state keeps are those of a CR, a CC or a DR
 abbrev pub IsProperStage : Option Options → Stage → Type 0
@@ -59,13 +59,13 @@ pub record IsProper (b : Base) (stage : Stage) : Type 0 where
   pub timers : IsTimed b.timers
   pub calling : length b.calling ≤ 32
   pub called : length b.called ≤ 32
-  pub size : IsSize b.proposed.size
+  pub size : IsProposal b.proposed
   pub state : IsProperStage b.agreed stage
 
 -- a connect call whose CR has octets
 pub record IsProperCall (call : ConnectCall) : Type 0 where
   pub timers : IsTimed call.rules
-  pub size : IsSize call.options.size
+  pub size : IsSized call.options
   pub calling : length call.from_selector ≤ 32
   pub called : length call.to_selector ≤ 32
   pub octets : length call.octets ≤ 32

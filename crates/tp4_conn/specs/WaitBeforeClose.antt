@@ -11,7 +11,7 @@ use Rattle.tp4_conn.specs.End.{Moved, stays, confirms, closing, frozen}
 
 unfoldable pub wait_before_close_tpdu : Base → Parting → Tpdu → Moved
 -- CC: partner reference set; DR 128 with the user's octets; Closing
-wait_before_close_tpdu b w (Cc credit destination source width calling called size extra version classes ack_time text) =
+wait_before_close_tpdu b w (Cc credit destination source width calling called size preferred extra version classes ack_time text) =
     closing (record b { partner = source }) [] 128 w.octets b.clock
 -- DR: DC where its source is not 0; Frozen
 wait_before_close_tpdu b w (Dr destination source reason info text) = frozen b [] (confirms b source)

@@ -22,6 +22,7 @@ use Rattle.tp4_conn.specs.declared.stage.State.TheVariants as states
 use Rattle.tp4_conn.specs.declared.timers.Timers.{Timers}
 use Rattle.tp4_conn.specs.Calls.{state_of}
 use Rattle.tp4_conn.specs.End.{End, Moved, end_of}
+use Rattle.tp4_conn.specs.Agreeing.{proposed_by}
 use Rattle.tp4_conn.specs.Making.{connected, indicated, called_end}
 use Rattle.tp4_conn.specs.Table.{Event, Called, Took, Ticked, stepped, due}
 
@@ -51,11 +52,11 @@ abbrev pub timers : Timers
 timers = record { life = 32; t1 = 8; sendings = 4; window = 20; inactive = 60; credit = 8 }
 
 abbrev pub options : Options
-options = record { format = Plain; size = 1024; expedited = true; sum = true }
+options = record { format = Plain; size = 1024; expedited = true; sum = true; preferred = false }
 
 -- extended formats, without expedited data and without checksums
 abbrev pub wide : Options
-wide = record { format = Extended; size = 8192; expedited = false; sum = false }
+wide = record { format = Extended; size = 8192; expedited = false; sum = false; preferred = false }
 
 abbrev pub call : Options → ConnectCall
 call options = record {
@@ -76,11 +77,11 @@ abbrev pub calling : End
 calling = calling_for options
 
 abbrev pub called : End
-called = end_of (indicated (called_end 0 1 (0x49 ∷ 0x0A ∷ 1 ∷ []) timers 8 1 (0xAA ∷ []) (0xBB ∷ []) options) [])
+called = end_of (indicated (called_end 0 1 (0x49 ∷ 0x0A ∷ 1 ∷ []) timers 8 1 (0xAA ∷ []) (0xBB ∷ []) (proposed_by options)) [])
 
 -- the TPDUs of the partner, whose reference is 7 or 1
 abbrev pub cc_for : Format → ℕ → ℕ → ℕ → Event
-cc_for width credit size extra = Took (tpdus.Cc credit 1 7 width (0xAA ∷ []) (0xBB ∷ []) size extra None None None []) true
+cc_for width credit size extra = Took (tpdus.Cc credit 1 7 width (0xAA ∷ []) (0xBB ∷ []) (Some size) None extra None None None []) true
 
 abbrev pub cc : ℕ → Event
 cc credit = cc_for Plain credit 1024 1

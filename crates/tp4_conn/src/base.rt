@@ -4,11 +4,12 @@ ghost use Rattle.std.specs.Prelude.{◌≡◌, ◌≤◌, ◌∷◌, ◌++◌, [
 ghost use Rattle.tp4_flow.specs.Told.{Grows};
 ghost use Rattle.tp4_flow.specs.declared.step.GoneCause.TheVariants.{Reason};
 ghost use Rattle.tp4_conn.specs.declared.stage.Stage.TheVariants.{Closing, Frozen};
-ghost use Rattle.tp4_conn.specs.Agreeing.{extra_of, options_in, request, confirm};
+ghost use Rattle.tp4_conn.specs.Agreeing.{extra_of, request, confirm};
 ghost use Rattle.tp4_conn.specs.End.{Does, agreed_format, agreed_sum, tell, send, release, gone, confirms, closing};
 ghost use Rattle.tp4_conn.specs.Making.{indicated};
 ghost use Rattle.tp4_conn.specs.Opened.{is_expedited};
 
+use crate::proposed::{Proposed, confirmed_size, number_of};
 use crate::{Options, Releasing, Stage, Timers};
 use nsap::Nsap;
 use osi_base::{Bytes, NoMemory, Tick};
@@ -36,7 +37,7 @@ pub struct Base {
     /// The called selector.
     pub called: Bytes,
     /// What the CR proposes.
-    pub proposed: Options,
+    pub proposed: Proposed,
     pub timers: Timers,
     /// The partner's reference, 0 until it is known.
     pub partner: u16,
@@ -52,18 +53,6 @@ pub(crate) fn copied(alloc: Global, octets: &[u8]) -> Result<Bytes, NoMemory>
     ensures { IfOk result (λ copy. copy ≡ octets.now) }
 {
     Ok(Bytes::of(octets.to_vec(alloc)?))
-}
-
-/// What a CR or a CC says.
-pub(crate) fn options_in(format: Format, size: u16, extra: u8) -> Options
-    ensures { result ≡ options_in format size extra }
-{
-    Options {
-        format,
-        size,
-        expedited: extra % 2 == 1,
-        sum: extra / 2 % 2 == 0,
-    }
 }
 
 /// The additional options octet.
@@ -152,7 +141,7 @@ impl Base {
             partner: self.partner,
             calling: copied(alloc, self.calling.as_slice())?,
             called: copied(alloc, self.called.as_slice())?,
-            options: self.proposed,
+            options: self.proposed.options,
             octets: copied(alloc, octets)?,
         };
         self.tell(what, out)
@@ -171,11 +160,12 @@ impl Base {
         let tpdu = Tpdu::Cr {
             credit: self.timers.credit as u8,
             source: self.own,
-            format: self.proposed.format,
+            format: self.proposed.options.format,
             calling: copied(alloc, self.calling.as_slice())?,
             called: copied(alloc, self.called.as_slice())?,
-            size: self.proposed.size,
-            extra: extra_of(self.proposed),
+            size: Some(self.proposed.listed),
+            preferred: number_of(self.proposed.options),
+            extra: extra_of(self.proposed.options),
             version: None,
             classes: None,
             ack_time: None,
@@ -202,7 +192,8 @@ impl Base {
             format: options.format,
             calling: copied(alloc, self.calling.as_slice())?,
             called: copied(alloc, self.called.as_slice())?,
-            size: options.size,
+            size: confirmed_size(options),
+            preferred: number_of(options),
             extra: extra_of(options),
             version: None,
             classes: None,

@@ -11,14 +11,15 @@ ghost use Rattle.tp4_conn.specs.declared.call.CallRefusal.{CallRefusal};
 ghost use Rattle.tp4_conn.specs.declared.call.CallRefusal.TheVariants.{NoMemory as OutOfMemory};
 ghost use Rattle.tp4_conn.specs.Calls.{IsCall, call_refusal, state_of};
 ghost use Rattle.tp4_conn.specs.Dues.{IsBefore};
-ghost use Rattle.tp4_conn.specs.End.{Does, IsSame, IsSize, IsTimed, Moved, agreed_format};
+ghost use Rattle.tp4_conn.specs.End.{Does, IsSame, IsSized, IsTimed, Moved, agreed_format};
 ghost use Rattle.tp4_conn.specs.Making.{connected, on_cr};
 ghost use Rattle.tp4_conn.specs.Living.{IsInTime};
 ghost use Rattle.tp4_conn.specs.Matching.{is_called_by, is_match};
 ghost use Rattle.tp4_conn.specs.Table.{Called, Took, Ticked, stepped, due};
 
-use crate::base::{Base, copied, options_in};
+use crate::base::{Base, copied};
 use crate::matching::{fits, has_sum, wants_sum};
+use crate::proposed::{proposed_by, proposed_in};
 use crate::refusal::refusal;
 use crate::{CallRefusal, ConnectCall, Requesting, Stage, State, Steps, Timers, UserCall, rows};
 use nsap::Nsap;
@@ -53,6 +54,7 @@ impl Model for Connection {
 
 impl Connection {
     /// An end that calls: its CR is sent for the first time.
+    #[tactic(auto, using(crate::proofs::Sizes::proposal_by))]
     pub fn connect(
         alloc: Global,
         now: Tick,
@@ -61,7 +63,7 @@ impl Connection {
     ) -> Result<Connection, NoMemory>
         requires now { now ≤ 4000000000 }
         requires timers { IsTimed call.rules }
-        requires size { IsSize call.options.size }
+        requires size { IsSized call.options }
         ensures later { IfOk result (λ made. IsBefore (due made.base made.stage) now) }
         ensures step { IfOk result (λ made. Does (connected now call) made.base made.stage out.old out.new) }
     {
@@ -71,7 +73,7 @@ impl Connection {
             is_called: false,
             calling: call.from_selector,
             called: call.to_selector,
-            proposed: call.options,
+            proposed: proposed_by(call.options),
             timers: call.rules,
             partner: 0,
             credit: 0,
@@ -87,7 +89,7 @@ impl Connection {
     }
 
     /// An end that a CR calls: the connect indication.
-    #[tactic(auto, using(crate::proofs::Sizes::size_known))]
+    #[tactic(auto, using(crate::proofs::Sizes::read_proposal))]
     pub fn incoming(
         alloc: Global,
         now: Tick,
@@ -111,6 +113,7 @@ impl Connection {
             calling,
             called,
             size,
+            preferred,
             extra,
             octets,
             ..
@@ -124,7 +127,7 @@ impl Connection {
             is_called: true,
             calling: copied(alloc, calling)?,
             called: copied(alloc, called)?,
-            proposed: options_in(format, size, extra),
+            proposed: proposed_in(format, size, preferred, extra),
             timers: rules,
             partner: source,
             credit: u16::from(credit),

@@ -4,30 +4,20 @@ ghost use Rattle.std.specs.Prelude.{◌≡◌, ◌≤◌, IfOk, Some};
 ghost use Rattle.tpdu.specs.Values.{tpdu_of};
 ghost use Rattle.tpdu.specs.Writing.{IsAllowed};
 ghost use Rattle.tp4_conn.specs.declared.stage.Stage.TheVariants.{CrWait};
-ghost use Rattle.tp4_conn.specs.Agreeing.{is_within};
 ghost use Rattle.tp4_conn.specs.CrWait.{cr_wait_tpdu, cr_wait_tick, confirmed};
-ghost use Rattle.tp4_conn.specs.End.{Does, IsSize, IsTimed, agreed_format};
+ghost use Rattle.tp4_conn.specs.End.{Does, IsSized, IsTimed, agreed_format};
 ghost use Rattle.tp4_conn.specs.steps.Kept.{IsEnd, IsKept, IsSound};
 
-use crate::base::{Base, PROTOCOL_ERROR, copied, options_in};
+use crate::base::{Base, PROTOCOL_ERROR, copied};
+use crate::proposed::{is_within, options_in};
 use crate::{Open, Options, Requesting, Stage};
 use osi_base::NoMemory;
 use std::alloc::Global;
 use tp4_flow::{GoneCause, Step, What};
-use tpdu::{Format, TpduRef};
-
-/// Whether a CC is within what was proposed.
-fn is_within(proposed: Options, options: Options) -> bool
-    ensures { result ≡ is_within proposed options }
-{
-    (options.format == Format::Normal || proposed.format == Format::Extended)
-        && (!options.expedited || proposed.expedited)
-        && (options.sum || !proposed.sum)
-        && options.size <= proposed.size
-}
+use tpdu::TpduRef;
 
 /// A TPDU came.
-#[tactic(auto, using(crate::proofs::Sizes::size_known), unfolding(crate::specs::CrWait::cr_wait_tpdu))]
+#[tactic(auto, using(crate::proofs::Sizes::read_sized), unfolding(crate::specs::CrWait::cr_wait_tpdu))]
 pub(crate) fn on_tpdu(
     alloc: Global,
     base: &mut Base,
@@ -47,15 +37,16 @@ pub(crate) fn on_tpdu(
             source,
             format,
             size,
+            preferred,
             extra,
             octets,
             ..
         } => {
             base.partner = source;
-            let options = options_in(format, size, extra);
-            if !is_within(base.proposed, options) {
+            if !is_within(base.proposed, format, size, preferred, extra) {
                 return base.fail(alloc, GoneCause::Protocol, PROTOCOL_ERROR, base.clock, out);
             }
+            let options = options_in(format, size, preferred, extra);
             base.credit = u16::from(credit);
             base.agreed = Some(options);
             open(alloc, base, options, octets, out)
@@ -85,7 +76,7 @@ fn open(
     out: &mut Step,
 ) -> Result<Stage, NoMemory>
     requires timers { IsTimed base.now.timers }
-    requires size { IsSize options.size }
+    requires size { IsSized options }
     requires credit { base.now.credit ≤ 15 }
     requires low { base.now.clock ≤ 4000000000 }
     requires agreed { base.now.agreed ≡ Some options }

@@ -6,7 +6,7 @@ ghost use Rattle.tp4_conn.specs.contracts.halves.BoxedHalves.{the_row};
 ghost use Rattle.tp4_conn.specs.contracts.halves.Halves.{the_row as halves_row};
 ghost use Rattle.tp4_sending.specs.FlowSender.{Keeps, Sends, at, submitted, urged};
 ghost use Rattle.tp4_conn.specs.Agreeing.{flow_rules, halves_of};
-ghost use Rattle.tp4_conn.specs.End.{IsTimed, IsSize};
+ghost use Rattle.tp4_conn.specs.End.{IsTimed, IsSized};
 
 use crate::{Base, Options};
 use osi_base::{Bytes, NoMemory, Tick};
@@ -64,10 +64,10 @@ impl BoxedHalves {
 
 impl Base {
     /// The halves of an end that has agreed.
-    #[tactic(auto, using(crate::proofs::Credits::granted_low, crate::proofs::Sizes::size_least, crate::proofs::Sizes::size_most))]
+    #[tactic(auto, using(crate::proofs::Credits::granted_low, crate::proofs::Sizes::sized_least, crate::proofs::Sizes::sized_most))]
     pub(crate) fn halves(&self, alloc: Global, options: Options) -> Result<BoxedHalves, NoMemory>
         requires timers { IsTimed self.now.timers }
-        requires size { IsSize options.size }
+        requires size { IsSized options }
         requires credit { self.now.credit ≤ 15 }
         ensures { IfOk result (λ halves. halves ≡ halves_of self.now options) }
     {
@@ -80,10 +80,10 @@ impl Base {
     }
 
     /// How the halves work.
-    #[tactic(auto, using(crate::proofs::Sizes::size_least, crate::proofs::Sizes::size_most))]
+    #[tactic(auto, using(crate::proofs::Sizes::sized_least, crate::proofs::Sizes::sized_most))]
     fn rules(&self, options: Options) -> FlowRules
         requires timers { IsTimed self.now.timers }
-        requires size { IsSize options.size }
+        requires size { IsSized options }
         ensures { result ≡ flow_rules self.now options }
     {
         let header = match options.format {

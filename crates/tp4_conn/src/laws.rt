@@ -1,9 +1,10 @@
 //! Laws of one end (X.224, class 4 state tables; frozen references).
 
-ghost use Rattle.std.specs.Prelude.{◌≡◌, ◌≤◌, ◌+◌, ℕ, List, [], Some};
+ghost use Rattle.std.specs.Prelude.{◌≡◌, ◌≤◌, ◌+◌, ℕ, true, List, [], Some};
 ghost use Rattle.tpdu.specs.declared.tpdu.Format.TheVariants.{Normal};
 ghost use Rattle.tpdu.specs.declared.tpdu.Tpdu.{Tpdu};
 ghost use Rattle.tpdu.specs.Writing.{IsAllowed};
+ghost use Rattle.tp4_flow.specs.declared.rules.Options.{Options};
 ghost use Rattle.tp4_flow.specs.declared.step.EndEvent.{EndEvent};
 ghost use Rattle.tp4_flow.specs.declared.step.Sent.{Sent};
 ghost use Rattle.tp4_number.specs.Number.{whole, wire};
@@ -12,8 +13,10 @@ ghost use Rattle.tp4_conn.specs.declared.call.ConnectCall.{ConnectCall};
 ghost use Rattle.tp4_conn.specs.declared.stage.Stage.{Stage};
 ghost use Rattle.tp4_conn.specs.declared.stage.Stage.TheVariants.{Frozen};
 ghost use Rattle.tp4_conn.specs.declared.timers.Timers.{Timers};
+ghost use Rattle.tp4_conn.specs.declared.proposed.Proposed.{Proposed};
+ghost use Rattle.tp4_conn.specs.Agreeing.{agreed_by, confirmed_size, extra_of, is_confirmed, listed_of, number_of, options_in, proposed_by, proposed_in};
 ghost use Rattle.tp4_conn.specs.Dues.{IsDue};
-ghost use Rattle.tp4_conn.specs.End.{End, IsTimed, Moved, end_of, span};
+ghost use Rattle.tp4_conn.specs.End.{End, IsProposal, IsSized, IsTimed, Moved, end_of, span};
 ghost use Rattle.tp4_conn.specs.Living.{Life, Leads, IsOverBy, sent_by};
 ghost use Rattle.tp4_conn.specs.Making.{connected, indicated, on_cr};
 ghost use Rattle.tp4_conn.specs.Proper.{AreProper, AreSendable, IsProper, IsProperCall, IsProperEvent, IsProperRow};
@@ -57,6 +60,17 @@ pub fn over_sendings()
 pub fn over_wires()
     ensures { (old : End) (event : Event) (now : ℕ) (new : End) (events : List EndEvent) (tpdus : List Sent) → EndStep whole old event now new events tpdus
         → EndStep wire (end_on_wire old) event now (end_on_wire new) events tpdus }
+{}
+
+/// What a CR proposes is read back from it, and what an accept agrees on from its CC. What is agreed is no more than the accept asked for, and the CC is
+/// within what was proposed.
+pub fn over_sizes()
+    ensures proposed { (asked : Options) → IsSized asked → IsProposal (proposed_by asked) }
+    ensures request { (asked : Options) → IsSized asked → proposed_in asked.format (Some (listed_of asked)) (number_of asked) (extra_of asked) ≡ proposed_by asked }
+    ensures agreed { (proposed : Proposed) (asked : Options) → IsProposal proposed → IsSized asked → IsSized (agreed_by proposed asked) }
+    ensures lesser { (proposed : Proposed) (asked : Options) → IsSized asked → (agreed_by proposed asked).size ≤ asked.size }
+    ensures confirm { (agreed : Options) → IsSized agreed → options_in agreed.format (confirmed_size agreed) (number_of agreed) (extra_of agreed) ≡ agreed }
+    ensures within { (proposed : Proposed) (asked : Options) → IsProposal proposed → IsSized asked → is_confirmed proposed (agreed_by proposed asked) ≡ true }
 {}
 
 /// Worked rows that one end shows.

@@ -2,36 +2,21 @@
 
 ghost use Rattle.std.specs.Prelude.{◌≡◌, ◌∷◌, ◌++◌, [], IfOk, OnOk};
 ghost use Rattle.tp4_conn.specs.declared.stage.Stage.TheVariants.{UserWait};
-ghost use Rattle.tp4_conn.specs.Agreeing.{agreed_by};
-ghost use Rattle.tp4_conn.specs.End.{Does, IsSize};
+ghost use Rattle.tp4_conn.specs.End.{Does, IsSized};
 ghost use Rattle.tp4_conn.specs.UserWait.{user_wait_accept, user_wait_refuse, user_wait_tick, refusing};
 ghost use Rattle.tp4_conn.specs.steps.Kept.{IsEnd, IsKept, IsSound};
 
 use crate::base::{Base, NORMAL, copied};
+use crate::proposed::agreed_by;
 use crate::{Answering, Options, Stage};
 use osi_base::{Bytes, NoMemory, Tick};
 use std::alloc::Global;
 use tp4_flow::{GoneCause, Step, What};
 use tp4_sending::{Tries, is_past};
-use tpdu::{Format, Tpdu};
-
-/// What both ends agree on.
-fn agreed_by(proposed: Options, asked: Options) -> Options
-    ensures { result ≡ agreed_by proposed asked }
-{
-    Options {
-        format: match proposed.format {
-            Format::Normal => Format::Normal,
-            Format::Extended => asked.format,
-        },
-        size: proposed.size.min(asked.size),
-        expedited: proposed.expedited && asked.expedited,
-        sum: proposed.sum || asked.sum,
-    }
-}
+use tpdu::Tpdu;
 
 /// The user accepts.
-#[tactic(auto, using(crate::proofs::Sizes::size_lesser), unfolding(crate::specs::UserWait::user_wait_accept))]
+#[tactic(auto, using(crate::proofs::Sizes::agreed_sized), unfolding(crate::specs::UserWait::user_wait_accept))]
 pub(crate) fn accept(
     alloc: Global,
     base: &mut Base,
@@ -40,7 +25,7 @@ pub(crate) fn accept(
     out: &mut Step,
 ) -> Result<Stage, NoMemory>
     requires end { IsEnd base.old (UserWait base.old.clock) }
-    requires asked { IsSize asked.size }
+    requires asked { IsSized asked }
     ensures step { IfOk result (λ stage. Does (user_wait_accept base.old asked octets) base.new stage out.old out.new) }
     ensures sound { IfOk result (λ stage. IsSound base.new stage) }
     ensures kept { IsKept base.old base.new }

@@ -32,9 +32,9 @@ unmatched_dr wrap now e from destination source reason info text sum false is =
     (ap (λ (b : Bool). cond b [] (answer from (Dc source destination) ∷ [])) is) refl
 
 unmatched_meets : (wrap : ℕ → ℕ → ℕ) (now : ℕ) (e : Entity) (from : List ℕ) (tpdu : Tpdu) (sum : Bool) → Meets wrap now e from (tpdu, sum) (unmatched e from tpdu)
-unmatched_meets wrap now e from (Cc credit destination source width calling called size extra version classes ack_time text) sum = Answers (refusal from source 132) (Refused source 132 refl refl) refl refl
+unmatched_meets wrap now e from (Cc credit destination source width calling called size preferred extra version classes ack_time text) sum = Answers (refusal from source 132) (Refused source 132 refl refl) refl refl
 unmatched_meets wrap now e from (Dr destination source reason info text) sum = unmatched_dr wrap now e from destination source reason info text sum (source == 0) refl
-unmatched_meets wrap now e from (Cr credit source width calling called size extra version classes ack_time text) sum = Quiet refl
+unmatched_meets wrap now e from (Cr credit source width calling called size preferred extra version classes ack_time text) sum = Quiet refl
 unmatched_meets wrap now e from (Dc destination source) sum = Quiet refl
 unmatched_meets wrap now e from (Dt destination last number text) sum = Quiet refl
 unmatched_meets wrap now e from (Ed destination last number text) sum = Quiet refl
@@ -59,8 +59,8 @@ meets_if true wrap now e from tpdu one other h k = h
 meets_if false wrap now e from tpdu one other h k = k
 
 pub meets : (wrap : ℕ → ℕ → ℕ) (now : ℕ) (e : Entity) (from : List ℕ) (tpdu : TpduAndSum) → Meets wrap now e from tpdu (met wrap now e from tpdu)
-meets wrap now e from (Cr credit source width calling called size extra version classes ack_time text, sum) =
-    let cr = Cr credit source width calling called size extra version classes ack_time text in
+meets wrap now e from (Cr credit source width calling called size preferred extra version classes ack_time text, sum) =
+    let cr = Cr credit source width calling called size preferred extra version classes ack_time text in
     let three = cond (not (is_registered e.selectors called)) (answers e (refusal from source 3 ∷ [])) (new_end now e from source cr (least_free now e)) in
     let two = cond (list_any (is_called true from source) e.ends) (answers e (refusal from source 131 ∷ [])) three in
     meets_if (list_any (is_called false from source) e.ends) wrap now e from (cr, sum) (answers e []) two (Quiet refl)
@@ -69,12 +69,12 @@ meets wrap now e from (Cr credit source width calling called size extra version 
     (meets_if (not (is_registered e.selectors called)) wrap now e from (cr, sum) (answers e (refusal from source 3 ∷ [])) (new_end now e from source cr (least_free now e))
     (Answers (refusal from source 3) (Refused source 3 refl refl) refl refl) (by_reference (least_free now e))))
   where
-    by_reference : (found : Option ℕ) → Meets wrap now e from (Cr credit source width calling called size extra version classes ack_time text, sum)
-        (new_end now e from source (Cr credit source width calling called size extra version classes ack_time text) found)
+    by_reference : (found : Option ℕ) → Meets wrap now e from (Cr credit source width calling called size preferred extra version classes ack_time text, sum)
+        (new_end now e from source (Cr credit source width calling called size preferred extra version classes ack_time text) found)
     by_reference None = Answers (refusal from source 129) (Refused source 129 refl refl) refl refl
     by_reference (Some reference) = Quiet refl
-meets wrap now e from (Cc credit destination source width calling called size extra version classes ack_time text, sum) =
-    by_meets wrap now e from (Cc credit destination source width calling called size extra version classes ack_time text) sum destination (end_at e destination) refl
+meets wrap now e from (Cc credit destination source width calling called size preferred extra version classes ack_time text, sum) =
+    by_meets wrap now e from (Cc credit destination source width calling called size preferred extra version classes ack_time text) sum destination (end_at e destination) refl
 meets wrap now e from (Dr destination source reason info text, sum) = by_meets wrap now e from (Dr destination source reason info text) sum destination (end_at e destination) refl
 meets wrap now e from (Dc destination source, sum) = by_meets wrap now e from (Dc destination source) sum destination (end_at e destination) refl
 meets wrap now e from (Dt destination last number text, sum) = by_meets wrap now e from (Dt destination last number text) sum destination (end_at e destination) refl

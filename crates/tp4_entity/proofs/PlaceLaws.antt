@@ -17,7 +17,7 @@ use Rattle.tp4_conn.specs.declared.call.UserCall.{UserCall}
 use Rattle.tp4_conn.specs.declared.call.CallRefusal.TheVariants.{NoMemory}
 use Rattle.tp4_conn.specs.declared.timers.Timers.{Timers}
 use Rattle.tp4_conn.specs.declared.base.Base.{Base}
-use Rattle.tp4_conn.specs.Agreeing.{options_in}
+use Rattle.tp4_conn.specs.Agreeing.{proposed_in}
 use Rattle.tp4_conn.specs.End.{Does, End, IsTimed, Moved, end_of}
 use Rattle.tp4_conn.specs.Making.{called_end, indicated, on_cr}
 use Rattle.tp4_conn.specs.Matching.{is_match}
@@ -325,9 +325,9 @@ pub record Makes (now own : ℕ) (from : List ℕ) (rules : Timers) (tpdu : Tpdu
   pub clock : moved.base.clock ≡ now
 
 pub makes : (now own : ℕ) (from : List ℕ) (rules : Timers) (tpdu : Tpdu) → kind_for tpdu ≡ CrKind → Makes now own from rules tpdu
-makes now own from rules (Cr credit source width calling called size extra version classes ack_time text) h =
+makes now own from rules (Cr credit source width calling called size preferred extra version classes ack_time text) h =
     record {
-      moved = indicated (called_end now own from rules credit source calling called (options_in width size extra)) text;
+      moved = indicated (called_end now own from rules credit source calling called (proposed_in width size preferred extra)) text;
       made = refl;
       own_is = refl;
       timed = refl;

@@ -213,10 +213,10 @@ requested_keeps wrap now e from source called cr =
     (end_keeps wrap now e from source cr (least_free now e) refl)))
 
 pub met_keeps : (wrap : ℕ → ℕ → ℕ) (now : ℕ) (e : Entity) (from : List ℕ) (tpdu : TpduAndSum) → KeepsEnds wrap now e (met wrap now e from tpdu).entity
-met_keeps wrap now e from (Cr credit source width calling called size extra version classes ack_time text, sum) =
-    requested_keeps wrap now e from source called (Cr credit source width calling called size extra version classes ack_time text)
-met_keeps wrap now e from (Cc credit destination source width calling called size extra version classes ack_time text, sum) =
-    by_keeps wrap now e from (Cc credit destination source width calling called size extra version classes ack_time text, sum) destination (end_at e destination) refl
+met_keeps wrap now e from (Cr credit source width calling called size preferred extra version classes ack_time text, sum) =
+    requested_keeps wrap now e from source called (Cr credit source width calling called size preferred extra version classes ack_time text)
+met_keeps wrap now e from (Cc credit destination source width calling called size preferred extra version classes ack_time text, sum) =
+    by_keeps wrap now e from (Cc credit destination source width calling called size preferred extra version classes ack_time text, sum) destination (end_at e destination) refl
 met_keeps wrap now e from (Dr destination source reason info text, sum) = by_keeps wrap now e from (Dr destination source reason info text, sum) destination (end_at e destination) refl
 met_keeps wrap now e from (Dc destination source, sum) = by_keeps wrap now e from (Dc destination source, sum) destination (end_at e destination) refl
 met_keeps wrap now e from (Dt destination last number text, sum) = by_keeps wrap now e from (Dt destination last number text, sum) destination (end_at e destination) refl

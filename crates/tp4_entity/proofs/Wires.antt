@@ -209,7 +209,7 @@ at_on now e from tpdu reference = ap (met_by wire now (entity_on_wire e) from tp
 
 made_on : (now : ℕ) (e : Entity) (from : List ℕ) (source : ℕ) (cr : Tpdu) (found : Option ℕ) → new_end now (entity_on_wire e) from source cr found ≡ acted_on_wire (new_end now e from source cr found)
 made_on now e from source cr None = refl
-made_on now e from source (Cr credit reference width calling called size extra version classes ack_time text) (Some own) =
+made_on now e from source (Cr credit reference width calling called size preferred extra version classes ack_time text) (Some own) =
     moved_on e own _ _ (record { base = refl; stage = refl; events = refl; tpdus = refl })
 made_on now e from source other (Some own) = refl
 
@@ -226,10 +226,10 @@ requested_on now e from source called cr =
     (either_on (not (is_registered e.selectors called)) _ _ _ _ refl (made_on now e from source cr (least_free now e))))
 
 pub met_on : (now : ℕ) (e : Entity) (from : List ℕ) (tpdu : TpduAndSum) → met wire now (entity_on_wire e) from tpdu ≡ acted_on_wire (met whole now e from tpdu)
-met_on now e from (Cr credit source width calling called size extra version classes ack_time text, sum) =
-    requested_on now e from source called (Cr credit source width calling called size extra version classes ack_time text)
-met_on now e from (Cc credit destination source width calling called size extra version classes ack_time text, sum) =
-    at_on now e from (Cc credit destination source width calling called size extra version classes ack_time text, sum) destination
+met_on now e from (Cr credit source width calling called size preferred extra version classes ack_time text, sum) =
+    requested_on now e from source called (Cr credit source width calling called size preferred extra version classes ack_time text)
+met_on now e from (Cc credit destination source width calling called size preferred extra version classes ack_time text, sum) =
+    at_on now e from (Cc credit destination source width calling called size preferred extra version classes ack_time text, sum) destination
 met_on now e from (Dr destination source reason info text, sum) = at_on now e from (Dr destination source reason info text, sum) destination
 met_on now e from (Dc destination source, sum) = at_on now e from (Dc destination source, sum) destination
 met_on now e from (Dt destination last number text, sum) = at_on now e from (Dt destination last number text, sum) destination

@@ -64,7 +64,7 @@ requested now e from source called cr =
 
 -- the answer to a TPDU that belongs to no end: DR 132 to a CC; to a DR that has a source a DC with both references swapped
 abbrev pub stateless : List ℕ → Tpdu → List Sent
-stateless from (Cc credit destination source width calling called size extra version classes ack_time text) = refusal from source 132 ∷ []
+stateless from (Cc credit destination source width calling called size preferred extra version classes ack_time text) = refusal from source 132 ∷ []
 stateless from (Dr destination source reason info text) = if source == 0 then [] else answer from (Dc source destination) ∷ []
 stateless from other = []
 
@@ -88,6 +88,6 @@ met_at wrap now e from tpdu (Some reference) = met_by wrap now e from tpdu refer
 
 -- what a TPDU from that address does. `wrap` is what a receiving half keeps of a number, by its block
 abbrev pub met : (ℕ → ℕ → ℕ) → ℕ → Entity → List ℕ → TpduAndSum → Acted
-met wrap now e from (Cr credit source width calling called size extra version classes ack_time text, sum) =
-    requested now e from source called (Cr credit source width calling called size extra version classes ack_time text)
+met wrap now e from (Cr credit source width calling called size preferred extra version classes ack_time text, sum) =
+    requested now e from source called (Cr credit source width calling called size preferred extra version classes ack_time text)
 met wrap now e from tpdu = met_at wrap now e from tpdu (destination_of tpdu.0)

@@ -28,8 +28,8 @@ KeepsEnds wrap now old new = (reference : ℕ) (end : End) → end_at old refere
 
 -- the source reference of a CR or a CC
 abbrev pub asker : Tpdu → Option ℕ
-asker (Cr credit source width calling called size extra version classes ack_time text) = Some source
-asker (Cc credit destination source width calling called size extra version classes ack_time text) = Some source
+asker (Cr credit source width calling called size preferred extra version classes ack_time text) = Some source
+asker (Cc credit destination source width calling called size preferred extra version classes ack_time text) = Some source
 asker other = None
 
 -- an answer to that TPDU: a DR with source 0 to a CR or a CC, a DC to a DR that has a source

@@ -3,7 +3,7 @@
 ghost use Rattle.std.specs.Prelude.{◌≡◌, ◌≢◌, ◌≤◌, ◌<◌, ◌+◌, ◌-◌, [], ◌∷◌, ◌++◌, Some, None, Err, true, false, length, option_copied, replicate, slice_get, is_some, if◌then◌else◌, IfErr, IfOk, OnErr, OnOk};
 ghost use Rattle.tp4_number.specs.Number.{wire};
 ghost use Rattle.tp4_conn.specs.Calls.{IsCall};
-ghost use Rattle.tp4_conn.specs.End.{IsSize, IsTimed};
+ghost use Rattle.tp4_conn.specs.End.{IsSized, IsTimed};
 ghost use Rattle.tp4_conn.specs.declared.call.CallRefusal.TheVariants.{NoMemory as EndOutOfMemory};
 ghost use Rattle.tp4_entity.specs.Association.{is_registered};
 ghost use Rattle.std.specs.List.{list_any};
@@ -149,7 +149,7 @@ impl TpEntity {
         requires clock { self.old.clock ≤ now }
         requires now { now ≤ 4000000000 }
         requires due { AreFrom now self.old.ends }
-        requires size { IsSize call.options.size }
+        requires size { IsSized call.options }
         ensures allowed { OnOk result (connect_refusal now self.old call.octets ≡ None) }
         ensures least { IfOk result (λ reference. least_free now self.old ≡ Some reference) }
         ensures step { IfOk result (λ reference. DoesSo (connecting now self.old reference call) self.new out.old out.new) }

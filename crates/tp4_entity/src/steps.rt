@@ -1,7 +1,7 @@
 //! The steps of an entity at one of its places.
 
 ghost use Rattle.std.specs.Prelude.{◌≡◌, ◌≤◌, ◌<◌, ◌+◌, Some, length, position, option_copied, [], ◌∷◌, ◌++◌, IfOk, OnErr, OnOk};
-ghost use Rattle.tp4_conn.specs.End.{IsSize};
+ghost use Rattle.tp4_conn.specs.End.{IsSized};
 ghost use Rattle.tp4_entity.specs.Association.{is_registered};
 ghost use Rattle.tp4_entity.specs.Dues.{AreFrom};
 ghost use Rattle.tp4_entity.specs.Entity.{at, end_at, with_end};
@@ -75,7 +75,7 @@ impl TpEntity {
         requires clock { self.old.clock ≤ now }
         requires now { now ≤ 4000000000 }
         requires due { AreFrom now self.old.ends }
-        requires size { IsSize call.options.size }
+        requires size { IsSized call.options }
         ensures reference { IfOk result (λ reference. reference ≡ place + 1) }
         ensures step { OnOk result (DoesSo (connecting now self.old (place + 1) call) self.new out.old out.new) }
         ensures lasts { OnOk result (Lasts now self.old.ends self.new.ends) }

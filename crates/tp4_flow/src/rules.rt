@@ -12,6 +12,8 @@ pub struct Options {
     pub expedited: bool,
     /// Each TPDU has a checksum.
     pub sum: bool,
+    /// The size is a preferred one, some number of 128 octets.
+    pub preferred: bool,
 }
 
 /// The fixed terms of a connection, as its halves use them.

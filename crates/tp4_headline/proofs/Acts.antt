@@ -198,7 +198,7 @@ module _ (titles : List (List ℕ)) (timers : Timers) (w : Whole) (journal : Lis
   module _ (going : (w.base.end kn.k).stop ≡ None) (fit : IsFit e event) (sourced : IsSourced n event) (takes : lacks e event ≡ false) (comes : Comes (times_of timers) w.base kn.k n event taken)
       (flowing : Flowing) (hears : (z : ℕ) (terms : Terms) → IsPartner w.base kn.k z → AreTerms w.base kn.k z terms → IsKnownEvent terms e.base e.stage taken event (w.track kn.k) (w.track z)) where
     mv : Moves (times_of timers) w.base.clock (cause_of e n event) (w.base.end kn.k) m
-    mv = end_moved whole (times_of timers) w.base.clock n (w.base.end kn.k) e event sees going fit sourced
+    mv = end_moved whole (times_of timers) w.base.clock n (w.base.end kn.k) e event sees going fit sourced kn.proper proper
 
     d : Did (times_of timers) w all.sound all.tracked kn.k timers e event taken kn.at.low sees timed (cause_of e n event) mv made
     d = did (times_of timers) w all.sound all.tracked kn.k timers e event taken kn.at.low sees timed (cause_of e n event) mv made flowing says n (ap (λ (t : Timers). t.life) (sym timed)) kn.proper proper comes kn.stands hears

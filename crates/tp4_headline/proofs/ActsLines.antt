@@ -440,8 +440,8 @@ module _ (times : Times) (w : Whole) (s : Sound times w.base) (t : Tracked times
 
     knows_tpdu : (b : Base) (stage : Stage) (n : ℕ) (o : Offer) (tpdu : WireTpdu) → (b.is_called ≡ true → ⊥) → (b.partner ≢ 0 → ⊥) → IsSeenIn (w.base.end k).birth (w.base.end k).took (w.base.end k).latest b stage
         → IsTaken times w.base k o (seen n tpdu) → IsKnownTpdu no_terms b stage taken tpdu (w.track k) (w.track k)
-    knows_tpdu b (stages.CrWait r) n o (wires.Cc credit destination source width calling called size extra version classes ack_time text) calls unknown at is =
-        absurd (no_confirm n o (wires.Cc credit destination source width calling called size extra version classes ack_time text) is (sym is.reading.kind))
+    knows_tpdu b (stages.CrWait r) n o (wires.Cc credit destination source width calling called size preferred extra version classes ack_time text) calls unknown at is =
+        absurd (no_confirm n o (wires.Cc credit destination source width calling called size preferred extra version classes ack_time text) is (sym is.reading.kind))
     knows_tpdu b (stages.CrWait r) n o other calls unknown at is = tt
     knows_tpdu b (stages.UserWait since) n o tpdu calls unknown at is = absurd (calls at.called)
     knows_tpdu b (stages.AkWait r) n o tpdu calls unknown at is = absurd (calls at.called)

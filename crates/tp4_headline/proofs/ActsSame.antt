@@ -71,14 +71,14 @@ module _ (wrap : ℕ → ℕ → ℕ) (b : Base) (old : Stage) where
 
   cr_leaves : (w : Requesting) (tpdu : Tpdu) → IsUnagreed old → Leaves b old (cr_wait_tpdu b w tpdu)
   unfolding cr_wait_tpdu
-  cr_leaves w (wires.Cc credit destination source width calling called size extra version classes ack_time text) un =
-      if_kept (Leaves b old) (is_within b.proposed (options_in width size extra)) _ _ (λ _. record { timers = refl; called = refl; agreed = inr (tt, un) }) (λ _. record { timers = refl; called = refl; agreed = inl refl })
+  cr_leaves w (wires.Cc credit destination source width calling called size preferred extra version classes ack_time text) un =
+      if_kept (Leaves b old) (is_within b.proposed width size preferred extra) _ _ (λ _. record { timers = refl; called = refl; agreed = inr (tt, un) }) (λ _. record { timers = refl; called = refl; agreed = inl refl })
   cr_leaves w (wires.Dr destination source reason info text) un = record { timers = refl; called = refl; agreed = inl refl }
   cr_leaves w other un = record { timers = refl; called = refl; agreed = inl refl }
 
   wait_leaves : (w : Parting) (tpdu : Tpdu) → Leaves b old (wait_before_close_tpdu b w tpdu)
   unfolding wait_before_close_tpdu
-  wait_leaves w (wires.Cc credit destination source width calling called size extra version classes ack_time text) = record { timers = refl; called = refl; agreed = inl refl }
+  wait_leaves w (wires.Cc credit destination source width calling called size preferred extra version classes ack_time text) = record { timers = refl; called = refl; agreed = inl refl }
   wait_leaves w (wires.Dr destination source reason info text) = record { timers = refl; called = refl; agreed = inl refl }
   wait_leaves w other = record { timers = refl; called = refl; agreed = inl refl }
 

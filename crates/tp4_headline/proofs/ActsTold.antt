@@ -134,8 +134,8 @@ module _ (wrap : ℕ → ℕ → ℕ) (b : Base) where
   opened_told o (wires.Ed destination last number text) own = if_kept (Row b.own) (is_expedited b.agreed) _ _ (λ _. ed_told o number text own) (λ _. (tt, tt))
   opened_told o (wires.Ak destination number credit subsequence confirmation) own = acknowledged_told b.own (at b.clock o.halves.sending) number credit subsequence
   opened_told o (wires.Ea destination number) own = done_told b.own (at b.clock o.halves.sending) number
-  opened_told o (wires.Cc credit destination source width calling called size extra version classes ack_time text) own = tt
-  opened_told o (wires.Cr credit source width calling called size extra version classes ack_time text) own = tt
+  opened_told o (wires.Cc credit destination source width calling called size preferred extra version classes ack_time text) own = tt
+  opened_told o (wires.Cr credit source width calling called size preferred extra version classes ack_time text) own = tt
   opened_told o (wires.Dc destination source) own = tt
 
   opens_told : (h : Halves) (tpdu : Tpdu) → h.receiving.rules.own ≡ b.own → Row b.own (opening wrap b h tpdu)
@@ -145,16 +145,16 @@ module _ (wrap : ℕ → ℕ → ℕ) (b : Base) where
 
   cr_told : (w : Requesting) (tpdu : Tpdu) → Row b.own (cr_wait_tpdu b w tpdu)
   unfolding cr_wait_tpdu
-  cr_told w (wires.Cc credit destination source width calling called size extra version classes ack_time text) =
-      if_kept (Row b.own) (is_within b.proposed (options_in width size extra)) _ _
-      (λ _. (tt, new_told b.own (record (at b.clock (halves_of (record b { partner = source; credit = credit; agreed = Some (options_in width size extra) }) (options_in width size extra)).sending) { is_open = true })))
+  cr_told w (wires.Cc credit destination source width calling called size preferred extra version classes ack_time text) =
+      if_kept (Row b.own) (is_within b.proposed width size preferred extra) _ _
+      (λ _. (tt, new_told b.own (record (at b.clock (halves_of (record b { partner = source; credit = credit; agreed = Some (options_in width size preferred extra) }) (options_in width size preferred extra)).sending) { is_open = true })))
       (λ _. (tt, tt))
   cr_told w (wires.Dr destination source reason info text) = (tt, tt)
   cr_told w other = tt
 
   wait_told : (w : Parting) (tpdu : Tpdu) → Row b.own (wait_before_close_tpdu b w tpdu)
   unfolding wait_before_close_tpdu
-  wait_told w (wires.Cc credit destination source width calling called size extra version classes ack_time text) = tt
+  wait_told w (wires.Cc credit destination source width calling called size preferred extra version classes ack_time text) = tt
   wait_told w (wires.Dr destination source reason info text) = tt
   wait_told w other = tt
 

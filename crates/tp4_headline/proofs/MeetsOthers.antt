@@ -61,8 +61,8 @@ KnowsTaken = (times : Times) (w : Whole) (terms : Terms) (b : Base) (stage : Sta
 -- ---- what is seen of a TPDU
 
 target_of : (t : WireTpdu) (n r : ℕ) → destination_of t ≡ Some r → (seen n t).target ≡ r
-target_of (wires.Cr credit source width calling called size extra version classes ack_time text) n r h = absurd (none-some _ h)
-target_of (wires.Cc credit destination source width calling called size extra version classes ack_time text) n r h = same_Some _ _ h
+target_of (wires.Cr credit source width calling called size preferred extra version classes ack_time text) n r h = absurd (none-some _ h)
+target_of (wires.Cc credit destination source width calling called size preferred extra version classes ack_time text) n r h = same_Some _ _ h
 target_of (wires.Dr destination source reason info text) n r h = same_Some _ _ h
 target_of (wires.Dc destination source) n r h = same_Some _ _ h
 target_of (wires.Er destination cause rejected) n r h = same_Some _ _ h
@@ -72,7 +72,7 @@ target_of (wires.Ak destination number credit subsequence confirmation) n r h = 
 target_of (wires.Ea destination number) n r h = same_Some _ _ h
 
 no_request : (t : WireTpdu) (n r : ℕ) → destination_of t ≡ Some r → (seen n t).kind ≢ Cr
-no_request (wires.Cr credit source width calling called size extra version classes ack_time text) n r h = absurd (none-some _ h)
+no_request (wires.Cr credit source width calling called size preferred extra version classes ack_time text) n r h = absurd (none-some _ h)
 no_request other n r h = λ e. cc e
 
 is_flow : (t : WireTpdu) (n : ℕ) → has_number (kind_for t) ≡ true → (seen n t).kind ≡ Flow
@@ -141,8 +141,8 @@ module _ (titles : List (List ℕ)) (timers : Timers) (w : Whole) (journal : Lis
       }) refl refl refl tt refl (tt, tt)
 
   unmatched_after : (t : WireTpdu) (sum : Bool) → IsReadAs entity sent (t, sum) → Follows titles timers w journal entities ends system entity.own [] (unmatched entity from t)
-  unmatched_after (wires.Cc credit destination source width calling called size extra version classes ack_time text) sum reading =
-      let cc_tpdu : WireTpdu = wires.Cc credit destination source width calling called size extra version classes ack_time text in
+  unmatched_after (wires.Cc credit destination source width calling called size preferred extra version classes ack_time text) sum reading =
+      let cc_tpdu : WireTpdu = wires.Cc credit destination source width calling called size preferred extra version classes ack_time text in
       let is : o.tpdu ≡ seen io.n cc_tpdu = io.seen_as ∙ ap (seen io.n) (sym (reading.control (ap has_number (sym reading.kind)))) in
       replied titles timers w journal entities ends known system entity at (told cc_tpdu) (aside cc_tpdu) refl o (refusal from source 132) (reply (wires.Dr source 0 132 None []))
       (record {

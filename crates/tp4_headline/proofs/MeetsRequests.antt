@@ -13,7 +13,7 @@ use Rattle.tpdu.specs.Kinds.{has_number}
 use Rattle.tpdu.specs.Writing.{IsConnect}
 use Rattle.tp4_flow.specs.declared.step.Sent.{Sent}
 use Rattle.tp4_conn.specs.declared.timers.Timers.{Timers}
-use Rattle.tp4_conn.specs.Agreeing.{options_in}
+use Rattle.tp4_conn.specs.Agreeing.{options_in, proposed_in}
 use Rattle.tp4_conn.specs.End.{End, IsTimed, Moved, end_of}
 use Rattle.tp4_conn.specs.Making.{called_end, indicated, on_cr}
 use Rattle.tp4_conn.specs.Matching.{is_called_by}
@@ -90,10 +90,10 @@ found_one entity from source r e h called none none_frozen = by (is_frozen e.sta
 module _ (titles : List (List ℕ)) (timers : Timers) (w : Whole) (journal : List Event) (entities : List Placed) (ends : List EndAt) (known : Known titles timers w journal entities ends)
     (timed : IsTimed timers) (system : ℕ) (entity : Entity) (at : entity_at entities system ≡ Some entity)
     (tick : ℕ) (from : List ℕ) (sent : Sent) (io : IsOffered w.base tick from sent) (to : sent.to ≡ entity.own) (soon : w.base.clock ≤ tick + timers.life)
-    (credit source : ℕ) (width : Format) (calling called : List ℕ) (size extra : ℕ) (version : Option ℕ) (classes : Option (List ℕ)) (ack_time : Option ℕ) (text : List ℕ) (sum : Bool)
-    (reading : IsReadAs entity sent (wires.Cr credit source width calling called size extra version classes ack_time text, sum)) where
+    (credit source : ℕ) (width : Format) (calling called : List ℕ) (size preferred : Option ℕ) (extra : ℕ) (version : Option ℕ) (classes : Option (List ℕ)) (ack_time : Option ℕ) (text : List ℕ) (sum : Bool)
+    (reading : IsReadAs entity sent (wires.Cr credit source width calling called size preferred extra version classes ack_time text, sum)) where
   abbrev cr : WireTpdu
-  cr = wires.Cr credit source width calling called size extra version classes ack_time text
+  cr = wires.Cr credit source width calling called size preferred extra version classes ack_time text
 
   abbrev o : Offer
   o = io.offer
@@ -116,7 +116,7 @@ module _ (titles : List (List ℕ)) (timers : Timers) (w : Whole) (journal : Lis
   timers_are : entity.timers ≡ timers
   timers_are = (known.holds system entity at).timers_are
 
-  allowed : IsConnect credit calling called size text
+  allowed : IsConnect credit calling called size preferred text
   allowed = reading.allowed
 
   sound : Sound (times_of timers) w.base
@@ -167,7 +167,7 @@ module _ (titles : List (List ℕ)) (timers : Timers) (w : Whole) (journal : Lis
     h = f.new.base
 
     abbrev m : Moved
-    m = indicated (called_end w.base.clock reference from entity.timers credit source calling called (options_in width size extra)) text
+    m = indicated (called_end w.base.clock reference from entity.timers credit source calling called (proposed_in width size preferred extra)) text
 
     abbrev caller : ℕ
     caller = (sender o.origin refl).0
@@ -231,7 +231,7 @@ module _ (titles : List (List ℕ)) (timers : Timers) (w : Whole) (journal : Lis
               calling_selector = calling;
               called = entity.own;
               called_selector = called;
-              options = told_options (options_in width size extra);
+              options = told_options (options_in width size preferred extra);
               octets = text;
             };
             rest = [];

@@ -317,6 +317,7 @@ module _ {C : Type 0} (link : C → Link (List ℕ)) (steps : C → Call (List �
   line_goes wrap titles (lines.Deliver number system) old new made none s = still old new made (delivered wrap old new number system s.0 made s.1)
   line_goes wrap titles lines.Settle old new made none s = still old new made (settled wrap 0 old made new s)
   line_goes wrap titles (lines.Inject lan system octets) old new made none s = absurd none
+  line_goes wrap titles (lines.Version version) old new made none s = absurd s
   line_goes wrap titles (lines.Set key value) old new made none s = absurd s
   line_goes wrap titles (lines.Lan name bound room) old new made none s = absurd s
   line_goes wrap titles (lines.Es name title) old new made none s = absurd s

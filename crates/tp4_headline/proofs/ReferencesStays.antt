@@ -17,7 +17,7 @@ use Rattle.net_world.specs.Told.{told}
 use Rattle.tp4_number.specs.Number.{whole}
 use Rattle.tp4_flow.specs.declared.rules.Options.{Options}
 use Rattle.tp4_conn.specs.Calls.{IsCall}
-use Rattle.tp4_conn.specs.End.{IsSize, IsTimed}
+use Rattle.tp4_conn.specs.End.{IsSized, IsTimed}
 use Rattle.tp4_conn.specs.Proper.{IsProperCall}
 use Rattle.tp4_conn.specs.declared.call.ConnectCall.{ConnectCall}
 use Rattle.tp4_conn.specs.declared.call.UserCall.{UserCall}
@@ -213,7 +213,7 @@ module _ (titles : List (List ℕ)) (timers : Timers) (timed : IsTimed timers) {
       let connects = asked.4 in
       connect_by w old new journal made e rested system connects.0 step.1 (connect_refusal (clock_of link steps old) connects.0 step.1.octets) connects.1
       (record {
-        size = subst (λ (o : Options). IsSize o.size) (sym step.3) proper.0;
+        size = subst (λ (o : Options). IsSized o) (sym step.3) proper.0;
         calling = subst (λ (o : List ℕ). length o ≤ 32) (sym asked.0) proper.1;
         called = subst (λ (o : List ℕ). length o ≤ 32) (sym asked.2) proper.2;
       }) refl connects.2
@@ -234,6 +234,7 @@ module _ (titles : List (List ℕ)) (timers : Timers) (timed : IsTimed timers) {
       ran_stays w (journal ++ made) new (delivered titles timers timed link steps law followed.aside followed.meets one Sound InTime outcomes w old new journal made number system step.0 e rested step.1)
   line_stays lines.Settle w old new journal made none proper e rested step = settled 0 old made new step w journal e rested
   line_stays (lines.Inject lan system octets) w old new journal made none proper e rested step = absurd none
+  line_stays (lines.Version version) w old new journal made none proper e rested step = absurd step
   line_stays (lines.Set key value) w old new journal made none proper e rested step = absurd step
   line_stays (lines.Lan name bound room) w old new journal made none proper e rested step = absurd step
   line_stays (lines.Es name title) w old new journal made none proper e rested step = absurd step

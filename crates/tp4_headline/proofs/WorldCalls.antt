@@ -17,7 +17,7 @@ use Rattle.osi_script.specs.declared.line.Line.TheVariants as lines
 use Rattle.tp4_number.specs.Number.{whole}
 use Rattle.tp4_flow.specs.declared.rules.Options.{Options}
 use Rattle.tp4_conn.specs.Calls.{IsCall}
-use Rattle.tp4_conn.specs.End.{IsSize, IsTimed}
+use Rattle.tp4_conn.specs.End.{IsSized, IsTimed}
 use Rattle.tp4_conn.specs.Proper.{IsProperCall}
 use Rattle.tp4_conn.specs.declared.call.ConnectCall.{ConnectCall}
 use Rattle.tp4_conn.specs.declared.call.UserCall.{UserCall}
@@ -44,7 +44,7 @@ use Rattle.tp4_headline.proofs.WorldTicks.{ticked}
 
 -- a connect call of a proper line
 pub record IsAsked (call : ConnectCall) : Type 0 where
-  pub size : IsSize call.options.size
+  pub size : IsSized call.options
   pub calling : length call.from_selector ≤ 32
   pub called : length call.to_selector ≤ 32
 
@@ -189,7 +189,7 @@ module _ (titles : List (List ℕ)) (timers : Timers) (timed : IsTimed timers) {
       let asks = step.4 in
       connected old new journal made system step.1 h
       (record {
-        size = subst (λ (o : Options). IsSize o.size) (sym step.3) proper.0;
+        size = subst (λ (o : Options). IsSized o) (sym step.3) proper.0;
         calling = subst (λ (o : List ℕ). length o ≤ 32) (sym asks.0) proper.1;
         called = subst (λ (o : List ℕ). length o ≤ 32) (sym asks.2) proper.2;
       }) asks.4
@@ -210,6 +210,7 @@ module _ (titles : List (List ℕ)) (timers : Timers) (timed : IsTimed timers) {
       holds h.w (journal ++ made) new (delivered titles timers timed link steps law followed.aside followed.meets one Sound InTime outcomes h.w old new journal made number system step.0 h.explains h.rest step.1)
   line_holds lines.Settle old new journal made none proper h step = settled 0 old made new step journal h
   line_holds (lines.Inject lan system octets) old new journal made none proper h step = absurd none
+  line_holds (lines.Version version) old new journal made none proper h step = absurd step
   line_holds (lines.Set key value) old new journal made none proper h step = absurd step
   line_holds (lines.Lan name bound room) old new journal made none proper h step = absurd step
   line_holds (lines.Es name title) old new journal made none proper h step = absurd step

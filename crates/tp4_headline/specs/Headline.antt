@@ -10,10 +10,11 @@ use Rattle.osi_journal.specs.declared.event.Event.{Event}
 use Rattle.osi_script.specs.declared.line.Line.{Line}
 use Rattle.osi_script.specs.declared.line.Line.TheVariants as lines
 use Rattle.tp4_number.specs.Number.{wire}
-use Rattle.tp4_conn.specs.End.{IsSize, IsTimed}
+use Rattle.tp4_conn.specs.End.{IsSized, IsTimed}
 use Rattle.tp4_conn.specs.declared.timers.Timers.{Timers}
 use Rattle.tp4_world.specs.Laws.{IsFirst, IsNoInjection}
 use Rattle.tp4_world.specs.Run.{RunsLines, Starts}
+use Rattle.tp4_world.specs.Telling.{asked_options}
 use Rattle.tp4_world.specs.World.{World}
 use Rattle.tp4_world.specs.declared.place.Placed.{Placed}
 
@@ -28,8 +29,8 @@ pub record IsUntouched (timers : Timers) (one : Placed) : Type 0 where
 
 -- the line keeps the limits of the script: the size of a TPDU is one of the seven, a selector has 32 octets at most, and a credit is at most 255
 abbrev pub IsProperLine : Line → Type 0
-IsProperLine (lines.Connect system selector to called options octets) = IsSize options.size × (length selector ≤ 32) × (length called ≤ 32)
-IsProperLine (lines.Accept end options octets) = IsSize options.size
+IsProperLine (lines.Connect system selector to called options octets) = IsSized (asked_options options) × (length selector ≤ 32) × (length called ≤ 32)
+IsProperLine (lines.Accept end options octets) = IsSized (asked_options options)
 IsProperLine (lines.Window end credit) = credit ≤ 255
 IsProperLine line = Unit {0}
 

@@ -74,8 +74,8 @@ pub indicates : (h : History) (own from n : ℕ) (rules : Timers) (cr : WireTpdu
     → on_cr h.clock own o.from rules cr ≡ Some m → Contains h.offers o → IsFresh (times_of rules) h o → IsReading o (seen n cr) → o.origin ≡ SentBy from
     → IsFree h o.to own → IsNotSilent (times_of rules) h o.to → HasNoEnd h o
     → Sees (times_of rules) h.clock (indicated_by h own rules from o) (end_of m) × May (times_of rules) h (Indicate o (indicated_by h own rules from o))
-indicates h own from n rules (wires.Cr credit source width calling called size extra version classes ack_time text) o m timed some has is offered fresh reading origin free not_silent alone =
-    let cr = seen n (wires.Cr credit source width calling called size extra version classes ack_time text) in
+indicates h own from n rules (wires.Cr credit source width calling called size preferred extra version classes ack_time text) o m timed some has is offered fresh reading origin free not_silent alone =
+    let cr = seen n (wires.Cr credit source width calling called size preferred extra version classes ack_time text) in
     let kind : o.tpdu.kind ≡ Cr = sym reading.kind in
     let same : cr ≡ o.tpdu = reading.control (λ e. absurd (cc (e, kind))) in
     let known : o.tpdu.source ≡ source = sym (ap (λ (t : Tpdu). t.source) same) in (

@@ -13,8 +13,10 @@ use Rattle.tp4_conn.specs.declared.stage.Answering.{Answering}
 use Rattle.tp4_conn.specs.declared.stage.Stage.TheVariants as stages
 use Rattle.tp4_conn.specs.Agreeing.{agreed_by, confirms_again, flow_rules, halves_of}
 use Rattle.tp4_conn.specs.AkWait.{opening, queueing, ak_wait_tpdu, ak_wait_tick, ak_wait_normal, ak_wait_urgent, ak_wait_disconnect}
-use Rattle.tp4_conn.specs.End.{span, stays, frozen}
+use Rattle.tp4_conn.specs.End.{IsProposal, IsSized, span, stays, frozen}
+use Rattle.tp4_conn.specs.Proper.{HasSize}
 use Rattle.tp4_conn.specs.UserWait.{refusing, user_wait_accept, user_wait_refuse, user_wait_tick}
+use Rattle.tp4_conn.proofs.Sizes.{agreed_sized}
 use Rattle.tp4_conn.proofs.Timely.{if_kept}
 use Rattle.tp4_history.specs.Ends.{Times, Dr, Flow, Tpdu, End, Alone, Took, Accepts}
 use Rattle.tp4_moves.specs.Moves.{Sees, Moves}
@@ -25,9 +27,9 @@ use Rattle.tp4_moves.proofs.Opens.{tpdu_takes}
 use Rattle.tp4_moves.proofs.Rows.{alone_hears, took_hears, new_end, by_row, freezes, closes, rests, once_more, dc_back}
 
 module _ (times : Times) (h : End) (b : Base) (since : ℕ) (s : Sees times b.clock h (record { base = b; stage = stages.UserWait since })) (going : h.stop ≡ None) (low : b.clock ≤ h.latest) where
-  pub accepts : (asked : Options) (octets : List ℕ) → Moves times b.clock Alone h (user_wait_accept b asked octets)
+  pub accepts : (asked : Options) (octets : List ℕ) → IsProposal b.proposed → IsSized asked → Moves times b.clock Alone h (user_wait_accept b asked octets)
   unfolding user_wait_accept
-  accepts asked octets =
+  accepts asked octets proposal sized =
       let o = agreed_by b.proposed asked in
       let c : Base = record b { agreed = Some o } in
       let w : Answering = record { octets = octets; first = b.clock; tries = once b.clock; halves = halves_of c o } in
@@ -50,7 +52,7 @@ module _ (times : Times) (h : End) (b : Base) (since : ℕ) (s : Sees times b.cl
           latest_is = refl;
         };
         timely = omega arith;
-        offers = (cc_offerable times b.clock Alone h _ c o octets s.partner s.reference refl s.state.known refl, tt);
+        offers = (cc_offerable times b.clock Alone h _ c o octets s.partner s.reference refl s.state.known (agreed_sized b.proposed asked proposal sized) refl, tt);
       })
 
   refuses : (events : List EndEvent) (octets : List ℕ) → Moves times b.clock Alone h (frozen b events (refusing b octets ∷ []))
@@ -110,13 +112,13 @@ module _ (times : Times) (h : End) (b : Base) (w : Answering) (s : Sees times b.
       (λ _ _. tt)
   ak_tpdu wrap n other = waits (seen n other) (λ e. absurd cc)
 
-  again_offerable : (new : End) (agreed : Option Options) → new.known ≡ b.partner → new.agreed ≡ option_map terms_of agreed → AreOfferable times b.clock Alone h new (confirms_again b agreed w.octets)
-  again_offerable new None known is = tt
-  again_offerable new (Some o) known is = (cc_offerable times b.clock Alone h new b o w.octets s.partner s.reference known s.state.known is, tt)
+  again_offerable : (new : End) (agreed : Option Options) → HasSize agreed → new.known ≡ b.partner → new.agreed ≡ option_map terms_of agreed → AreOfferable times b.clock Alone h new (confirms_again b agreed w.octets)
+  again_offerable new None size known is = tt
+  again_offerable new (Some o) size known is = (cc_offerable times b.clock Alone h new b o w.octets s.partner s.reference known s.state.known size is, tt)
 
-  pub ak_tick : Moves times b.clock Alone h (ak_wait_tick b w)
+  pub ak_tick : HasSize b.agreed → Moves times b.clock Alone h (ak_wait_tick b w)
   unfolding ak_wait_tick
-  ak_tick =
+  ak_tick size =
       if_kept (Moves times b.clock Alone h) (nat_lt b.clock (w.tries.last + b.timers.t1)) _ _
       (λ _. rests times h b (stages.AkWait w) s going low)
       (λ _. if_kept (Moves times b.clock Alone h) (nat_lt w.tries.count b.timers.sendings) _ _
@@ -140,7 +142,7 @@ module _ (times : Times) (h : End) (b : Base) (w : Answering) (s : Sees times b.
           latest_is = s.state.latest_is;
         };
         timely = omega arith;
-        offers = again_offerable _ b.agreed refl refl;
+        offers = again_offerable _ b.agreed size refl refl;
       }))
       (λ _. freezes times h b (stages.AkWait w) s going low Alone _ [] tt))
 

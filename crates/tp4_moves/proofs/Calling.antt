@@ -74,10 +74,10 @@ module _ (times : Times) (h : End) (b : Base) (w : Requesting) (s : Sees times b
 
   pub cr_tpdu : (n : ℕ) (tpdu : WireTpdu) → is_answer tpdu ≡ true → HasSource (seen n tpdu) → Moves times b.clock (Took (seen n tpdu)) h (cr_wait_tpdu b w tpdu)
   unfolding cr_wait_tpdu
-  cr_tpdu n (wires.Cc credit destination source width calling called size extra version classes ack_time text) fit has =
-      let x = seen n (wires.Cc credit destination source width calling called size extra version classes ack_time text) in
-      if_kept (Moves times b.clock (Took x) h) (is_within b.proposed (options_in width size extra)) _ _
-      (λ _. within x source credit (options_in width size extra) text refl refl refl (has refl))
+  cr_tpdu n (wires.Cc credit destination source width calling called size preferred extra version classes ack_time text) fit has =
+      let x = seen n (wires.Cc credit destination source width calling called size preferred extra version classes ack_time text) in
+      if_kept (Moves times b.clock (Took x) h) (is_within b.proposed width size preferred extra) _ _
+      (λ _. within x source credit (options_in width size preferred extra) text refl refl refl (has refl))
       (λ _. beyond x source 133 [] _ refl refl (has refl))
   cr_tpdu n (wires.Dr destination source reason info text) fit has =
       let x = seen n (wires.Dr destination source reason info text) in
@@ -138,8 +138,8 @@ module _ (times : Times) (h : End) (b : Base) (w : Requesting) (s : Sees times b
 module _ (times : Times) (h : End) (b : Base) (w : Parting) (s : Sees times b.clock h (record { base = b; stage = stages.WaitBeforeClose w })) (going : h.stop ≡ None) (low : b.clock ≤ h.latest) where
   pub wait_tpdu : (n : ℕ) (tpdu : WireTpdu) → is_answer tpdu ≡ true → HasSource (seen n tpdu) → Moves times b.clock (Took (seen n tpdu)) h (wait_before_close_tpdu b w tpdu)
   unfolding wait_before_close_tpdu
-  wait_tpdu n (wires.Cc credit destination source width calling called size extra version classes ack_time text) fit has =
-      let x = seen n (wires.Cc credit destination source width calling called size extra version classes ack_time text) in
+  wait_tpdu n (wires.Cc credit destination source width calling called size preferred extra version classes ack_time text) fit has =
+      let x = seen n (wires.Cc credit destination source width calling called size preferred extra version classes ack_time text) in
       closes times h b (stages.WaitBeforeClose w) s going low (Took x) source b.clock 128 w.octets [] [] [] (inr (s.state.unknown, (x, refl, refl, refl))) (has refl) (omega arith) (inr (omega arith))
       (λ to phase. took_hears h x to (λ e. absurd cc) (λ e. absurd cc) (λ _ e. absurd (cc (e, phase))))
       (λ _ _. tt)

@@ -26,7 +26,7 @@ module _ (times : Times) (w : Whole) (told : IsTold times w) (x n : ℕ) (o : Of
   numbered block other e flow = tt
 
   confirms : (terms : Terms) (tpdu : WireTpdu) (own : Track) → o.tpdu ≡ seen n tpdu → (o.tpdu.kind ≡ Cc → (own.is_begun ≡ true) × (o.tpdu.terms ≡ terms)) → Confirms terms tpdu own
-  confirms terms (wires.Cc credit destination source width calling called size extra version classes ack_time text) own e cc_says =
+  confirms terms (wires.Cc credit destination source width calling called size preferred extra version classes ack_time text) own e cc_says =
       let says = cc_says (ap (λ (t : Tpdu). t.kind) e) in
       (says.0, sym (ap (λ (t : Tpdu). t.terms) e) ∙ says.1)
   confirms terms other own e cc_says = tt

@@ -144,7 +144,7 @@ later_timely now t c begun = let at = c begun in record { world = ap (λ (n : �
 -- an end that a CR made
 pub called_stands : (terms : Terms) (made own : ℕ) (from : List ℕ) (rules : Timers) (cr : Tpdu) (m : Moved) (its theirs : Track) → IsAllowed formats.Normal cr → on_cr made own from rules cr ≡ Some m
     → Stands terms m.base m.stage its theirs
-called_stands terms made own from rules (Cr credit source width calling called size extra version classes ack_time text) m its theirs a e =
+called_stands terms made own from rules (Cr credit source width calling called size preferred extra version classes ack_time text) m its theirs a e =
     let low : credit ≤ 15 = omega (arith, a.few_credits) in
     subst (λ (x : Moved). Stands terms x.base x.stage its theirs) (same_Some _ _ e) low
 called_stands terms made own from rules other m its theirs a e = absurd (none-some _ e)

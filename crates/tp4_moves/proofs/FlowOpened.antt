@@ -179,8 +179,8 @@ module _ (terms : Terms) (taken : Option Offer) (own theirs : Track) (b : Base) 
   pub opened_row : (o : Open) (tpdu : Tpdu) (sum : Bool) → Here (agreed_format b.agreed) o.halves b.clock own theirs → IsHeard (agreed_format b.agreed) taken tpdu theirs
       → LinesGoOn terms b.clock taken (Took tpdu sum) (opened_tpdu whole b o tpdu) own theirs
   unfolding opened_tpdu
-  opened_row o (Cr credit source width calling called size extra version classes ack_time text) sum here k = idle terms taken b.clock own theirs _ _ here refl refl here.halves tt
-  opened_row o (Cc credit destination source width calling called size extra version classes ack_time text) sum here k =
+  opened_row o (Cr credit source width calling called size preferred extra version classes ack_time text) sum here k = idle terms taken b.clock own theirs _ _ here refl refl here.halves tt
+  opened_row o (Cc credit destination source width calling called size preferred extra version classes ack_time text) sum here k =
       let r = ack_takes taken b.clock theirs o.halves.receiving here.halves.receiving here.their_clocks in
       takes_row terms taken b.clock own theirs _ b _ [] _ here refl refl r (took_halves terms taken b.clock here r)
   opened_row o (Dr destination source reason info text) sum here k = idle terms taken b.clock own theirs _ _ here refl refl tt (dc_sent own theirs b.clock b source)
@@ -253,8 +253,8 @@ module _ (terms : Terms) (taken : Option Offer) (own theirs : Track) (b : Base) 
   ak_wait_row w (Ea destination number) sum here k = opening_row w.halves (Ea destination number) sum here k
   ak_wait_row w (Dr destination source reason info text) sum here k = idle terms taken b.clock own theirs _ _ here refl refl tt (dc_sent own theirs b.clock b source)
   ak_wait_row w (Er destination cause rejected) sum here k = idle terms taken b.clock own theirs _ _ here refl refl tt (plain_sent own theirs b.clock b b.own 133 [])
-  ak_wait_row w (Cr credit source width calling called size extra version classes ack_time text) sum here k = idle terms taken b.clock own theirs _ _ here refl refl here.halves tt
-  ak_wait_row w (Cc credit destination source width calling called size extra version classes ack_time text) sum here k = idle terms taken b.clock own theirs _ _ here refl refl here.halves tt
+  ak_wait_row w (Cr credit source width calling called size preferred extra version classes ack_time text) sum here k = idle terms taken b.clock own theirs _ _ here refl refl here.halves tt
+  ak_wait_row w (Cc credit destination source width calling called size preferred extra version classes ack_time text) sum here k = idle terms taken b.clock own theirs _ _ here refl refl here.halves tt
   ak_wait_row w (Dc destination source) sum here k = idle terms taken b.clock own theirs _ _ here refl refl here.halves tt
 
   pub ak_tick_row : (w : Answering) → Here (agreed_format b.agreed) w.halves b.clock own theirs → LinesGoOn terms b.clock taken Ticked (ak_wait_tick b w) own theirs

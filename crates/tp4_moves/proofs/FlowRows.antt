@@ -30,7 +30,7 @@ use Rattle.tp4_conn.specs.Agreeing.{options_in, is_within, is_extended, agreed_b
 use Rattle.tp4_conn.specs.Calls.{IsCall, call_refusal}
 use Rattle.tp4_conn.specs.Closing.{closing_tpdu, closing_tick}
 use Rattle.tp4_conn.specs.CrWait.{cr_wait_tpdu, cr_wait_tick, confirmed}
-use Rattle.tp4_conn.specs.End.{End, Moved, IsTimed, IsSize, agreed_format, confirms, in_use, span}
+use Rattle.tp4_conn.specs.End.{End, Moved, IsTimed, IsProposal, IsSized, agreed_format, confirms, in_use, span}
 use Rattle.tp4_conn.specs.Matching.{wants_sum}
 use Rattle.tp4_conn.specs.Opened.{hearing}
 use Rattle.tp4_conn.specs.Proper.{IsProper, IsProperEvent}
@@ -38,7 +38,7 @@ use Rattle.tp4_conn.specs.Table.{Event, Called, Took, Ticked, on_tpdu, on_tick, 
 use Rattle.tp4_conn.specs.Table.{at as base_at}
 use Rattle.tp4_conn.specs.UserWait.{user_wait_accept, user_wait_refuse, user_wait_tick}
 use Rattle.tp4_conn.specs.WaitBeforeClose.{wait_before_close_tpdu, wait_before_close_tick}
-use Rattle.tp4_conn.proofs.Sizes.{size_least, size_lesser}
+use Rattle.tp4_conn.proofs.Sizes.{agreed_sized, sized_least}
 use Rattle.tp4_history.specs.Ends.{Times, Terms, Offer}
 use Rattle.tp4_history.specs.Line.{empty as empty_line}
 use Rattle.tp4_history.specs.Tracks.{Track, Starts, CanOut, CanIn}
@@ -50,17 +50,17 @@ use Rattle.tp4_moves.proofs.FlowOpened.{Here, opened_row, tick_row, ak_wait_row,
 use Rattle.tp4_moves.proofs.FlowReceiving.{ack_takes}
 use Rattle.tp4_moves.proofs.FlowSending.{Sends, credit_sends}
 
--- what is agreed says the terms, and is said by them
+-- what is agreed says the terms, and is said by them but for whether the size is a preferred one
 same_format : (one other : Format) → is_extended one ≡ is_extended other → one ≡ other
 same_format formats.Normal formats.Normal e = refl
 same_format formats.Normal formats.Extended e = absurd (true≢false (sym e))
 same_format formats.Extended formats.Normal e = absurd (true≢false e)
 same_format formats.Extended formats.Extended e = refl
 
-pub same_options : (one other : Options) → terms_of one ≡ terms_of other → one ≡ other
+pub same_options : (one other : Options) → terms_of one ≡ terms_of other → record one { preferred = other.preferred } ≡ other
 same_options one other e =
     let format = same_format one.format other.format (ap (λ (t : Terms). t.is_extended) e) in
-    λ i. record { format = format i; size = (ap (λ (t : Terms). t.size) e) i; expedited = (ap (λ (t : Terms). t.has_expedited) e) i; sum = (ap (λ (t : Terms). t.is_summed) e) i }
+    λ i. record { format = format i; size = (ap (λ (t : Terms). t.size) e) i; expedited = (ap (λ (t : Terms). t.has_expedited) e) i; sum = (ap (λ (t : Terms). t.is_summed) e) i; preferred = other.preferred }
 
 block_some : (format : Format) → 0 < block_of format
 block_some formats.Normal = omega arith
@@ -161,7 +161,7 @@ receiving_begun now t b o credit same = record {
   urgent = refl;
 }
 
-starts : (times : Times) (now : ℕ) (t : Timers) (o : Options) (credit : ℕ) → times.life ≡ t.life → IsTimed t → IsSize o.size → credit ≤ 15 → Starts times now (begun_track now t o credit)
+starts : (times : Times) (now : ℕ) (t : Timers) (o : Options) (credit : ℕ) → times.life ≡ t.life → IsTimed t → IsSized o → credit ≤ 15 → Starts times now (begun_track now t o credit)
 starts times now t o credit life timed size low = record {
   begun = refl;
   long = record { some = block_some o.format; long = omega arith };
@@ -174,7 +174,7 @@ starts times now t o credit life timed size low = record {
 }
   where
     least : 128 ≤ o.size
-    least = size_least o.size size
+    least = sized_least o size
 
     by : (extended sum : Bool) → 0 < o.size - ((if extended then 8 else 5) + (if sum then 4 else 0))
     by true true = omega (arith, least)
@@ -241,12 +241,12 @@ module _ (times : Times) (terms : Terms) (now : ℕ) (taken : Option Offer) (own
   cr_wait_row : (b : Base) (w : Requesting) (tpdu : Tpdu) (sum : Bool) → IsAllowed (agreed_format b.agreed) tpdu → Stands terms b (CrWait w) own theirs → Confirms terms tpdu own → IsTimely now own → IsTimely now theirs
       → Flows (CrWait w) (Took tpdu sum) (cr_wait_tpdu (base_at now b) w tpdu)
   unfolding cr_wait_tpdu
-  cr_wait_row b w (Cc credit destination source width calling called size extra version classes ack_time text) sum a s k own_clock their_clock =
-      if_kept (Flows (CrWait w) (Took (Cc credit destination source width calling called size extra version classes ack_time text) sum)) (is_within b.proposed (options_in width size extra)) _ _
-      (λ _. confirmed_row (CrWait w) b source credit (options_in width size extra) text _ (omega (arith, a.few_credits)) refl k.1 (s k.0) own_clock their_clock)
+  cr_wait_row b w (Cc credit destination source width calling called size preferred extra version classes ack_time text) sum a s k own_clock their_clock =
+      if_kept (Flows (CrWait w) (Took (Cc credit destination source width calling called size preferred extra version classes ack_time text) sum)) (is_within b.proposed width size preferred extra) _ _
+      (λ _. confirmed_row (CrWait w) b source credit (options_in width size preferred extra) text _ (omega (arith, a.few_credits)) refl k.1 (s k.0) own_clock their_clock)
       (λ _. still _ _ tt refl refl ((λ n. refl), tt))
   cr_wait_row b w (Dr destination source reason info text) sum a s k own_clock their_clock = still _ _ tt refl refl (dc_plain (base_at now b) source)
-  cr_wait_row b w (Cr credit source width calling called size extra version classes ack_time text) sum a s k own_clock their_clock = still _ _ (waiting b w s) refl refl tt
+  cr_wait_row b w (Cr credit source width calling called size preferred extra version classes ack_time text) sum a s k own_clock their_clock = still _ _ (waiting b w s) refl refl tt
   cr_wait_row b w (Dc destination source) sum a s k own_clock their_clock = still _ _ (waiting b w s) refl refl tt
   cr_wait_row b w (Er destination cause rejected) sum a s k own_clock their_clock = still _ _ (waiting b w s) refl refl tt
   cr_wait_row b w (Dt destination last number text) sum a s k own_clock their_clock = still _ _ (waiting b w s) refl refl tt
@@ -255,12 +255,12 @@ module _ (times : Times) (terms : Terms) (now : ℕ) (taken : Option Offer) (own
   cr_wait_row b w (Ea destination number) sum a s k own_clock their_clock = still _ _ (waiting b w s) refl refl tt
 
   -- UserWait
-  accepted_row : (since : ℕ) (b : Base) (asked : Options) (octets : List ℕ) → times.life ≡ b.timers.life → IsTimed b.timers → IsSize b.proposed.size → IsSize asked.size → b.credit ≤ 15
+  accepted_row : (since : ℕ) (b : Base) (asked : Options) (octets : List ℕ) → times.life ≡ b.timers.life → IsTimed b.timers → IsProposal b.proposed → IsSized asked → b.credit ≤ 15
       → Flows (UserWait since) (Called (calls.Accept asked octets)) (user_wait_accept (base_at now b) asked octets)
   unfolding user_wait_accept
   accepted_row since b asked octets life timed size also low =
       let o = agreed_by b.proposed asked in
-      let all : IsSize o.size = size_lesser b.proposed.size asked.size size also in
+      let all : IsSized o = agreed_sized b.proposed asked size also in
       Begun (record {
         since = since;
         waited = refl;
@@ -290,7 +290,7 @@ module _ (times : Times) (terms : Terms) (now : ℕ) (taken : Option Offer) (own
         plain = ((λ n. refl), tt);
       })
 
-  user_wait_call : (b : Base) (since : ℕ) (call : UserCall) → times.life ≡ b.timers.life → IsTimed b.timers → IsSize b.proposed.size → b.credit ≤ 15 → call_refusal b (UserWait since) call ≡ None → IsCall call
+  user_wait_call : (b : Base) (since : ℕ) (call : UserCall) → times.life ≡ b.timers.life → IsTimed b.timers → IsProposal b.proposed → b.credit ≤ 15 → call_refusal b (UserWait since) call ≡ None → IsCall call
       → Flows (UserWait since) (Called call) (on_call (base_at now b) (UserWait since) call)
   unfolding user_wait_refuse
   user_wait_call b since (calls.Accept asked octets) life timed size low e c = accepted_row since b asked octets life timed size c low
@@ -307,7 +307,7 @@ module _ (times : Times) (terms : Terms) (now : ℕ) (taken : Option Offer) (own
   -- states without halves: no call is listed, and nothing has a number
   wait_row : (b : Base) (w : Parting) (tpdu : Tpdu) (sum : Bool) → Flows (WaitBeforeClose w) (Took tpdu sum) (wait_before_close_tpdu b w tpdu)
   unfolding wait_before_close_tpdu
-  wait_row b w (Cc credit destination source width calling called size extra version classes ack_time text) sum = still _ _ tt refl refl ((λ n. refl), tt)
+  wait_row b w (Cc credit destination source width calling called size preferred extra version classes ack_time text) sum = still _ _ tt refl refl ((λ n. refl), tt)
   wait_row b w (Dr destination source reason info text) sum = still _ _ tt refl refl (dc_plain b source)
   wait_row b w other sum = still _ _ tt refl refl tt
 

@@ -8,19 +8,12 @@ use Rattle.tp4_flow.specs.declared.rules.Options.{Options}
 use Rattle.tp4_flow.specs.declared.step.Sent.{Sent}
 use Rattle.tp4_conn.specs.declared.base.Base.{Base}
 use Rattle.tp4_conn.specs.Agreeing.{options_in, is_extended, flow_rules, request, confirm}
-use Rattle.tp4_conn.specs.End.{send, release}
+use Rattle.tp4_conn.specs.End.{IsSized, send, release}
+use Rattle.tp4_conn.proofs.Agreed.{options_back}
 use Rattle.tp4_conn.specs.UserWait.{refusing}
 use Rattle.tp4_history.specs.Ends.{Times, Dr, Terms, Tpdu, Offer, Sent as SentBy, End, Cause, Took, To_known, Back, IsOpen, IsOffered}
 use Rattle.tp4_moves.specs.Seen.{terms_of, seen, IsOfferOf, AreOffersOf}
 use Rattle.tp4_moves.proofs.Halves.{IsFlow, AreFlows}
-
--- what a CC says is what was agreed
-said : (width : Format) (size : ℕ) (expedited sum : Bool)
-    → terms_of (options_in width size ((if expedited then 1 else 0) + (if sum then 0 else 2))) ≡ terms_of (record { format = width; size = size; expedited = expedited; sum = sum })
-said width size true true = refl
-said width size true false = refl
-said width size false true = refl
-said width size false false = refl
 
 none : {A : Type 0} (x : A) → Contains [] x → ⊥
 none x c = let low = c.1 in absurd (omega (arith, low))
@@ -86,8 +79,8 @@ module _ (times : Times) (now : ℕ) (cause : Cause) (h new : End) where
   })
 
   pub cc_offerable : (c : Base) (o : Options) (octets : List ℕ) → h.birth.partner ≡ c.to → h.birth.reference ≡ c.own → new.known ≡ c.partner → c.partner ≢ 0
-      → new.agreed ≡ Some (terms_of o) → IsOfferable (confirm c o octets)
-  cc_offerable c o octets to own known some agreed = at_offer (confirm c o octets) (λ number n. record {
+      → IsSized o → new.agreed ≡ Some (terms_of o) → IsOfferable (confirm c o octets)
+  cc_offerable c o octets to own known some sized agreed = at_offer (confirm c o octets) (λ number n. record {
     tick = refl;
     origin = refl;
     from = refl;
@@ -95,7 +88,7 @@ module _ (times : Times) (now : ℕ) (cause : Cause) (h new : End) where
     to = λ _. sym to;
     goes = λ _. To_known (λ e. absurd cc) (λ e. some (sym known ∙ e)) (sym known);
     confirm = λ _. sym own;
-    terms = λ _. agreed ∙ ap (λ (t : Terms). Some t) (sym (said o.format o.size o.expedited o.sum));
+    terms = λ _. agreed ∙ ap (λ (t : Terms). Some t) (sym (ap terms_of (options_back o sized)));
     plain = λ _. refl;
     flow = λ e. absurd cc;
     opened = λ e. absurd cc;

@@ -95,9 +95,9 @@ module _ (times : Times) (h : End) (b : Base) (stage : Stage) (s : Sees times b.
 
     pub tpdu_takes : (wrap : ℕ → ℕ → ℕ) (n : ℕ) (tpdu : WireTpdu) → x ≡ seen n tpdu → Moves times b.clock (Took x) h (led_by first front (opened_tpdu wrap b o tpdu))
     unfolding opened_tpdu
-    tpdu_takes wrap n (wires.Cr credit source width calling called size extra version classes ack_time text) is =
+    tpdu_takes wrap n (wires.Cr credit source width calling called size preferred extra version classes ack_time text) is =
         takes o [] [] own (λ e. absurd (cc (e, ap (λ (t : Tpdu). t.kind) is))) now refl tt
-    tpdu_takes wrap n (wires.Cc credit destination source width calling called size extra version classes ack_time text) is =
+    tpdu_takes wrap n (wires.Cc credit destination source width calling called size preferred extra version classes ack_time text) is =
         takes (acking b o) [] (ak o.halves.receiving ∷ []) own (λ e. absurd (cc (e, ap (λ (t : Tpdu). t.kind) is))) now refl (ak_flow (flow_rules b own.terms) o.halves.receiving own.receiving, tt)
     tpdu_takes wrap n (wires.Dr destination source reason info text) is =
         freezes times h b stage s going low (Took x) _ (front ++ confirms b source)

@@ -11,10 +11,12 @@ use Rattle.tp4_conn.specs.declared.call.UserCall.TheVariants.{Accept, Refuse, No
 use Rattle.tp4_conn.specs.declared.halves.Halves.{Halves}
 use Rattle.tp4_conn.specs.declared.stage.Stage.{Stage}
 use Rattle.tp4_conn.specs.declared.stage.Stage.TheVariants as stages
+use Rattle.tp4_conn.specs.Calls.{IsCall}
 use Rattle.tp4_conn.specs.Dues.{IsBefore}
-use Rattle.tp4_conn.specs.End.{End as ConnEnd, end_of, span}
+use Rattle.tp4_conn.specs.End.{End as ConnEnd, IsProposal, end_of, span}
 use Rattle.tp4_conn.specs.Living.{IsInTime, IsFit}
 use Rattle.tp4_conn.specs.Matching.{fits, wants_sum}
+use Rattle.tp4_conn.specs.Proper.{IsProper, IsProperEvent, IsProperStage}
 use Rattle.tp4_conn.specs.Table.{Event, Called, Took as Heard, Ticked, at, on_tpdu, on_tick, on_call, stepped, untaken, due}
 use Rattle.tp4_history.specs.Ends.{Times, Birth, End, Alone, Took}
 use Rattle.tp4_moves.specs.Moves.{stop_of, AreOwn, IsSeenIn, acts_by, Sees, HasSource, IsSourced, cause_of, Moves}
@@ -156,29 +158,29 @@ before_latest times now h e s going before =
     let low : now < d.next = subst (λ (t : Option ℕ). IsBefore t now) d.is before in omega (arith, low, d.low)
 
 -- the tick is the clock of b
-call_moves : (times : Times) (h : End) (b : Base) (stage : Stage) → Sees times b.clock h (record { base = b; stage = stage }) → h.stop ≡ None → b.clock ≤ h.latest → (call : UserCall)
+call_moves : (times : Times) (h : End) (b : Base) (stage : Stage) → Sees times b.clock h (record { base = b; stage = stage }) → h.stop ≡ None → b.clock ≤ h.latest → IsProposal b.proposed → (call : UserCall) → IsCall call
     → Moves times b.clock Alone h (on_call b stage call)
-call_moves times h b (stages.CrWait w) s going low (Disconnect octets) = cr_parts times h b w s going low octets
-call_moves times h b (stages.UserWait since) s going low (Accept asked octets) = accepts times h b since s going low asked octets
-call_moves times h b (stages.UserWait since) s going low (Refuse octets) = user_refuses times h b since s going low octets
-call_moves times h b (stages.AkWait w) s going low (Normal unit) = normal_queued times h b w s going low unit
-call_moves times h b (stages.AkWait w) s going low (Urgent unit) = urgent_queued times h b w s going low unit
-call_moves times h b (stages.AkWait w) s going low (Disconnect octets) = ak_parts times h b w s going low octets
-call_moves times h b (stages.Opened o) s going low (Normal unit) = normal_sent times h b o s going low unit
-call_moves times h b (stages.Opened o) s going low (Urgent unit) = urgent_sent times h b o s going low unit
-call_moves times h b (stages.Opened o) s going low (Window credit) = credit_granted times h b o s going low credit
-call_moves times h b (stages.Opened o) s going low (Disconnect octets) = opened_parts times h b o s going low octets
-call_moves times h b stage s going low call = rests times h b stage s going low
+call_moves times h b (stages.CrWait w) s going low proposal (Disconnect octets) may = cr_parts times h b w s going low octets
+call_moves times h b (stages.UserWait since) s going low proposal (Accept asked octets) may = accepts times h b since s going low asked octets proposal may
+call_moves times h b (stages.UserWait since) s going low proposal (Refuse octets) may = user_refuses times h b since s going low octets
+call_moves times h b (stages.AkWait w) s going low proposal (Normal unit) may = normal_queued times h b w s going low unit
+call_moves times h b (stages.AkWait w) s going low proposal (Urgent unit) may = urgent_queued times h b w s going low unit
+call_moves times h b (stages.AkWait w) s going low proposal (Disconnect octets) may = ak_parts times h b w s going low octets
+call_moves times h b (stages.Opened o) s going low proposal (Normal unit) may = normal_sent times h b o s going low unit
+call_moves times h b (stages.Opened o) s going low proposal (Urgent unit) may = urgent_sent times h b o s going low unit
+call_moves times h b (stages.Opened o) s going low proposal (Window credit) may = credit_granted times h b o s going low credit
+call_moves times h b (stages.Opened o) s going low proposal (Disconnect octets) may = opened_parts times h b o s going low octets
+call_moves times h b stage s going low proposal call may = rests times h b stage s going low
 
-tick_moves : (times : Times) (h : End) (b : Base) (stage : Stage) → Sees times b.clock h (record { base = b; stage = stage }) → h.stop ≡ None → b.clock ≤ h.latest
+tick_moves : (times : Times) (h : End) (b : Base) (stage : Stage) → Sees times b.clock h (record { base = b; stage = stage }) → h.stop ≡ None → b.clock ≤ h.latest → IsProperStage b.agreed stage
     → Moves times b.clock Alone h (on_tick b stage)
-tick_moves times h b (stages.CrWait w) s going low = cr_tick times h b w s going low
-tick_moves times h b (stages.WaitBeforeClose w) s going low = wait_tick times h b w s going low
-tick_moves times h b (stages.UserWait since) s going low = user_tick times h b since s going low
-tick_moves times h b (stages.AkWait w) s going low = ak_tick times h b w s going low
-tick_moves times h b (stages.Opened o) s going low = opened_ticks times h b o s going low
-tick_moves times h b (stages.Closing c) s going low = closing_ticks times h b c s going low
-tick_moves times h b (stages.Frozen when) s going low = rests times h b (stages.Frozen when) s going low
+tick_moves times h b (stages.CrWait w) s going low proper = cr_tick times h b w s going low
+tick_moves times h b (stages.WaitBeforeClose w) s going low proper = wait_tick times h b w s going low
+tick_moves times h b (stages.UserWait since) s going low proper = user_tick times h b since s going low
+tick_moves times h b (stages.AkWait w) s going low proper = ak_tick times h b w s going low proper.1
+tick_moves times h b (stages.Opened o) s going low proper = opened_ticks times h b o s going low
+tick_moves times h b (stages.Closing c) s going low proper = closing_ticks times h b c s going low
+tick_moves times h b (stages.Frozen when) s going low proper = rests times h b (stages.Frozen when) s going low
 
 tpdu_moves : (wrap : ℕ → ℕ → ℕ) (times : Times) (h : End) (b : Base) (stage : Stage) → Sees times b.clock h (record { base = b; stage = stage }) → h.stop ≡ None → b.clock ≤ h.latest
     → (n : ℕ) (tpdu : WireTpdu) (was : Base) → fits was stage tpdu ≡ true → HasSource (seen n tpdu) → Moves times b.clock (Took (seen n tpdu)) h (on_tpdu wrap b stage tpdu)
@@ -203,14 +205,14 @@ took_moves wrap times now h b stage s going low n tpdu fit has true =
 took_moves wrap times now h b stage s going low n tpdu fit has false =
     tpdu_moves wrap times h (at now b) stage (sees_at times now now h b stage s) going low n tpdu b fit has
 
-pub moved : (wrap : ℕ → ℕ → ℕ) (times : Times) (now n : ℕ) (h : End) (e : ConnEnd) (event : Event) → Sees times now h e → h.stop ≡ None → IsFit e event → IsSourced n event
+pub moved : (wrap : ℕ → ℕ → ℕ) (times : Times) (now n : ℕ) (h : End) (e : ConnEnd) (event : Event) → Sees times now h e → h.stop ≡ None → IsFit e event → IsSourced n event → IsProper e.base e.stage → IsProperEvent e event
     → Moves times now (cause_of e n event) h (stepped wrap now e event)
-moved wrap times now n h e (Called call) s going fit has =
-    call_moves times h (at now e.base) e.stage (sees_at times now now h e.base e.stage s) going (by_latest times now h e s going) call
-moved wrap times now n h e (Heard tpdu sum) s going fit has =
+moved wrap times now n h e (Called call) s going fit has proper may =
+    call_moves times h (at now e.base) e.stage (sees_at times now now h e.base e.stage s) going (by_latest times now h e s going) proper.size call may.1
+moved wrap times now n h e (Heard tpdu sum) s going fit has proper may =
     took_moves wrap times now h e.base e.stage s going (by_latest times now h e s going) n tpdu fit has (wants_sum e.base e.stage tpdu && not sum)
-moved wrap times now n h e Ticked s going fit has =
-    tick_moves times h (at now e.base) e.stage (sees_at times now now h e.base e.stage s) going (by_latest times now h e s going)
+moved wrap times now n h e Ticked s going fit has proper may =
+    tick_moves times h (at now e.base) e.stage (sees_at times now now h e.base e.stage s) going (by_latest times now h e s going) proper.state
 
 -- an end that is frozen
 pub stays : (wrap : ℕ → ℕ → ℕ) (times : Times) (now t : ℕ) (h : End) (e : ConnEnd) (event : Event) → Sees times now h e → h.stop ≡ Some t → IsFit e event

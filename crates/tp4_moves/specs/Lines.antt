@@ -108,8 +108,8 @@ pub record IsHeard (format : Format) (taken : Option Offer) (tpdu : WireTpdu) (t
 
 -- a CC says on what the called end agreed
 abbrev pub Confirms : Terms → WireTpdu → Track → Type 0
-Confirms terms (wires.Cc credit destination source width calling called size extra version classes ack_time text) own =
-    (own.is_begun ≡ true) × (terms_of (options_in width size extra) ≡ terms)
+Confirms terms (wires.Cc credit destination source width calling called size preferred extra version classes ack_time text) own =
+    (own.is_begun ≡ true) × (terms_of (options_in width size preferred extra) ≡ terms)
 Confirms terms other own = Unit {0}
 
 -- what has to be known of a TPDU, by the state

@@ -22,20 +22,20 @@ no_terms = record { is_extended = false; has_expedited = false; is_summed = fals
 
 -- a TPDU whose number, where it has one, is n
 abbrev pub seen : ℕ → WireTpdu → Tpdu
-seen n (wires.Cr credit source width calling called size extra version classes ack_time text) = record {
+seen n (wires.Cr credit source width calling called size preferred extra version classes ack_time text) = record {
   kind = Cr;
   target = 0;
   source = source;
   words = record { calling = calling; called = called; octets = text };
-  terms = terms_of (options_in width size extra);
+  terms = terms_of (options_in width size preferred extra);
   body = Plain;
 }
-seen n (wires.Cc credit destination source width calling called size extra version classes ack_time text) = record {
+seen n (wires.Cc credit destination source width calling called size preferred extra version classes ack_time text) = record {
   kind = Cc;
   target = destination;
   source = source;
   words = record { calling = calling; called = called; octets = text };
-  terms = terms_of (options_in width size extra);
+  terms = terms_of (options_in width size preferred extra);
   body = Plain;
 }
 seen n (wires.Dr destination source reason info text) = record { kind = Dr; target = destination; source = source; words = no_words; terms = no_terms; body = Plain }

@@ -9,6 +9,7 @@ ghost use Rattle.tp4_conn.specs.Dues.{IsBefore};
 ghost use Rattle.tp4_conn.specs.End.{End as ConnEnd, Moved, IsTimed, end_of, frozen_for};
 ghost use Rattle.tp4_conn.specs.Living.{IsFit};
 ghost use Rattle.tp4_conn.specs.Making.{connected, on_cr};
+ghost use Rattle.tp4_conn.specs.Proper.{IsProper, IsProperEvent};
 ghost use Rattle.tp4_conn.specs.Table.{Event, due, stepped};
 ghost use Rattle.tp4_history.specs.Ends.{Times, IsFit as AreFit, frozen, Cr, Tpdu, Offer, Sent, End};
 ghost use Rattle.tp4_history.specs.History.{History, IsFree, IsFresh, IsNotSilent, IsReading, Connect, Indicate, May};
@@ -17,11 +18,11 @@ ghost use Rattle.tp4_moves.specs.Begins.{HasNoEnd, begun, indicated_by};
 ghost use Rattle.tp4_moves.specs.Moves.{HasSource, IsSourced, Moves, Sees, cause_of, times_of};
 ghost use Rattle.tp4_moves.specs.Seen.{AreOffersOf, seen};
 
-/// What each event does to an end that goes on is a move of the end that is seen of it. An end that is frozen stays as it
+/// What each proper event does to a proper end that goes on is a move of the end that is seen of it. An end that is frozen stays as it
 /// is seen, and tells and sends nothing.
 pub fn moved()
     ensures going { (wrap : ℕ → ℕ → ℕ) (times : Times) (now n : ℕ) (h : End) (e : ConnEnd) (event : Event) → Sees times now h e → h.stop ≡ None
-        → IsFit e event → IsSourced n event → Moves times now (cause_of e n event) h (stepped wrap now e event) }
+        → IsFit e event → IsSourced n event → IsProper e.base e.stage → IsProperEvent e event → Moves times now (cause_of e n event) h (stepped wrap now e event) }
     ensures frozen { (wrap : ℕ → ℕ → ℕ) (times : Times) (now t : ℕ) (h : End) (e : ConnEnd) (event : Event) → Sees times now h e → h.stop ≡ Some t
         → IsFit e event → Sees times now h (end_of (stepped wrap now e event)) × ((stepped wrap now e event).events ≡ []) × ((stepped wrap now e event).tpdus ≡ []) }
 {}

@@ -176,9 +176,9 @@ refusal_fits : (to : List ℕ) (reference reason : ℕ) → AreSendable (refusal
 refusal_fits to reference reason = ((refl, omega arith), tt)
 
 stateless_fits : (from : List ℕ) (tpdu : Tpdu) → AreSendable (stateless from tpdu)
-stateless_fits from (Cc credit destination source width calling called size extra version classes ack_time text) = refusal_fits from source 132
+stateless_fits from (Cc credit destination source width calling called size preferred extra version classes ack_time text) = refusal_fits from source 132
 stateless_fits from (Dr destination source reason info text) = if_kept AreSendable (source == 0) _ _ (λ _. tt) (λ _. ((tt, tt), tt))
-stateless_fits from (Cr credit source width calling called size extra version classes ack_time text) = tt
+stateless_fits from (Cr credit source width calling called size preferred extra version classes ack_time text) = tt
 stateless_fits from (Dc destination source) = tt
 stateless_fits from (Dt destination last number text) = tt
 stateless_fits from (Ed destination last number text) = tt
@@ -221,10 +221,10 @@ requested_rests now e from source called cr r allowed =
 
 pub met_rests : (wrap : ℕ → ℕ → ℕ) (now : ℕ) (e : Entity) (from : List ℕ) (tpdu : TpduAndSum) → IsAtRest now e → IsAllowed (format_for (extended_of e) (destination_of tpdu.0)) tpdu.0
     → IsProperStep now (met wrap now e from tpdu)
-met_rests wrap now e from (Cr credit source width calling called size extra version classes ack_time text, sum) r allowed =
-    requested_rests now e from source called (Cr credit source width calling called size extra version classes ack_time text) r allowed
-met_rests wrap now e from (Cc credit destination source width calling called size extra version classes ack_time text, sum) r allowed =
-    met_end wrap now e from (Cc credit destination source width calling called size extra version classes ack_time text) sum destination (end_at e destination) refl r allowed
+met_rests wrap now e from (Cr credit source width calling called size preferred extra version classes ack_time text, sum) r allowed =
+    requested_rests now e from source called (Cr credit source width calling called size preferred extra version classes ack_time text) r allowed
+met_rests wrap now e from (Cc credit destination source width calling called size preferred extra version classes ack_time text, sum) r allowed =
+    met_end wrap now e from (Cc credit destination source width calling called size preferred extra version classes ack_time text) sum destination (end_at e destination) refl r allowed
 met_rests wrap now e from (Dr destination source reason info text, sum) r allowed =
     met_end wrap now e from (Dr destination source reason info text) sum destination (end_at e destination) refl r allowed
 met_rests wrap now e from (Dc destination source, sum) r allowed = met_end wrap now e from (Dc destination source) sum destination (end_at e destination) refl r allowed

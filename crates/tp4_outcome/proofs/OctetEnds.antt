@@ -69,9 +69,9 @@ module _ (is_address : List ℕ → Bool) where
   refusal_in to reference reason address pair low = ((address, (pair, omega arith, low, tt)), tt)
 
   stateless_in : (from : List ℕ) (tpdu : Tpdu) → is_address from ≡ true → HasOctets tpdu → AreAddressed is_address (stateless from tpdu)
-  stateless_in from (Cc credit destination source width calling called size extra version classes ack_time text) address t = refusal_in from source 132 address t.1 (omega arith)
+  stateless_in from (Cc credit destination source width calling called size preferred extra version classes ack_time text) address t = refusal_in from source 132 address t.1 (omega arith)
   stateless_in from (Dr destination source reason info text) address t = if_kept (AreAddressed is_address) (source == 0) _ _ (λ _. tt) (λ _. ((address, (t.1, t.0)), tt))
-  stateless_in from (Cr credit source width calling called size extra version classes ack_time text) address t = tt
+  stateless_in from (Cr credit source width calling called size preferred extra version classes ack_time text) address t = tt
   stateless_in from (Dc destination source) address t = tt
   stateless_in from (Dt destination last number text) address t = tt
   stateless_in from (Ed destination last number text) address t = tt
@@ -115,10 +115,10 @@ module _ (is_address : List ℕ → Bool) where
 
   pub met_in : (wrap : ℕ → ℕ → ℕ) (now : ℕ) (e : Entity) (from : List ℕ) (tpdu : TpduAndSum) → EntityInOctets is_address e → AreProper e
       → is_address from ≡ true → HasOctets tpdu.0 → StepInOctets is_address (met wrap now e from tpdu)
-  met_in wrap now e from (Cr credit source width calling called size extra version classes ack_time text, sum) i p address t =
-      requested_in now e from source called (Cr credit source width calling called size extra version classes ack_time text) i t.0 address t
-  met_in wrap now e from (Cc credit destination source width calling called size extra version classes ack_time text, sum) i p address t =
-      met_end wrap now e from (Cc credit destination source width calling called size extra version classes ack_time text) sum destination (end_at e destination) refl i p address t
+  met_in wrap now e from (Cr credit source width calling called size preferred extra version classes ack_time text, sum) i p address t =
+      requested_in now e from source called (Cr credit source width calling called size preferred extra version classes ack_time text) i t.0 address t
+  met_in wrap now e from (Cc credit destination source width calling called size preferred extra version classes ack_time text, sum) i p address t =
+      met_end wrap now e from (Cc credit destination source width calling called size preferred extra version classes ack_time text) sum destination (end_at e destination) refl i p address t
   met_in wrap now e from (Dr destination source reason info text, sum) i p address t =
       met_end wrap now e from (Dr destination source reason info text) sum destination (end_at e destination) refl i p address t
   met_in wrap now e from (Dc destination source, sum) i p address t = met_end wrap now e from (Dc destination source) sum destination (end_at e destination) refl i p address t

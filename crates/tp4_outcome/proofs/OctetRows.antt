@@ -27,7 +27,7 @@ use Rattle.tp4_conn.specs.declared.stage.Requesting.{Requesting}
 use Rattle.tp4_conn.specs.declared.stage.Stage.{Stage}
 use Rattle.tp4_conn.specs.declared.stage.Stage.TheVariants.{CrWait, WaitBeforeClose, UserWait, AkWait, Opened, Closing, Frozen}
 use Rattle.tp4_conn.specs.declared.timers.Timers.{Timers}
-use Rattle.tp4_conn.specs.Agreeing.{agreed_by, confirm, confirms_again, extra_of, halves_of, is_within, options_in, request}
+use Rattle.tp4_conn.specs.Agreeing.{agreed_by, confirm, confirms_again, extra_of, halves_of, is_within, options_in, proposed_in, request}
 use Rattle.tp4_conn.specs.AkWait.{ak_wait_tick, ak_wait_tpdu, opening}
 use Rattle.tp4_conn.specs.Closing.{closing_tick, closing_tpdu}
 use Rattle.tp4_conn.specs.CrWait.{confirmed, cr_wait_tick, cr_wait_tpdu}
@@ -67,7 +67,7 @@ module _ (is_address : List ℕ → Bool) where
   -- ---- the TPDUs of an end
 
   request_in : (b : Base) (octets : List ℕ) → BaseInOctets is_address b → AreOctets octets → AreAddressed is_address (request b octets ∷ [])
-  request_in b octets i h = ((i.to, (i.own, i.calling, i.called, extra_low b.proposed, h)), tt)
+  request_in b octets i h = ((i.to, (i.own, i.calling, i.called, extra_low b.proposed.options, h)), tt)
 
   confirm_in : (b : Base) (o : Options) (octets : List ℕ) → BaseInOctets is_address b → AreOctets octets → AreAddressed is_address (confirm b o octets ∷ [])
   confirm_in b o octets i h = ((i.to, (i.partner, i.own, i.calling, i.called, extra_low o, h)), tt)
@@ -136,8 +136,8 @@ module _ (is_address : List ℕ → Bool) where
   opened_tpdu_row : (wrap : ℕ → ℕ → ℕ) (b : Base) (o : Open) (tpdu : Tpdu) → BaseInOctets is_address b → HalvesInOctets is_address o.halves → HasOctets tpdu
       → RowInOctets (opened_tpdu wrap b o tpdu)
   unfolding opened_tpdu
-  opened_tpdu_row wrap b o (Cr credit source width calling called size extra version classes ack_time text) i h t = row b _ _ _ i h tt
-  opened_tpdu_row wrap b o (Cc credit destination source width calling called size extra version classes ack_time text) i h t =
+  opened_tpdu_row wrap b o (Cr credit source width calling called size preferred extra version classes ack_time text) i h t = row b _ _ _ i h tt
+  opened_tpdu_row wrap b o (Cc credit destination source width calling called size preferred extra version classes ack_time text) i h t =
       row b _ _ _ i h (ak_in is_address o.halves.receiving h.receiving)
   opened_tpdu_row wrap b o (Dr destination source reason info text) i h t = frozen_row b _ _ i (dc_in b source i t.1)
   opened_tpdu_row wrap b o (Dc destination source) i h t = row b _ _ _ i h tt
@@ -178,9 +178,9 @@ module _ (is_address : List ℕ → Bool) where
 
   cr_wait_row : (b : Base) (w : Requesting) (tpdu : Tpdu) → BaseInOctets is_address b → IsTimed b.timers → AreOctets w.octets → HasOctets tpdu → RowInOctets (cr_wait_tpdu b w tpdu)
   unfolding cr_wait_tpdu
-  cr_wait_row b w (Cc credit destination source width calling called size extra version classes ack_time text) i timed h t =
-      if_kept RowInOctets (is_within b.proposed (options_in width size extra)) _ _
-      (λ _. confirmed_row (record b { partner = source; credit = credit; agreed = Some (options_in width size extra) }) (options_in width size extra) text
+  cr_wait_row b w (Cc credit destination source width calling called size preferred extra version classes ack_time text) i timed h t =
+      if_kept RowInOctets (is_within b.proposed width size preferred extra) _ _
+      (λ _. confirmed_row (record b { partner = source; credit = credit; agreed = Some (options_in width size preferred extra) }) (options_in width size preferred extra) text
       (record { own = i.own; partner = t.1; to = i.to; calling = i.calling; called = i.called }) timed)
       (λ _. closing_row (record b { partner = source }) _ 133 [] b.clock (partner_in b source i t.1) (omega arith) tt)
   cr_wait_row b w (Dr destination source reason info text) i timed h t = frozen_row b _ _ i (dc_in b source i t.1)
@@ -188,7 +188,7 @@ module _ (is_address : List ℕ → Bool) where
 
   wait_row : (b : Base) (w : Parting) (tpdu : Tpdu) → BaseInOctets is_address b → AreOctets w.request.octets × AreOctets w.octets → HasOctets tpdu → RowInOctets (wait_before_close_tpdu b w tpdu)
   unfolding wait_before_close_tpdu
-  wait_row b w (Cc credit destination source width calling called size extra version classes ack_time text) i h t =
+  wait_row b w (Cc credit destination source width calling called size preferred extra version classes ack_time text) i h t =
       closing_row (record b { partner = source }) [] 128 w.octets b.clock (partner_in b source i t.1) (omega arith) h.1
   wait_row b w (Dr destination source reason info text) i h t = frozen_row b _ _ i (dc_in b source i t.1)
   wait_row b w other i h t = row b _ _ _ i h tt
@@ -327,7 +327,7 @@ module _ (is_address : List ℕ → Bool) where
 
   pub indicated_in : (now own : ℕ) (from : List ℕ) (rules : Timers) (tpdu : Tpdu) (m : Moved) → IsPair own → is_address from ≡ true → HasOctets tpdu
       → on_cr now own from rules tpdu ≡ Some m → RowInOctets m
-  indicated_in now own from rules (Cr credit source width calling called size extra version classes ack_time text) m low address t e =
+  indicated_in now own from rules (Cr credit source width calling called size preferred extra version classes ack_time text) m low address t e =
       subst RowInOctets (same_Some _ _ e)
-      (row (called_end now own from rules credit source calling called (options_in width size extra)) _ _ [] (record { own = low; partner = t.0; to = address; calling = t.1; called = t.2 }) tt tt)
+      (row (called_end now own from rules credit source calling called (proposed_in width size preferred extra)) _ _ [] (record { own = low; partner = t.0; to = address; calling = t.1; called = t.2 }) tt tt)
   indicated_in now own from rules other m low address t e = absurd (none-some _ e)

@@ -96,8 +96,8 @@ connected_rests now call c =
 
 pub indicated_rests : (now own : ℕ) (from : List ℕ) (rules : Timers) (tpdu : Tpdu) (m : Moved) → IsTimed rules → 1 ≤ rules.inactive → IsAllowed Plain tpdu
     → on_cr now own from rules tpdu ≡ Some m → StepRests rules now m
-indicated_rests now own from rules (Cr credit source width calling called size extra version classes ack_time text) m timed some a e =
-    let row = called_row now own from rules (Cr credit source width calling called size extra version classes ack_time text) _ timed a refl in
+indicated_rests now own from rules (Cr credit source width calling called size preferred extra version classes ack_time text) m timed some a e =
+    let row = called_row now own from rules (Cr credit source width calling called size preferred extra version classes ack_time text) _ timed a refl in
     subst (λ (x : Moved). StepRests rules now x) (same_Some _ _ e)
     (record { rests = record { end = record { proper = row.proper; timers_are = refl; waiting = tt }; later = omega (arith, some) }; tpdus = row.tpdus })
 indicated_rests now own from rules other m timed some a e = absurd (none-some _ e)

@@ -1,7 +1,7 @@
 -- A TPDU that its format allows can be written: its header is short, and two octets of a checksum take both sums to 0.
 use Rattle.std.proofs.Common.{◌≡◌, ℕ, ◌+◌, ◌*◌, ◌-◌, ◌%◌, ◌==◌, ◌<◌, ◌≤◌, Bool, true, false, List, [], ◌∷◌, ◌++◌, length, sum, reverse, append_assoc, refl, sym, subst, ◌∙◌, arith, inl, inr}
 use Rattle.std.proofs.lemmas.Bool.{cases_eq}
-use Rattle.std.specs.Prelude.{Option, Some, unwrap_or, if◌then◌else◌}
+use Rattle.std.specs.Prelude.{Option, Some, None, unwrap_or, if◌then◌else◌}
 use Rattle.osi_base.specs.Fletcher.{Sealed, place_sum}
 use Rattle.osi_base.proofs.FletcherPair.{seals_pair}
 use Rattle.pdu_parts.specs.Number.{two_octets}
@@ -11,7 +11,7 @@ use Rattle.tpdu.specs.declared.tpdu.Format.{Format}
 use Rattle.tpdu.specs.declared.tpdu.Format.TheVariants.{Normal, Extended}
 use Rattle.tpdu.specs.declared.tpdu.Tpdu.{Tpdu}
 use Rattle.tpdu.specs.declared.tpdu.Tpdu.TheVariants.{Cr, Cc, Dr, Dc, Dt, Ed, Ak, Ea, Er}
-use Rattle.tpdu.specs.Writing.{IsAllowed, IsWritten, ack_parameters, body_for, class_for, code_for, connect_parameters, count_for, fixed_for, is_summed, number_for, parameter, parameters_for, size_code}
+use Rattle.tpdu.specs.Writing.{IsAllowed, IsWritten, ack_parameters, body_for, class_for, code_for, connect_parameters, count_for, fixed_for, is_summed, number_for, parameter, parameters_for, preferred_parameters, size_code, size_parameters}
 use Rattle.tpdu.specs.steps.Sums.{SumsIf}
 use Rattle.tpdu.proofs.Formats.{fits}
 use Rattle.tpdu.proofs.Spellings.{spelled_by}
@@ -83,8 +83,8 @@ number_octets Normal false number = (omega arith, tt)
 number_octets Extended last number = bytes_are_octets 4 _
 
 code_low : (width : Format) (tpdu : Tpdu) → code_for width tpdu < 256
-code_low width (Cr credit source width_of calling called size extra version classes ack_time octets) = omega arith
-code_low width (Cc credit destination source width_of calling called size extra version classes ack_time octets) = omega arith
+code_low width (Cr credit source width_of calling called size preferred extra version classes ack_time octets) = omega arith
+code_low width (Cc credit destination source width_of calling called size preferred extra version classes ack_time octets) = omega arith
 code_low width (Dr destination source reason info octets) = omega arith
 code_low width (Dc destination source) = omega arith
 code_low width (Dt destination last number octets) = omega arith
@@ -95,10 +95,10 @@ code_low width (Ea destination number) = omega arith
 code_low width (Er destination cause rejected) = omega arith
 
 fixed_octets : (width : Format) (tpdu : Tpdu) → HasOctets tpdu → AreOctets (fixed_for width tpdu)
-fixed_octets width (Cr credit source width_of calling called size extra version classes ack_time octets) h =
+fixed_octets width (Cr credit source width_of calling called size preferred extra version classes ack_time octets) h =
     octets_both (two_octets 0) (two_octets source ++ class_for width_of ∷ []) (omega arith, (omega arith, tt))
     (octets_both (two_octets source) (class_for width_of ∷ []) (two_are_octets source h.0) (class_low width_of, tt))
-fixed_octets width (Cc credit destination source width_of calling called size extra version classes ack_time octets) h =
+fixed_octets width (Cc credit destination source width_of calling called size preferred extra version classes ack_time octets) h =
     octets_both (two_octets destination) (two_octets source ++ class_for width_of ∷ []) (two_are_octets destination h.0)
     (octets_both (two_octets source) (class_for width_of ∷ []) (two_are_octets source h.1) (class_low width_of, tt))
 fixed_octets width (Dr destination source reason info octets) h =
@@ -127,19 +127,31 @@ size_low size =
     test : (octets code : ℕ) (rest : Option ℕ) → code < 256 → unwrap_or rest 0 < 256 → unwrap_or (if octets == size then Some code else rest) 0 < 256
     test octets code rest low h = if_kept (λ (found : Option ℕ). unwrap_or found 0 < 256) (octets == size) (Some code) rest (λ _. low) (λ _. h)
 
-connect_octets : (calling called : List ℕ) (size extra : ℕ) → length calling ≤ 32 → length called ≤ 32 → AreOctets calling → AreOctets called → extra < 256
-    → AreOctets (spelled (connect_parameters calling called size extra))
-connect_octets calling called size extra short few one other low =
-    let last : List ℕ = spelled (parameter 0xC0 (size_code size ∷ []) ∷ parameter 0xC6 (extra ∷ []) ∷ []) in (
+-- the sizes that a CR or a CC names, and its additional options
+extra_octets : (extra : ℕ) → extra < 256 → AreOctets (spelled (parameter 0xC6 (extra ∷ []) ∷ []))
+extra_octets extra low = (omega arith, (omega arith, (low, tt)))
+
+preferred_octets : (preferred : Option ℕ) (extra : ℕ) → extra < 256 → AreOctets (spelled (preferred_parameters preferred ++ parameter 0xC6 (extra ∷ []) ∷ []))
+preferred_octets None extra low = extra_octets extra low
+preferred_octets (Some number) extra low = (omega arith, (omega arith, (omega arith, extra_octets extra low)))
+
+sizes_octets : (size preferred : Option ℕ) (extra : ℕ) → extra < 256
+    → AreOctets (spelled (size_parameters size ++ preferred_parameters preferred ++ parameter 0xC6 (extra ∷ []) ∷ []))
+sizes_octets None preferred extra low = preferred_octets preferred extra low
+sizes_octets (Some size) preferred extra low = (omega arith, (omega arith, (size_low size, preferred_octets preferred extra low)))
+
+connect_octets : (calling called : List ℕ) (size preferred : Option ℕ) (extra : ℕ) → length calling ≤ 32 → length called ≤ 32 → AreOctets calling → AreOctets called → extra < 256
+    → AreOctets (spelled (connect_parameters calling called size preferred extra))
+connect_octets calling called size preferred extra short few one other low =
+    let last : List Parameter = size_parameters size ++ preferred_parameters preferred ++ parameter 0xC6 (extra ∷ []) ∷ [] in (
       omega arith,
       (
         omega (arith, short),
-        octets_both calling (spelled (parameter 0xC2 called ∷ parameter 0xC0 (size_code size ∷ []) ∷ parameter 0xC6 (extra ∷ []) ∷ [])) one (
+        octets_both calling (spelled (parameter 0xC2 called ∷ last)) one (
           omega arith,
           (
             omega (arith, few),
-            octets_both called last other
-                (omega arith, (omega arith, (size_low size, (omega arith, (omega arith, (low, tt)))))),
+            octets_both called (spelled last) other (sizes_octets size preferred extra low),
           ),
         ),
       ),
@@ -152,10 +164,10 @@ ack_octets subsequence low =
     (λ _. (omega arith, (omega arith, two_are_octets subsequence low)))
 
 parameter_octets : (width : Format) (tpdu : Tpdu) → IsAllowed width tpdu → HasOctets tpdu → AreOctets (spelled (parameters_for tpdu))
-parameter_octets width (Cr credit source width_of calling called size extra version classes ack_time octets) a h =
-    connect_octets calling called size extra a.calling_fits a.called_fits h.1 h.2 h.3
-parameter_octets width (Cc credit destination source width_of calling called size extra version classes ack_time octets) a h =
-    connect_octets calling called size extra a.calling_fits a.called_fits h.2 h.3 h.4
+parameter_octets width (Cr credit source width_of calling called size preferred extra version classes ack_time octets) a h =
+    connect_octets calling called size preferred extra a.calling_fits a.called_fits h.1 h.2 h.3
+parameter_octets width (Cc credit destination source width_of calling called size preferred extra version classes ack_time octets) a h =
+    connect_octets calling called size preferred extra a.calling_fits a.called_fits h.2 h.3 h.4
 parameter_octets width (Dr destination source reason info octets) a h = tt
 parameter_octets width (Dc destination source) a h = tt
 parameter_octets width (Dt destination last number octets) a h = tt
@@ -165,8 +177,8 @@ parameter_octets width (Ea destination number) a h = tt
 parameter_octets width (Er destination cause rejected) a h = tt
 
 body_octets : (tpdu : Tpdu) → HasOctets tpdu → AreOctets (body_for tpdu)
-body_octets (Cr credit source width_of calling called size extra version classes ack_time octets) h = h.4
-body_octets (Cc credit destination source width_of calling called size extra version classes ack_time octets) h = h.5
+body_octets (Cr credit source width_of calling called size preferred extra version classes ack_time octets) h = h.4
+body_octets (Cc credit destination source width_of calling called size preferred extra version classes ack_time octets) h = h.5
 body_octets (Dr destination source reason info octets) h = h.3
 body_octets (Dc destination source) h = tt
 body_octets (Dt destination last number octets) h = h.1

@@ -24,9 +24,9 @@ abbrev pub IsPair : ℕ → Type 0
 IsPair number = number < 65536
 
 abbrev pub HasOctets : Tpdu → Type 0
-HasOctets (Cr credit source width calling called size extra version classes ack_time octets) =
+HasOctets (Cr credit source width calling called size preferred extra version classes ack_time octets) =
     IsPair source × AreOctets calling × AreOctets called × (extra < 256) × AreOctets octets
-HasOctets (Cc credit destination source width calling called size extra version classes ack_time octets) =
+HasOctets (Cc credit destination source width calling called size preferred extra version classes ack_time octets) =
     IsPair destination × IsPair source × AreOctets calling × AreOctets called × (extra < 256) × AreOctets octets
 HasOctets (Dr destination source reason info octets) = IsPair destination × IsPair source × (reason < 256) × AreOctets octets
 HasOctets (Dc destination source) = IsPair destination × IsPair source

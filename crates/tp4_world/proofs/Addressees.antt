@@ -178,8 +178,8 @@ confirmed_to to b o text is =
 
 cr_wait_to : (to : List ℕ) (b : Base) (w : Requesting) (tpdu : Tpdu) → b.to ≡ to → MovesTo to (cr_wait_tpdu b w tpdu)
 unfolding cr_wait_tpdu
-cr_wait_to to b w (Cc credit destination source width calling called size extra version classes ack_time text) is =
-    either (MovesTo to) (is_within b.proposed (options_in width size extra)) _ _ (confirmed_to to _ (options_in width size extra) text is) (closing_to to _ (gone b Protocol []) 133 [] b.clock is)
+cr_wait_to to b w (Cc credit destination source width calling called size preferred extra version classes ack_time text) is =
+    either (MovesTo to) (is_within b.proposed width size preferred extra) _ _ (confirmed_to to _ (options_in width size preferred extra) text is) (closing_to to _ (gone b Protocol []) 133 [] b.clock is)
 cr_wait_to to b w (Dr destination source reason info text) is = frozen_to to b (gone b (Reason reason) text) (confirms b source) is (confirms_to to b source is)
 cr_wait_to to b w other is = record { base = is; stage = tt; tpdus = tt }
 
@@ -191,7 +191,7 @@ cr_wait_tick_to to b w is =
 
 parting_to : (to : List ℕ) (b : Base) (w : Parting) (tpdu : Tpdu) → b.to ≡ to → MovesTo to (wait_before_close_tpdu b w tpdu)
 unfolding wait_before_close_tpdu
-parting_to to b w (Cc credit destination source width calling called size extra version classes ack_time text) is = closing_to to _ [] 128 w.octets b.clock is
+parting_to to b w (Cc credit destination source width calling called size preferred extra version classes ack_time text) is = closing_to to _ [] 128 w.octets b.clock is
 parting_to to b w (Dr destination source reason info text) is = frozen_to to b [] (confirms b source) is (confirms_to to b source is)
 parting_to to b w other is = record { base = is; stage = tt; tpdus = tt }
 
@@ -244,7 +244,7 @@ ed_to to wrap b o w octets is halves =
 
 opened_tpdu_to : (to : List ℕ) (wrap : ℕ → ℕ → ℕ) (b : Base) (o : Open) (tpdu : Tpdu) → b.to ≡ to → HalvesTo to o.halves → MovesTo to (opened_tpdu wrap b o tpdu)
 unfolding opened_tpdu
-opened_tpdu_to to wrap b o (Cc credit destination source width calling called size extra version classes ack_time text) is halves = record { base = is; stage = halves; tpdus = (halves.1, tt) }
+opened_tpdu_to to wrap b o (Cc credit destination source width calling called size preferred extra version classes ack_time text) is halves = record { base = is; stage = halves; tpdus = (halves.1, tt) }
 opened_tpdu_to to wrap b o (Dr destination source reason info text) is halves = frozen_to to b (gone b (Reason reason) text) (confirms b source) is (confirms_to to b source is)
 opened_tpdu_to to wrap b o (Er destination cause rejected) is halves = closing_to to b (gone b Protocol []) 133 [] b.clock is
 opened_tpdu_to to wrap b o (Dt destination last number text) is halves =
@@ -256,7 +256,7 @@ opened_tpdu_to to wrap b o (Ed destination last number text) is halves =
 opened_tpdu_to to wrap b o (Ak destination number credit subsequence confirmation) is halves =
     sending_to to b o _ is halves (acknowledged_to_it to (at b.clock o.halves.sending) number credit subsequence halves.0)
 opened_tpdu_to to wrap b o (Ea destination number) is halves = sending_to to b o _ is halves (urgent_done_to to (at b.clock o.halves.sending) number halves.0)
-opened_tpdu_to to wrap b o (Cr credit source width calling called size extra version classes ack_time text) is halves = record { base = is; stage = halves; tpdus = tt }
+opened_tpdu_to to wrap b o (Cr credit source width calling called size preferred extra version classes ack_time text) is halves = record { base = is; stage = halves; tpdus = tt }
 opened_tpdu_to to wrap b o (Dc destination source) is halves = record { base = is; stage = halves; tpdus = tt }
 
 granting_to : (to : List ℕ) (b : Base) (o : Open) (new : Half) → b.to ≡ to → HalvesTo to o.halves → new.rules.to ≡ to → MovesTo to (granting b o new)
@@ -297,8 +297,8 @@ ak_wait_to to wrap b w (Ed destination last number text) is halves = opening_to 
 ak_wait_to to wrap b w (Ea destination number) is halves = opening_to to wrap b w.halves (Ea destination number) is halves
 ak_wait_to to wrap b w (Dr destination source reason info text) is halves = frozen_to to b (gone b (Reason reason) text) (confirms b source) is (confirms_to to b source is)
 ak_wait_to to wrap b w (Er destination cause rejected) is halves = closing_to to b (gone b Protocol []) 133 [] w.first is
-ak_wait_to to wrap b w (Cr credit source width calling called size extra version classes ack_time text) is halves = record { base = is; stage = halves; tpdus = tt }
-ak_wait_to to wrap b w (Cc credit destination source width calling called size extra version classes ack_time text) is halves = record { base = is; stage = halves; tpdus = tt }
+ak_wait_to to wrap b w (Cr credit source width calling called size preferred extra version classes ack_time text) is halves = record { base = is; stage = halves; tpdus = tt }
+ak_wait_to to wrap b w (Cc credit destination source width calling called size preferred extra version classes ack_time text) is halves = record { base = is; stage = halves; tpdus = tt }
 ak_wait_to to wrap b w (Dc destination source) is halves = record { base = is; stage = halves; tpdus = tt }
 
 again_to : (to : List ℕ) (b : Base) (agreed : Option Options) (octets : List ℕ) → b.to ≡ to → AllTo to (confirms_again b agreed octets)

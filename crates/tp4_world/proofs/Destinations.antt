@@ -105,9 +105,9 @@ module _ (Fine : List ℕ → Type 0) where
 
   module _ (from : List ℕ) (fine : Fine from) where
     stateless_fine : (tpdu : Tpdu) → SentFine (stateless from tpdu)
-    stateless_fine (Cc credit destination source width calling called size extra version classes ack_time text) = (fine, tt)
+    stateless_fine (Cc credit destination source width calling called size preferred extra version classes ack_time text) = (fine, tt)
     stateless_fine (Dr destination source reason info text) = either SentFine (source == 0) [] (answer from (Dc source destination) ∷ []) tt (fine, tt)
-    stateless_fine (Cr credit source width calling called size extra version classes ack_time text) = tt
+    stateless_fine (Cr credit source width calling called size preferred extra version classes ack_time text) = tt
     stateless_fine (Dc destination source) = tt
     stateless_fine (Dt destination last number text) = tt
     stateless_fine (Ed destination last number text) = tt
@@ -131,9 +131,9 @@ module _ (Fine : List ℕ → Type 0) where
 
     made_fine : (now : ℕ) (e : Entity) (source : ℕ) (cr : Tpdu) (found : Option ℕ) → EndsFine e.ends → ActsFine e.own (new_end now e from source cr found)
     made_fine now e source cr None all = record { own_is = refl; ends = all; tpdus = (fine, tt) }
-    made_fine now e source (Cr credit reference width calling called size extra version classes ack_time text) (Some own) all =
+    made_fine now e source (Cr credit reference width calling called size preferred extra version classes ack_time text) (Some own) all =
         moved_fine e own _ from all (record { base = refl; stage = tt; tpdus = tt }) fine
-    made_fine now e source (Cc credit destination other width calling called size extra version classes ack_time text) (Some own) all = record { own_is = refl; ends = all; tpdus = tt }
+    made_fine now e source (Cc credit destination other width calling called size preferred extra version classes ack_time text) (Some own) all = record { own_is = refl; ends = all; tpdus = tt }
     made_fine now e source (Dr destination other reason info text) (Some own) all = record { own_is = refl; ends = all; tpdus = tt }
     made_fine now e source (Dc destination other) (Some own) all = record { own_is = refl; ends = all; tpdus = tt }
     made_fine now e source (Dt destination last number text) (Some own) all = record { own_is = refl; ends = all; tpdus = tt }
@@ -150,10 +150,10 @@ module _ (Fine : List ℕ → Type 0) where
         (made_fine now e source cr (least_free now e) all)))
 
     met_fine : (wrap : ℕ → ℕ → ℕ) (now : ℕ) (e : Entity) (tpdu : TpduAndSum) → EndsFine e.ends → ActsFine e.own (met wrap now e from tpdu)
-    met_fine wrap now e (Cr credit source width calling called size extra version classes ack_time text, sum) all =
-        requested_fine now e source called (Cr credit source width calling called size extra version classes ack_time text) all
-    met_fine wrap now e (Cc credit destination source width calling called size extra version classes ack_time text, sum) all =
-        by_reference wrap now e (Cc credit destination source width calling called size extra version classes ack_time text, sum) (Some destination) all
+    met_fine wrap now e (Cr credit source width calling called size preferred extra version classes ack_time text, sum) all =
+        requested_fine now e source called (Cr credit source width calling called size preferred extra version classes ack_time text) all
+    met_fine wrap now e (Cc credit destination source width calling called size preferred extra version classes ack_time text, sum) all =
+        by_reference wrap now e (Cc credit destination source width calling called size preferred extra version classes ack_time text, sum) (Some destination) all
     met_fine wrap now e (Dr destination source reason info text, sum) all = by_reference wrap now e (Dr destination source reason info text, sum) (Some destination) all
     met_fine wrap now e (Dc destination source, sum) all = by_reference wrap now e (Dc destination source, sum) (Some destination) all
     met_fine wrap now e (Dt destination last number text, sum) all = by_reference wrap now e (Dt destination last number text, sum) (Some destination) all

@@ -206,6 +206,7 @@ module _ {C : Type 0} (link : C → Link (List ℕ)) (steps : C → Call (List �
   line_below titles old (lines.Deliver number system) made new a = (a.0, arrived_below old (Choose number system a.0) (picked_event number system a.0) made new a.1)
   line_below titles old lines.Settle made new a = settled_below 0 old made new a
   line_below titles old (lines.Inject lan system octets) made new a = (a.0, arrived_below old (Inject lan system octets a.0) (inject_event system a.0) made new a.1)
+  line_below titles old (lines.Version version) made new a = absurd a
   line_below titles old (lines.Set key value) made new a = absurd a
   line_below titles old (lines.Lan name bound room) made new a = absurd a
   line_below titles old (lines.Es name title) made new a = absurd a

@@ -396,6 +396,7 @@ module _ {C : Type 0} (link : C → Link (List ℕ)) (steps : C → Call (List �
     one_line titles old (lines.Deliver number system) made other new next a b = one_delivery old number system a.0 b.0 made other new next a.1 b.1
     one_line titles old lines.Settle made other new next a b = one_settling 0 old made new a other next b
     one_line titles old (lines.Inject lan system octets) made other new next a b = one_injection old lan system octets a.0 b.0 made other new next a.1 b.1
+    one_line titles old (lines.Version version) made other new next a b = absurd a
     one_line titles old (lines.Set key value) made other new next a b = absurd a
     one_line titles old (lines.Lan name bound room) made other new next a b = absurd a
     one_line titles old (lines.Es name title) made other new next a b = absurd a

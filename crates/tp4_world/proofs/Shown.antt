@@ -225,6 +225,7 @@ module _ (life : ℕ) (titles : List (List ℕ)) {C : Type 0} (link : C → Link
     line_holds (lines.Deliver number system) old new journal made none h step = delivered old new journal made number system step.0 h step.1
     line_holds lines.Settle old new journal made none h step = settled 0 old made new step journal h
     line_holds (lines.Inject lan system octets) old new journal made none h step = absurd none
+    line_holds (lines.Version version) old new journal made none h step = absurd step
     line_holds (lines.Set key value) old new journal made none h step = absurd step
     line_holds (lines.Lan name bound room) old new journal made none h step = absurd step
     line_holds (lines.Es name title) old new journal made none h step = absurd step

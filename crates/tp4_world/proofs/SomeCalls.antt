@@ -102,7 +102,7 @@ module _ {C : Type 0} (link : C → Link (List ℕ)) (steps : C → Call (List �
   Runs titles old line = HasRun is_address link steps Stands wrap titles old line
 
   pub connect_runs : (titles : List (List ℕ)) (old : World C) (system : ℕ) (selector : List ℕ) (to : ℕ) (called : List ℕ) (options : ScriptOptions) (octets : List ℕ) → IsSo old
-      → CanConnect is_address titles old system to options.size selector called octets → Runs titles old (lines.Connect system selector to called options octets)
+      → CanConnect is_address titles old system to options selector called octets → Runs titles old (lines.Connect system selector to called options octets)
   connect_runs titles old system selector to called options octets r may =
       let e = may.entity in
       let call : ConnectCall = record {

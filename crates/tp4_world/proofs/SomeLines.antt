@@ -83,6 +83,7 @@ module _ {C : Type 0} (link : C → Link (List ℕ)) (steps : C → Call (List �
   some_line titles old lines.Settle r may = let m = settles link steps keeps is_address Stands serves wrap 65536 0 old refl r in record { made = m.made; new = m.new; runs = m.runs; ready = m.ready }
   some_line titles old (lines.Inject lan system octets) r may = inject_runs link steps keeps is_address Stands serves wrap titles old lan system octets r may
   some_line titles old lines.Tick r may = tick_runs link steps keeps is_address Stands serves wrap titles old r may
+  some_line titles old (lines.Version version) r may = absurd may
   some_line titles old (lines.Set key value) r may = absurd may
   some_line titles old (lines.Lan name bound room) r may = absurd may
   some_line titles old (lines.Es name title) r may = absurd may

@@ -288,6 +288,7 @@ module _ {C : Type 0} (link : C → Link (List ℕ)) (steps : C → Call (List �
   line_above titles old (lines.Inject lan system octets) made new a =
       let done = arrived_above old (Inject lan system octets a.0) (inject_event system a.0) made new a.1 in
       record { up = done.up; does = (a.0, done.does); is = done.is }
+  line_above titles old (lines.Version version) made new a = absurd a
   line_above titles old (lines.Set key value) made new a = absurd a
   line_above titles old (lines.Lan name bound room) made new a = absurd a
   line_above titles old (lines.Es name title) made new a = absurd a

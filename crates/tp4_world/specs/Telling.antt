@@ -52,10 +52,10 @@ is_extended Normal = false
 is_extended Extended = true
 
 abbrev pub told_options : Options → ScriptOptions
-told_options o = record { extended = is_extended o.format; size = o.size; expedited = o.expedited; sum = o.sum }
+told_options o = record { extended = is_extended o.format; size = o.size; preferred = o.preferred; expedited = o.expedited; sum = o.sum }
 
 abbrev pub asked_options : ScriptOptions → Options
-asked_options o = record { format = if o.extended then Extended else Normal; size = o.size; expedited = o.expedited; sum = o.sum }
+asked_options o = record { format = if o.extended then Extended else Normal; size = o.size; preferred = o.preferred; expedited = o.expedited; sum = o.sum }
 
 abbrev pub told_cause : GoneCause → ToldCause
 told_cause (gone.Reason reason) = told_gone.Reason reason

@@ -7,15 +7,17 @@ use Rattle.osi_base.specs.declared.unit.Up.TheVariants.{Unit as Came, Note as No
 use Rattle.osi_base.specs.Link.{Link, IsLeastFresh}
 use Rattle.osi_base.specs.Calls.{Call}
 use Rattle.carrier_answers.specs.Answers.{AlwaysAnswers, AreOctets, Asked, CanBeAsked, GoesThrough, IsAnswered, MayBeOffered}
-use Rattle.tp4_conn.specs.End.{IsSize}
+use Rattle.tp4_conn.specs.End.{IsSized}
 use Rattle.tp4_entity.specs.Entity.{Entity}
 use Rattle.tp4_outcome.specs.Octets.{EntityInOctets}
 use Rattle.tp4_outcome.specs.Rest.{IsAtRest}
 use Rattle.osi_journal.specs.declared.event.Event.{Event}
 use Rattle.osi_script.specs.declared.line.Line.{Line}
+use Rattle.osi_script.specs.declared.line.Options.{Options}
 use Rattle.osi_script.specs.declared.line.Line.TheVariants as lines
 use Rattle.net_world.specs.Run.{raw_unit}
 use Rattle.tp4_world.specs.Run.{RunsLine, Starts, transport_address}
+use Rattle.tp4_world.specs.Telling.{asked_options}
 use Rattle.tp4_world.specs.World.{World, entity_at}
 use Rattle.tp4_world.specs.declared.place.EndAt.{EndAt}
 use Rattle.tp4_world.specs.declared.place.Placed.{Placed}
@@ -63,13 +65,13 @@ pub record IsReady {C : Type 0} (is_address : List ℕ → Bool) (link : C → L
 -- ---- what may be asked
 
 -- a connect line: from the entity of a system to an address; selectors and size as a CR has them
-pub record CanConnect {C : Type 0} (is_address : List ℕ → Bool) (titles : List (List ℕ)) (world : World C) (system to size : ℕ) (selector called octets : List ℕ) : Type 0 where
+pub record CanConnect {C : Type 0} (is_address : List ℕ → Bool) (titles : List (List ℕ)) (world : World C) (system to : ℕ) (options : Options) (selector called octets : List ℕ) : Type 0 where
   pub receiver : List ℕ
   pub receiver_is : slice_get titles to ≡ Some receiver
   pub address : is_address (transport_address receiver) ≡ true
   pub entity : Entity
   pub entity_is : entity_at world.entities system ≡ Some entity
-  pub size_known : IsSize size
+  pub size_known : IsSized (asked_options options)
   pub selector_short : length selector ≤ 32
   pub selector_octets : AreOctets selector
   pub called_short : length called ≤ 32
@@ -79,8 +81,8 @@ pub record CanConnect {C : Type 0} (is_address : List ℕ → Bool) (titles : Li
 -- the network runs such a line, its octets are octets, its sizes and credits are such, and a tick comes below the greatest clock
 abbrev pub CanRun : {C : Type 0} → (List ℕ → Bool) → List (List ℕ) → (C → Link (List ℕ)) → World C → Line → Type 0
 CanRun is_address titles link world lines.Nothing = Prim.Unit {0}
-CanRun is_address titles link world (lines.Connect system selector to called options octets) = CanConnect is_address titles world system to options.size selector called octets
-CanRun is_address titles link world (lines.Accept end options octets) = IsSize options.size × AreOctets octets
+CanRun is_address titles link world (lines.Connect system selector to called options octets) = CanConnect is_address titles world system to options selector called octets
+CanRun is_address titles link world (lines.Accept end options octets) = IsSized (asked_options options) × AreOctets octets
 CanRun is_address titles link world (lines.Refuse end octets) = AreOctets octets
 CanRun is_address titles link world (lines.Disconnect end octets) = AreOctets octets
 CanRun is_address titles link world (lines.Data end octets) = AreOctets octets

@@ -3,7 +3,7 @@
 ghost use Rattle.std.specs.Prelude.{◌≡◌, ◌≤◌, ◌∷◌, [], Some, OnOk};
 ghost use Rattle.tp4_number.specs.Number.{wire};
 ghost use Rattle.tp4_conn.specs.Calls.{IsCall};
-ghost use Rattle.tp4_conn.specs.End.{IsSize};
+ghost use Rattle.tp4_conn.specs.End.{IsSized};
 ghost use Rattle.osi_journal.specs.declared.event.Event.TheVariants.{No};
 ghost use Rattle.osi_journal.specs.declared.cause.Refused.{Refused as Cause};
 ghost use Rattle.std.specs.List.{position};
@@ -36,7 +36,7 @@ pub fn begin<C: Carrier<Addr = Nsap>>(
     requires clock { (C.link carrier.old).clock ≡ now }
     requires behind { AreBehind now transport.old.entities.items }
     requires later { AreLaterAll now transport.old.entities.items }
-    requires size { IsSize call.options.size }
+    requires size { IsSized call.options }
     requires none { events.old.items ≡ [] }
     ensures connects { OnOk result (Connects C.link C.steps
         (world_of carrier.old transport.old.entities.items transport.old.ends) system call events.new.items (world_of carrier.new transport.new.entities.items transport.new.ends)) }

@@ -5,7 +5,7 @@ ghost use Rattle.std.specs.Prelude.{◌≡◌, ◌≢◌, ◌≤◌, ◌<◌, �
 ghost use Rattle.std.specs.List.{position};
 ghost use Rattle.tp4_number.specs.Number.{wire};
 ghost use Rattle.tp4_conn.specs.Calls.{IsCall};
-ghost use Rattle.tp4_conn.specs.End.{IsSize};
+ghost use Rattle.tp4_conn.specs.End.{IsSized};
 ghost use Rattle.tp4_conn.specs.declared.call.CallRefusal.TheVariants.{NoMemory as EndOutOfMemory};
 ghost use Rattle.tp4_entity.specs.Dues.{AreFrom, AreLater};
 ghost use Rattle.tp4_entity.specs.Entity.{Acted};
@@ -107,7 +107,7 @@ pub fn connect_at(
     requires low { now ≤ 4000000000 }
     requires behind { AreBehind now entities.old.items }
     requires from { (one : PlacedEntity) → slice_get entities.old.items place ≡ Some one → AreFrom now one.entity.ends }
-    requires size { IsSize call.options.size }
+    requires size { IsSized call.options }
     ensures changed { IfOk result (λ reference. ChangesAt place entities.old.items entities.new.items
         (λ before after. (connect_refusal now before call.octets ≡ None) × (least_free now before ≡ Some reference)
         × DoesSo (connecting now before reference call) after out.old out.new)) }

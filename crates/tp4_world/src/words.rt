@@ -21,6 +21,7 @@ pub fn asked_options(options: ScriptOptions) -> Options
             Format::Normal
         },
         size: options.size,
+        preferred: options.preferred,
         expedited: options.expedited,
         sum: options.sum,
     }
@@ -33,6 +34,7 @@ pub fn told_options(options: &Options) -> ScriptOptions
     ScriptOptions {
         extended: is_extended(options.format),
         size: options.size,
+        preferred: options.preferred,
         expedited: options.expedited,
         sum: options.sum,
     }

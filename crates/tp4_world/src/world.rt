@@ -5,7 +5,7 @@ ghost use Rattle.osi_base.specs.declared.unit.Injected.{Injected as Answer};
 ghost use Rattle.osi_base.specs.declared.unit.Picked.{Picked as Choice};
 ghost use Rattle.osi_base.specs.declared.unit.Picked.TheVariants.{Taken};
 ghost use Rattle.tp4_conn.specs.Calls.{IsCall};
-ghost use Rattle.tp4_conn.specs.End.{IsSize};
+ghost use Rattle.tp4_conn.specs.End.{IsSized};
 ghost use Rattle.tp4_number.specs.Number.{wire};
 ghost use Rattle.tp4_world.specs.Run.{Calls, Connects, Delivers, Injects, SendsRaw, Settles, Starts, Ticks};
 ghost use Rattle.tp4_world.specs.steps.Parts.{AreBehind, AreLaterAll, SettlesSo, Tells, world_of};
@@ -112,7 +112,7 @@ impl<C: Carrier<Addr = Nsap> + Drop> TpWorld<C> {
         call: ConnectCall,
         events: &mut Vec<Event>,
     ) -> Result<(), NoMemory>
-        requires size { IsSize call.options.size }
+        requires size { IsSized call.options }
         requires none { events.old.items ≡ [] }
         ensures { OnOk result (Connects C.link C.steps self.old system call events.new.items self.new) }
     {

@@ -1,10 +1,10 @@
 -- What is read is what its format allows: numbers and credits are cut to their bits, selectors have the lengths of the table, sizes
 -- have codes, and the data suits its kind.
-use Rattle.std.proofs.Common.{◌≡◌, ◌≤◌, ◌==◌, ℕ, if◌then◌else◌, Bool, true, false, List, [], ◌∷◌, length, Option, Some, None, refl, sym, subst, ap, ◌∙◌, arith}
+use Rattle.std.proofs.Common.{◌≡◌, ◌≤◌, ◌==◌, ℕ, zero, suc, if◌then◌else◌, Bool, true, false, List, [], ◌∷◌, length, Option, Some, None, refl, sym, subst, ap, ◌∙◌, arith}
 use Rattle.std.specs.Prelude.{unwrap_or, option_and_then, IsSome, IsTrue, nat_le}
 use Rattle.std.specs.List.{AllByRecursion}
 use Rattle.std.specs.Option.{option_or}
-use Rattle.std.proofs.lemmas.Bool.{leb-true, and_parts, eqb-true, eq-eqb}
+use Rattle.std.proofs.lemmas.Bool.{leb-true, and_parts, eqb-true, eqb-false, eq-eqb}
 use Rattle.pdu_parts.specs.Parameter.{Parameter}
 use Rattle.tpdu.specs.declared.kind.Kind.{Kind}
 use Rattle.tpdu.specs.declared.kind.Kind.TheVariants.{Cr, Cc, Dr, Dc, Dt, Ed, Ak, Ea, Er}
@@ -14,9 +14,9 @@ use Rattle.tpdu.specs.declared.tpdu.Tpdu.{Tpdu}
 use Rattle.tpdu.specs.declared.parameter.Lengths.{Lengths}
 use Rattle.tpdu.specs.Grammar.{Suits, SuitsBy, IsTpdu, BeginsWithTpdu}
 use Rattle.tpdu.specs.Kinds.{data_suits}
-use Rattle.tpdu.specs.Parameters.{Size, sizes, size_in, size_of, last_value, lengths_of}
+use Rattle.tpdu.specs.Parameters.{Size, sizes, size_in, size_of, preferred_of, number_in, last_value, lengths_of}
 use Rattle.tpdu.specs.Values.{TpduAndSum, Parts, value_of, fields, text, number_of, credit_of, destination_of, format_for}
-use Rattle.tpdu.specs.Writing.{code_in, IsAllowed, IsNumber, IsCredit}
+use Rattle.tpdu.specs.Writing.{code_in, IsKnownSize, IsPreferred, IsAllowed, IsNumber, IsCredit}
 
 -- a size that is there has a code
 IsIn : List Size → Option ℕ → Type 0
@@ -51,14 +51,26 @@ value_is_in [] = tt
 value_is_in (code ∷ []) = size_is_in sizes code
 value_is_in (code ∷ more ∷ octets) = tt
 
-size_is_known : (value : Option (List ℕ)) → IsSome (code_in sizes (unwrap_or (option_and_then size_of value) 128))
+size_is_known : (value : Option (List ℕ)) → IsKnownSize (option_and_then size_of value)
 unfolding IsIn
-size_is_known None = refl
+size_is_known None = tt
 size_is_known (Some value) = by (size_of value) (value_is_in value)
   where
-    by : (found : Option ℕ) → IsIn sizes found → IsSome (code_in sizes (unwrap_or found 128))
-    by None h = refl
+    by : (found : Option ℕ) → IsIn sizes found → IsKnownSize found
+    by None h = tt
     by (Some octets) h = h
+
+at_least : (n : ℕ) → (n ≡ 0 → ⊥) → 1 ≤ n
+at_least zero some = absurd (some refl)
+at_least (suc n) some = omega arith
+
+preferred_is_known : (value : Option (List ℕ)) → IsPreferred (option_and_then preferred_of value)
+preferred_is_known None = tt
+preferred_is_known (Some value) = by (number_in value == 0) refl
+  where
+    by : (b : Bool) → (number_in value == 0) ≡ b → IsPreferred (if b then None else Some (number_in value))
+    by true is = tt
+    by false is = at_least (number_in value) (eqb-false (number_in value) 0 is)
 
 -- a selector has at most 32 octets
 IsShort : Option (List ℕ) → Type 0
@@ -108,6 +120,7 @@ fields_allowed Cr width code fixed ps body all suits = record {
   calling_fits = selector_is_short Cr 0xC1 ps refl all;
   called_fits = selector_is_short Cr 0xC2 ps refl all;
   size_known = size_is_known (last_value 0xC0 ps);
+  preferred_known = preferred_is_known (last_value 0xF0 ps);
   octets_fit = leb-true _ _ suits;
 }
 fields_allowed Cc width code fixed ps body all suits = record {
@@ -115,6 +128,7 @@ fields_allowed Cc width code fixed ps body all suits = record {
   calling_fits = selector_is_short Cc 0xC1 ps refl all;
   called_fits = selector_is_short Cc 0xC2 ps refl all;
   size_known = size_is_known (last_value 0xC0 ps);
+  preferred_known = preferred_is_known (last_value 0xF0 ps);
   octets_fit = leb-true _ _ suits;
 }
 fields_allowed Dr width code fixed ps body all suits = leb-true _ _ suits

@@ -1,5 +1,5 @@
 -- What has no number does not depend on the format; what is allowed is short.
-use Rattle.std.proofs.Common.{◌≡◌, ◌==◌, ℕ, ◌+◌, ◌≤◌, if◌then◌else◌, Bool, true, false, List, [], ◌∷◌, length, refl, sym, ◌∙◌, ap, arith, length-append}
+use Rattle.std.proofs.Common.{◌≡◌, ◌==◌, ℕ, ◌+◌, ◌≤◌, if◌then◌else◌, Bool, true, false, List, [], ◌∷◌, ◌++◌, length, Option, Some, None, refl, sym, ◌∙◌, ap, arith, length-append}
 use Rattle.tpdu.specs.declared.kind.Kind.{Kind}
 use Rattle.tpdu.specs.declared.kind.Kind.TheVariants.{Cr, Dt, Ed, Ak, Ea}
 use Rattle.tpdu.specs.declared.tpdu.Format.{Format}
@@ -8,9 +8,10 @@ use Rattle.tpdu.specs.Kinds.{has_number, fixed_count}
 use Rattle.pdu_parts.specs.Number.{two_octets}
 use Rattle.pdu_parts.specs.Parameter.{Parameter, spelled}
 use Rattle.tpdu.specs.Values.{TpduAndSum, Parts, value_of, fields}
+use Rattle.pdu_parts.specs.Parameter.{Parameter, spelled}
 use Rattle.tpdu.specs.Grammar.{Spells, IsTpdu}
 use Rattle.tpdu.specs.declared.tpdu.Tpdu.TheVariants as tpdus
-use Rattle.tpdu.specs.Writing.{size_code, kind_for, IsAllowed, header_count, is_summed, parameters_for, connect_parameters, ack_parameters, parameter}
+use Rattle.tpdu.specs.Writing.{size_count, size_parameters, preferred_parameters, kind_for, IsAllowed, header_count, is_summed, parameters_for, connect_parameters, ack_parameters, parameter}
 use Rattle.tpdu.proofs.ReadLaws.{fixed_count-bounds}
 use Rattle.tpdu.proofs.Spellings.{count_for-is, sum_count}
 
@@ -65,9 +66,20 @@ few-sums : (summed : Bool) → sum_count summed ≤ 4
 few-sums true = omega arith
 few-sums false = omega arith
 
-connect-length : (calling called : List ℕ) (size extra : ℕ) → length (spelled (connect_parameters calling called size extra)) ≡ length calling + length called + 10
-connect-length calling called size extra =
-    omega (arith, length-append calling (spelled (parameter 0xC2 called ∷ parameter 0xC0 (size_code size ∷ []) ∷ parameter 0xC6 (extra ∷ []) ∷ [])), length-append called (spelled (parameter 0xC0 (size_code size ∷ []) ∷ parameter 0xC6 (extra ∷ []) ∷ [])))
+sizes_length : (size preferred : Option ℕ) (extra : ℕ) → length (spelled (size_parameters size ++ preferred_parameters preferred ++ parameter 0xC6 (extra ∷ []) ∷ [])) ≡ 3 + (size_count size + size_count preferred)
+sizes_length None None extra = refl
+sizes_length None (Some number) extra = refl
+sizes_length (Some size) None extra = refl
+sizes_length (Some size) (Some number) extra = refl
+
+pub connect_length : (calling called : List ℕ) (size preferred : Option ℕ) (extra : ℕ) → length (spelled (connect_parameters calling called size preferred extra)) ≡ length calling + length called + (7 + (size_count size + size_count preferred))
+connect_length calling called size preferred extra =
+    let rest : List Parameter = size_parameters size ++ preferred_parameters preferred ++ parameter 0xC6 (extra ∷ []) ∷ [] in
+    omega (arith, length-append calling (spelled (parameter 0xC2 called ∷ rest)), length-append called (spelled rest), sizes_length size preferred extra)
+
+few_sizes : (size : Option ℕ) → size_count size ≤ 3
+few_sizes None = omega arith
+few_sizes (Some size) = omega arith
 
 ack-length : (subsequence : ℕ) → length (spelled (ack_parameters subsequence)) ≤ 4
 ack-length subsequence = by (subsequence == 0)
@@ -77,8 +89,10 @@ ack-length subsequence = by (subsequence == 0)
     by false = omega arith
 
 few-parameters : (format : Format) (tpdu : Tpdu) → IsAllowed format tpdu → length (spelled (parameters_for tpdu)) ≤ 80
-few-parameters _ (tpdus.Cr credit source width calling called size extra version classes ack_time octets) a = omega (arith, connect-length calling called size extra, a.calling_fits, a.called_fits)
-few-parameters _ (tpdus.Cc credit destination source width calling called size extra version classes ack_time octets) a = omega (arith, connect-length calling called size extra, a.calling_fits, a.called_fits)
+few-parameters _ (tpdus.Cr credit source width calling called size preferred extra version classes ack_time octets) a =
+    omega (arith, connect_length calling called size preferred extra, few_sizes size, few_sizes preferred, a.calling_fits, a.called_fits)
+few-parameters _ (tpdus.Cc credit destination source width calling called size preferred extra version classes ack_time octets) a =
+    omega (arith, connect_length calling called size preferred extra, few_sizes size, few_sizes preferred, a.calling_fits, a.called_fits)
 few-parameters _ (tpdus.Ak destination number credit subsequence confirmation) a = omega (arith, ack-length subsequence)
 few-parameters _ _ a = omega arith
 

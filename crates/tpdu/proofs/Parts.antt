@@ -3,7 +3,7 @@ use Rattle.std.proofs.Common.{◌≡◌, ℕ, ◌+◌, Bool, true, false, cond, 
 use Rattle.std.specs.Prelude.{is_some, option_map}
 use Rattle.std.specs.Option.{option_or}
 use Rattle.std.specs.List.{AllByRecursion}
-use Rattle.std.proofs.lemmas.Bool.{eqb-true, ne_eqb, le-leb, leb-true, eq-eqb}
+use Rattle.std.proofs.lemmas.Bool.{eqb-true, ne_eqb, le-leb, leb-true, eq-eqb, and_parts}
 use Rattle.tpdu.specs.declared.fault.TpduCause.{TpduCause}
 use Rattle.tpdu.specs.declared.fault.TpduFault.{TpduFault}
 use Rattle.tpdu.specs.declared.kind.Kind.{Kind}
@@ -11,7 +11,7 @@ use Rattle.tpdu.specs.declared.parameter.Lengths.{Lengths}
 use Rattle.tpdu.specs.Kinds.{is_connect}
 use Rattle.pdu_parts.specs.FirstFault.{or_else, first_failing}
 use Rattle.pdu_parts.specs.Parameter.{Parameter}
-use Rattle.tpdu.specs.Parameters.{lengths_of, size_of, has_size, trouble_by, trouble, sum_place, last_value}
+use Rattle.tpdu.specs.Parameters.{lengths_of, size_of, has_sizes, preferred_of, trouble_by, trouble, sum_place, last_value}
 use Rattle.tpdu.specs.Faults.{fault_at, parameter_steps}
 use Rattle.tpdu.specs.Grammar.{SuitsBy, Suits, has_sum}
 
@@ -22,6 +22,11 @@ has_size-is false s h e = absurd cc
 has_size-from : (b s : Bool) → (b ≡ true → s ≡ true) → (not b || s) ≡ true
 has_size-from true s h = h refl
 has_size-from false s h = refl
+
+both_true : (a b : Bool) → a ≡ true → b ≡ true → (a && b) ≡ true
+both_true true true one other = refl
+both_true true false one other = absurd cc
+both_true false b one other = absurd cc
 
 both : (a b c : Bool) (x : Option TpduCause) → cond (a && b && c) None x ≡ None → (x ≡ None → ⊥) → (a ≡ true) × (b ≡ true) × (c ≡ true)
 both true true true x e no_none = (refl, refl, refl)
@@ -39,8 +44,13 @@ connect_by false cause e = absurd cc
 suits_by : (o : Option Lengths) (kind : Kind) (p : Parameter) → trouble_by o kind p ≡ None → SuitsBy o kind p
 suits_by None kind p e = connect_by (is_connect kind) _ e
 suits_by (Some lengths) kind p e =
-    let t = both (leb lengths.least (length p.value)) (leb (length p.value) lengths.most) (has_size p) _ e (some_cause _) in
-    (leb-true _ _ t.0, leb-true _ _ t.1, λ is. has_size-is (nat_eq p.code 0xC0) (is_some (size_of p.value)) t.2 (eq-eqb p.code 0xC0 is))
+    let t = both (leb lengths.least (length p.value)) (leb (length p.value) lengths.most) (has_sizes p) _ e (some_cause _) in
+    let s = and_parts (not (nat_eq p.code 0xC0) || is_some (size_of p.value)) (not (nat_eq p.code 0xF0) || is_some (preferred_of p.value)) t.2 in (
+      leb-true _ _ t.0,
+      leb-true _ _ t.1,
+      λ is. has_size-is (nat_eq p.code 0xC0) (is_some (size_of p.value)) s.0 (eq-eqb p.code 0xC0 is),
+      λ is. has_size-is (nat_eq p.code 0xF0) (is_some (preferred_of p.value)) s.1 (eq-eqb p.code 0xF0 is),
+    )
 
 pub suits : (kind : Kind) (p : Parameter) → trouble kind p ≡ None → Suits kind p
 suits kind p e = suits_by (lengths_of kind p.code) kind p e
@@ -50,8 +60,10 @@ trouble_by-none None kind p h = rw h refl
 trouble_by-none (Some lengths) kind p h =
     let least : leb lengths.least (length p.value) ≡ true = le-leb _ _ h.0 in
     let most : leb (length p.value) lengths.most ≡ true = le-leb _ _ h.1 in
-    let size : has_size p ≡ true = has_size-from (nat_eq p.code 0xC0) (is_some (size_of p.value)) (λ e. h.2 (eqb-true _ _ e)) in
-    rw (least, most, size) refl
+    let size = has_size-from (nat_eq p.code 0xC0) (is_some (size_of p.value)) (λ e. h.2 (eqb-true _ _ e)) in
+    let preferred = has_size-from (nat_eq p.code 0xF0) (is_some (preferred_of p.value)) (λ e. h.3 (eqb-true _ _ e)) in
+    let sizes : has_sizes p ≡ true = both_true (not (nat_eq p.code 0xC0) || is_some (size_of p.value)) (not (nat_eq p.code 0xF0) || is_some (preferred_of p.value)) size preferred in
+    rw (least, most, sizes) refl
 
 pub trouble-none : (kind : Kind) (p : Parameter) → Suits kind p → trouble kind p ≡ None
 trouble-none kind p h = trouble_by-none (lengths_of kind p.code) kind p h

@@ -83,7 +83,7 @@ one-listed destination = rw (eq-eqb destination destination refl) refl
 
 -- a CR alone has no destination reference
 no-target : (tpdu : Tpdu) → destination_of tpdu ≡ None → has_number (kind_for tpdu) ≡ false
-no-target (tpdus.Cr _ _ _ _ _ _ _ _ _ _ _) e = refl
+no-target (tpdus.Cr _ _ _ _ _ _ _ _ _ _ _ _) e = refl
 no-target _ e = absurd cc
 
 normal-value : (octets : List ℕ) (tpdu other : TpduAndSum) → IsTpdu Normal octets tpdu → IsTpdu Normal octets other → tpdu ≡ other

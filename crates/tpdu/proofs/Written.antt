@@ -1,9 +1,9 @@
 -- A value that is plain and allowed is what the octets that are written for it stand for, kind by kind.
-use Rattle.std.proofs.Common.{◌≡◌, ℕ, ◌+◌, ◌/◌, ◌%◌, ◌<◌, ◌≤◌, Bool, true, false, cond, leb, nat_eq, List, [], ◌∷◌, ◌++◌, length, Option, Some, None, refl, sym, ap, ◌∙◌, arith}
+use Rattle.std.proofs.Common.{◌≡◌, ℕ, ◌+◌, ◌/◌, ◌%◌, ◌<◌, ◌≤◌, Bool, true, false, cond, if◌then◌else◌, leb, nat_eq, List, [], ◌∷◌, ◌++◌, length, Option, Some, None, refl, sym, ap, ◌∙◌, arith}
 use Rattle.std.specs.Prelude.{IsTrue, IsSome, is_some, slice_index, unwrap_or}
 use Rattle.std.specs.List.{AllByRecursion}
 use Rattle.std.specs.Int.{w32, to_be_bytes}
-use Rattle.std.proofs.lemmas.Bool.{eqb-true, le-leb, lt-leb}
+use Rattle.std.proofs.lemmas.Bool.{eqb-true, eq-eqb, le-leb, lt-leb, ne_eqb}
 use Rattle.tpdu.specs.declared.kind.Kind.TheVariants.{Cr, Cc, Dr, Dc, Dt, Ed, Ak, Ea, Er}
 use Rattle.tpdu.specs.declared.kind.Kind.{Kind}
 use Rattle.tpdu.specs.declared.tpdu.Format.{Format}
@@ -11,11 +11,12 @@ use Rattle.tpdu.specs.declared.tpdu.Format.TheVariants.{Normal, Extended}
 use Rattle.tpdu.specs.declared.tpdu.Tpdu.{Tpdu}
 use Rattle.tpdu.specs.declared.tpdu.Tpdu.TheVariants as tpdus
 use Rattle.tpdu.specs.Kinds.{kind_of, is_connect, data_suits}
-use Rattle.tpdu.specs.Parameters.{sizes, size_in, last_value}
+use Rattle.tpdu.specs.Parameters.{sizes, size_in, preferred_of, last_value}
 use Rattle.pdu_parts.specs.Number.{two_octets, number_at}
-use Rattle.tpdu.specs.Values.{value_of, quad_at, number_of, is_last, class_format, text, octet_under, pair_under, size}
+use Rattle.pdu_parts.specs.Parameter.{Parameter}
+use Rattle.tpdu.specs.Values.{value_of, quad_at, number_of, is_last, class_format, text, octet_under, pair_under, preferred, size}
 use Rattle.tpdu.specs.Grammar.{Suits, has_sum}
-use Rattle.tpdu.specs.Writing.{kind_for, code_for, fixed_for, number_for, class_for, size_code, code_in, parameter, parameters_for, connect_parameters, body_for, sums_for, parts_for, IsPlain, IsNumber, IsConnect, IsAllowed}
+use Rattle.tpdu.specs.Writing.{kind_for, code_for, fixed_for, number_for, class_for, size_code, code_in, parameter, parameters_for, size_parameters, preferred_parameters, connect_parameters, body_for, sums_for, parts_for, IsPlain, IsOctet, IsNumber, IsKnownSize, IsPreferred, IsConnect, IsAllowed}
 
 -- ---- numbers
 
@@ -105,58 +106,86 @@ sums_has true first second = refl
 sums_has false first second = refl
 
 -- the parameters of a CR and a CC suit both
-record Connects (calling called : List ℕ) (octets extra : ℕ) (summed : Bool) (first second : ℕ) : Type 0 where
-  has : has_sum (connect_parameters calling called octets extra ++ sums_for summed first second) ≡ summed
-  request : AllByRecursion (Suits Cr) (connect_parameters calling called octets extra ++ sums_for summed first second)
-  confirm : AllByRecursion (Suits Cc) (connect_parameters calling called octets extra ++ sums_for summed first second)
+record Connects (calling called : List ℕ) (octets preferred : Option ℕ) (extra : ℕ) (summed : Bool) (first second : ℕ) : Type 0 where
+  has : has_sum (connect_parameters calling called octets preferred extra ++ sums_for summed first second) ≡ summed
+  request : AllByRecursion (Suits Cr) (connect_parameters calling called octets preferred extra ++ sums_for summed first second)
+  confirm : AllByRecursion (Suits Cc) (connect_parameters calling called octets preferred extra ++ sums_for summed first second)
 
 known_size : (octets : ℕ) → IsSome (code_in sizes octets) → IsSome (size_in sizes (size_code octets))
 known_size octets some = ap is_some (size_again octets some)
 
-connect_has : (calling called : List ℕ) (octets extra : ℕ) (summed : Bool) (first second : ℕ) → has_sum (connect_parameters calling called octets extra ++ sums_for summed first second) ≡ summed
-connect_has calling called octets extra true first second = refl
-connect_has calling called octets extra false first second = refl
+-- a preferred size of one octet is read as it is
+preferred_again : (number : ℕ) → 1 ≤ number → number ≤ 255 → preferred_of (number % 256 ∷ []) ≡ Some number
+preferred_again number some low =
+    let same : number % 256 ≡ number = omega (arith, low) in
+    let not_none : nat_eq (number % 256) 0 ≡ false = ne_eqb _ _ (λ e. omega (arith, e, same, some)) in
+    ap (λ (b : Bool). if b then None else Some (number % 256)) not_none ∙ ap Some same
 
-connects : (credit : ℕ) (calling called : List ℕ) (octets extra : ℕ) (body : List ℕ) (summed : Bool) (first second : ℕ) → IsConnect credit calling called octets body → Connects calling called octets extra summed first second
-connects credit calling called octets extra body summed first second h =
-    let code = known_size octets h.size_known in
+known_preferred : (number : ℕ) → 1 ≤ number → number ≤ 255 → IsSome (preferred_of (number % 256 ∷ []))
+known_preferred number some low = ap is_some (preferred_again number some low)
+
+connect_has : (calling called : List ℕ) (octets preferred : Option ℕ) (extra : ℕ) (summed : Bool) (first second : ℕ) → has_sum (connect_parameters calling called octets preferred extra ++ sums_for summed first second) ≡ summed
+connect_has calling called None None extra true first second = refl
+connect_has calling called None None extra false first second = refl
+connect_has calling called None (Some number) extra true first second = refl
+connect_has calling called None (Some number) extra false first second = refl
+connect_has calling called (Some octets) None extra true first second = refl
+connect_has calling called (Some octets) None extra false first second = refl
+connect_has calling called (Some octets) (Some number) extra true first second = refl
+connect_has calling called (Some octets) (Some number) extra false first second = refl
+
+-- sizes, where they are there, and then the rest
+sizes_suit : (kind : Kind) (octets preferred : Option ℕ) (extra : ℕ) (summed : Bool) (first second : ℕ) → ((size : ℕ) → IsSome (code_in sizes size) → Suits kind (parameter 0xC0 (size_code size ∷ [])))
+    → ((number : ℕ) → 1 ≤ number → number ≤ 255 → Suits kind (parameter 0xF0 (number % 256 ∷ []))) → Suits kind (parameter 0xC6 (extra ∷ [])) → Suits kind (record { code = 0xC3; value = first ∷ second ∷ [] })
+    → IsKnownSize octets → IsPreferred preferred → IsOctet preferred
+    → AllByRecursion (Suits kind) ((size_parameters octets ++ preferred_parameters preferred ++ parameter 0xC6 (extra ∷ []) ∷ []) ++ sums_for summed first second)
+sizes_suit kind None None extra summed first second size number more sum known some low = (more, sums_suit kind summed first second sum)
+sizes_suit kind None (Some n) extra summed first second size number more sum known some low = (number n some low, (more, sums_suit kind summed first second sum))
+sizes_suit kind (Some s) None extra summed first second size number more sum known some low = (size s known, (more, sums_suit kind summed first second sum))
+sizes_suit kind (Some s) (Some n) extra summed first second size number more sum known some low = (size s known, (number n some low, (more, sums_suit kind summed first second sum)))
+
+connects : (credit : ℕ) (calling called : List ℕ) (octets preferred_is : Option ℕ) (extra : ℕ) (body : List ℕ) (summed : Bool) (first second : ℕ) → IsConnect credit calling called octets preferred_is body → IsOctet preferred_is
+    → Connects calling called octets preferred_is extra summed first second
+connects credit calling called octets preferred_is extra body summed first second h low =
     let one : 1 ≤ 1 = omega arith in
+    let four : 1 ≤ 4 = omega arith in
+    let no : (n m : ℕ) → nat_eq n m ≡ false → n ≡ m → ⊥ = λ n m different e. cc (different, eq-eqb n m e) in
     record {
-      has = connect_has calling called octets extra summed first second;
+      has = connect_has calling called octets preferred_is extra summed first second;
       request = (
-        (omega arith, h.calling_fits, λ e. absurd (omega arith)),
+        (omega arith, h.calling_fits, (λ e. absurd (no 0xC1 0xC0 refl e)), (λ e. absurd (no 0xC1 0xF0 refl e))),
         (
-          (omega arith, h.called_fits, λ e. absurd (omega arith)),
-          (
-            (one, one, λ e. code),
-            (
-              (one, one, λ e. absurd (omega arith)),
-              sums_suit Cr summed first second (omega arith, omega arith, λ e. absurd (omega arith)),
-            ),
-          ),
+          (omega arith, h.called_fits, (λ e. absurd (no 0xC2 0xC0 refl e)), (λ e. absurd (no 0xC2 0xF0 refl e))),
+          sizes_suit Cr octets preferred_is extra summed first second (λ s k. (one, one, λ e. known_size s k, (λ e. absurd (no 0xC0 0xF0 refl e)))) (λ n some few. (one, four, (λ e. absurd (no 0xF0 0xC0 refl e)), λ e. known_preferred n some few))
+              (one, one, (λ e. absurd (no 0xC6 0xC0 refl e)), (λ e. absurd (no 0xC6 0xF0 refl e))) (omega arith, omega arith, (λ e. absurd (no 0xC3 0xC0 refl e)), (λ e. absurd (no 0xC3 0xF0 refl e))) h.size_known h.preferred_known low,
         ),
       );
       confirm = (
-        (omega arith, h.calling_fits, λ e. absurd (omega arith)),
+        (omega arith, h.calling_fits, (λ e. absurd (no 0xC1 0xC0 refl e)), (λ e. absurd (no 0xC1 0xF0 refl e))),
         (
-          (omega arith, h.called_fits, λ e. absurd (omega arith)),
-          (
-            (one, one, λ e. code),
-            (
-              (one, one, λ e. absurd (omega arith)),
-              sums_suit Cc summed first second (omega arith, omega arith, λ e. absurd (omega arith)),
-            ),
-          ),
+          (omega arith, h.called_fits, (λ e. absurd (no 0xC2 0xC0 refl e)), (λ e. absurd (no 0xC2 0xF0 refl e))),
+          sizes_suit Cc octets preferred_is extra summed first second (λ s k. (one, one, λ e. known_size s k, (λ e. absurd (no 0xC0 0xF0 refl e)))) (λ n some few. (one, four, (λ e. absurd (no 0xF0 0xC0 refl e)), λ e. known_preferred n some few))
+              (one, one, (λ e. absurd (no 0xC6 0xC0 refl e)), (λ e. absurd (no 0xC6 0xF0 refl e))) (omega arith, omega arith, (λ e. absurd (no 0xC3 0xC0 refl e)), (λ e. absurd (no 0xC3 0xF0 refl e))) h.size_known h.preferred_known low,
         ),
       );
     }
 
 -- what stands for a CR and a CC, whether there is a checksum or not
-connect_value : (calling called : List ℕ) (octets extra : ℕ) (summed : Bool) (first second : ℕ) → IsSome (code_in sizes octets)
-    → let ps = connect_parameters calling called octets extra ++ sums_for summed first second in
-    (text 0xC1 ps ≡ calling) × (text 0xC2 ps ≡ called) × (size ps ≡ octets) × (unwrap_or (octet_under 0xC6 ps) 1 ≡ extra) × (octet_under 0xC4 ps ≡ None) × (last_value 0xC7 ps ≡ None) × (pair_under 0x85 ps ≡ None)
-connect_value calling called octets extra true first second some = (refl, refl, ap (λ (o : Option ℕ). unwrap_or o 128) (size_again octets some), refl, refl, refl, refl)
-connect_value calling called octets extra false first second some = (refl, refl, ap (λ (o : Option ℕ). unwrap_or o 128) (size_again octets some), refl, refl, refl, refl)
+abbrev Stands : List ℕ → List ℕ → Option ℕ → Option ℕ → ℕ → List Parameter → Type 0
+Stands calling called octets preferred_is extra ps =
+    (text 0xC1 ps ≡ calling) × (text 0xC2 ps ≡ called) × (size ps ≡ octets) × (preferred ps ≡ preferred_is) × (unwrap_or (octet_under 0xC6 ps) 1 ≡ extra) × (octet_under 0xC4 ps ≡ None) × (last_value 0xC7 ps ≡ None)
+    × (pair_under 0x85 ps ≡ None)
+
+connect_value : (calling called : List ℕ) (octets preferred_is : Option ℕ) (extra : ℕ) (summed : Bool) (first second : ℕ) → IsKnownSize octets → IsPreferred preferred_is → IsOctet preferred_is
+    → Stands calling called octets preferred_is extra (connect_parameters calling called octets preferred_is extra ++ sums_for summed first second)
+connect_value calling called None None extra true first second known some low = (refl, refl, refl, refl, refl, refl, refl, refl)
+connect_value calling called None None extra false first second known some low = (refl, refl, refl, refl, refl, refl, refl, refl)
+connect_value calling called None (Some n) extra true first second known some low = (refl, refl, refl, preferred_again n some low, refl, refl, refl, refl)
+connect_value calling called None (Some n) extra false first second known some low = (refl, refl, refl, preferred_again n some low, refl, refl, refl, refl)
+connect_value calling called (Some s) None extra true first second known some low = (refl, refl, size_again s known, refl, refl, refl, refl, refl)
+connect_value calling called (Some s) None extra false first second known some low = (refl, refl, size_again s known, refl, refl, refl, refl, refl)
+connect_value calling called (Some s) (Some n) extra true first second known some low = (refl, refl, size_again s known, preferred_again n some low, refl, refl, refl, refl)
+connect_value calling called (Some s) (Some n) extra false first second known some low = (refl, refl, size_again s known, preferred_again n some low, refl, refl, refl, refl)
 
 ack_has_by : (b summed : Bool) (value : List ℕ) (first second : ℕ) → has_sum (cond b [] (parameter 0x8A value ∷ []) ++ sums_for summed first second) ≡ summed
 ack_has_by true true value first second = refl
@@ -165,9 +194,9 @@ ack_has_by false true value first second = refl
 ack_has_by false false value first second = refl
 
 ack_suits_by : (b summed : Bool) (value : List ℕ) (first second : ℕ) → length value ≡ 2 → AllByRecursion (Suits Ak) (cond b [] (parameter 0x8A value ∷ []) ++ sums_for summed first second)
-ack_suits_by true summed value first second two = sums_suit Ak summed first second (omega arith, omega arith, λ e. absurd (omega arith))
+ack_suits_by true summed value first second two = sums_suit Ak summed first second (omega arith, omega arith, λ e. absurd (omega arith), λ e. absurd (omega arith))
 ack_suits_by false summed value first second two =
-    ((omega arith, omega arith, λ e. absurd (omega arith)), sums_suit Ak summed first second (omega arith, omega arith, λ e. absurd (omega arith)))
+    ((omega arith, omega arith, λ e. absurd (omega arith), λ e. absurd (omega arith)), sums_suit Ak summed first second (omega arith, omega arith, λ e. absurd (omega arith), λ e. absurd (omega arith)))
 
 ack_value_by : (b summed : Bool) (n first second : ℕ) → nat_eq n 0 ≡ b
     → let ps = cond b [] (parameter 0x8A (two_octets n) ∷ []) ++ sums_for summed first second in (unwrap_or (pair_under 0x8A ps) 0 ≡ n) × (last_value 0x8C ps ≡ None)
@@ -183,9 +212,9 @@ bare_value code false first second e = refl
 
 pub fine : (width : Format) (summed : Bool) (tpdu : Tpdu) (first second : ℕ) → IsPlain tpdu → IsAllowed width tpdu → Fine width summed tpdu first second
 unfolding value_of
-fine width summed (tpdus.Cr credit source format calling called octets extra version classes ack_time body) first second plain allowed =
-    let c = connects credit calling called octets extra body summed first second allowed in
-    let v = connect_value calling called octets extra summed first second allowed.size_known in
+fine width summed (tpdus.Cr credit source format calling called octets preferred_is extra version classes ack_time body) first second plain allowed =
+    let c = connects credit calling called octets preferred_is extra body summed first second allowed plain.0 in
+    let v = connect_value calling called octets preferred_is extra summed first second allowed.size_known allowed.preferred_known plain.0 in
     let few = allowed.few_credits in
     let credit_is : (0xE0 + credit % 16) % 16 ≡ credit = omega arith in
     record {
@@ -194,11 +223,11 @@ fine width summed (tpdus.Cr credit source format calling called octets extra ver
       parameters = c.request;
       has = c.has;
       body = le-leb _ _ allowed.octets_fit;
-      value = λ i. tpdus.Cr (credit_is i) (number_back source i) (class_again format i) (v.0 i) (v.1 i) (v.2 i) (v.3 i) ((v.4 ∙ sym plain.0) i) ((v.5 ∙ sym plain.1) i) ((v.6 ∙ sym plain.2) i) body;
+      value = λ i. tpdus.Cr (credit_is i) (number_back source i) (class_again format i) (v.0 i) (v.1 i) (v.2 i) (v.3 i) (v.4 i) ((v.5 ∙ sym plain.1) i) ((v.6 ∙ sym plain.2) i) ((v.7 ∙ sym plain.3) i) body;
     }
-fine width summed (tpdus.Cc credit destination source format calling called octets extra version classes ack_time body) first second plain allowed =
-    let c = connects credit calling called octets extra body summed first second allowed in
-    let v = connect_value calling called octets extra summed first second allowed.size_known in
+fine width summed (tpdus.Cc credit destination source format calling called octets preferred_is extra version classes ack_time body) first second plain allowed =
+    let c = connects credit calling called octets preferred_is extra body summed first second allowed plain.0 in
+    let v = connect_value calling called octets preferred_is extra summed first second allowed.size_known allowed.preferred_known plain.0 in
     let few = allowed.few_credits in
     let credit_is : (0xD0 + credit % 16) % 16 ≡ credit = omega arith in
     record {
@@ -207,12 +236,12 @@ fine width summed (tpdus.Cc credit destination source format calling called octe
       parameters = c.confirm;
       has = c.has;
       body = le-leb _ _ allowed.octets_fit;
-      value = λ i. tpdus.Cc (credit_is i) (number_back destination i) (number_back source i) (class_again format i) (v.0 i) (v.1 i) (v.2 i) (v.3 i) ((v.4 ∙ sym plain.0) i) ((v.5 ∙ sym plain.1) i) ((v.6 ∙ sym plain.2) i) body;
+      value = λ i. tpdus.Cc (credit_is i) (number_back destination i) (number_back source i) (class_again format i) (v.0 i) (v.1 i) (v.2 i) (v.3 i) (v.4 i) ((v.5 ∙ sym plain.1) i) ((v.6 ∙ sym plain.2) i) ((v.7 ∙ sym plain.3) i) body;
     }
 fine width summed (tpdus.Dr destination source reason info body) first second plain allowed = record {
   code = refl;
   class = λ h. absurd cc;
-  parameters = sums_suit Dr summed first second (omega arith, omega arith, λ e. absurd (omega arith));
+  parameters = sums_suit Dr summed first second (omega arith, omega arith, λ e. absurd (omega arith), λ e. absurd (omega arith));
   has = sums_has summed first second;
   body = le-leb _ _ allowed;
   value = λ i. tpdus.Dr (number_back destination i) (number_back source i) reason ((bare_value 0xE0 summed first second refl ∙ sym plain) i) body;
@@ -220,7 +249,7 @@ fine width summed (tpdus.Dr destination source reason info body) first second pl
 fine width summed (tpdus.Dc destination source) first second plain allowed = record {
   code = refl;
   class = λ h. absurd cc;
-  parameters = sums_suit Dc summed first second (omega arith, omega arith, λ e. absurd (omega arith));
+  parameters = sums_suit Dc summed first second (omega arith, omega arith, λ e. absurd (omega arith), λ e. absurd (omega arith));
   has = sums_has summed first second;
   body = refl;
   value = λ i. tpdus.Dc (number_back destination i) (number_back source i);
@@ -230,7 +259,7 @@ fine width summed (tpdus.Dt destination last number body) first second plain all
     record {
       code = refl;
       class = λ h. absurd cc;
-      parameters = sums_suit Dt summed first second (omega arith, omega arith, λ e. absurd (omega arith));
+      parameters = sums_suit Dt summed first second (omega arith, omega arith, λ e. absurd (omega arith), λ e. absurd (omega arith));
       has = sums_has summed first second;
       body = refl;
       value = λ i. tpdus.Dt (number_back destination i) (n.1 i) (n.0 i) body;
@@ -240,7 +269,7 @@ fine width summed (tpdus.Ed destination last number body) first second plain all
     record {
       code = refl;
       class = λ h. absurd cc;
-      parameters = sums_suit Ed summed first second (omega arith, omega arith, λ e. absurd (omega arith));
+      parameters = sums_suit Ed summed first second (omega arith, omega arith, λ e. absurd (omega arith), λ e. absurd (omega arith));
       has = sums_has summed first second;
       body = rw (le-leb 1 (length body) allowed.1, le-leb (length body) 16 allowed.2) refl;
       value = λ i. tpdus.Ed (number_back destination i) (n.1 i) (n.0 i) body;
@@ -274,7 +303,7 @@ fine width summed (tpdus.Ea destination number) first second plain allowed =
     record {
       code = refl;
       class = λ h. absurd cc;
-      parameters = sums_suit Ea summed first second (omega arith, omega arith, λ e. absurd (omega arith));
+      parameters = sums_suit Ea summed first second (omega arith, omega arith, λ e. absurd (omega arith), λ e. absurd (omega arith));
       has = sums_has summed first second;
       body = refl;
       value = λ i. tpdus.Ea (number_back destination i) (n.0 i);
@@ -282,7 +311,7 @@ fine width summed (tpdus.Ea destination number) first second plain allowed =
 fine width summed (tpdus.Er destination cause rejected) first second plain allowed = record {
   code = refl;
   class = λ h. absurd cc;
-  parameters = sums_suit Er summed first second (omega arith, omega arith, λ e. absurd (omega arith));
+  parameters = sums_suit Er summed first second (omega arith, omega arith, λ e. absurd (omega arith), λ e. absurd (omega arith));
   has = sums_has summed first second;
   body = refl;
   value = λ i. tpdus.Er (number_back destination i) cause ((bare_value 0xC1 summed first second refl ∙ sym plain) i);

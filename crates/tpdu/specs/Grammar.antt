@@ -10,19 +10,19 @@ use Rattle.tpdu.specs.declared.parameter.Lengths.{Lengths}
 use Rattle.tpdu.specs.declared.tpdu.Format.{Format}
 use Rattle.tpdu.specs.declared.tpdu.Tpdu.{Tpdu}
 use Rattle.tpdu.specs.Kinds.{kind_of, fixed_count, is_connect, data_suits}
-use Rattle.tpdu.specs.Parameters.{lengths_of, size_of, last_value}
+use Rattle.tpdu.specs.Parameters.{lengths_of, size_of, preferred_of, last_value}
 use Rattle.tpdu.specs.Values.{TpduAndSum, Parts, value_of, destination_of, reaches_end, format_for}
 
 -- the header behind the length indicator: code, fixed part, parameters
 abbrev pub header_of : Parts → List ℕ
 header_of parts = parts.code ∷ (parts.fixed ++ spelled parts.parameters)
 
--- a parameter by the table: its value has one of the lengths, and a size has a size code. A CR and a CC
+-- a parameter by the table: its value has one of the lengths, a size has a size code, and a preferred size is one. A CR and a CC
 -- skip what they do not know
 abbrev pub SuitsBy : Option Lengths → Kind → Parameter → Type 0
 SuitsBy None kind p = IsTrue (is_connect kind)
 SuitsBy (Some lengths) kind p =
-    (lengths.least ≤ length p.value) × (length p.value ≤ lengths.most) × (p.code ≡ 0xC0 → IsSome (size_of p.value))
+    (lengths.least ≤ length p.value) × (length p.value ≤ lengths.most) × (p.code ≡ 0xC0 → IsSome (size_of p.value)) × (p.code ≡ 0xF0 → IsSome (preferred_of p.value))
 
 abbrev pub Suits : Kind → Parameter → Type 0
 Suits kind p = SuitsBy (lengths_of kind p.code) kind p

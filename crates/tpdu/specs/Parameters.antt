@@ -23,13 +23,14 @@ row code least most = record { code = code; least = least; most = most }
 abbrev pub sum_rows : List Row
 sum_rows = row 0xC3 2 2 ∷ []
 
--- calling and called selector, size, version, additional options, alternative classes, acknowledgement
--- time, checksum
+-- calling and called selector, size, preferred size, version, additional options, alternative classes,
+-- acknowledgement time, checksum
 abbrev pub connect_rows : List Row
 connect_rows =
     row 0xC1 0 32
     ∷ row 0xC2 0 32
     ∷ row 0xC0 1 1
+    ∷ row 0xF0 1 4
     ∷ row 0xC4 1 1
     ∷ row 0xC6 1 1
     ∷ row 0xC7 0 255
@@ -81,14 +82,26 @@ abbrev pub size_of : List ℕ → Option ℕ
 size_of (code ∷ []) = size_in sizes code
 size_of octets = None
 
--- a size parameter has a size code
-abbrev pub has_size : Parameter → Bool
-has_size p = not (p.code == 0xC0) || is_some (size_of p.value)
+-- the number of one to four octets, the highest first
+abbrev pub number_in : List ℕ → ℕ
+number_in (a ∷ []) = a
+number_in (a ∷ b ∷ []) = a * 256 + b
+number_in (a ∷ b ∷ c ∷ []) = a * 65536 + (b * 256 + c)
+number_in (a ∷ b ∷ c ∷ d ∷ []) = (a * 256 + b) * 65536 + (c * 256 + d)
+number_in octets = 0
+
+-- a preferred size, in units of 128 octets, is a number of at least 1
+abbrev pub preferred_of : List ℕ → Option ℕ
+preferred_of octets = if number_in octets == 0 then None else Some (number_in octets)
+
+-- a size parameter has a size code, and a preferred size is one
+abbrev pub has_sizes : Parameter → Bool
+has_sizes p = (not (p.code == 0xC0) || is_some (size_of p.value)) && (not (p.code == 0xF0) || is_some (preferred_of p.value))
 
 -- what is wrong with a parameter that stands whole: a CR and a CC skip those that they do not know
 abbrev pub trouble_by : Option Lengths → Kind → Parameter → Option TpduCause
 trouble_by None kind p = must (is_connect kind) Unknown
-trouble_by (Some lengths) kind p = must (nat_le lengths.least (length p.value) && nat_le (length p.value) lengths.most && has_size p) Param
+trouble_by (Some lengths) kind p = must (nat_le lengths.least (length p.value) && nat_le (length p.value) lengths.most && has_sizes p) Param
 
 abbrev pub trouble : Kind → Parameter → Option TpduCause
 trouble kind p = trouble_by (lengths_of kind p.code) kind p

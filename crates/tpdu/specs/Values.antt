@@ -11,14 +11,14 @@ use Rattle.tpdu.specs.declared.tpdu.Tpdu.{Tpdu}
 use Rattle.tpdu.specs.declared.tpdu.Tpdu.TheVariants as tpdus
 use Rattle.tpdu.specs.declared.tpdu.TpduRef.{TpduRef}
 use Rattle.tpdu.specs.declared.tpdu.TpduRef.TheVariants as refs
-use Rattle.tpdu.specs.Parameters.{size_of, last_value, octet_in, pair_in}
+use Rattle.tpdu.specs.Parameters.{size_of, preferred_of, last_value, octet_in, pair_in}
 
 -- the owned value, without `sum`
 abbrev pub tpdu_of : TpduRef → Tpdu
-tpdu_of (refs.Cr credit source width calling called size extra version classes ack_time sum octets) =
-    tpdus.Cr credit source width calling.now called.now size extra version (option_map (λ r. r.now) classes) ack_time octets.now
-tpdu_of (refs.Cc credit destination source width calling called size extra version classes ack_time sum octets) =
-    tpdus.Cc credit destination source width calling.now called.now size extra version (option_map (λ r. r.now) classes) ack_time octets.now
+tpdu_of (refs.Cr credit source width calling called size preferred extra version classes ack_time sum octets) =
+    tpdus.Cr credit source width calling.now called.now size preferred extra version (option_map (λ r. r.now) classes) ack_time octets.now
+tpdu_of (refs.Cc credit destination source width calling called size preferred extra version classes ack_time sum octets) =
+    tpdus.Cc credit destination source width calling.now called.now size preferred extra version (option_map (λ r. r.now) classes) ack_time octets.now
 tpdu_of (refs.Dr destination source reason info sum octets) = tpdus.Dr destination source reason (option_map (λ r. r.now) info) octets.now
 tpdu_of (refs.Dc destination source sum) = tpdus.Dc destination source
 tpdu_of (refs.Dt destination last number sum octets) = tpdus.Dt destination last number octets.now
@@ -29,8 +29,8 @@ tpdu_of (refs.Er destination cause rejected sum) = tpdus.Er destination cause (o
 
 -- whether a checksum was there
 abbrev pub sum_of : TpduRef → Bool
-sum_of (refs.Cr _ _ _ _ _ _ _ _ _ _ sum _) = sum
-sum_of (refs.Cc _ _ _ _ _ _ _ _ _ _ _ sum _) = sum
+sum_of (refs.Cr _ _ _ _ _ _ _ _ _ _ _ sum _) = sum
+sum_of (refs.Cc _ _ _ _ _ _ _ _ _ _ _ _ sum _) = sum
 sum_of (refs.Dr _ _ _ _ sum _) = sum
 sum_of (refs.Dc _ _ sum) = sum
 sum_of (refs.Dt _ _ _ sum _) = sum
@@ -78,7 +78,7 @@ abbrev pub credit_of : Format → ℕ → List ℕ → ℕ
 credit_of Normal code fixed = code % 16
 credit_of Extended code fixed = number_at 6 fixed
 
--- parameters with their defaults: an empty selector, 128 octets, expedited data
+-- parameters with their defaults: an empty selector, expedited data; a size may be absent
 abbrev pub text : ℕ → List Parameter → List ℕ
 text code ps = unwrap_or (last_value code ps) []
 
@@ -88,16 +88,19 @@ octet_under code ps = option_map octet_in (last_value code ps)
 abbrev pub pair_under : ℕ → List Parameter → Option ℕ
 pair_under code ps = option_map pair_in (last_value code ps)
 
-abbrev pub size : List Parameter → ℕ
-size ps = unwrap_or (option_and_then size_of (last_value 0xC0 ps)) 128
+abbrev pub size : List Parameter → Option ℕ
+size ps = option_and_then size_of (last_value 0xC0 ps)
+
+abbrev pub preferred : List Parameter → Option ℕ
+preferred ps = option_and_then preferred_of (last_value 0xF0 ps)
 
 -- the fields of each kind
 abbrev pub fields : Kind → Format → ℕ → List ℕ → List Parameter → List ℕ → Tpdu
 fields Cr width code fixed ps body =
-    tpdus.Cr (code % 16) (number_at 2 fixed) (class_format (slice_index fixed 4)) (text 0xC1 ps) (text 0xC2 ps) (size ps)
+    tpdus.Cr (code % 16) (number_at 2 fixed) (class_format (slice_index fixed 4)) (text 0xC1 ps) (text 0xC2 ps) (size ps) (preferred ps)
     (unwrap_or (octet_under 0xC6 ps) 1) (octet_under 0xC4 ps) (last_value 0xC7 ps) (pair_under 0x85 ps) body
 fields Cc width code fixed ps body =
-    tpdus.Cc (code % 16) (number_at 0 fixed) (number_at 2 fixed) (class_format (slice_index fixed 4)) (text 0xC1 ps) (text 0xC2 ps) (size ps)
+    tpdus.Cc (code % 16) (number_at 0 fixed) (number_at 2 fixed) (class_format (slice_index fixed 4)) (text 0xC1 ps) (text 0xC2 ps) (size ps) (preferred ps)
     (unwrap_or (octet_under 0xC6 ps) 1) (octet_under 0xC4 ps) (last_value 0xC7 ps) (pair_under 0x85 ps) body
 fields Dr width code fixed ps body = tpdus.Dr (number_at 0 fixed) (number_at 2 fixed) (slice_index fixed 4) (last_value 0xE0 ps) body
 fields Dc width code fixed ps body = tpdus.Dc (number_at 0 fixed) (number_at 2 fixed)
@@ -113,8 +116,8 @@ value_of parts = fields parts.kind parts.format parts.code parts.fixed parts.par
 
 -- the destination reference; a CR has none
 abbrev pub destination_of : Tpdu → Option ℕ
-destination_of (tpdus.Cr _ _ _ _ _ _ _ _ _ _ _) = None
-destination_of (tpdus.Cc _ destination _ _ _ _ _ _ _ _ _ _) = Some destination
+destination_of (tpdus.Cr _ _ _ _ _ _ _ _ _ _ _ _) = None
+destination_of (tpdus.Cc _ destination _ _ _ _ _ _ _ _ _ _ _) = Some destination
 destination_of (tpdus.Dr destination _ _ _ _) = Some destination
 destination_of (tpdus.Dc destination _) = Some destination
 destination_of (tpdus.Dt destination _ _ _) = Some destination
@@ -125,8 +128,8 @@ destination_of (tpdus.Er destination _ _) = Some destination
 
 -- it reaches to the end of the unit
 abbrev pub reaches_end : Tpdu → Bool
-reaches_end (tpdus.Cr _ _ _ _ _ _ _ _ _ _ _) = true
-reaches_end (tpdus.Cc _ _ _ _ _ _ _ _ _ _ _ _) = true
+reaches_end (tpdus.Cr _ _ _ _ _ _ _ _ _ _ _ _) = true
+reaches_end (tpdus.Cc _ _ _ _ _ _ _ _ _ _ _ _ _) = true
 reaches_end (tpdus.Dr _ _ _ _ _) = true
 reaches_end (tpdus.Dc _ _) = false
 reaches_end (tpdus.Dt _ _ _ _) = true

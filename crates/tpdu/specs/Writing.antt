@@ -16,8 +16,8 @@ use Rattle.tpdu.specs.Values.{Parts}
 use Rattle.tpdu.specs.Grammar.{header_of}
 
 abbrev pub kind_for : Tpdu → Kind
-kind_for (tpdus.Cr _ _ _ _ _ _ _ _ _ _ _) = Cr
-kind_for (tpdus.Cc _ _ _ _ _ _ _ _ _ _ _ _) = Cc
+kind_for (tpdus.Cr _ _ _ _ _ _ _ _ _ _ _ _) = Cr
+kind_for (tpdus.Cc _ _ _ _ _ _ _ _ _ _ _ _ _) = Cc
 kind_for (tpdus.Dr _ _ _ _ _) = Dr
 kind_for (tpdus.Dc _ _) = Dc
 kind_for (tpdus.Dt _ _ _ _) = Dt
@@ -32,8 +32,8 @@ ack_code Normal credit = 0x60 + credit % 16
 ack_code Extended credit = 0x60
 
 abbrev pub code_for : Format → Tpdu → ℕ
-code_for width (tpdus.Cr credit _ _ _ _ _ _ _ _ _ _) = 0xE0 + credit % 16
-code_for width (tpdus.Cc credit _ _ _ _ _ _ _ _ _ _ _) = 0xD0 + credit % 16
+code_for width (tpdus.Cr credit _ _ _ _ _ _ _ _ _ _ _) = 0xE0 + credit % 16
+code_for width (tpdus.Cc credit _ _ _ _ _ _ _ _ _ _ _ _) = 0xD0 + credit % 16
 code_for width (tpdus.Dr _ _ _ _ _) = 0x80
 code_for width (tpdus.Dc _ _) = 0xC0
 code_for width (tpdus.Dt _ _ _ _) = 0xF0
@@ -59,8 +59,8 @@ credit_for Extended credit = two_octets credit
 
 -- the fixed part behind the code
 abbrev pub fixed_for : Format → Tpdu → List ℕ
-fixed_for width (tpdus.Cr _ source format _ _ _ _ _ _ _ _) = two_octets 0 ++ two_octets source ++ class_for format ∷ []
-fixed_for width (tpdus.Cc _ destination source format _ _ _ _ _ _ _ _) = two_octets destination ++ two_octets source ++ class_for format ∷ []
+fixed_for width (tpdus.Cr _ source format _ _ _ _ _ _ _ _ _) = two_octets 0 ++ two_octets source ++ class_for format ∷ []
+fixed_for width (tpdus.Cc _ destination source format _ _ _ _ _ _ _ _ _) = two_octets destination ++ two_octets source ++ class_for format ∷ []
 fixed_for width (tpdus.Dr destination source reason _ _) = two_octets destination ++ two_octets source ++ reason ∷ []
 fixed_for width (tpdus.Dc destination source) = two_octets destination ++ two_octets source
 fixed_for width (tpdus.Dt destination last number _) = two_octets destination ++ number_for width last number
@@ -80,10 +80,24 @@ size_code octets = unwrap_or (code_in sizes octets) 0
 abbrev pub parameter : ℕ → List ℕ → Parameter
 parameter code value = record { code = code; value = value }
 
--- the parameters of a CR and a CC: calling and called selector, size, additional options
-abbrev pub connect_parameters : List ℕ → List ℕ → ℕ → ℕ → List Parameter
-connect_parameters calling called size extra =
-    parameter 0xC1 calling ∷ parameter 0xC2 called ∷ parameter 0xC0 (size_code size ∷ []) ∷ parameter 0xC6 (extra ∷ []) ∷ []
+-- a size, and a preferred size, where the value holds it
+abbrev pub size_parameters : Option ℕ → List Parameter
+size_parameters None = []
+size_parameters (Some size) = parameter 0xC0 (size_code size ∷ []) ∷ []
+
+abbrev pub preferred_parameters : Option ℕ → List Parameter
+preferred_parameters None = []
+preferred_parameters (Some number) = parameter 0xF0 (number % 256 ∷ []) ∷ []
+
+-- the octets of a size that is there
+abbrev pub size_count : Option ℕ → ℕ
+size_count None = 0
+size_count (Some size) = 3
+
+-- the parameters of a CR and a CC: calling and called selector, sizes, additional options
+abbrev pub connect_parameters : List ℕ → List ℕ → Option ℕ → Option ℕ → ℕ → List Parameter
+connect_parameters calling called size preferred extra =
+    parameter 0xC1 calling ∷ parameter 0xC2 called ∷ (size_parameters size ++ preferred_parameters preferred ++ parameter 0xC6 (extra ∷ []) ∷ [])
 
 -- the subsequence of an AK, where it is not 0
 abbrev pub ack_parameters : ℕ → List Parameter
@@ -91,8 +105,8 @@ ack_parameters subsequence = if subsequence == 0 then [] else parameter 0x8A (tw
 
 -- the parameters but for the checksum, in the order in which they are written
 abbrev pub parameters_for : Tpdu → List Parameter
-parameters_for (tpdus.Cr _ _ _ calling called size extra _ _ _ _) = connect_parameters calling called size extra
-parameters_for (tpdus.Cc _ _ _ _ calling called size extra _ _ _ _) = connect_parameters calling called size extra
+parameters_for (tpdus.Cr _ _ _ calling called size preferred extra _ _ _ _) = connect_parameters calling called size preferred extra
+parameters_for (tpdus.Cc _ _ _ _ calling called size preferred extra _ _ _ _) = connect_parameters calling called size preferred extra
 parameters_for (tpdus.Dr _ _ _ _ _) = []
 parameters_for (tpdus.Dc _ _) = []
 parameters_for (tpdus.Dt _ _ _ _) = []
@@ -102,8 +116,8 @@ parameters_for (tpdus.Ea _ _) = []
 parameters_for (tpdus.Er _ _ _) = []
 
 abbrev pub body_for : Tpdu → List ℕ
-body_for (tpdus.Cr _ _ _ _ _ _ _ _ _ _ octets) = octets
-body_for (tpdus.Cc _ _ _ _ _ _ _ _ _ _ _ octets) = octets
+body_for (tpdus.Cr _ _ _ _ _ _ _ _ _ _ _ octets) = octets
+body_for (tpdus.Cc _ _ _ _ _ _ _ _ _ _ _ _ octets) = octets
 body_for (tpdus.Dr _ _ _ _ octets) = octets
 body_for (tpdus.Dc _ _) = []
 body_for (tpdus.Dt _ _ _ octets) = octets
@@ -151,10 +165,15 @@ pub record IsSpelled (width : Format) (summed : Bool) (tpdu : Tpdu) (octets : Li
 abbrev pub IsWritten : Format → Bool → Tpdu → List ℕ → Type 0
 IsWritten width sum tpdu octets = IsSpelled width (is_summed sum tpdu) tpdu octets
 
--- a value that holds no field that is not written
+-- what one octet holds
+abbrev pub IsOctet : Option ℕ → Type 0
+IsOctet None = Unit {0}
+IsOctet (Some number) = number ≤ 255
+
+-- a value that holds no field that is not written, and whose preferred size has one octet
 abbrev pub IsPlain : Tpdu → Type 0
-IsPlain (tpdus.Cr _ _ _ _ _ _ _ version classes ack_time _) = (version ≡ None) × (classes ≡ None) × (ack_time ≡ None)
-IsPlain (tpdus.Cc _ _ _ _ _ _ _ _ version classes ack_time _) = (version ≡ None) × (classes ≡ None) × (ack_time ≡ None)
+IsPlain (tpdus.Cr _ _ _ _ _ _ preferred _ version classes ack_time _) = IsOctet preferred × (version ≡ None) × (classes ≡ None) × (ack_time ≡ None)
+IsPlain (tpdus.Cc _ _ _ _ _ _ _ preferred _ version classes ack_time _) = IsOctet preferred × (version ≡ None) × (classes ≡ None) × (ack_time ≡ None)
 IsPlain (tpdus.Dr _ _ _ info _) = info ≡ None
 IsPlain (tpdus.Dc _ _) = Unit {0}
 IsPlain (tpdus.Dt _ _ _ _) = Unit {0}
@@ -172,16 +191,26 @@ abbrev pub IsCredit : Format → ℕ → Type 0
 IsCredit Normal credit = credit < 16
 IsCredit Extended credit = Unit {0}
 
-pub record IsConnect (credit : ℕ) (calling called : List ℕ) (size : ℕ) (octets : List ℕ) : Type 0 where
+-- a size has a code, and a preferred size is at least 1, where they are there
+abbrev pub IsKnownSize : Option ℕ → Type 0
+IsKnownSize None = Unit {0}
+IsKnownSize (Some size) = IsSome (code_in sizes size)
+
+abbrev pub IsPreferred : Option ℕ → Type 0
+IsPreferred None = Unit {0}
+IsPreferred (Some number) = 1 ≤ number
+
+pub record IsConnect (credit : ℕ) (calling called : List ℕ) (size preferred : Option ℕ) (octets : List ℕ) : Type 0 where
   pub few_credits : credit < 16
   pub calling_fits : length calling ≤ 32
   pub called_fits : length called ≤ 32
-  pub size_known : IsSome (code_in sizes size)
+  pub size_known : IsKnownSize size
+  pub preferred_known : IsPreferred preferred
   pub octets_fit : length octets ≤ 32
 
 abbrev pub IsAllowed : Format → Tpdu → Type 0
-IsAllowed width (tpdus.Cr credit _ _ calling called size _ _ _ _ octets) = IsConnect credit calling called size octets
-IsAllowed width (tpdus.Cc credit _ _ _ calling called size _ _ _ _ octets) = IsConnect credit calling called size octets
+IsAllowed width (tpdus.Cr credit _ _ calling called size preferred _ _ _ _ octets) = IsConnect credit calling called size preferred octets
+IsAllowed width (tpdus.Cc credit _ _ _ calling called size preferred _ _ _ _ octets) = IsConnect credit calling called size preferred octets
 IsAllowed width (tpdus.Dr _ _ _ _ octets) = length octets ≤ 64
 IsAllowed width (tpdus.Dc _ _) = Unit {0}
 IsAllowed width (tpdus.Dt _ _ number _) = IsNumber width number

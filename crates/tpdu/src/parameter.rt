@@ -4,9 +4,9 @@ ghost use Rattle.std.specs.Prelude.{◌≡◌, ◌==◌, ◌+◌, ◌<◌, ◌^�
 ghost use Rattle.pdu_parts.specs.Lent.{parameter_of};
 ghost use Rattle.pdu_parts.specs.Parameter.{parameters_in};
 ghost use Rattle.pdu_parts.specs.steps.Reading.{Gives, GivesSome};
-ghost use Rattle.tpdu.specs.Parameters.{lengths_in, lengths_of, sum_rows, size_of, trouble, last_value, octet_in, pair_in};
+ghost use Rattle.tpdu.specs.Parameters.{lengths_in, lengths_of, sum_rows, size_of, preferred_of, number_in, has_sizes, trouble, last_value, octet_in, pair_in};
 ghost use Rattle.tpdu.specs.steps.Reading.{checked, parameter_at};
-ghost use Rattle.tpdu.specs.Values.{octet_under, pair_under, size, text};
+ghost use Rattle.tpdu.specs.Values.{octet_under, pair_under, preferred, size, text};
 ghost use Rattle.tpdu.specs.declared.kind.Kind.TheVariants as kinds;
 
 use crate::fault::{TpduCause, TpduFault};
@@ -21,6 +21,9 @@ pub const CALLED: u8 = 0xc2;
 
 /// TPDU size.
 pub const SIZE: u8 = 0xc0;
+
+/// Preferred maximum TPDU size.
+pub const PREFERRED: u8 = 0xf0;
 
 /// Version number.
 pub const VERSION: u8 = 0xc4;
@@ -45,9 +48,6 @@ pub const CONFIRMATION: u8 = 0x8c;
 
 /// Additional information on a release.
 pub const INFO: u8 = 0xe0;
-
-/// The size in octets where there is no size parameter.
-const DEFAULT_SIZE: u16 = 128;
 
 /// The least and the most octets of a value.
 #[derive(Clone, Copy, Debug, PartialEq, Eq)]
@@ -89,6 +89,7 @@ fn connect_lengths(code: u8) -> Option<Lengths>
     match code {
         CALLING | CALLED => Some(Lengths { least: 0, most: 32 }),
         SIZE | VERSION | EXTRA => Some(Lengths { least: 1, most: 1 }),
+        PREFERRED => Some(Lengths { least: 1, most: 4 }),
         CLASSES => Some(Lengths {
             least: 0,
             most: 255,
@@ -145,6 +146,39 @@ pub fn size_of(value: &[u8]) -> Option<u16>
     }
 }
 
+/// The number of one to four octets; 0 where there are none, or more.
+fn number_in(value: &[u8]) -> u32
+    ensures { result ≡ number_in value.now }
+{
+    match value {
+        [a] => u32::from(*a),
+        [a, b] => u32::from(*a) * 256 + u32::from(*b),
+        [a, b, c] => u32::from(*a) * 65536 + (u32::from(*b) * 256 + u32::from(*c)),
+        [a, b, c, d] => {
+            (u32::from(*a) * 256 + u32::from(*b)) * 65536 + (u32::from(*c) * 256 + u32::from(*d))
+        }
+        _ => 0,
+    }
+}
+
+/// The preferred size, in units of 128 octets, that the value of its parameter stands for.
+pub fn preferred_of(value: &[u8]) -> Option<u32>
+    ensures { result ≡ preferred_of value.now }
+{
+    match number_in(value) {
+        0 => None,
+        number => Some(number),
+    }
+}
+
+/// Whether a size has a code, and a preferred size is a number of at least 1.
+fn has_sizes(parameter: &ParameterRef<'_>) -> bool
+    ensures { result ≡ has_sizes (parameter_of parameter.now) }
+{
+    (parameter.code != SIZE || size_of(parameter.value).is_some())
+        && (parameter.code != PREFERRED || preferred_of(parameter.value).is_some())
+}
+
 /// What is wrong with a parameter that fits.
 fn trouble(kind: Kind, parameter: &ParameterRef<'_>) -> Option<TpduCause>
     ensures { result ≡ trouble kind (parameter_of parameter.now) }
@@ -158,7 +192,7 @@ fn trouble(kind: Kind, parameter: &ParameterRef<'_>) -> Option<TpduCause>
     };
     let count = parameter.value.len();
     let suits = lengths.least <= count && count <= lengths.most;
-    if suits && (parameter.code != SIZE || size_of(parameter.value).is_some()) {
+    if suits && has_sizes(parameter) {
         None
     } else {
         Some(TpduCause::Param)
@@ -264,13 +298,23 @@ pub fn pair_under(octets: &[u8], code: u8) -> Option<u16>
     }
 }
 
-/// The size that the parameters ask for; 128 where they do not.
-pub fn size(octets: &[u8]) -> u16
+/// The size that the parameters name.
+pub fn size(octets: &[u8]) -> Option<u16>
     ensures { result ≡ size (parameters_in octets.now) }
 {
     match last_value(octets, SIZE) {
-        Some(value) => size_of(value).unwrap_or(DEFAULT_SIZE),
-        None => DEFAULT_SIZE,
+        Some(value) => size_of(value),
+        None => None,
+    }
+}
+
+/// The preferred size that the parameters name, in units of 128 octets.
+pub fn preferred(octets: &[u8]) -> Option<u32>
+    ensures { result ≡ preferred (parameters_in octets.now) }
+{
+    match last_value(octets, PREFERRED) {
+        Some(value) => preferred_of(value),
+        None => None,
     }
 }
 

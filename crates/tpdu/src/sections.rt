@@ -9,7 +9,7 @@ use crate::fixed::{class_format, number_at, numbered_at};
 use crate::kind::Kind;
 use crate::parameter::{
     ACK_TIME, CALLED, CALLING, CLASSES, CONFIRMATION, EXTRA, INFO, SUBSEQUENCE, VERSION,
-    last_value, octet_under, pair_under, size, text,
+    last_value, octet_under, pair_under, preferred, size, text,
 };
 use crate::{Format, TpduRef};
 
@@ -66,6 +66,7 @@ fn connect_request<'a>(head: &HeadRef<'a>, sections: &SectionsRef<'a>, sum: bool
         calling: text(parameters, CALLING),
         called: text(parameters, CALLED),
         size: size(parameters),
+        preferred: preferred(parameters),
         extra: octet_under(parameters, EXTRA).unwrap_or(DEFAULT_EXTRA),
         version: octet_under(parameters, VERSION),
         classes: last_value(parameters, CLASSES),
@@ -88,6 +89,7 @@ fn connect_confirm<'a>(head: &HeadRef<'a>, sections: &SectionsRef<'a>, sum: bool
         calling: text(parameters, CALLING),
         called: text(parameters, CALLED),
         size: size(parameters),
+        preferred: preferred(parameters),
         extra: octet_under(parameters, EXTRA).unwrap_or(DEFAULT_EXTRA),
         version: octet_under(parameters, VERSION),
         classes: last_value(parameters, CLASSES),

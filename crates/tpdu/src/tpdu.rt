@@ -11,8 +11,8 @@ pub enum Format {
 
 /// A TPDU over the octets that it was read from.
 ///
-/// `sum` tells whether a checksum stands there. In CR and CC an absent selector is empty, `size` is
-/// 128 and `extra` (additional options) is 1 where absent.
+/// `sum` tells whether a checksum stands there. In CR and CC an absent selector is empty, and `extra`
+/// (additional options) is 1 where absent; `size` is in octets, and `preferred` in units of 128 octets.
 #[derive(Clone, Copy, Debug)]
 pub enum TpduRef<'a> {
     /// Connection request.
@@ -22,7 +22,8 @@ pub enum TpduRef<'a> {
         format: Format,
         calling: &'a [u8],
         called: &'a [u8],
-        size: u16,
+        size: Option<u16>,
+        preferred: Option<u32>,
         extra: u8,
         version: Option<u8>,
         classes: Option<&'a [u8]>,
@@ -38,7 +39,8 @@ pub enum TpduRef<'a> {
         format: Format,
         calling: &'a [u8],
         called: &'a [u8],
-        size: u16,
+        size: Option<u16>,
+        preferred: Option<u32>,
         extra: u8,
         version: Option<u8>,
         classes: Option<&'a [u8]>,
@@ -111,7 +113,8 @@ pub enum Tpdu {
         format: Format,
         calling: Bytes,
         called: Bytes,
-        size: u16,
+        size: Option<u16>,
+        preferred: Option<u32>,
         extra: u8,
         version: Option<u8>,
         classes: Option<Bytes>,
@@ -126,7 +129,8 @@ pub enum Tpdu {
         format: Format,
         calling: Bytes,
         called: Bytes,
-        size: u16,
+        size: Option<u16>,
+        preferred: Option<u32>,
         extra: u8,
         version: Option<u8>,
         classes: Option<Bytes>,

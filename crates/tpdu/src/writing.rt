@@ -1,9 +1,9 @@
 //! Writing TPDUs (X.224, structure and encoding of TPDUs).
 //!
-//! Profile: a CR and a CC have both selectors, the size and the additional options, an AK its subsequence
+//! Profile: a CR and a CC have both selectors, the sizes that they name and the additional options, an AK its subsequence
 //! where it is not 0, and a checksum stands last. No other parameter is written.
 
-ghost use Rattle.std.specs.Prelude.{◌≡◌, ◌+◌, ◌<◌, ◌≤◌, ◌^◌, ◌↔◌, [], ◌∷◌, ◌++◌, length, min, IfOk, OnOk, IsErrOf, IsTrue};
+ghost use Rattle.std.specs.Prelude.{◌≡◌, ℕ, ◌+◌, ◌<◌, ◌≤◌, ◌^◌, ◌↔◌, [], ◌∷◌, ◌++◌, length, min, IfOk, OnOk, IsErrOf, IsTrue};
 ghost use Rattle.pdu_parts.specs.Parameter.{spelled};
 ghost use Rattle.tpdu.specs.Grammar.{IsTpdu};
 ghost use Rattle.tpdu.specs.Writing.{
@@ -12,6 +12,9 @@ ghost use Rattle.tpdu.specs.Writing.{
   fixed_for,
   size_code,
   connect_parameters,
+  preferred_parameters,
+  size_parameters,
+  size_count,
   ack_parameters,
   parameters_for,
   body_for,
@@ -30,7 +33,7 @@ ghost use Rattle.tpdu.specs.steps.Sums.{SumsIf};
 use crate::checksum::push_sum;
 use crate::fixed::push_fixed;
 use crate::kind::Kind;
-use crate::parameter::{CALLED, CALLING, EXTRA, SIZE, SUBSEQUENCE};
+use crate::parameter::{CALLED, CALLING, EXTRA, PREFERRED, SIZE, SUBSEQUENCE};
 use crate::{Format, Tpdu};
 use osi_base::HeaderRefusal;
 use pdu_parts::push_parameter;
@@ -42,8 +45,11 @@ const LONGEST: usize = 254;
 /// The octets of a checksum with its code and length.
 const SUM_COUNT: usize = 4;
 
-/// The octets of the parameters of a CR or a CC but for the selectors and the checksum.
-const CONNECT_COUNT: usize = 10;
+/// The octets of the parameters of a CR or a CC but for the selectors, the sizes and the checksum.
+const CONNECT_COUNT: usize = 7;
+
+/// The octets of a size, and of a preferred size, with code and length.
+const SIZE_COUNT: usize = 3;
 
 /// The octets beside those of the header without its length indicator and the data: that indicator, and two that stand behind a
 /// checksum while it is made.
@@ -128,13 +134,17 @@ fn parameters_count(tpdu: &Tpdu) -> usize
         Tpdu::Cr {
             calling,
             called,
+            size,
+            preferred,
             ..
         }
         | Tpdu::Cc {
             calling,
             called,
+            size,
+            preferred,
             ..
-        } => connect_count(calling.as_slice(), called.as_slice()),
+        } => connect_count(calling.as_slice(), called.as_slice(), *size, *preferred),
         Tpdu::Ak { subsequence, .. } => if *subsequence == 0 {
             0
         } else {
@@ -150,13 +160,37 @@ fn parameters_count(tpdu: &Tpdu) -> usize
 }
 
 /// The octets of the parameters of a CR or a CC, or the greatest number.
-fn connect_count(calling: &[u8], called: &[u8]) -> usize
-    ensures { result ≡ min (length calling.now + length called.now + 10) usize.MAX }
+fn connect_count(calling: &[u8], called: &[u8], size: Option<u16>, preferred: Option<u32>) -> usize
+    ensures { (extra : ℕ) → result ≡ min (length (spelled (connect_parameters calling.now called.now size preferred extra))) usize.MAX }
 {
-    calling
-        .len()
-        .saturating_add(called.len())
-        .saturating_add(CONNECT_COUNT)
+    let selectors = calling.len().saturating_add(called.len());
+    sized_count(selectors, size, preferred)
+}
+
+/// The same, with so many octets in the selectors.
+fn sized_count(selectors: usize, size: Option<u16>, preferred: Option<u32>) -> usize
+    ensures { result ≡ min (selectors + (7 + (size_count size + size_count preferred))) usize.MAX }
+{
+    let sizes = size_count(size) + preferred_count(preferred);
+    selectors.saturating_add(CONNECT_COUNT + sizes)
+}
+
+fn size_count(size: Option<u16>) -> usize
+    ensures { result ≡ size_count size }
+{
+    match size {
+        Some(_) => SIZE_COUNT,
+        None => 0,
+    }
+}
+
+fn preferred_count(preferred: Option<u32>) -> usize
+    ensures { result ≡ size_count preferred }
+{
+    match preferred {
+        Some(_) => SIZE_COUNT,
+        None => 0,
+    }
 }
 
 /// Whether a checksum is written.
@@ -234,6 +268,7 @@ fn push_parameters(out: &mut Vec<u8>, tpdu: &Tpdu) -> Result<(), AllocError>
             calling,
             called,
             size,
+            preferred,
             extra,
             ..
         }
@@ -241,9 +276,17 @@ fn push_parameters(out: &mut Vec<u8>, tpdu: &Tpdu) -> Result<(), AllocError>
             calling,
             called,
             size,
+            preferred,
             extra,
             ..
-        } => push_connect(out, calling.as_slice(), called.as_slice(), *size, *extra),
+        } => push_connect(
+            out,
+            calling.as_slice(),
+            called.as_slice(),
+            *size,
+            *preferred,
+            *extra,
+        ),
         Tpdu::Ak { subsequence, .. } => push_subsequence(out, *subsequence),
         Tpdu::Dr { .. }
         | Tpdu::Dc { .. }
@@ -259,16 +302,36 @@ fn push_connect(
     out: &mut Vec<u8>,
     calling: &[u8],
     called: &[u8],
-    size: u16,
+    size: Option<u16>,
+    preferred: Option<u32>,
     extra: u8,
 ) -> Result<(), AllocError>
-    requires { length (spelled (connect_parameters calling.now called.now size extra)) < 256 }
-    ensures { OnOk result (out.new.items ≡ out.old.items ++ spelled (connect_parameters calling.now called.now size extra)) }
+    requires { length (spelled (connect_parameters calling.now called.now size preferred extra)) < 256 }
+    ensures { OnOk result (out.new.items ≡ out.old.items ++ spelled (connect_parameters calling.now called.now size preferred extra)) }
 {
     push_parameter(out, CALLING, calling)?;
     push_parameter(out, CALLED, called)?;
-    push_parameter(out, SIZE, &[size_code(size)])?;
+    push_size(out, size)?;
+    push_preferred(out, preferred)?;
     push_parameter(out, EXTRA, &[extra])
+}
+
+fn push_size(out: &mut Vec<u8>, size: Option<u16>) -> Result<(), AllocError>
+    ensures { OnOk result (out.new.items ≡ out.old.items ++ spelled (size_parameters size)) }
+{
+    match size {
+        Some(size) => push_parameter(out, SIZE, &[size_code(size)]),
+        None => Ok(()),
+    }
+}
+
+fn push_preferred(out: &mut Vec<u8>, preferred: Option<u32>) -> Result<(), AllocError>
+    ensures { OnOk result (out.new.items ≡ out.old.items ++ spelled (preferred_parameters preferred)) }
+{
+    match preferred {
+        Some(number) => push_parameter(out, PREFERRED, &[(number % 256) as u8]),
+        None => Ok(()),
+    }
 }
 
 fn push_subsequence(out: &mut Vec<u8>, subsequence: u16) -> Result<(), AllocError>

@@ -6,7 +6,7 @@ ghost use Rattle.tpdu.specs.Writing.{IsAllowed, kind_for};
 ghost use Rattle.tpdu.specs.declared.kind.Kind.TheVariants.{Cr};
 ghost use Rattle.tpdu.specs.declared.tpdu.Format.TheVariants.{Normal};
 ghost use Rattle.tp4_conn.specs.Calls.{IsCall};
-ghost use Rattle.tp4_conn.specs.End.{IsSize, IsTimed, agreed_format};
+ghost use Rattle.tp4_conn.specs.End.{IsSized, IsTimed, agreed_format};
 ghost use Rattle.tp4_conn.specs.Living.{IsInTime};
 ghost use Rattle.tp4_conn.specs.Table.{due};
 
@@ -29,7 +29,7 @@ use tp4_conn::{ConnectCall, Connection, Options, State, Timers, UserCall};
 use tp4_flow::Step;
 use tpdu::TpduRef;
 use tpdus::tpdu;
-use words::{bytes, number, options, pair, word};
+use words::{Sizes, bytes, number, options, pair, word};
 
 /// An end, what its last line told and sent, and its clock.
 #[derive(Drop)]
@@ -236,7 +236,7 @@ fn called(
     octets: &[u8],
     out: &mut Step,
 ) -> Result<Connection, Fail>
-    requires { IsSize options.size }
+    requires { IsSized options }
     ensures { IfOk result (λ end. end.base.clock ≡ 0) }
 {
     let cr = request(options, octets)?;
@@ -245,22 +245,23 @@ fn called(
 }
 
 /// The CR.
-#[tactic(auto, using(tp4_conn::proofs::Sizes::known_size))]
 fn request<'a>(options: Options, octets: &'a [u8]) -> Result<TpduRef<'a>, Fail>
-    requires { IsSize options.size }
+    requires { IsSized options }
     ensures kind { IfOk result (λ cr. kind_for (tpdu_of cr) ≡ Cr) }
     ensures allowed { IfOk result (λ cr. IsAllowed Normal (tpdu_of cr)) }
 {
     if 32 < octets.len() {
         return Err(Fail::from("a CR has 32 octets of data at most"));
     }
+    let sizes = Sizes::of(options);
     Ok(TpduRef::Cr {
         credit: 8,
         source: 7,
         format: options.format,
         calling: b"\xaa",
         called: b"\xbb",
-        size: options.size,
+        size: sizes.size,
+        preferred: sizes.preferred,
         extra: u8::from(options.expedited) + if options.sum { 0 } else { 2 },
         version: None,
         classes: None,

@@ -2,7 +2,7 @@
 
 ghost use Rattle.std.specs.Prelude.{◌≡◌, ◌≤◌, IfOk, OnOk};
 ghost use Rattle.tp4_conn.specs.Calls.{IsCall};
-ghost use Rattle.tp4_conn.specs.End.{IsSize};
+ghost use Rattle.tp4_conn.specs.End.{IsSized};
 ghost use Rattle.tp4_entity.specs.Dues.{AreFrom};
 
 mod script;
@@ -233,11 +233,12 @@ const OPTIONS: Options = Options {
     size: 1024,
     expedited: true,
     sum: true,
+    preferred: false,
 };
 
 #[tactic(auto, using(tp4_conn::proofs::Sizes::size_known))]
 fn connect_call(alloc: Global, octets: Bytes) -> Result<ConnectCall, Fail>
-    ensures { IfOk result (λ call. IsSize call.options.size) }
+    ensures { IfOk result (λ call. IsSized call.options) }
 {
     Ok(ConnectCall {
         own: 0,
@@ -266,7 +267,7 @@ fn user_call(alloc: Global, words: &[&str]) -> Result<UserCall, Fail>
 
 #[tactic(auto, using(tp4_conn::proofs::Sizes::size_known))]
 fn options(format: &str) -> Options
-    ensures { IsSize result.size }
+    ensures { IsSized result }
 {
     let format = match format {
         "extended" => Format::Extended,

@@ -228,6 +228,7 @@ line_near titles old lines.Settle made new h = near old new (settled_stays 0 old
 line_near titles old (lines.Deliver number system) made new h = near old new (delivery_stays old number system h.0 _ made new h.1)
 line_near titles old (lines.Inject lan system octets) made new h =
     near old new (arrival_stays old (Inject lan system octets h.0) _ made new (λ ups below p. injection_still old.carrier lan system octets h.0 ups below p) h.1)
+line_near titles old (lines.Version version) made new h = absurd h
 line_near titles old (lines.Set key value) made new h = absurd h
 line_near titles old (lines.Lan name bound room) made new h = absurd h
 line_near titles old (lines.Es name title) made new h = absurd h

@@ -13,7 +13,9 @@ use Rattle.esis_tables.specs.Rows.{Rows}
 use Rattle.clnp_outcome.specs.Standing.{is_nsap}
 use Rattle.clnp_outcome.proofs.Always.{begins_standing}
 use Rattle.clnp_outcome.proofs.answered.Carrying.{nsap_passes}
-use Rattle.tp4_conn.specs.End.{IsSize}
+use Rattle.osi_script.specs.declared.line.Options.{Options}
+use Rattle.tp4_conn.specs.End.{IsSized}
+use Rattle.tp4_world.specs.Telling.{asked_options}
 use Rattle.tp4_number.specs.Number.{wire}
 use Rattle.tp4_world.specs.Run.{RunsLine as EndsRun}
 use Rattle.tp4_world.specs.Total.{CanConnect, CanRun as CanRunOn, HasStart, IsReady}
@@ -101,10 +103,10 @@ has : {A : Type 0} (found : Option A) → IsSome found → Has found
 has None is = absurd (cc)
 has (Some value) is = record { value = value; is = refl }
 
-connects : (titles : List (List ℕ)) (ends : Ends) (system to size : ℕ) (selector called octets : List ℕ) → AllByRecursion IsOwn titles → to < length titles → IsSize size
-    → LineInOctets (lines.Connect system selector to called (record { extended = false; size = size; expedited = false; sum = false }) octets) → IsSome (entity_at ends.entities system)
-    → CanConnect is_nsap titles ends system to size selector called octets
-connects titles ends system to size selector called octets own known sized in_octets some =
+connects : (titles : List (List ℕ)) (ends : Ends) (system to : ℕ) (options : Options) (selector called octets : List ℕ) → AllByRecursion IsOwn titles → to < length titles → IsSized (asked_options options)
+    → LineInOctets (lines.Connect system selector to called options octets) → IsSome (entity_at ends.entities system)
+    → CanConnect is_nsap titles ends system to options selector called octets
+connects titles ends system to options selector called octets own known sized in_octets some =
     let receiver = there titles to known in
     let entity = has (entity_at ends.entities system) some in
     record {
@@ -125,7 +127,7 @@ may_run : (names : Declared) (titles : List (List ℕ)) (ends : Ends) (line : Li
     → RunsAt (length titles) (link_of_net ends.carrier).clock line → LineInOctets line → CanRunOn is_nsap titles link_of_net ends line
 may_run names titles ends lines.Nothing own named placed runs octets = tt
 may_run names titles ends (lines.Connect system selector to called options unit) own named placed runs octets =
-    connects titles ends system to options.size selector called unit own runs.1 runs.2 octets (placed system named.0.1)
+    connects titles ends system to options selector called unit own runs.1 runs.2 octets (placed system named.0.1)
 may_run names titles ends (lines.Accept end options unit) own named placed runs octets = (runs, octets)
 may_run names titles ends (lines.Refuse end unit) own named placed runs octets = octets
 may_run names titles ends (lines.Disconnect end unit) own named placed runs octets = octets
@@ -145,6 +147,7 @@ may_run names titles ends lines.Tick own named placed runs octets = runs
 may_run names titles ends lines.Settle own named placed runs octets = tt
 may_run names titles ends (lines.Deliver number system) own named placed runs octets = tt
 may_run names titles ends (lines.Inject lan system unit) own named placed runs octets = octets
+may_run names titles ends (lines.Version version) own named placed runs octets = absurd runs
 may_run names titles ends (lines.Set key value) own named placed runs octets = absurd runs
 may_run names titles ends (lines.Lan name bound room) own named placed runs octets = absurd runs
 may_run names titles ends (lines.Es name title) own named placed runs octets = absurd runs
@@ -160,6 +163,7 @@ may_run names titles ends lines.Start own named placed runs octets = absurd runs
 of_set_up : (setup : SetUp) (line : Line) → Fits setup line → IsOfSetUp line
 of_set_up setup lines.Nothing f = tt
 of_set_up setup lines.Start f = tt
+of_set_up setup (lines.Version version) f = tt
 of_set_up setup (lines.Set key value) f = tt
 of_set_up setup (lines.Lan name bound room) f = tt
 of_set_up setup (lines.Es name title) f = tt
@@ -301,6 +305,7 @@ running titles old ends lines.Tick made placed step = absurd (false≢true place
 running titles old ends lines.Settle made placed step = absurd (false≢true placed)
 running titles old ends (lines.Deliver number system) made placed step = absurd (false≢true placed)
 running titles old ends (lines.Inject lan system octets) made placed step = absurd (false≢true placed)
+running titles old ends (lines.Version version) made placed step = absurd step
 running titles old ends (lines.Set key value) made placed step = absurd step
 running titles old ends (lines.Lan name bound room) made placed step = absurd step
 running titles old ends (lines.Es name title) made placed step = absurd step

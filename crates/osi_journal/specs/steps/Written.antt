@@ -1,5 +1,5 @@
 -- The pieces of a line as the code lends them.
-use Rattle.std.specs.Prelude.{◌≡◌, ℕ, List, [], ◌∷◌, ◌++◌, map, Result, OnOk}
+use Rattle.std.specs.Prelude.{◌≡◌, ℕ, List, [], ◌∷◌, ◌++◌, map, codes, Result, OnOk}
 use Rattle.std.specs.Fmt.{decimal}
 use Rattle.hex.specs.Hex.{encode_lower}
 use Rattle.osi_base.specs.declared.refusal.NoMemory.{NoMemory}
@@ -12,6 +12,7 @@ use Rattle.osi_journal.specs.Told.{Cell, cell_text, line, octets_text}
 abbrev pub piece_text : Tags → Piece → List ℕ
 piece_text tags (pieces.Word text) = text.now
 piece_text tags (pieces.Number number) = decimal number
+piece_text tags (pieces.Preferred number) = codes "p" ++ decimal number
 piece_text tags (pieces.System system) = name_at tags.systems system
 piece_text tags (pieces.Lan lan) = name_at tags.lans lan
 piece_text tags (pieces.Digits octets) = encode_lower octets.now

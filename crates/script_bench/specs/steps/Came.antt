@@ -10,7 +10,7 @@ use Rattle.osi_script.specs.declared.parts.Parts.{Parts}
 use Rattle.osi_script.specs.Field.{fields_of}
 use Rattle.osi_script.specs.Known.{Declared, no_parts}
 use Rattle.osi_script.specs.Table.{row_of, word_of}
-use Rattle.osi_script.specs.Grammar.{Reading, fault, next_column, count_fault, fields_read, limit_cause, next_number, line_for, declared_by, with_limit, whole_read, counted_read, is_out_of_order, worded_read, split_read, is_idle, text_read, printable_read, line_read}
+use Rattle.osi_script.specs.Grammar.{Reading, fault, next_column, count_fault, fields_read, limit_cause, next_number, line_for, declared_by, with_limit, whole_read, counted_read, is_of_later_version, is_out_of_order, worded_read, split_read, is_idle, text_read, printable_read, line_read}
 
 -- the fields of a word, with no limit passed
 pub record IsWorded (names : Declared) (word : Word) (reading : Reading) : Type 0 where
@@ -66,15 +66,16 @@ module _ (names : Declared) (word : Word) (field : List ℕ) (past column : ℕ)
   counted (Some found) reading placed count i = absurd (cc)
   counted None reading placed count i = whole _ reading placed count refl i
 
-  ordered : (out : Bool) (reading : Reading) → is_out_of_order names word ≡ out
-      → (if out then Err (fault causes.Order 1) else counted_read names word column fields (count_fault past column (row_of word).fields fields)) ≡ Ok reading → Came names reading
-  ordered true reading placed i = absurd (cc)
-  ordered false reading placed i = counted _ reading placed refl i
+  ordered : (late out : Bool) (reading : Reading) → is_out_of_order names word ≡ out
+      → (if late then Err (fault causes.Word 1) else if out then Err (fault causes.Order 1) else counted_read names word column fields (count_fault past column (row_of word).fields fields)) ≡ Ok reading → Came names reading
+  ordered true out reading placed i = absurd (cc)
+  ordered false true reading placed i = absurd (cc)
+  ordered false false reading placed i = counted _ reading placed refl i
 
 worded : (names : Declared) (field : List ℕ) (past column : ℕ) (fields : List (List ℕ)) (word : Option Word) (reading : Reading) → word_of names.words field ≡ word
     → worded_read names past column fields word ≡ Ok reading → Came names reading
 worded names field past column fields None reading is i = absurd (cc)
-worded names field past column fields (Some word) reading is i = ordered names word field past column fields is _ reading refl i
+worded names field past column fields (Some word) reading is i = ordered names word field past column fields is (is_of_later_version names word) _ reading refl i
 
 split : (names : Declared) (past : ℕ) (fields : List (List ℕ)) (reading : Reading) → split_read names past fields ≡ Ok reading → Came names reading
 split names past [] reading i = absurd (cc)

@@ -1,6 +1,6 @@
 -- A line that is read stands where it may, and only a set-up line declares names.
 use Rattle.std.proofs.Common.{◌≡◌, ◌⊎◌, ℕ, Bool, true, false, List, inl, inr, refl, sym, subst}
-use Rattle.std.specs.Prelude.{not, Ok}
+use Rattle.std.specs.Prelude.{◌||◌, not, Ok}
 use Rattle.osi_script.specs.declared.form.Word.{Word}
 use Rattle.osi_script.specs.declared.form.Word.TheVariants as words
 use Rattle.osi_script.specs.declared.line.Line.{Line}
@@ -22,6 +22,10 @@ is_started : (started : Bool) → not started ≡ false → started ≡ true
 is_started true is = refl
 is_started false is = absurd (cc)
 
+neither : (a b : Bool) → (a || b) ≡ false → b ≡ false
+neither true b is = absurd (cc)
+neither false b is = is
+
 idle_moves : (names : Declared) → Moves names lines.Nothing names
 idle_moves names = record { placed = tt; started = refl; kept = inr refl }
 
@@ -31,6 +35,7 @@ word_moves names parts words.Lan placed = record { placed = placed; started = re
 word_moves names parts words.Es placed = record { placed = placed; started = refl; kept = inl placed }
 word_moves names parts words.Port placed = record { placed = placed; started = refl; kept = inl placed }
 word_moves names parts words.Route placed = record { placed = placed; started = refl; kept = inl placed }
+word_moves names parts words.Version placed = let before = neither _ names.started placed in record { placed = before; started = refl; kept = inl before }
 word_moves names parts words.Start placed = record { placed = placed; started = refl; kept = inl placed }
 word_moves names parts words.Unit placed = record { placed = is_started names.started placed; started = refl; kept = inr refl }
 word_moves names parts words.Tick placed = record { placed = is_started names.started placed; started = refl; kept = inr refl }
@@ -59,6 +64,7 @@ line_moves names octets line new is = came_moves names (record { line = line; na
 -- `start` alone ends the set-up
 pub start_only : (line : Line) → is_start line ≡ true → line ≡ lines.Start
 start_only lines.Nothing is = absurd (cc)
+start_only (lines.Version version) is = absurd (cc)
 start_only (lines.Set key value) is = absurd (cc)
 start_only (lines.Lan name bound room) is = absurd (cc)
 start_only (lines.Es name title) is = absurd (cc)
@@ -83,6 +89,7 @@ start_only (lines.Inject lan system octets) is = absurd (cc)
 
 pub starts_not : (started : Bool) (line : Line) → is_start line ≡ false → started_after started line ≡ started
 starts_not started lines.Nothing is = refl
+starts_not started (lines.Version version) is = refl
 starts_not started (lines.Set key value) is = refl
 starts_not started (lines.Lan name bound room) is = refl
 starts_not started (lines.Es name title) is = refl

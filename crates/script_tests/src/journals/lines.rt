@@ -25,6 +25,8 @@ accept 2 normal 1024 exp sum 05
 confirm 1 normal 1024 exp sum -
 accept 2 extended 8192 noexp nosum 07
 confirm 1 extended 8192 noexp nosum -
+accept 2 normal p11 exp sum 09
+confirm 1 normal p11 exp sum -
 data 3 -
 got 3 04
 expedite 3 0500

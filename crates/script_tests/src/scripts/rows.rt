@@ -55,6 +55,49 @@ deliver 999999999 router12 | deliver [999999999, 3, 0, 0, 0, 0]
 inject x c47 - | inject [0, 1, 0, 0, 0, 0]
 inject lanABC12 r 81 | inject [1, 2, 0, 0, 0, 0] 81";
 
+/// A script of version 1: it may say so, before all lines that do anything and behind those that do nothing.
+pub const VERSION_1: &str = "# a comment
+ | nothing [0, 0, 0, 0, 0, 0]
+version | 8 fields
+version two | 9 syntax
+version 0 | 9 range
+version 3 | 9 range
+version 1 2 | 11 fields
+version 1 | version [1, 0, 0, 0, 0, 0]
+version 1 | 1 order
+version 2 | 1 order
+es a 490a00
+start
+accept 1 normal p1 exp sum - | 17 syntax
+accept 1 normal 128 exp sum - | accept [1, 0, 0, 128, 1, 1]
+version 1 | 1 order";
+
+/// A script of version 2: preferred sizes are 128 octets 1 to 128 times.
+pub const VERSION_2: &str = "version 2 | version [2, 0, 0, 0, 0, 0]
+es a 490a00
+start
+accept 1 normal p1 exp sum - | accept [1, 0, 0, 128, 1, 1]
+accept 1 normal p11 exp sum - | accept [1, 0, 0, 1408, 1, 1]
+accept 1 normal p128 exp sum - | accept [1, 0, 0, 16384, 1, 1]
+accept 1 normal 8192 exp sum - | accept [1, 0, 0, 8192, 1, 1]
+accept 1 normal p exp sum - | 17 syntax
+accept 1 normal p01 exp sum - | 17 syntax
+accept 1 normal P1 exp sum - | 17 syntax
+accept 1 normal p0 exp sum - | 17 range
+accept 1 normal p129 exp sum - | 17 range
+accept 1 normal 16384 exp sum - | 17 syntax
+connect a aa a bb normal p129 exp sum - | 26 range";
+
+/// What may stand before no version.
+pub const VERSIONS: [&str; 6] = [
+    "set life 16",
+    "lan x 1 264",
+    "es a 4900",
+    "is r 4900",
+    "version 1",
+    "version 2",
+];
+
 /// The set-up of the faults.
 pub const FAULTS: &str = "set life 16
 lan x 2 1497

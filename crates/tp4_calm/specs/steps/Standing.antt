@@ -13,6 +13,7 @@ use Rattle.tp4_conn.specs.declared.stage.Requesting.{Requesting}
 use Rattle.tp4_conn.specs.declared.stage.Stage.{Stage}
 use Rattle.tp4_conn.specs.declared.stage.Stage.TheVariants.{CrWait, WaitBeforeClose, UserWait, AkWait, Opened, Closing, Frozen}
 use Rattle.tp4_conn.specs.Agreeing.{confirm, halves_of}
+use Rattle.tp4_conn.specs.End.{IsSized}
 use Rattle.tp4_calm.specs.steps.Carrying.{Carries, pieces_in, units_in}
 use Rattle.tp4_calm.specs.steps.Waiting.{AreData, dts_in, eds_in, aks_in, eas_in}
 use Rattle.tp4_calm.specs.steps.Flowing.{IsCalm}
@@ -74,7 +75,7 @@ pub record IsConfirming (b : Base) (c : Base) (w : Answering) (forth back : List
   pub known : c.credit ≡ b.timers.credit
   pub low : b.timers.credit ≤ 15
   pub low_there : c.timers.credit ≤ 15
-  pub size : 12 < options.size
+  pub size : IsSized options
   pub octets : List ℕ
   pub forth_is : forth ≡ []
   pub back_is : back ≡ confirm c options octets ∷ []

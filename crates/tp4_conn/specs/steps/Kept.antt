@@ -6,7 +6,7 @@ use Rattle.tp4_conn.specs.declared.base.Base.{Base}
 use Rattle.tp4_conn.specs.declared.halves.Halves.{Halves}
 use Rattle.tp4_conn.specs.declared.stage.Stage.{Stage}
 use Rattle.tp4_conn.specs.declared.stage.Stage.TheVariants.{CrWait, WaitBeforeClose, UserWait, AkWait, Opened, Closing, Frozen}
-use Rattle.tp4_conn.specs.End.{IsSame, IsTimed, IsSize, agreed_format}
+use Rattle.tp4_conn.specs.End.{IsSame, IsTimed, IsProposal, agreed_format}
 
 -- the halves go by what is agreed, T1 passes, and their clock is not ahead
 pub record IsJoined (b : Base) (h : Halves) : Type 0 where
@@ -29,7 +29,7 @@ IsSound b (Frozen when) = when ≤ b.clock
 pub record IsEnd (b : Base) (stage : Stage) : Type 0 where
   pub timers : IsTimed b.timers
   pub clock : b.clock ≤ 4000000000
-  pub size : IsSize b.proposed.size
+  pub size : IsProposal b.proposed
   pub credit : b.credit ≤ 15
   pub sound : IsSound b stage
 

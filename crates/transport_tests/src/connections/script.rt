@@ -371,4 +371,34 @@ accept normal 1024 exp nosum - = akwait 8 / accept normal 1024 exp nosum - / cc 
 urgent ee = akwait 8
 bare dt eot 0 05 = opened 8 / got 05 / ed 7 0 ee nosum / ak 7 1 8 0 nosum
 bare dr 7 128 - = frozen 157 / gone 128 - / dc 7 1 nosum
+# A preferred size of 11 times 128 octets: the CR has the greatest listed size that is no greater, too. A CC may agree on a lesser one, or on a
+# listed one.
+connect normal p11 exp sum - = crwait 8 / cr 8 1 normal aa bb 1024+p11 1 -
+tpdu cc 8 7 normal p11 1 - = opened 20 / confirm normal p11 exp sum - / ak 7 0 8 0
+connect normal p11 exp sum - = crwait 8 / cr 8 1 normal aa bb 1024+p11 1 -
+tpdu cc 8 7 normal p10 1 - = opened 20 / confirm normal p10 exp sum - / ak 7 0 8 0
+connect normal p11 exp sum - = crwait 8 / cr 8 1 normal aa bb 1024+p11 1 -
+tpdu cc 8 7 normal 1024 1 - = opened 20 / confirm normal 1024 exp sum - / ak 7 0 8 0
+connect normal p11 exp sum - = crwait 8 / cr 8 1 normal aa bb 1024+p11 1 -
+tpdu cc 8 7 normal - 1 - = opened 20 / confirm normal 128 exp sum - / ak 7 0 8 0
+# Not on a greater one: 129 is above 128, though it would be taken as 128 where a CR has it.
+connect normal p11 exp sum - = crwait 8 / cr 8 1 normal aa bb 1024+p11 1 -
+tpdu cc 8 7 normal p12 1 - = closing 8 / gone protocol - / dr 7 1 133 -
+connect normal p11 exp sum - = crwait 8 / cr 8 1 normal aa bb 1024+p11 1 -
+tpdu cc 8 7 normal 2048 1 - = closing 8 / gone protocol - / dr 7 1 133 -
+connect normal p128 exp sum - = crwait 8 / cr 8 1 normal aa bb 8192+p128 1 -
+tpdu cc 8 7 normal p129 1 - = closing 8 / gone protocol - / dr 7 1 133 -
+# And on none where the CR has none.
+connect normal 1024 exp sum - = crwait 8 / cr 8 1 normal aa bb 1024 1 -
+tpdu cc 8 7 normal p1 1 - = closing 8 / gone protocol - / dr 7 1 133 -
+# A CR with a preferred size alone: an accept with a listed size agrees on 128, one with a preferred size on the lesser one.
+incoming normal p11 exp sum - = userwait 60 / incoming 7 aa bb normal p11 exp sum -
+accept normal p16 exp sum - = akwait 8 / accept normal p11 exp sum - / cc 8 7 1 normal aa bb p11 1 -
+incoming normal p11 exp sum - = userwait 60 / incoming 7 aa bb normal p11 exp sum -
+accept normal p7 exp sum - = akwait 8 / accept normal p7 exp sum - / cc 8 7 1 normal aa bb p7 1 -
+incoming normal p11 exp sum - = userwait 60 / incoming 7 aa bb normal p11 exp sum -
+accept normal 512 exp sum - = akwait 8 / accept normal 128 exp sum - / cc 8 7 1 normal aa bb 128 1 -
+# Where the CR has none, a preferred size counts as the greatest listed one that is no greater.
+incoming normal 1024 exp sum - = userwait 60 / incoming 7 aa bb normal 1024 exp sum -
+accept normal p5 exp sum - = akwait 8 / accept normal 512 exp sum - / cc 8 7 1 normal aa bb 512 1 -
 ";

@@ -71,7 +71,12 @@ fn agreed(alloc: Global, options: &Options, octets: &Bytes) -> Result<String, Fa
     let expedited = if options.expedited { "exp" } else { "noexp" };
     let sum = if options.sum { "sum" } else { "nosum" };
     let octets = text(alloc, octets)?;
-    Ok(format!(in alloc; "{format} {} {expedited} {sum} {octets}", options.size)?)
+    let size = if options.preferred {
+        format!(in alloc; "p{}", options.size / 128)?
+    } else {
+        format!(in alloc; "{}", options.size)?
+    };
+    Ok(format!(in alloc; "{format} {size} {expedited} {sum} {octets}")?)
 }
 
 fn format_word(format: Format) -> &'static str {
@@ -135,6 +140,7 @@ fn show_connect(alloc: Global, tpdu: &Tpdu) -> Result<String, Fail> {
             calling,
             called,
             size,
+            preferred,
             extra,
             octets,
             ..
@@ -142,6 +148,7 @@ fn show_connect(alloc: Global, tpdu: &Tpdu) -> Result<String, Fail> {
             let format = format_word(*format);
             let selectors = selectors(alloc, calling, called)?;
             let octets = text(alloc, octets)?;
+            let size = sizes(alloc, *size, *preferred)?;
             Ok(format!(in alloc;
                 "cr {credit} {source} {format} {selectors} {size} {extra} {octets}"
             )?)
@@ -154,6 +161,7 @@ fn show_connect(alloc: Global, tpdu: &Tpdu) -> Result<String, Fail> {
             calling,
             called,
             size,
+            preferred,
             extra,
             octets,
             ..
@@ -161,6 +169,7 @@ fn show_connect(alloc: Global, tpdu: &Tpdu) -> Result<String, Fail> {
             let format = format_word(*format);
             let selectors = selectors(alloc, calling, called)?;
             let octets = text(alloc, octets)?;
+            let size = sizes(alloc, *size, *preferred)?;
             Ok(format!(in alloc;
                 "cc {credit} {destination} {source} {format} {selectors} {size} {extra} {octets}"
             )?)
@@ -172,6 +181,16 @@ fn show_connect(alloc: Global, tpdu: &Tpdu) -> Result<String, Fail> {
         | Tpdu::Ak { .. }
         | Tpdu::Ea { .. }
         | Tpdu::Er { .. } => Ok(String::new(alloc)),
+    }
+}
+
+/// The sizes of a CR or a CC: a listed one, a preferred one behind `p`, or both with a plus between them.
+fn sizes(alloc: Global, size: Option<u16>, preferred: Option<u32>) -> Result<String, Fail> {
+    match (size, preferred) {
+        (Some(size), Some(number)) => Ok(format!(in alloc; "{size}+p{number}")?),
+        (Some(size), None) => Ok(format!(in alloc; "{size}")?),
+        (None, Some(number)) => Ok(format!(in alloc; "p{number}")?),
+        (None, None) => Ok(format!(in alloc; "-")?),
     }
 }
 

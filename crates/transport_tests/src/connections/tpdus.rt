@@ -4,7 +4,7 @@ ghost use Rattle.std.specs.Prelude.{IfOk};
 ghost use Rattle.tpdu.specs.Values.{tpdu_of};
 ghost use Rattle.tpdu.specs.Writing.{IsAllowed, IsCredit, IsNumber};
 
-use super::words::{format_of, number, octet, pair, size_of, word};
+use super::words::{Sizes, format_of, number, octet, pair, word};
 use std::test::Fail;
 use tpdu::{Format, TpduRef};
 
@@ -57,7 +57,8 @@ fn again<'a>(format: Format, sum: bool, octets: &'a [u8]) -> Result<TpduRef<'a>,
         format,
         calling: b"\xaa",
         called: b"\xbb",
-        size: 1024,
+        size: Some(1024),
+        preferred: None,
         extra: 1,
         version: None,
         classes: None,
@@ -67,7 +68,6 @@ fn again<'a>(format: Format, sum: bool, octets: &'a [u8]) -> Result<TpduRef<'a>,
     })
 }
 
-#[tactic(auto, using(tp4_conn::proofs::Sizes::known_size))]
 fn confirm<'a>(
     words: &[&str],
     format: Format,
@@ -79,6 +79,7 @@ fn confirm<'a>(
     if 32 < octets.len() {
         return Err(Fail::from("a CC has 32 octets of data at most"));
     }
+    let sizes = Sizes::read(word(words, 5))?;
     Ok(TpduRef::Cc {
         credit: octet(words, 2)? % 16,
         destination: 1,
@@ -86,7 +87,8 @@ fn confirm<'a>(
         format: format_of(word(words, 4)),
         calling: b"\xaa",
         called: b"\xbb",
-        size: size_of(word(words, 5))?,
+        size: sizes.size,
+        preferred: sizes.preferred,
         extra: octet(words, 6)?,
         version: None,
         classes: None,

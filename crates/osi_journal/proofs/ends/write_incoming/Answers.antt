@@ -15,6 +15,6 @@ returns c =
     (λ i. codes "incoming" ∷ piece_text tags (c.number.ensures i) ∷ name_at tags.systems c.args.heard.now.system ∷ decimal (c.from.ensures i)
     ∷ encode_lower (c.as_slice.ensures i) ∷ decimal (c.from-2.ensures i) ∷ octets_text (c.as_slice-2.ensures i)
     ∷ encode_lower (c.as_slice-3.ensures i) ∷ octets_text (c.as_slice-4.ensures i)
-    ∷ c.choice.ensures tags i ∷ decimal (c.from-3.ensures i) ∷ c.choice-2.ensures tags i ∷ c.choice-3.ensures tags i
+    ∷ c.choice.ensures tags i ∷ c.size_piece.ensures tags i ∷ c.choice-2.ensures tags i ∷ c.choice-3.ensures tags i
     ∷ octets_text (c.as_slice-5.ensures i) ∷ [])
     c.write.ensures

@@ -1,4 +1,4 @@
-use Rattle.std.proofs.Common.{◌≤◌, rules, subst, sym}
+use Rattle.std.proofs.Common.{rules, subst, sym}
 use Rattle.tpdu.specs.Values.{tpdu_of}
 use Rattle.tp4_conn.specs.Dues.{IsBefore}
 use Rattle.tp4_conn.specs.End.{End}
