@@ -67,6 +67,15 @@ impl Due {
                 return;
             }
         }
+        self.move_to(id, at);
+    }
+
+    /// The id is due at another tick than before. Apart, so that where its tick stays there is no room for these values to clear.
+    #[inline(never)]
+    fn move_to(&mut self, id: u32, at: Tick)
+        requires { id < length self.old }
+        ensures { self.new ≡ slice_set self.old id (Some at) }
+    {
         self.clear(id);
         self.come(id, at);
     }
@@ -89,6 +98,14 @@ impl Due {
         if now < self.from {
             return None;
         }
+        self.pop_by(now)
+    }
+
+    /// The same by a look at what is due. Apart, so that where no tick can have come there is no room for its values to clear.
+    #[inline(never)]
+    fn pop_by(&mut self, now: Tick) -> Option<u32>
+        ensures { Pops self.old now result self.new }
+    {
         let Some(node) = self.first_by(now) else {
             self.from = now.saturating_add(1);
             return None;
@@ -167,9 +184,7 @@ impl Due {
 fn no_keys(alloc: Global, count: u32) -> Result<Vec<Option<usize>>, NoMemory>
     ensures { IfOk result (λ keys. keys.items ≡ replicate count None) }
 {
-    let mut keys = Vec::with_capacity(alloc, count as usize)?;
-    for _ in 0..count {
-        keys.push(None)?;
-    }
+    let mut keys = Vec::new(alloc);
+    keys.resize(count as usize, None)?;
     Ok(keys)
 }

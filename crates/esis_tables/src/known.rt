@@ -284,6 +284,8 @@ fn keep_below(due: &mut Due, rows: &[Row], count: usize)
 }
 
 // Only the rows that are known stay; none is looked at where none is due.
+// Apart, so that a tick before the first hello has no room for these values to clear.
+#[inline(never)]
 fn sweep_due(due: &mut Due, rows: &mut Vec<Row>, now: Tick)
     requires few { length rows.old.items ≤ 256 }
     requires due { AreDeadlines rows.old.items due.old }
