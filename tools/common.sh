@@ -49,14 +49,24 @@ is_transcript() {
         wrong "the input is no transcript, which ./osi run < SCRIPT writes"
 }
 
-# Runs the program by its word on $work/script, into $work/WORD. Without a transcript the tool ends. What the launcher says of a build
-# is shown, what it says of a refused line is not: the tool tells it.
+# The word that runs $work/script: that of its first line `# osi WORD: ..`, else `run`.
+command_of() {
+    command=$(sed -n -e '1s/^# osi \(datagrams\):.*/\1/p' -e '1s/^# osi \(inactive\):.*/\1/p' "$work/script")
+    command=${command:-run}
+}
+
+# Runs the program by its word on $work/script, into $work/WORD; in the place of `run` by the word of the script. Without a transcript
+# the tool ends. What the launcher says of a build is shown, what it says of a refused line is not: the tool tells it.
 program() {
+    command_of
+    word=$1
+    [ "$1" != run ] || word=$command
+    [ "$1" != frames ] || [ "$command" = run ] || wrong "there is no capture of a script of osi $command"
     : >"$work/said"
     if [ "$OSI_BUILT" = yes ]; then
-        "$OSI" "$1" <"$work/script" >"$work/$1" 2>"$work/said"
+        "$OSI" "$word" <"$work/script" >"$work/$1" 2>"$work/said"
     else
-        "$OSI" "$1" <"$work/script" >"$work/$1"
+        "$OSI" "$word" <"$work/script" >"$work/$1"
     fi
     status=$?
     case $status in

@@ -35,7 +35,7 @@ function told(number, text,   i, w) {
     if (w[1] == "frame") {
         frames++
         sender[w[2]] = w[4]
-        if (w[5] == "09002b000004" && $1 ~ /^(unit|connect|accept|refuse|data|expedite|disconnect|window)$/) {
+        if (w[5] == "09002b000004" && $1 ~ /^(unit|send|connect|accept|refuse|data|expedite|disconnect|window)$/) {
             found("the unit goes to all end systems of the LAN: no route of " w[4] " begins its address, and no router is known\n" \
                 "    do: add a `route` at " w[4] "; by hellos (`set ct`) it would hear a router", number, text)
         }

@@ -4,7 +4,7 @@
 # A line of the script writes its own event first, so the next own event is of the next line that does something.
 function own(text,   w) {
     split(text, w, " ")
-    return w[1] ~ /^(tick|sent|no|deliver|nosuch|late|notthere|notours|connect|accept|refuse|data|expedite|window|disconnect|inject|settled|stopped)$/
+    return w[1] ~ /^(tick|sent|no|deliver|nosuch|late|notthere|notours|connect|accept|refuse|data|expedite|window|disconnect|inject|restart|send|settled|stopped)$/
 }
 function look() { has = (getline ahead < transcript) > 0 }
 function is_closing() { return ahead ~ /^(done|refused .*|toomuch|strays .*)$/ }

@@ -28,7 +28,7 @@ function draw_frame(n) {
 function draw_lost(n) {
     y += 14
     put(svg_line(x_of(from[n]), sent_at[n], x_of(from[n]) + width / 2, sent_at[n] + 3, "lost"))
-    put(svg_text(x_of(from[n]) + 6, y, "start", n " " carried[n] " lost"))
+    put(svg_text(x_of(from[n]) + 6, y, "start", freight(n) " lost"))
 }
 function draw_arrow(n, to, what) {
     y += 18

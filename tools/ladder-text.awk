@@ -16,7 +16,7 @@ function put(place, what) {
     told = clock
 }
 function draw_text(at, what) { put(at * width + 2, length(what) > width - 4 ? substr(what, 1, width - 6) ".." : what) }
-function draw_lost(n) { put(from[n] * width + 1, substr("--" n " " carried[n] " --X", 1, width - 2)) }
+function draw_lost(n) { put(from[n] * width + 1, substr("--" freight(n) " --X", 1, width - 2)) }
 function draw_arrow(n, to, what,   room) {
     room = (from[n] < to ? to - from[n] : from[n] - to) * width - 1
     what = substr((from[n] < to ? "--" : "") what, 1, room - 3)

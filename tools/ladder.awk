@@ -1,6 +1,8 @@
 # The rows of `ladder`: of the script it takes the systems, of the decoded capture what each frame carries, and of the transcript,
 # read twice, first which frames are delivered, and then the rows. ladder-text.awk or ladder-svg.awk draws them.
 function add(its_name) { column[its_name] = columns; shown[columns++] = its_name }
+# The number of a frame, and what it carries where that is known.
+function freight(n) { return n (carried[n] == "" ? "" : " " carried[n]) }
 function carry(what) { carried[record] = (record in tpdus) ? carried[record] "," what : what; tpdus[record] }
 FILENAME ~ /script$/ {
     sub(/\r$/, "")
@@ -31,7 +33,7 @@ $1 == "frame" {
     if (!($2 in delivered)) draw_lost($2)
     next
 }
-$1 == "deliver" { draw_arrow($2, column[$3], $2 " " carried[$2] (sent[$2] == clock ? "" : " @" sent[$2])); next }
+$1 == "deliver" { draw_arrow($2, column[$3], freight($2) (sent[$2] == clock ? "" : " @" sent[$2])); next }
 $1 ~ /^(nosuch|late|notthere|notours)$/ { draw_text(column[$3], $1 " " $2); next }
 $1 == "connect" || $1 == "incoming" { at[$2] = column[$3]; draw_text(at[$2], $1 " " $2); next }
 $1 ~ /^(accept|confirm|data|got|expedite|urgent|refuse|disconnect|gone|window|held)$/ { draw_text(at[$2], $0); next }

@@ -5,7 +5,7 @@ endif
 syn match osiComment "^#.*"
 syn match osiExpected "^#= .*"
 syn match osiSetup "^\(version\|set\|lan\|es\|is\|port\|route\|path\|tsap\|start\)\>"
-syn match osiEvent "^\(unit\|connect\|accept\|refuse\|data\|expedite\|window\|disconnect\|tick\|deliver\|settle\|inject\)\>"
+syn match osiEvent "^\(unit\|connect\|accept\|refuse\|data\|expedite\|window\|disconnect\|tick\|deliver\|settle\|inject\|restart\|send\)\>"
 syn match osiWord " \(normal\|extended\|exp\|noexp\|sum\|nosum\|partial\|complete\)\>"
 syn match osiNumber " \d\+\>"
 " What the program refuses: blanks at the ends or twice, tabs, what is not ASCII.

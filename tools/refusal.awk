@@ -43,7 +43,8 @@ function refusal(number, text, column, cause,   from, has, want, names, count, a
             far = distance(tolower(has[1]), each) "0" each
             if (!best || far < best) { best = far; near = each }
         }
-        if (has[1] ~ /;$/) note("a line of its own for each: nothing stands behind it")
+        if (has[1] in form) note("this command has no such line, or the version of the script has not: docs/script.md has which lines each has")
+        else if (has[1] ~ /;$/) note("a line of its own for each: nothing stands behind it")
         else if (best + 0 < 30) note("`" near "` is near; words have lower-case letters, and no other line begins so")
         else note("the lines are those of docs/script.md; a comment begins with #")
     } else if (cause == "order") {

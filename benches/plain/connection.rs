@@ -6,6 +6,10 @@ use crate::journal::{Journal, Options};
 use crate::script::Settings;
 use crate::tpdu::{Proposal, Tpdu};
 
+const DEFAULT_SIZE: u16 = 128;
+const LARGEST_SIZE: u16 = 8192;
+const MOST_PREFERRED: u32 = 128;
+
 /// What a user asks of an end.
 pub enum Call {
     Accept(Options, Vec<u8>),
@@ -45,7 +49,7 @@ impl Timers {
     }
 
     /// For how long a reference is frozen.
-    fn frozen(&self) -> u32 {
+    pub fn frozen(&self) -> u32 {
         2 * self.life + self.inactive + self.sendings * self.t1
     }
 }
@@ -69,6 +73,8 @@ pub struct Connection {
     calling: Vec<u8>,
     called: Vec<u8>,
     proposed: Options,
+    /// The size that counts where no preferred one is agreed.
+    listed: u16,
     timers: Timers,
     partner: u16,
     credit: u16,
@@ -82,6 +88,15 @@ pub struct Connection {
     flow: Option<Flow>,
 }
 
+/// The greatest size of the seven that is no greater.
+fn listed_of(options: &Options) -> u16 {
+    (1 << options.size.ilog2()).min(LARGEST_SIZE)
+}
+
+fn preferred_of(options: &Options) -> Option<u32> {
+    options.preferred.then_some(u32::from(options.size / 128))
+}
+
 fn extra_of(options: &Options) -> u8 {
     u8::from(options.expedited) + if options.sum { 0 } else { 2 }
 }
@@ -89,7 +104,11 @@ fn extra_of(options: &Options) -> u8 {
 fn options_of(proposal: &Proposal<'_>) -> Options {
     Options {
         extended: proposal.extended,
-        size: proposal.size,
+        size: match proposal.preferred {
+            Some(number) => 128 * number.min(MOST_PREFERRED) as u16,
+            None => proposal.size.unwrap_or(DEFAULT_SIZE),
+        },
+        preferred: proposal.preferred.is_some(),
         expedited: proposal.extra % 2 == 1,
         sum: proposal.extra / 2 % 2 == 0,
     }
@@ -117,6 +136,7 @@ impl Connection {
             calling: selectors.0,
             called: selectors.1,
             proposed: options,
+            listed: listed_of(&options),
             timers,
             partner: 0,
             credit: 0,
@@ -140,6 +160,7 @@ impl Connection {
             calling: cr.calling.to_vec(),
             called: cr.called.to_vec(),
             proposed: options_of(cr),
+            listed: cr.size.unwrap_or(DEFAULT_SIZE),
             timers,
             partner: cr.source,
             credit: u16::from(cr.credit),
@@ -220,26 +241,28 @@ impl Connection {
         tpdus.push((self.to, crate::tpdu::write(tpdu, extended, sum)));
     }
 
-    fn proposal(&self, options: &Options) -> Proposal<'_> {
+    fn proposal(&self, options: &Options, size: Option<u16>) -> Proposal<'_> {
         Proposal {
             credit: self.timers.credit as u8,
             source: self.own,
             extended: options.extended,
             calling: &self.calling,
             called: &self.called,
-            size: options.size,
+            size,
+            preferred: preferred_of(options),
             extra: extra_of(options),
             octets: &self.octets,
         }
     }
 
     fn send_cr(&self, tpdus: &mut Tpdus) {
-        self.send(&Tpdu::Cr(self.proposal(&self.proposed)), tpdus);
+        self.send(&Tpdu::Cr(self.proposal(&self.proposed, Some(self.listed))), tpdus);
     }
 
     fn send_cc(&self, tpdus: &mut Tpdus) {
         if let Some(options) = &self.agreed {
-            self.send(&Tpdu::Cc(self.partner, self.proposal(options)), tpdus);
+            let size = (!options.preferred).then_some(options.size);
+            self.send(&Tpdu::Cc(self.partner, self.proposal(options, size)), tpdus);
         }
     }
 
@@ -362,9 +385,11 @@ impl Connection {
     }
 
     fn accept(&mut self, now: u32, asked: &Options, octets: Vec<u8>, journal: &mut Journal, tpdus: &mut Tpdus) {
+        let preferred = self.proposed.preferred && asked.preferred;
         let options = Options {
             extended: self.proposed.extended && asked.extended,
-            size: self.proposed.size.min(asked.size),
+            size: if preferred { self.proposed.size.min(asked.size) } else { self.listed.min(listed_of(asked)) },
+            preferred,
             expedited: self.proposed.expedited && asked.expedited,
             sum: self.proposed.sum || asked.sum,
         };
@@ -418,7 +443,10 @@ impl Connection {
         let is_within = (!options.extended || proposed.extended)
             && (!options.expedited || proposed.expedited)
             && (options.sum || !proposed.sum)
-            && options.size <= proposed.size;
+            && match cc.preferred {
+                Some(number) => proposed.preferred && number <= u32::from(proposed.size / 128),
+                None => options.size <= self.listed,
+            };
         if !is_within {
             return self.fail(now, "protocol", 133, now, journal, tpdus);
         }

@@ -30,6 +30,8 @@ pub struct Entity {
     references: u16,
     /// The ends that stand, frozen ones too, by reference.
     ends: BTreeMap<u16, Connection>,
+    /// When it began again last.
+    restarted: Option<u32>,
 }
 
 impl Entity {
@@ -41,7 +43,19 @@ impl Entity {
             selectors: setup.selectors.clone(),
             references: settings.get("refs") as u16,
             ends: BTreeMap::new(),
+            restarted: None,
         }
+    }
+
+    /// It begins again, without its ends.
+    pub fn restart(&mut self, now: u32) {
+        self.ends.clear();
+        self.restarted = Some(now);
+    }
+
+    /// Whether it takes no TPDU and makes no end, as it began again a short while ago.
+    fn is_silent(&self, now: u32) -> bool {
+        self.restarted.is_some_and(|when| now <= when + self.timers.frozen())
     }
 
     /// The references at which ends stand.
@@ -62,6 +76,9 @@ impl Entity {
         journal: &mut Journal,
         tpdus: &mut Tpdus,
     ) -> Result<(), &'static str> {
+        if self.is_silent(now) {
+            return Err("silent");
+        }
         if request.octets.len() > MOST_OCTETS {
             return Err("toolong");
         }
@@ -97,6 +114,9 @@ impl Entity {
         journal: &mut Journal,
         tpdus: &mut Tpdus,
     ) {
+        if self.is_silent(now) {
+            return journal.of_system("silent", self.system);
+        }
         let mut rest = octets;
         while !rest.is_empty() {
             let extended = match *rest {
@@ -107,7 +127,7 @@ impl Entity {
             };
             let (tpdu, has_sum, behind) = match tpdu::read(rest, extended) {
                 Ok(found) => found,
-                Err((cause, place)) => return journal.bad_tpdu(self.system, cause, place),
+                Err((cause, place)) => return journal.bad("badtpdu", self.system, cause, place),
             };
             match &tpdu {
                 Tpdu::Cr(cr) => self.request(now, from, cr, ends, journal, tpdus),
@@ -161,7 +181,7 @@ impl Entity {
         let end = tpdu.destination().and_then(|reference| self.ends.get_mut(&reference));
         if let Some(end) = end.filter(|end| end.matches(from, tpdu)) {
             if end.wants_sum(tpdu) && !has_sum {
-                journal.bad_tpdu(self.system, "checksum", 0);
+                journal.bad("badtpdu", self.system, "checksum", 0);
             } else {
                 end.receive(now, tpdu, journal, tpdus);
             }

@@ -37,7 +37,9 @@ impl Write for Output {
 #[derive(Clone, Copy)]
 pub struct Options {
     pub extended: bool,
+    /// In octets.
     pub size: u16,
+    pub preferred: bool,
     pub expedited: bool,
     pub sum: bool,
 }
@@ -148,7 +150,11 @@ impl Journal {
 
     fn options(&mut self, options: &Options) {
         self.word(if options.extended { "extended" } else { "normal" });
-        self.number(options.size);
+        if options.preferred {
+            self.word(&format!("p{}", options.size / 128));
+        } else {
+            self.number(options.size);
+        }
         self.word(if options.expedited { "exp" } else { "noexp" });
         self.word(if options.sum { "sum" } else { "nosum" });
     }
@@ -240,6 +246,17 @@ impl Journal {
         }
     }
 
+    /// A datagram that is taken or shown: addresses, selectors and octets.
+    pub fn datagram(&mut self, word: &str, system: u8, fields: [&[u8]; 4]) {
+        if self.begin(word) {
+            self.system(system);
+            for field in fields {
+                self.octets(field);
+            }
+            self.end();
+        }
+    }
+
     pub fn reason(&mut self, word: &str, system: u8, reason: u8, place: u8) {
         if self.begin(word) {
             self.system(system);
@@ -290,8 +307,9 @@ impl Journal {
         }
     }
 
-    pub fn bad_tpdu(&mut self, system: u8, cause: &str, place: usize) {
-        if self.begin("badtpdu") {
+    /// A TPDU or a UD with a fault.
+    pub fn bad(&mut self, word: &str, system: u8, cause: &str, place: usize) {
+        if self.begin(word) {
             self.system(system);
             self.word(cause);
             self.number(place as u32);

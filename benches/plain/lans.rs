@@ -75,9 +75,14 @@ impl Lans {
         self.stations[usize::from(lan)].iter().any(|station| station.system == system)
     }
 
+    /// Whether there is no room for a frame.
+    pub fn is_full(&self) -> bool {
+        self.live_count == MOST_LIVE
+    }
+
     /// Sends a frame; the answer is its number, or None where there is no room.
     pub fn send(&mut self, system: u8, from: Snpa, to: Port, pdu: Vec<u8>) -> Option<u32> {
-        if self.live_count == MOST_LIVE {
+        if self.is_full() {
             return None;
         }
         let mut receivers = 0;

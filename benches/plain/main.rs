@@ -1,4 +1,5 @@
-//! What `osi run`, `osi frames` and `osi storm` do, as a plain program: a yardstick for their speed. Nothing is proved of it.
+//! What `osi run`, `osi frames`, `osi storm`, `osi datagrams` and `osi inactive` do, as a plain program: a yardstick for their speed.
+//! Nothing is proved of it.
 
 mod address;
 mod clnp;
@@ -13,11 +14,13 @@ mod network;
 mod reassembly;
 mod script;
 mod storm;
+mod subset;
 mod tpdu;
+mod ud;
 mod world;
 
 use journal::{Journal, Mode};
-use script::Fault;
+use script::{Command, Fault};
 use std::io::{self, BufRead, Read, Write};
 use std::process::ExitCode;
 use world::World;
@@ -37,8 +40,10 @@ fn main() -> ExitCode {
     let words: Vec<String> = std::env::args().skip(1).collect();
     let words: Vec<&str> = words.iter().map(String::as_str).collect();
     let answer = match words[..] {
-        ["run"] => run(Mode::Transcript),
-        ["frames"] => run(Mode::Capture),
+        ["run"] => run(Command::Run, Mode::Transcript),
+        ["frames"] => run(Command::Run, Mode::Capture),
+        ["datagrams"] => run(Command::Datagrams, Mode::Transcript),
+        ["inactive"] => run(Command::Inactive, Mode::Transcript),
         ["storm", seed, count] => match (number(seed, 999_999_999), number(count, 20_000)) {
             (Some(seed), Some(count)) => storm::run(seed, count),
             _ => return usage(),
@@ -57,7 +62,7 @@ fn main() -> ExitCode {
 }
 
 fn usage() -> ExitCode {
-    println!("usage: osi run | frames | decode | storm SEED COUNT");
+    println!("usage: osi run | frames | decode | storm SEED COUNT | datagrams | inactive");
     ExitCode::from(2)
 }
 
@@ -68,9 +73,9 @@ fn number(text: &str, most: u32) -> Option<u32> {
 }
 
 /// Runs the script of the standard input; the answer is the exit status, and an error is one of writing.
-fn run(mode: Mode) -> io::Result<u8> {
+fn run(command: Command, mode: Mode) -> io::Result<u8> {
     let mut journal = Journal::new(mode)?;
-    let mut world = World::new();
+    let mut world = World::new(command);
     let mut input = io::stdin().lock();
     let end = match run_lines(&mut input, &mut world, &mut journal) {
         Ok(end) => end,

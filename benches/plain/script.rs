@@ -5,6 +5,14 @@ use crate::journal::{Journal, Options};
 
 pub type Cause = &'static str;
 
+/// A command that runs scripts. Each has lines of its own.
+#[derive(Clone, Copy, PartialEq, Eq)]
+pub enum Command {
+    Run,
+    Datagrams,
+    Inactive,
+}
+
 /// The first fault of a line, at a column from 1.
 pub struct Fault {
     pub cause: Cause,
@@ -23,10 +31,12 @@ pub enum Line {
     Expedite { end: u32, octets: Vec<u8> },
     Window { end: u32, credit: u16 },
     Unit { system: u8, to: u8, wish: Wish, octets: Vec<u8> },
+    Send { system: u8, selector: Vec<u8>, to: u8, called: Vec<u8>, octets: Vec<u8> },
     Tick,
     Settle,
     Deliver { frame: u32, system: u8 },
     Inject { lan: u8, system: u8, octets: Vec<u8> },
+    Restart { system: u8 },
 }
 
 /// What is asked for a unit; `path` is the number of a source route from 1, or 0.
@@ -84,10 +94,14 @@ impl Settings {
 
 /// What was declared so far.
 pub struct Setup {
+    pub command: Command,
     pub settings: Settings,
     pub lans: Vec<Lan>,
     pub systems: Vec<SystemSetup>,
     pub paths: Vec<Path>,
+    version: u32,
+    /// Whether a line declared something.
+    is_begun: bool,
     is_started: bool,
     lan_names: Vec<Vec<u8>>,
     system_names: Vec<Vec<u8>>,
@@ -97,6 +111,7 @@ pub struct Setup {
 /// Whether a word is one of the set-up, and how many fields follow it.
 fn form_of(word: &[u8]) -> Option<(bool, usize)> {
     Some(match word {
+        b"version" => (true, 1),
         b"set" => (true, 2),
         b"lan" => (true, 3),
         b"es" | b"is" => (true, 2),
@@ -108,21 +123,25 @@ fn form_of(word: &[u8]) -> Option<(bool, usize)> {
         b"connect" => (false, 9),
         b"accept" => (false, 6),
         b"refuse" | b"disconnect" | b"data" | b"expedite" | b"window" => (false, 2),
-        b"unit" => (false, 5),
+        b"unit" | b"send" => (false, 5),
         b"tick" | b"settle" => (false, 0),
         b"deliver" => (false, 2),
         b"inject" => (false, 3),
+        b"restart" => (false, 1),
         _ => return None,
     })
 }
 
 impl Setup {
-    pub fn new() -> Setup {
+    pub fn new(command: Command) -> Setup {
         Setup {
+            command,
             settings: Settings { set: [None; 9] },
             lans: Vec::new(),
             systems: Vec::new(),
             paths: Vec::new(),
+            version: if command == Command::Inactive { 2 } else { 1 },
+            is_begun: false,
             is_started: false,
             lan_names: Vec::new(),
             system_names: Vec::new(),
@@ -144,8 +163,9 @@ impl Setup {
         }
         let mut fields = Fields { line, blanks, column: 1, next: 0 };
         let word = fields.next();
-        let (is_set_up, count) = form_of(word).ok_or(Fault { cause: "word", column: 1 })?;
-        if is_set_up == self.is_started {
+        let form = form_of(word).filter(|_| self.has(word));
+        let (is_set_up, count) = form.ok_or(Fault { cause: "word", column: 1 })?;
+        if is_set_up == self.is_started || word == b"version" && self.is_begun {
             return Err(Fault { cause: "order", column: 1 });
         }
         if blanks < count {
@@ -160,6 +180,20 @@ impl Setup {
         if is_set_up { self.declare(word, fields, journal) } else { self.read_event(word, fields) }
     }
 
+    /// Whether a script of this command and version has lines of a word.
+    fn has(&self, word: &[u8]) -> bool {
+        match word {
+            b"version" | b"unit" | b"inject" => self.command == Command::Run,
+            b"is" | b"route" | b"path" => self.command != Command::Inactive,
+            b"connect" | b"accept" | b"refuse" | b"disconnect" | b"data" | b"expedite" | b"window" => {
+                self.command != Command::Datagrams
+            }
+            b"restart" => self.version == 2,
+            b"send" => self.command == Command::Datagrams,
+            _ => true,
+        }
+    }
+
     fn read_event(&self, word: &[u8], mut fields: Fields<'_>) -> Result<Line, Fault> {
         Ok(match word {
             b"connect" => Line::Connect {
@@ -167,12 +201,14 @@ impl Setup {
                 selector: fields.read(selector)?,
                 to: fields.read(|field| self.end_system(field))?,
                 called: fields.read(selector)?,
-                options: fields.options()?,
+                options: fields.options(self.version)?,
                 octets: fields.read(octets)?,
             },
-            b"accept" => {
-                Line::Accept { end: fields.read(any_number)?, options: fields.options()?, octets: fields.read(octets)? }
-            }
+            b"accept" => Line::Accept {
+                end: fields.read(any_number)?,
+                options: fields.options(self.version)?,
+                octets: fields.read(octets)?,
+            },
             b"refuse" => Line::Refuse { end: fields.read(any_number)?, octets: fields.read(octets)? },
             b"disconnect" => Line::Disconnect { end: fields.read(any_number)?, octets: fields.read(octets)? },
             b"data" => Line::Data { end: fields.read(any_number)?, octets: fields.read(octets)? },
@@ -188,11 +224,19 @@ impl Setup {
                 wish.path = fields.read(|field| self.path(field))?;
                 Line::Unit { system, to, wish, octets: fields.read(octets)? }
             }
+            b"send" => Line::Send {
+                system: fields.read(|field| self.end_system(field))?,
+                selector: fields.read(selector)?,
+                to: fields.read(|field| self.end_system(field))?,
+                called: fields.read(selector)?,
+                octets: fields.read(octets)?,
+            },
             b"tick" => Line::Tick,
             b"settle" => Line::Settle,
             b"deliver" => {
                 Line::Deliver { frame: fields.read(any_number)?, system: fields.read(|field| self.system(field))? }
             }
+            b"restart" => Line::Restart { system: fields.read(|field| self.end_system(field))? },
             _ => Line::Inject {
                 lan: fields.read(|field| self.lan(field))?,
                 system: fields.read(|field| self.system(field))?,
@@ -203,6 +247,7 @@ impl Setup {
 
     fn declare(&mut self, word: &[u8], mut fields: Fields<'_>, journal: &mut Journal) -> Result<Line, Fault> {
         match word {
+            b"version" => self.version = fields.read(|field| number(field, 1, 2))?,
             b"set" => {
                 let key = fields.read(|field| self.key(field))?;
                 let value = fields.read(|field| self.value(key, field))?;
@@ -270,6 +315,7 @@ impl Setup {
                 return Ok(Line::Start);
             }
         }
+        self.is_begun = true;
         Ok(Line::Nothing)
     }
 
@@ -390,10 +436,13 @@ impl<'a> Fields<'a> {
         read(self.next()).map_err(|cause| Fault { cause, column: self.column })
     }
 
-    fn options(&mut self) -> Result<Options, Fault> {
+    fn options(&mut self, version: u32) -> Result<Options, Fault> {
+        let extended = self.read(|field| choice(field, b"extended", b"normal"))?;
+        let (size, preferred) = self.read(|field| size(field, version))?;
         Ok(Options {
-            extended: self.read(|field| choice(field, b"extended", b"normal"))?,
-            size: self.read(size)?,
+            extended,
+            size,
+            preferred,
             expedited: self.read(|field| choice(field, b"exp", b"noexp"))?,
             sum: self.read(|field| choice(field, b"sum", b"nosum"))?,
         })
@@ -469,9 +518,13 @@ fn choice(field: &[u8], yes: &[u8], no: &[u8]) -> Result<bool, Cause> {
     }
 }
 
-fn size(field: &[u8]) -> Result<u16, Cause> {
+/// A size in octets, and whether it is a preferred one.
+fn size(field: &[u8], version: u32) -> Result<(u16, bool), Cause> {
+    if let (2, [b'p', digits @ ..]) = (version, field) {
+        return Ok((128 * number(digits, 1, 128)? as u16, true));
+    }
     match number(field, 0, 9_999) {
-        Ok(size @ (128 | 256 | 512 | 1024 | 2048 | 4096 | 8192)) => Ok(size as u16),
+        Ok(size @ (128 | 256 | 512 | 1024 | 2048 | 4096 | 8192)) => Ok((size as u16, false)),
         _ => Err("syntax"),
     }
 }

@@ -1,6 +1,7 @@
 //! Generated scripts.
 
 use crate::journal::{Journal, Mode};
+use crate::script::Command;
 use crate::world::World;
 use std::io::{self, Write};
 
@@ -71,7 +72,7 @@ fn line_of(word: u32, frames: u32, ends: u32) -> String {
 /// Runs a generated script, and hands on each of its lines; the answer is what was told.
 fn generate(seed: u32, count: u32, mut each: impl FnMut(&str) -> io::Result<()>) -> io::Result<Journal> {
     let mut journal = Journal::new(Mode::Counts)?;
-    let mut world = World::new();
+    let mut world = World::new(Command::Run);
     let mut pcg = Pcg::new(u64::from(seed), 1);
     for line in SET_UP {
         each(line)?;

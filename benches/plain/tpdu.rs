@@ -23,7 +23,10 @@ pub struct Proposal<'a> {
     pub extended: bool,
     pub calling: &'a [u8],
     pub called: &'a [u8],
-    pub size: u16,
+    /// In octets.
+    pub size: Option<u16>,
+    /// In units of 128 octets.
+    pub preferred: Option<u32>,
     pub extra: u8,
     pub octets: &'a [u8],
 }
@@ -116,6 +119,7 @@ fn check_parameter(kind: Kind, code: u8, value: &[u8]) -> Result<(), &'static st
         (_, 0xc3) => value.len() == 2,
         (Kind::Cr | Kind::Cc, 0xc1 | 0xc2) => value.len() <= 32,
         (Kind::Cr | Kind::Cc, 0xc0) => size_of(value).is_some(),
+        (Kind::Cr | Kind::Cc, 0xf0) => preferred_of(value).is_some(),
         (Kind::Cr | Kind::Cc, 0xc4 | 0xc6) => value.len() == 1,
         (Kind::Cr | Kind::Cc, 0x85) => value.len() == 2,
         (Kind::Dr, 0xe0) | (Kind::Er, 0xc1) => true,
@@ -134,8 +138,16 @@ fn size_of(value: &[u8]) -> Option<u16> {
     }
 }
 
+fn preferred_of(value: &[u8]) -> Option<u32> {
+    if !(1..=4).contains(&value.len()) {
+        return None;
+    }
+    let number = value.iter().fold(0, |number, octet| 256 * number + u32::from(*octet));
+    (number > 0).then_some(number)
+}
+
 /// The code, the value and the length of the parameter at the front.
-fn parameter(octets: &[u8]) -> Option<(u8, &[u8], usize)> {
+pub fn parameter(octets: &[u8]) -> Option<(u8, &[u8], usize)> {
     let length = usize::from(*octets.get(1)?);
     Some((octets[0], octets.get(2..2 + length)?, 2 + length))
 }
@@ -240,7 +252,8 @@ fn proposal_of<'a>(code: u8, fixed: &[u8], parameters: &'a [u8], octets: &'a [u8
         extended: fixed[4] / 2 % 2 == 1,
         calling: value_of(parameters, 0xc1).unwrap_or(&[]),
         called: value_of(parameters, 0xc2).unwrap_or(&[]),
-        size: value_of(parameters, 0xc0).and_then(size_of).unwrap_or(128),
+        size: value_of(parameters, 0xc0).and_then(size_of),
+        preferred: value_of(parameters, 0xf0).and_then(preferred_of),
         extra: value_of(parameters, 0xc6).map_or(1, |value| value[0]),
         octets,
     }
@@ -267,7 +280,12 @@ pub fn write(tpdu: &Tpdu<'_>, extended: bool, sum: bool) -> Vec<u8> {
             out.push(if proposal.extended { 0x42 } else { 0x40 });
             push_parameter(0xc1, proposal.calling, &mut out);
             push_parameter(0xc2, proposal.called, &mut out);
-            push_parameter(0xc0, &[proposal.size.trailing_zeros() as u8], &mut out);
+            if let Some(size) = proposal.size {
+                push_parameter(0xc0, &[size.trailing_zeros() as u8], &mut out);
+            }
+            if let Some(preferred) = proposal.preferred {
+                push_parameter(0xf0, &[preferred as u8], &mut out);
+            }
             push_parameter(0xc6, &[proposal.extra], &mut out);
             body = proposal.octets;
         }
@@ -324,7 +342,7 @@ fn code_of(tpdu: &Tpdu<'_>, extended: bool) -> u8 {
     }
 }
 
-fn push_parameter(code: u8, value: &[u8], out: &mut Vec<u8>) {
+pub fn push_parameter(code: u8, value: &[u8], out: &mut Vec<u8>) {
     out.push(code);
     out.push(value.len() as u8);
     out.extend_from_slice(value);

@@ -6,11 +6,14 @@ use crate::entity::{Entity, Request};
 use crate::journal::Journal;
 use crate::lans::Lans;
 use crate::network::{Frame, Handled, System, Unit};
-use crate::script::{Fault, Line, Setup, Wish};
+use crate::script::{Command, Fault, Line, Setup, Wish};
+use crate::subset::Subset;
+use crate::ud::{self, Ud};
 use std::collections::VecDeque;
 
 const MOST_AFLOAT: usize = 40_000;
 const MOST_DELIVERIES: u32 = 65_536;
+const LONGEST_DATAGRAM: usize = 16_000;
 const TRANSPORT: u8 = 1;
 const RAW: u8 = 2;
 
@@ -32,8 +35,13 @@ pub struct EndAt {
 struct Network {
     lans: Lans,
     systems: Vec<System>,
+    /// In place of what the systems do, where their network is the inactive subset.
+    subset: Option<Subset>,
+    /// Where connections are made, the entities of the end systems.
     entities: Vec<Option<Entity>>,
     ends: Vec<EndAt>,
+    /// Where datagrams are sent, the selectors of the users of each system.
+    users: Option<Vec<Vec<Vec<u8>>>>,
     life: u32,
     /// The units that may still arrive, with the ticks at which they were taken.
     afloat: VecDeque<(u32, Unit)>,
@@ -42,8 +50,8 @@ struct Network {
 }
 
 impl World {
-    pub fn new() -> World {
-        World { setup: Setup::new(), network: None }
+    pub fn new(command: Command) -> World {
+        World { setup: Setup::new(command), network: None }
     }
 
     /// How many units came up that none sent, where something was injected.
@@ -71,16 +79,22 @@ impl World {
 
 impl Network {
     fn new(setup: &Setup) -> Network {
+        let has_datagrams = setup.command == Command::Datagrams;
         Network {
             lans: Lans::new(&setup.lans, &setup.systems),
             systems: (0..setup.systems.len()).map(|number| System::new(number, setup)).collect(),
+            subset: (setup.command == Command::Inactive).then(|| Subset::new(setup)),
             entities: setup
                 .systems
                 .iter()
                 .enumerate()
-                .map(|(number, system)| system.is_end.then(|| Entity::new(number as u8, system, &setup.settings)))
+                .map(|(number, system)| {
+                    let is_there = system.is_end && !has_datagrams;
+                    is_there.then(|| Entity::new(number as u8, system, &setup.settings))
+                })
                 .collect(),
             ends: Vec::new(),
+            users: has_datagrams.then(|| setup.systems.iter().map(|system| system.selectors.clone()).collect()),
             life: setup.settings.get("life"),
             afloat: VecDeque::new(),
             is_injected: false,
@@ -107,9 +121,13 @@ impl Network {
             Line::Expedite { end, octets } => self.call(end, Call::Expedite(octets), journal),
             Line::Window { end, credit } => self.call(end, Call::Window(credit), journal),
             Line::Unit { system, to, wish, octets } => self.raw_unit(system, to, &wish, octets, journal),
+            Line::Send { system, selector, to, called, octets } => {
+                self.send_datagram(system, to, &Ud { from: &selector, to: &called, octets: &octets }, journal);
+            }
             Line::Tick => self.tick(journal),
             Line::Settle => self.settle(journal),
             Line::Deliver { frame, system } => self.deliver(frame, system, journal),
+            Line::Restart { system } => self.restart(system, journal),
             Line::Inject { lan, system, octets } => self.inject(lan, system, &octets, journal),
         }
     }
@@ -131,8 +149,29 @@ impl Network {
         }
     }
 
+    fn send_datagram(&mut self, system: u8, to: u8, datagram: &Ud<'_>, journal: &mut Journal) {
+        if datagram.octets.len() > LONGEST_DATAGRAM {
+            return journal.no("toolong");
+        }
+        let from = self.systems[usize::from(system)].title.with_selector(TRANSPORT);
+        let to = self.systems[usize::from(to)].title.with_selector(TRANSPORT);
+        let unit = Unit { from, to, octets: ud::write(datagram) };
+        match self.offer(system, &unit, &TRANSPORT_WISH) {
+            Ok(frames) => {
+                journal.datagram("send", system, [datagram.from, to.octets(), datagram.to, datagram.octets]);
+                self.afloat.push_back((self.lans.now, unit));
+                self.send_frames(system, frames, journal);
+            }
+            Err(cause) => journal.no(cause),
+        }
+    }
+
     /// The frames of a unit of a system, or why it is not taken.
     fn offer(&mut self, system: u8, unit: &Unit, wish: &Wish) -> Result<Vec<Frame>, &'static str> {
+        if let Some(subset) = &self.subset {
+            let frame = subset.send(unit)?;
+            return if self.lans.is_full() { Err("full") } else { Ok(vec![frame]) };
+        }
         if self.afloat.len() >= MOST_AFLOAT {
             return Err("full");
         }
@@ -163,7 +202,13 @@ impl Network {
         }
         let now = self.lans.now;
         if let Some(sent) = self.lans.frame(number) {
-            let handled = self.systems[usize::from(system)].receive(now, sent.from, sent.to, &sent.pdu, journal);
+            let handled = match &self.subset {
+                Some(subset) => {
+                    let from = Port { lan: sent.to.lan, snpa: sent.from };
+                    subset.receive(system, from, sent.to, &sent.pdu, journal)
+                }
+                None => self.systems[usize::from(system)].receive(now, sent.from, sent.to, &sent.pdu, journal),
+            };
             self.handle(system, handled, journal);
         }
     }
@@ -194,6 +239,9 @@ impl Network {
         }
         self.send_frames(system, handled.frames, journal);
         if let Some(unit) = handled.unit.filter(|unit| unit.to.selector() == TRANSPORT) {
+            if let Some(users) = &self.users {
+                return show_datagram(system, &users[usize::from(system)], &unit, journal);
+            }
             let mut tpdus = Vec::new();
             if let Some(entity) = &mut self.entities[usize::from(system)] {
                 entity.receive(self.lans.now, unit.from, &unit.octets, &mut self.ends, journal, &mut tpdus);
@@ -233,6 +281,9 @@ impl Network {
     }
 
     fn tick_systems(&mut self, journal: &mut Journal) {
+        if self.subset.is_some() {
+            return;
+        }
         for system in 0..self.systems.len() {
             let frames = self.systems[system].tick(self.lans.now, journal);
             self.send_frames(system as u8, frames, journal);
@@ -260,6 +311,13 @@ impl Network {
         }
     }
 
+    fn restart(&mut self, system: u8, journal: &mut Journal) {
+        journal.of_system("restart", system);
+        if let Some(entity) = &mut self.entities[usize::from(system)] {
+            entity.restart(self.lans.now);
+        }
+    }
+
     fn call(&mut self, number: u32, call: Call, journal: &mut Journal) {
         let Some(end) = (number as usize).checked_sub(1).and_then(|at| self.ends.get(at).copied()) else {
             return journal.no("nosuchend");
@@ -283,6 +341,15 @@ impl Network {
                 Err(cause) => journal.of_system_word("drop", system, cause),
             }
         }
+    }
+}
+
+/// A datagram that came is shown to the user that it is for.
+fn show_datagram(system: u8, users: &[Vec<u8>], unit: &Unit, journal: &mut Journal) {
+    match ud::read(&unit.octets) {
+        Err((cause, place)) => journal.bad("badud", system, cause, place),
+        Ok(ud) if !users.iter().any(|user| user == ud.to) => journal.of_system("nouser", system),
+        Ok(ud) => journal.datagram("datagram", system, [unit.from.octets(), ud.from, ud.to, ud.octets]),
     }
 }
 

@@ -9,10 +9,13 @@ use std::process::Abort;
 use std::test::Fail;
 
 mod connected;
+mod datagrams;
 mod generated;
+mod inactive;
 mod injected;
 mod network;
 mod refused;
+mod restarts;
 mod settled;
 mod sizes;
 mod timed;
@@ -98,9 +101,20 @@ fn expect(
     script: &[&str],
     transcript: &[&str],
 ) -> Result<(), Fail> {
+    expect_of(rt, alloc, "run", script, transcript)
+}
+
+/// The script has the transcript by that command.
+fn expect_of(
+    rt: &impl Abort,
+    alloc: Global,
+    command: &str,
+    script: &[&str],
+    transcript: &[&str],
+) -> Result<(), Fail> {
     let wanted = transcript.concat(alloc)?;
-    let run = ["run".to_string(alloc)?];
-    let made = run_in_memory(alloc, &run, script.concat(alloc)?.as_bytes())?;
+    let words = [command.to_string(alloc)?];
+    let made = run_in_memory(alloc, &words, script.concat(alloc)?.as_bytes())?;
     assert_eq!(rt; made.octets.as_slice(), wanted.as_bytes(), "at {script:?}");
     assert_eq!(rt; made.status, ending(&wanted));
     Ok(())
@@ -416,7 +430,13 @@ const CAPTURE: &[u8] =
 
 #[test]
 fn other_words_are_refused(rt: HostRuntime) -> Result<(), Fail> {
-    let calls: [&[&str]; 3] = [&[], &["walk"], &["run", "run"]];
+    let calls: [&[&str]; 5] = [
+        &[],
+        &["walk"],
+        &["run", "run"],
+        &["datagrams", "run"],
+        &["inactive", "1"],
+    ];
     for call in calls {
         let mut words = Vec::new(rt.alloc());
         for word in call {
@@ -430,7 +450,7 @@ fn other_words_are_refused(rt: HostRuntime) -> Result<(), Fail> {
         );
         assert_eq!(rt;
             sink.written(),
-            b"usage: osi run | frames | decode | storm SEED COUNT\n".as_slice()
+            b"usage: osi run | frames | decode | storm SEED COUNT | datagrams | inactive\n".as_slice()
         );
         assert_eq!(rt; source.read(&mut [0; 8]), Ok(6));
     }

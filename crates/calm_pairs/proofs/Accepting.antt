@@ -1,7 +1,7 @@
 -- The CC of an accept waits alone, so it is the first TPDU that the settle behind it hands over. It goes to the system of the calling end, which is an end of the
 -- same association and takes it: what was agreed is within what it proposed, so it is open, and tells its confirm.
 use Rattle.std.proofs.Common.{◌≡◌, ℕ, ◌==◌, ◌||◌, not, Bool, true, false, List, [], ◌∷◌, ◌++◌, slice_get, slice_set, Contains, Option, Some, None, refl, sym, ◌∙◌, ap, subst, inl, inr, arith}
-use Rattle.std.specs.Prelude.{unwrap_or}
+use Rattle.std.specs.Prelude.{unwrap_or, is_none}
 use Rattle.std.proofs.lemmas.List.Elements.{Contains-append_left, Contains-append_right}
 use Rattle.osi_base.specs.Calls.{Call, Keeps}
 use Rattle.osi_base.specs.Link.{Link}
@@ -142,7 +142,7 @@ module _ (titles : List (List ℕ)) (timers : Timers) (laws : Laws timers (addre
     number_is = by_latest (latest hall.ends c.end.system c.end.reference == c.number) refl c.stands ∙ number_is;
   }
     where
-      by_latest : (same : Bool) → (latest hall.ends c.end.system c.end.reference == c.number) ≡ same → (not same || is_free hall.clock c.entity c.end.reference) ≡ false
+      by_latest : (same : Bool) → (latest hall.ends c.end.system c.end.reference == c.number) ≡ same → (not same || (is_none (end_at c.entity c.end.reference) || is_free hall.clock c.entity c.end.reference)) ≡ false
           → latest hall.ends c.end.system c.end.reference ≡ c.number
       by_latest true is ended = grind arith
       by_latest false is ended = absurd cc

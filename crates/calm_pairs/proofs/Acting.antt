@@ -7,9 +7,6 @@ use Rattle.tp4_number.specs.Number.{whole}
 use Rattle.tp4_flow.specs.declared.step.EndEvent.{EndEvent}
 use Rattle.tp4_conn.specs.End.{End, Moved}
 use Rattle.tp4_conn.specs.Table.{Event, stepped}
-use Rattle.tp4_conn.specs.declared.base.Base.{Base}
-use Rattle.tp4_conn.specs.declared.stage.Stage.{Stage}
-use Rattle.tp4_conn.specs.declared.stage.Stage.TheVariants as stages
 use Rattle.tp4_history.specs.Journals.{IsAside, MakesNone, makes_end}
 use Rattle.tp4_history.proofs.Appended.{shown-append, submitted-append}
 use Rattle.tp4_moves.specs.Lines.{given, shown_in}
@@ -17,34 +14,26 @@ use Rattle.tp4_world.specs.Telling.{ends_after, events_after}
 use Rattle.tp4_world.specs.World.{latest}
 use Rattle.tp4_world.specs.declared.place.EndAt.{EndAt}
 use Rattle.tp4_headline.specs.steps.Acting.{first_of}
-use Rattle.tp4_headline.proofs.ActsTold.{AreTold, HasOwn, ends_stay, step_told}
+use Rattle.tp4_headline.proofs.ActsRows.{AreTold}
+use Rattle.tp4_headline.proofs.ActsTold.{ends_stay}
 use Rattle.tp4_assoc.specs.Laws.{TellsOfNoEnd}
-use Rattle.calm_pairs.specs.steps.Story.{AreOwn, AreOwnIn, HasNoUnits}
-use Rattle.calm_pairs.proofs.Rows.{row_held}
+use Rattle.calm_pairs.specs.steps.Story.{AreOwn, HasNoUnits}
+use Rattle.calm_pairs.proofs.Rows.{row_told}
 use Rattle.calm_pairs.proofs.Telling.{ActsIn, acts_in}
-
-own_in : (b : Base) (stage : Stage) → AreOwnIn b stage → HasOwn whole b stage
-own_in b (stages.AkWait w) are = are.1
-own_in b (stages.Opened o) are = are.1
-own_in b (stages.CrWait w) are = tt
-own_in b (stages.WaitBeforeClose w) are = tt
-own_in b (stages.UserWait since) are = tt
-own_in b (stages.Closing c) are = tt
-own_in b (stages.Frozen when) are = tt
 
 module _ (now : ℕ) (end : End) (event : Event) (are : AreOwn end) (ends : List EndAt) (system : ℕ) (address : List ℕ) where
   abbrev M : Moved
   M = stepped whole now end event
 
   told_own : AreTold end.base.own M.events
-  told_own = step_told whole now end event (own_in end.base end.stage are)
+  told_own = row_told now end event are
 
   pub ends_same : ends_after ends system M.events ≡ ends
   ends_same = ends_stay system address ends end.base.own M.events told_own
 
   pub acts_of : (n : ℕ) (aside lines : List JournalEvent) → latest ends system end.base.own ≡ n → IsAside aside → lines ≡ first_of n event ++ (events_after ends system address M.events ++ aside)
       → ActsIn n lines (given event) (shown_in M.events) M.events
-  acts_of n aside lines at quiet is = acts_in ends system address end.base.own n event M.events aside lines told_own (row_held now end event are) at quiet is
+  acts_of n aside lines at quiet is = acts_in ends system address end.base.own n event M.events aside lines told_own at quiet is
 
 -- ---- what is of no end
 

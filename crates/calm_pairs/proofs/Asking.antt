@@ -31,6 +31,7 @@ use Rattle.calm_pairs.proofs.Acting.{acts_of, ends_same}
 use Rattle.calm_pairs.proofs.Calling.{MayBegin, tells_called, tells_calling}
 use Rattle.calm_pairs.proofs.Queued.{none_posted, party_systems, posts_of, set_still}
 use Rattle.calm_pairs.proofs.Telling.{ActsIn}
+use Rattle.std.specs.Prelude.{is_none}
 
 -- ---- the end that is called
 
@@ -58,7 +59,7 @@ latest_number now ends number end e is = by_same (latest ends end.system end.ref
     same_numbers : (m n : ℕ) → (m == n) ≡ true → m ≡ n
     same_numbers m n e = grind arith
 
-    by_same : (same : Bool) → (latest ends end.system end.reference == number) ≡ same → (not same || is_free now e end.reference) ≡ false → latest ends end.system end.reference ≡ number
+    by_same : (same : Bool) → (latest ends end.system end.reference == number) ≡ same → (not same || (is_none (end_at e end.reference) || is_free now e end.reference)) ≡ false → latest ends end.system end.reference ≡ number
     by_same true at is = same_numbers (latest ends end.system end.reference) number at
     by_same false at is = absurd (cc is)
 

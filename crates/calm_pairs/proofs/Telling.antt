@@ -18,9 +18,9 @@ use Rattle.tp4_world.specs.Telling.{ends_after, events_after, is_urgent}
 use Rattle.tp4_world.specs.World.{latest}
 use Rattle.tp4_world.specs.declared.place.EndAt.{EndAt}
 use Rattle.tp4_headline.specs.steps.Acting.{first_of}
-use Rattle.tp4_headline.proofs.ActsTold.{AreTold, ends_stay}
+use Rattle.tp4_headline.proofs.ActsRows.{AreTold, IsTold}
+use Rattle.tp4_headline.proofs.ActsTold.{ends_stay}
 use Rattle.tp4_headline.proofs.ActsUnits.{given_other, given_own, made_none, shown_other, shown_own}
-use Rattle.calm_pairs.proofs.Rows.{AreHeldBy, IsHeldBy}
 
 -- these events tell of the end of that number: it was given these units, showed those, and told this
 pub record ActsIn (n : ℕ) (lines : List JournalEvent) (gave showed : List Marked) (told : List EndEvent) : Type 0 where
@@ -52,24 +52,24 @@ module _ (system : ℕ) (address : List ℕ) (own n : ℕ) where
       subst (λ (k : ℕ). Contains (events.Held k (is_urgent kind) m ∷ events_after ends system address rest) (events.Held n (is_urgent kind) m)) (sym (ap (latest ends system) same ∙ at))
       (first_there (events.Held n (is_urgent kind) m) (events_after ends system address rest))
 
-  held_in : (told : List EndEvent) (ends : List EndAt) (reference m : ℕ) (kind : HeldKind) → latest ends system own ≡ n → AreTold own told → AreHeldBy own told
+  held_in : (told : List EndEvent) (ends : List EndAt) (reference m : ℕ) (kind : HeldKind) → latest ends system own ≡ n → AreTold own told
       → Contains told (record { reference = reference; what = whats.Held kind m }) → Contains (events_after ends system address told) (events.Held n (is_urgent kind) m)
-  held_in [] ends reference m kind at are held there = absurd (omega (arith, there.1))
-  held_in (first ∷ told) ends reference m kind at are held there = elim (first_or_rest first told (record { reference = reference; what = whats.Held kind m }) there) [
+  held_in [] ends reference m kind at are there = absurd (omega (arith, there.1))
+  held_in (first ∷ told) ends reference m kind at are there = elim (first_or_rest first told (record { reference = reference; what = whats.Held kind m }) there) [
     | inl same ↦
         subst (λ (e : EndEvent). Contains (events_after ends system address (e ∷ told)) (events.Held n (is_urgent kind) m)) (sym same)
-        (held_first ends reference m kind told at (subst (λ (e : EndEvent). IsHeldBy own e.reference e.what) same held.0))
+        (held_first ends reference m kind told at (subst (λ (e : EndEvent). IsTold own e.reference e.what) same are.0))
     | inr rest ↦
         let stays : ends_after ends system (first ∷ []) ≡ ends = ends_stay system address ends own (first ∷ []) (are.0, tt) in
         Contains-append_right (_ ∷ []) (events_after (ends_after ends system (first ∷ [])) system address told) (events.Held n (is_urgent kind) m)
-        (held_in told (ends_after ends system (first ∷ [])) reference m kind (ap (λ (es : List EndAt). latest es system own) stays ∙ at) are.1 held.1 rest)
+        (held_in told (ends_after ends system (first ∷ [])) reference m kind (ap (λ (es : List EndAt). latest es system own) stays ∙ at) are.1 rest)
   ]
 
 -- ---- a step of an end
 
-pub acts_in : (ends : List EndAt) (system : ℕ) (address : List ℕ) (own n : ℕ) (event : Event) (told : List EndEvent) (aside lines : List JournalEvent) → AreTold own told → AreHeldBy own told
+pub acts_in : (ends : List EndAt) (system : ℕ) (address : List ℕ) (own n : ℕ) (event : Event) (told : List EndEvent) (aside lines : List JournalEvent) → AreTold own told
     → latest ends system own ≡ n → IsAside aside → lines ≡ first_of n event ++ (events_after ends system address told ++ aside) → ActsIn n lines (given event) (shown_in told) told
-acts_in ends system address own n event told aside lines are held at quiet is =
+acts_in ends system address own n event told aside lines are at quiet is =
     subst (λ (ls : List JournalEvent). ActsIn n ls (given event) (shown_in told) told) (append_assoc (first_of n event) (events_after ends system address told) aside ∙ sym is)
     (record {
       own_gave = gave n ∙ ap (λ (us : List Marked). us ++ []) (given_own ends system address own n event told are at) ∙ append-nil (given event);
@@ -92,4 +92,4 @@ acts_in ends system address own n event told aside lines are held at quiet is =
     kept : (reference m : ℕ) (kind : HeldKind) → Contains told (record { reference = reference; what = whats.Held kind m }) → Contains (here ++ aside) (events.Held n (is_urgent kind) m)
     kept reference m kind there =
         Contains-append_left here aside (events.Held n (is_urgent kind) m)
-        (Contains-append_right (first_of n event) (events_after ends system address told) (events.Held n (is_urgent kind) m) (held_in system address own n told ends reference m kind at are held there))
+        (Contains-append_right (first_of n event) (events_after ends system address told) (events.Held n (is_urgent kind) m) (held_in system address own n told ends reference m kind at are there))

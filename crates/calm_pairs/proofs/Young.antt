@@ -22,7 +22,7 @@ use Rattle.tp4_conn.specs.declared.stage.Releasing.{Releasing}
 use Rattle.tp4_conn.specs.declared.stage.Requesting.{Requesting}
 use Rattle.tp4_conn.specs.declared.stage.Stage.{Stage}
 use Rattle.tp4_conn.specs.declared.stage.Stage.TheVariants as stages
-use Rattle.tp4_conn.specs.Agreeing.{is_within, options_in}
+use Rattle.tp4_conn.specs.Agreeing.{is_within}
 use Rattle.tp4_conn.specs.AkWait.{ak_wait_tick, ak_wait_tpdu}
 use Rattle.tp4_conn.specs.Calls.{call_refusal}
 use Rattle.tp4_conn.specs.Closing.{closing_tick, closing_tpdu}

@@ -1,8 +1,7 @@
 -- What users ask where nothing waits, and raw units: a refusal alone, or what the entity does.
-use Rattle.std.proofs.Common.{◌≡◌, ℕ, ◌+◌, ◌≤◌, Bool, true, false, List, [], ◌∷◌, ◌++◌, length, Option, Some, None, refl, sym, ◌∙◌, ap, subst, inr, if◌then◌else◌}
-use Rattle.std.specs.Prelude.{nat_lt, slice_get}
+use Rattle.std.proofs.Common.{◌≡◌, ℕ, ◌+◌, ◌≤◌, Bool, true, false, List, [], ◌∷◌, ◌++◌, length, Option, Some, None, refl, sym, ◌∙◌, ap, subst, inr}
+use Rattle.std.specs.Prelude.{slice_get}
 use Rattle.std.specs.List.{AllByRecursion}
-use Rattle.std.proofs.lemmas.Bool.{ltb-false}
 use Rattle.nsap.specs.Address.{selector_of, system_part}
 use Rattle.nsap.proofs.AddressLemmas.{selector_of-append}
 use Rattle.osi_base.specs.Calls.{Call, Keeps, Offer}
@@ -31,6 +30,7 @@ use Rattle.tp4_entity.specs.declared.refusal.EntityRefusal.{EntityRefusal}
 use Rattle.tp4_entity.specs.Entity.{Acted, Entity}
 use Rattle.tp4_entity.specs.References.{least_free}
 use Rattle.tp4_entity.specs.Step.{call_of, calling, connect_refusal, connecting, user_refusal}
+use Rattle.tp4_entity.proofs.Beginning.{short}
 use Rattle.tp4_outcome.specs.Rest.{IsProperStep}
 use Rattle.tp4_outcome.proofs.Ends.{calling_rests, connecting_rests}
 use Rattle.tp4_calm.specs.Claim.{IsUndropped}
@@ -45,6 +45,7 @@ use Rattle.calm_world.specs.steps.Hall.{Calling, Calls as HallCalls, Connecting,
 use Rattle.calm_world.specs.steps.Posting.{AreUnitsOf, IsHall}
 use Rattle.calm_world.proofs.Going.{Stands, Went, acts_go, have_after, kept_after, one_step, still, waiting_after}
 use Rattle.calm_world.proofs.Queueing.{all_parts, none_dropped, raw_behind}
+use Rattle.tp4_entity.proofs.Restarts.{calling_same, connecting_same}
 
 -- what a connect line may ask: one of the sizes, selectors of 32 octets at most, and the address of a system
 pub record IsAsked (titles : List (List ℕ)) (call : ConnectCall) : Type 0 where
@@ -52,13 +53,6 @@ pub record IsAsked (titles : List (List ℕ)) (call : ConnectCall) : Type 0 wher
   pub calling : length call.from_selector ≤ 32
   pub called : length call.to_selector ≤ 32
   pub address : IsAddress titles call.to
-
-pub short : (now : ℕ) (e : Entity) (octets : List ℕ) → connect_refusal now e octets ≡ None → length octets ≤ 32
-short now e octets is = by_long _ _ (nat_lt 32 (length octets)) refl is
-  where
-    by_long : (x : ConnectRefusal) (rest : Option ConnectRefusal) (long : Bool) → nat_lt 32 (length octets) ≡ long → (if long then Some x else rest) ≡ None → length octets ≤ 32
-    by_long x rest true at is = absurd cc
-    by_long x rest false at is = ltb-false 32 (length octets) at
 
 no_quiet : (why : Refused) → AreQuiet (events.No why ∷ [])
 no_quiet why = (record { submits = λ end. refl; shows = λ end. refl; makes = refl }, tt)
@@ -127,7 +121,7 @@ module _ {C : Type 0} (link : C → Link (List ℕ)) (steps : C → Call (List �
           made_is = step.2 ∙ ap (λ (es : List EndAt). connect_event (length es + 1) system reference entity.own call ∷ step.0) s.shows.ends;
         }));
         shows = a.shows;
-        kept = kept_after titles hall.entities system entity acted s.kept there_now goes.rest.proper fine;
+        kept = kept_after titles hall.entities system entity acted s.kept there_now (connecting_same hall.clock reference entity call) goes.rest.proper fine;
         have = have_after titles hall.entities system acted.entity s.have;
         rest = waiting_after link steps law titles Waits fifo hall system acted s.rest goes.rest.idle;
       }
@@ -197,7 +191,7 @@ module _ {C : Type 0} (link : C → Link (List ℕ)) (steps : C → Call (List �
         call_is = refl;
         stands = record {
           shows = a.shows;
-          kept = kept_after titles hall.entities end.system entity acted s.kept there_now goes.rest.proper fine;
+          kept = kept_after titles hall.entities end.system entity acted s.kept there_now (calling_same whole hall.clock end.reference entity call) goes.rest.proper fine;
           have = have_after titles hall.entities end.system acted.entity s.have;
           rest = waiting_after link steps law titles Waits fifo hall end.system acted s.rest goes.rest.idle;
         };

@@ -23,7 +23,7 @@ use Rattle.tp4_conn.specs.Proper.{AreSendable}
 use Rattle.tp4_entity.specs.Association.{met}
 use Rattle.tp4_entity.specs.Entity.{Acted, Entity, at}
 use Rattle.tp4_entity.specs.Step.{first_due}
-use Rattle.tp4_entity.specs.Unit.{HearsUnit}
+use Rattle.tp4_entity.specs.Unit.{HearsUnit, TakesBy, TakesUnit}
 use Rattle.tp4_outcome.specs.Rest.{AreProper, IsProperStep}
 use Rattle.tp4_outcome.proofs.Heards.{heard_rests}
 use Rattle.tp4_calm.specs.Claim.{IsUndropped}
@@ -40,18 +40,26 @@ use Rattle.calm_world.specs.steps.Hall.{AreWaiting, Does, Done, Goes, Hall, IsAd
 use Rattle.calm_world.specs.steps.Posting.{AreKept, AreUnitsOf, IsHall, IsKept, IsUnitOf}
 use Rattle.calm_world.proofs.Queueing.{all_parts, all_sent, none_dropped}
 use Rattle.calm_world.proofs.Reading.{heard_as, was}
+use Rattle.tp4_entity.specs.References.{is_within}
+use Rattle.tp4_conn.specs.End.{frozen_for}
+use Rattle.tp4_entity.proofs.Restarts.{hearing_same}
 
 -- ---- entities
 
+-- an entity that never began again hears each unit
+never_silent : (wrap : ℕ → ℕ → ℕ) (now : ℕ) (e : Entity) (from octets : List ℕ) (acted : Acted) → e.restarted ≡ None → TakesUnit wrap now e from octets acted → HearsUnit wrap now e from octets acted
+never_silent wrap now e from octets acted never takes =
+    subst (λ (silent : Bool). TakesBy silent wrap now e from octets acted) (ap (is_within now (frozen_for e.timers)) never) takes
+
 -- what an entity did leaves all as they have to be
 pub kept_after : (titles : List (List ℕ)) (placed : List Placed) (system : ℕ) (entity : Entity) (acted : Acted) → AreKept titles placed → entity_at placed system ≡ Some entity
-    → AreProper acted.entity → ActsFine (IsAddress titles) entity.own acted → AreKept titles (with_entity placed system acted.entity)
-kept_after titles placed system entity acted kept there proper fine other x is = elim (with_any placed system other acted.entity x is) [
+    → acted.entity.restarted ≡ entity.restarted → AreProper acted.entity → ActsFine (IsAddress titles) entity.own acted → AreKept titles (with_entity placed system acted.entity)
+kept_after titles placed system entity acted kept there same proper fine other x is = elim (with_any placed system other acted.entity x is) [
   | inl here ↦
       let was = kept system entity there in
       subst (λ (n : ℕ). IsKept titles n x) (sym here.0)
       (subst (IsKept titles system) (sym here.1)
-      (record { title = was.title; title_is = was.title_is; own = fine.own_is ∙ was.own; proper = proper; ends = fine.ends }))
+      (record { title = was.title; title_is = was.title_is; own = fine.own_is ∙ was.own; proper = proper; ends = fine.ends; never = same ∙ was.never }))
   | inr before ↦ kept other x before
 ]
 
@@ -239,9 +247,10 @@ module _ {C : Type 0} (link : C → Link (List ℕ)) (steps : C → Call (List �
         shows : IsHall link titles Waits mid left_hall queue
         shows = record { clock = clock ∙ s.shows.clock; entities = s.shows.entities; ends = s.shows.ends; waits = waits; units = left }
 
-        takes : (acted : Acted) → HearsUnit whole (link below).clock here.0 unit.from unit.octets acted → Acts link steps mid system here.0.own acted later new → Went hall made new
+        takes : (acted : Acted) → TakesUnit whole (link below).clock here.0 unit.from unit.octets acted → Acts link steps mid system here.0.own acted later new → Went hall made new
         takes acted heard acts =
-            let now : HearsUnit whole hall.clock here.0 unit.from unit.octets acted = subst (λ (n : ℕ). HearsUnit whole n here.0 unit.from unit.octets acted) (clock ∙ s.shows.clock) heard in
+            let now : HearsUnit whole hall.clock here.0 unit.from unit.octets acted =
+            never_silent whole hall.clock here.0 unit.from unit.octets acted kept.never (subst (λ (n : ℕ). TakesUnit whole n here.0 unit.from unit.octets acted) (clock ∙ s.shows.clock) heard) in
             let proper : IsProperStep hall.clock acted = heard_rests whole hall.clock here.0 unit.from unit.octets acted (record { proper = kept.proper; idle = s.rest system here.0 here.1 }) now in
             let from : IsAddress titles unit.from = record { system = post.system; title = is.title; title_is = is.title_is; address_is = is.from } in
             let fine : ActsFine (IsAddress titles) here.0.own acted = hearing_fine (IsAddress titles) unit.from from whole hall.clock here.0 unit.octets acted kept.ends now in
@@ -267,7 +276,7 @@ module _ {C : Type 0} (link : C → Link (List ℕ)) (steps : C → Call (List �
               queue = a.queue;
               goes = goes_then titles hall hall next made front later (one_step titles hall hall front s.kept (Still (are_aside front quiet) refl)) (one_step titles hall next later s.kept (Meeting meets)) made_is;
               shows = a.shows;
-              kept = kept_after titles hall.entities system here.0 acted s.kept here.1 proper.rest.proper fine;
+              kept = kept_after titles hall.entities system here.0 acted s.kept here.1 (hearing_same whole hall.clock here.0 unit.from unit.octets acted now) proper.rest.proper fine;
               have = have_after titles hall.entities system acted.entity s.have;
               rest = waiting_after hall system acted s.rest proper.rest.idle;
             }

@@ -45,13 +45,15 @@ use Rattle.calm_world.specs.Run.{IsCalmRun, IsStart}
 use Rattle.calm_world.specs.Service.{ConnectsAndSettles, ConnectsAreIndicated, IsIndicationOf, MayIndicate}
 use Rattle.calm_world.specs.steps.Hall.{Calling, Clocking, Connecting, Done, Goes, Hall, IsReadBy, Meeting, Meets, More, Post, Step, Still, after, with_new}
 use Rattle.calm_world.specs.steps.Posting.{AreKept, AreUnitsOf, IsHall}
-use Rattle.calm_world.proofs.Asking.{IsAsked, short}
+use Rattle.tp4_entity.proofs.Beginning.{short}
+use Rattle.calm_world.proofs.Asking.{IsAsked}
 use Rattle.calm_world.proofs.Going.{HasSettled, Stands, acts_go, have_after, kept_after, settled, stands_then, waiting_after}
 use Rattle.calm_world.proofs.Queueing.{all_parts}
 use Rattle.calm_world.proofs.Starting.{first_hall, run_settles}
 use Rattle.tp4_headline.specs.Headline.{AreDistinct}
 use Rattle.tp4_headline.proofs.WorldPlaces.{some_same}
 use Rattle.tp4_conn.specs.declared.timers.Timers.{Timers}
+use Rattle.tp4_entity.proofs.Restarts.{connecting_same}
 
 -- ---- what waits first is met first
 
@@ -142,7 +144,7 @@ module _ {C : Type 0} (link : C → Link (List ℕ)) (steps : C → Call (List �
         queue = a.queue;
         stands = record {
           shows = a.shows;
-          kept = kept_after titles hall.entities system entity acted s.kept there_now goes.rest.proper fine;
+          kept = kept_after titles hall.entities system entity acted s.kept there_now (connecting_same hall.clock reference entity call) goes.rest.proper fine;
           have = have_after titles hall.entities system acted.entity s.have;
           rest = waiting_after link steps law titles Waits fifo hall system acted s.rest goes.rest.idle;
         };

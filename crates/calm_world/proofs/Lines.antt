@@ -75,6 +75,8 @@ module _ {C : Type 0} (link : C → Link (List ℕ)) (steps : C → Call (List �
   asked (lines.Deliver number system) script old new hall queue made s none calm proper path all step other = absurd calm
   asked lines.Settle script old new hall queue made s none calm proper path all step other = absurd (other refl)
   asked (lines.Inject lan system octets) script old new hall queue made s none calm proper path all step other = absurd calm
+  asked (lines.Restart system) script old new hall queue made s none calm proper path all step other = absurd calm
+  asked (lines.Send system selector to called octets) script old new hall queue made s none calm proper path all step other = absurd step
   asked (lines.Version version) script old new hall queue made s none calm proper path all step other = absurd step
   asked (lines.Set key value) script old new hall queue made s none calm proper path all step other = absurd step
   asked (lines.Lan name bound room) script old new hall queue made s none calm proper path all step other = absurd step
@@ -84,6 +86,7 @@ module _ {C : Type 0} (link : C → Link (List ℕ)) (steps : C → Call (List �
   asked (lines.Route system prefix hop lan) script old new hall queue made s none calm proper path all step other = absurd step
   asked (lines.Path name kind systems) script old new hall queue made s none calm proper path all step other = absurd step
   asked (lines.Tsap system selector) script old new hall queue made s none calm proper path all step other = absurd step
+  asked (lines.Relay system selector to called) script old new hall queue made s none calm proper path all step other = absurd step
   asked lines.Start script old new hall queue made s none calm proper path all step other = absurd step
 
   -- a line, and whether the next one may go
@@ -100,6 +103,7 @@ module _ {C : Type 0} (link : C → Link (List ℕ)) (steps : C → Call (List �
       record { went = done.went; may = inl done.none; calm = calm }
   line_goes (lines.Deliver number system) script old new hall queue made s may calm proper path all step = absurd calm
   line_goes (lines.Inject lan system octets) script old new hall queue made s may calm proper path all step = absurd calm
+  line_goes (lines.Restart system) script old new hall queue made s may calm proper path all step = absurd calm
   line_goes line script old new hall queue made s (inl none) calm proper path all step = record {
     went = asked line script old new hall queue made s none calm proper path all step (λ is. absurd cc);
     may = inr calm.0;

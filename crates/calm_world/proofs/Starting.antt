@@ -73,6 +73,7 @@ module _ {C : Type 0} (titles : List (List ℕ)) (timers : Timers) (Waits : C �
         own = ap (λ (x : Entity). x.own) (sym new.entity_is) ∙ new.holds.own;
         proper = (rests 0 system e is).proper;
         ends = none_fine (IsAddress titles) e.ends none;
+        never = ap (λ (x : Entity). x.restarted) (sym new.entity_is) ∙ new.holds.never;
       }
 
   module _ (link : C → Link (List ℕ)) (steps : C → Call (List ℕ) → C → Type 0)

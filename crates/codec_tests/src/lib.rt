@@ -1,4 +1,4 @@
-//! Tests of the codecs over octets counted by hand, with checksums from outside: sources and sinks, addresses, parts of headers, LAN frames, options, CLNP PDUs, hellos, TPDUs.
+//! Tests of the codecs over octets counted by hand, with checksums from outside: sources and sinks, addresses, parts of headers, LAN frames, options, CLNP PDUs, hellos, TPDUs, UDs.
 #![tactic(auto)]
 
 #[cfg(test)]
@@ -17,3 +17,5 @@ mod parts;
 mod pdus;
 #[cfg(test)]
 mod tpdus;
+#[cfg(test)]
+mod uds;

@@ -107,6 +107,7 @@ module _ (names : Declared) (sized : Bool) where
   field_fine (forms.Named named.System) parts more field is f = through sized _ _ more is (λ value read. record { size = f.size; credit = f.credit; octets = f.octets; selector = f.selector; called = f.called })
   field_fine (forms.Named named.EndSystem) parts more field is f = through sized _ _ more is (λ value read. record { size = f.size; credit = f.credit; octets = f.octets; selector = f.selector; called = f.called })
   field_fine (forms.Named named.To) parts more field is f = through sized _ _ more is (λ value read. record { size = f.size; credit = f.credit; octets = f.octets; selector = f.selector; called = f.called })
+  field_fine (forms.Named named.Other) parts more field is f = through sized _ _ more is (λ value read. record { size = f.size; credit = f.credit; octets = f.octets; selector = f.selector; called = f.called })
   field_fine (forms.Named named.Next) parts more field is f = through sized _ _ more is (λ value read. record { size = f.size; credit = f.credit; octets = f.octets; selector = f.selector; called = f.called })
   field_fine (forms.Named named.Lan) parts more field is f = through sized _ _ more is (λ value read. record { size = f.size; credit = f.credit; octets = f.octets; selector = f.selector; called = f.called })
   field_fine (forms.Named named.PortLan) parts more field is f = through sized _ _ more is (λ value read. record { size = f.size; credit = f.credit; octets = f.octets; selector = f.selector; called = f.called })

@@ -13,12 +13,14 @@ use Rattle.clnp_route.specs.declared.table.RouteRow.{RouteRow}
 use Rattle.clnp_route.specs.Routes.{has_prefix}
 use Rattle.osi_script.specs.Grammar.{many_from}
 use Rattle.osi_script.specs.Known.{Declared, KnownSystem, end_of as known_end, ports_of, routes_of, selectors_of, has_snpa, has_port, is_among, is_end}
-use Rattle.osi_script.specs.Names.{AreIntermediateSystems}
+use Rattle.osi_script.specs.Names.{AreIntermediateSystems, IsEndSystem}
+use Rattle.osi_setup.specs.declared.relay.RelayLine.{RelayLine}
 use Rattle.osi_setup.specs.SetUp.{System, SetUp, end_at, rows_at, port_on}
 use Rattle.law_setup.specs.Agreeing.{AreOne, shape_of, known_shape, Shape}
-use Rattle.osi_setup.specs.Fitting.{IsWell, IsTitle, IsNewTitle, IsNewPort, IsNewRoute, IsNewPath, IsNewSelector, most_ports}
+use Rattle.osi_setup.specs.Fitting.{IsWell, IsTitle, IsNewTitle, IsNewPort, IsNewRoute, IsNewPath, IsNewRelay, IsNewSelector, most_ports}
 use Rattle.osi_setup.proofs.Elements.{each, none_pass}
 use Rattle.osi_setup.proofs.Ports.{of_each, numbers_differ}
+use Rattle.law_setup.proofs.Relays.{RelayRead}
 use Rattle.law_setup.proofs.Values.{IsWithin, PortRead, RouteRead, TitleRead, many_left}
 
 -- ---- what both know of the systems
@@ -175,4 +177,19 @@ pub selector_fits : (names : Declared) (setup : SetUp) (system : ℕ) (selector 
 selector_fits names setup system selector one known fresh = record {
   known = subst (λ (n : ℕ). system < n) (sym (as_many names setup one)) known;
   fresh = one.selectors system selector ∙ fresh;
+}
+
+-- ---- relays
+
+pub relay_fits : (names : Declared) (setup : SetUp) (relay : RelayLine) → AreOne names setup → IsEndSystem names relay.system → IsEndSystem names relay.to → (relay.to ≡ relay.system → ⊥)
+    → RelayRead names relay.system relay.selector relay.called → IsNewRelay setup relay
+relay_fits names setup relay one own other apart read = record {
+  fits = record {
+    own = ends_one setup.systems names.systems relay.system one.systems ∙ own.1;
+    other = ends_one setup.systems names.systems relay.to one.systems ∙ other.1;
+    apart = apart;
+    selector = read.selector_is;
+    called = read.called_is;
+  };
+  fresh = selector_fits names setup relay.system relay.selector one own.0 read.fresh;
 }

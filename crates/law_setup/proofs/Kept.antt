@@ -43,8 +43,9 @@ use Rattle.osi_setup.specs.Fitting.{IsWell}
 use Rattle.law_setup.specs.Lines.{Kept, RunsAt}
 use Rattle.osi_setup.proofs.Elements.{There, none_pass, there, set_keeps}
 use Rattle.law_setup.proofs.Fields.{agreed_size, all_fine}
-use Rattle.law_setup.proofs.Fitted.{as_many, path_fits, port_fits, route_fits, selector_fits, title_fits, turned}
+use Rattle.law_setup.proofs.Fitted.{as_many, path_fits, port_fits, relay_fits, route_fits, selector_fits, title_fits, turned}
 use Rattle.osi_setup.proofs.Ports.{number_is, numbers_differ, own_is, own_none, own_port, ports_push}
+use Rattle.law_setup.proofs.Relays.{relay_values, send_values}
 use Rattle.law_setup.proofs.Values.{lan_values, path_values, port_values, route_values, selector_values, set_values, title_values}
 use Rattle.osi_setup.proofs.Wellness.{made_hop, with_one, with_row}
 
@@ -325,6 +326,14 @@ selector_one names setup parts one known =
           ∙ sym (ap (λ (k : List KnownSystem). is_among (selectors_of (slice_get k n)) other) right);
     }
 
+-- ---- a relay
+
+relay_one : (names : Declared) (setup : SetUp) (parts : Parts) → AreOne names setup → parts.system < length names.systems
+    → AreOne (declared_by names (row_of words.Relay).effect parts) (set_up setup (lines.Relay parts.system parts.selector parts.other parts.called))
+relay_one names setup parts one known =
+    let more = selector_one names setup parts one known in
+    record { lans = more.lans; bounds = more.bounds; life = more.life; systems = more.systems; ports = more.ports; selectors = more.selectors }
+
 -- ---- a time
 
 time_one : (names : Declared) (setup : SetUp) (key : Key) (value : ℕ) → AreOne names setup → AreOne (record names { settings = with_setting names.settings key value }) (with_time setup key value)
@@ -398,6 +407,11 @@ module _ (names : Declared) (setup : SetUp) (past column : ℕ) (fields : List (
     fits = selector_fits names setup parts.system parts.selector one known.0 (selector_values names past column fields parts count filled);
     one = selector_one names setup parts one known.0;
   }
+  word_kept words.Relay placed count filled limit known = record {
+    fits = relay_fits names setup (record { system = parts.system; selector = parts.selector; to = parts.other; called = parts.called }) one known.0 known.1 known.2
+        (relay_values names past column fields parts count filled);
+    one = relay_one names setup parts one known.0.0;
+  }
   word_kept words.Connect placed count filled limit known = absurd (not_out names.started begun placed)
   word_kept words.Accept placed count filled limit known = absurd (not_out names.started begun placed)
   word_kept words.Refuse placed count filled limit known = absurd (not_out names.started begun placed)
@@ -407,6 +421,8 @@ module _ (names : Declared) (setup : SetUp) (past column : ℕ) (fields : List (
   word_kept words.Window placed count filled limit known = absurd (not_out names.started begun placed)
   word_kept words.Settle placed count filled limit known = absurd (not_out names.started begun placed)
   word_kept words.Inject placed count filled limit known = absurd (not_out names.started begun placed)
+  word_kept words.Restart placed count filled limit known = absurd (not_out names.started begun placed)
+  word_kept words.Send placed count filled limit known = absurd (not_out names.started begun placed)
 
 came_kept : (names : Declared) (setup : SetUp) (reading : Reading) → AreOne names setup → IsWell setup → names.started ≡ false → NamesDeclared names reading.line
     → Came names reading → Kept setup reading.line reading.names
@@ -446,6 +462,10 @@ module _ (names : Declared) (clock : ℕ) (past column : ℕ) (fields : List (Li
   word_runs words.Settle placed count filled known = tt
   word_runs words.Deliver placed count filled known = tt
   word_runs words.Inject placed count filled known = tt
+  word_runs words.Restart placed count filled known = known.0
+  word_runs words.Send placed count filled known =
+      let sent = send_values names past column fields parts count filled in
+      (known.0.0, known.1.0, sent.selector_is, sent.called_is)
   word_runs words.Set placed count filled known = absurd (cc)
   word_runs words.Lan placed count filled known = absurd (cc)
   word_runs words.Es placed count filled known = absurd (cc)
@@ -454,6 +474,7 @@ module _ (names : Declared) (clock : ℕ) (past column : ℕ) (fields : List (Li
   word_runs words.Route placed count filled known = absurd (cc)
   word_runs words.Path placed count filled known = absurd (cc)
   word_runs words.Tsap placed count filled known = absurd (cc)
+  word_runs words.Relay placed count filled known = absurd (cc)
   word_runs words.Version placed count filled known = absurd (none_behind _ names.started placed begun)
   word_runs words.Start placed count filled known = absurd (cc)
 

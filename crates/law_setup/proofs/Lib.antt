@@ -4,5 +4,6 @@ pub mod InOctets
 pub mod Kept
 pub mod Octets
 pub mod Proper
+pub mod Relays
 pub mod Started
 pub mod Values

@@ -44,6 +44,9 @@ word_octets names past column number fields parts words.Es count filled = (title
 word_octets names past column number fields parts words.Is count filled = (title_values names past column fields parts count filled).octets
 word_octets names past column number fields parts words.Port count filled = (port_values names past column fields parts count filled).octets
 word_octets names past column number fields parts words.Tsap count filled = (all_fine names (row_of words.Tsap).fields fields column parts filled).selector.octets
+word_octets names past column number fields parts words.Relay count filled =
+    let fine = all_fine names (row_of words.Relay).fields fields column parts filled in
+    (fine.selector, fine.called)
 word_octets names past column number fields parts words.Connect count filled =
     let fine = all_fine names (row_of words.Connect).fields fields column parts filled in
     (fine.selector, fine.called, fine.octets)
@@ -64,6 +67,10 @@ word_octets names past column number fields parts words.Window count filled = tt
 word_octets names past column number fields parts words.Tick count filled = tt
 word_octets names past column number fields parts words.Settle count filled = tt
 word_octets names past column number fields parts words.Deliver count filled = tt
+word_octets names past column number fields parts words.Restart count filled = tt
+word_octets names past column number fields parts words.Send count filled =
+    let fine = all_fine names (row_of words.Send).fields fields column parts filled in
+    (fine.selector, fine.called, fine.octets)
 
 came_octets : (names : Declared) (reading : Reading) → Came names reading → LineInOctets reading.line
 came_octets names reading (Idle is) = subst (λ (r : Reading). LineInOctets r.line) (sym is) tt
@@ -189,6 +196,8 @@ octets_after setup (lines.Path name kind systems) o f is = record {
   paths = push (λ (path : Path). AllByRecursion IsNsap path.titles) setup.paths _ o.paths (titles_in setup systems o f.known);
 }
 octets_after setup (lines.Tsap system selector) o f is = selector_in setup system selector o
+octets_after setup (lines.Relay system selector to called) o f is =
+    same_in (record setup { systems = with_selector setup.systems system selector }) _ (selector_in setup system selector o) refl refl refl
 octets_after setup (lines.Connect system selector to called options octets) o f is = absurd f
 octets_after setup (lines.Accept end options octets) o f is = absurd f
 octets_after setup (lines.Refuse end octets) o f is = absurd f
@@ -201,6 +210,8 @@ octets_after setup lines.Tick o f is = absurd f
 octets_after setup lines.Settle o f is = absurd f
 octets_after setup (lines.Deliver number system) o f is = absurd f
 octets_after setup (lines.Inject lan system octets) o f is = absurd f
+octets_after setup (lines.Restart system) o f is = absurd f
+octets_after setup (lines.Send system selector to called octets) o f is = absurd f
 
 -- ---- the network begins
 

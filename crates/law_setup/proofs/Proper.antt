@@ -60,6 +60,7 @@ short_field : (names : Declared) (form : Form) (parts more : Parts) (field : Lis
 short_field names (forms.Named named.System) parts more field is s = put_short _ _ more is (λ value read. s)
 short_field names (forms.Named named.EndSystem) parts more field is s = put_short _ _ more is (λ value read. s)
 short_field names (forms.Named named.To) parts more field is s = put_short _ _ more is (λ value read. s)
+short_field names (forms.Named named.Other) parts more field is s = put_short _ _ more is (λ value read. s)
 short_field names (forms.Named named.Next) parts more field is s = put_short _ _ more is (λ value read. s)
 short_field names (forms.Named named.Lan) parts more field is s = put_short _ _ more is (λ value read. s)
 short_field names (forms.Named named.PortLan) parts more field is s = put_short _ _ more is (λ value read. s)
@@ -115,6 +116,7 @@ word_short number words.Port parts s = tt
 word_short number words.Route parts s = tt
 word_short number words.Path parts s = tt
 word_short number words.Tsap parts s = tt
+word_short number words.Relay parts s = tt
 word_short number words.Version parts s = tt
 word_short number words.Start parts s = tt
 word_short number words.Connect parts s = s
@@ -129,6 +131,8 @@ word_short number words.Tick parts s = tt
 word_short number words.Settle parts s = tt
 word_short number words.Deliver parts s = tt
 word_short number words.Inject parts s = tt
+word_short number words.Restart parts s = tt
+word_short number words.Send parts s = tt
 
 came_short : (names : Declared) (reading : Reading) → Came names reading → HasShort reading.line
 came_short names reading (Idle is) = subst (λ (r : Reading). HasShort r.line) (sym is) tt
@@ -147,6 +151,7 @@ line_proper count clock (lines.Port system lan snpa) runs s = tt
 line_proper count clock (lines.Route system prefix next lan) runs s = tt
 line_proper count clock (lines.Path name kind systems) runs s = tt
 line_proper count clock (lines.Tsap system selector) runs s = tt
+line_proper count clock (lines.Relay system selector to called) runs s = tt
 line_proper count clock lines.Start runs s = tt
 line_proper count clock (lines.Connect system selector to called options octets) runs s = (runs.2, s.0, s.1)
 line_proper count clock (lines.Accept end options octets) runs s = runs
@@ -160,6 +165,8 @@ line_proper count clock lines.Tick runs s = tt
 line_proper count clock lines.Settle runs s = tt
 line_proper count clock (lines.Deliver number system) runs s = tt
 line_proper count clock (lines.Inject lan system octets) runs s = tt
+line_proper count clock (lines.Restart system) runs s = tt
+line_proper count clock (lines.Send system selector to called octets) runs s = tt
 
 -- ---- the lines after the set-up
 

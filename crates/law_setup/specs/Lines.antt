@@ -9,7 +9,7 @@ use Rattle.tp4_world.specs.Telling.{asked_options}
 use Rattle.osi_script.specs.declared.line.Line.{Line}
 use Rattle.osi_script.specs.declared.line.Line.TheVariants as lines
 use Rattle.osi_script.specs.Known.{Declared}
-use Rattle.osi_setup.specs.Fitting.{Fits}
+use Rattle.osi_setup.specs.Fitting.{Fits, IsSelector}
 use Rattle.osi_setup.specs.SetUp.{SetUp, rows_at, set_up, titles_of}
 use Rattle.law_setup.specs.Agreeing.{AreOne}
 
@@ -33,6 +33,8 @@ RunsAt count clock lines.Tick = clock < 4000000000
 RunsAt count clock lines.Settle = Unit {0}
 RunsAt count clock (lines.Deliver number system) = Unit {0}
 RunsAt count clock (lines.Inject lan system octets) = Unit {0}
+RunsAt count clock (lines.Restart system) = system < count
+RunsAt count clock (lines.Send system selector to called octets) = (system < count) × (to < count) × IsSelector selector × IsSelector called
 RunsAt count clock line = ⊥
 
 -- a selector has 32 octets at most
@@ -46,6 +48,7 @@ LineInOctets (lines.Es name title) = IsNsap title
 LineInOctets (lines.Is name title) = IsNsap title
 LineInOctets (lines.Port system lan snpa) = IsSnpa snpa
 LineInOctets (lines.Tsap system selector) = AreOctets selector
+LineInOctets (lines.Relay system selector to called) = IsShort selector × IsShort called
 LineInOctets (lines.Connect system selector to called options octets) = IsShort selector × IsShort called × AreOctets octets
 LineInOctets (lines.Accept end options octets) = AreOctets octets
 LineInOctets (lines.Refuse end octets) = AreOctets octets
@@ -54,6 +57,7 @@ LineInOctets (lines.Data end octets) = AreOctets octets
 LineInOctets (lines.Expedite end octets) = AreOctets octets
 LineInOctets (lines.Unit system to wish octets) = AreOctets octets
 LineInOctets (lines.Inject lan system octets) = AreOctets octets
+LineInOctets (lines.Send system selector to called octets) = IsShort selector × IsShort called × AreOctets octets
 LineInOctets line = Unit {0}
 
 -- what is set up is in octets

@@ -2,6 +2,8 @@
 #![tactic(auto)]
 
 #[cfg(test)]
+mod inactive;
+#[cfg(test)]
 mod lans;
 #[cfg(test)]
 mod neighbours;

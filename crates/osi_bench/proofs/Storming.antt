@@ -1,7 +1,7 @@
 -- The lines of a generated script run one after another: a front of them, and one line more.
-use Rattle.std.proofs.Common.{◌≡◌, ◌⊎◌, ℕ, zero, suc, ◌+◌, ◌<◌, ◌≤◌, Bool, List, [], ◌∷◌, ◌++◌, length, map, take, drop, inl, inr, refl, sym, ◌∙◌, ap, subst, arith, append_assoc, length-append, Option, Some}
+use Rattle.std.proofs.Common.{◌≡◌, ◌⊎◌, ℕ, zero, suc, ◌+◌, ◌<◌, ◌≤◌, List, [], ◌∷◌, ◌++◌, length, map, take, drop, inl, inr, refl, sym, ◌∙◌, ap, subst, arith, append_assoc, length-append, Option}
 use Rattle.std.specs.Prelude.{Ok, Result, get_or}
-use Rattle.std.proofs.lemmas.List.{append-nil, map-append, take-append-drop, take_all}
+use Rattle.std.proofs.lemmas.List.{map-append, take-append-drop, take_all}
 use Rattle.std.proofs.Math.ListN.{drop_of_length-le}
 use Rattle.std.specs.List.{count_by}
 use Rattle.rand_core.specs.Steps.{first_words}
@@ -21,12 +21,11 @@ use Rattle.osi_storm.specs.Counted.{counts_of, is_frame, makes_end}
 use Rattle.osi_storm.specs.declared.counts.Counts.{Counts}
 use Rattle.osi_storm.specs.declared.request.Storm.{Storm}
 use Rattle.osi_storm.specs.Line.{line_text, set_up_lines}
-use Rattle.osi_storm.specs.Read.{AreRead, RunsStorms}
+use Rattle.osi_storm.specs.Read.{RunsStorms}
 use Rattle.osi_storm.specs.Summary.{summary_line}
-use Rattle.osi_storm.specs.Words.{words}
 use Rattle.osi_storm.proofs.EachLine.{are_read}
-use Rattle.osi_script.specs.Table.{all_words}
-use Rattle.osi_bench.specs.Bench.{Bench, FillsJournal, RunsLine, first_bench, most_events}
+use Rattle.osi_script.specs.declared.form.Dialect.TheVariants as dialects
+use Rattle.law_run.specs.Bench.{Bench, FillsJournal, RunsLine, first_bench, most_events}
 use Rattle.osi_bench.specs.Storm.{AsksSummary, StormFills, StormRuns, SummaryOutcome, as_it_stands, line_after, storm_lines}
 use Rattle.osi_bench.specs.Text.{done_line, toomuch_line}
 use Rattle.osi_bench.specs.steps.Storming.{Fills, Goes, HasJournal, IsKnown, IsReady, Stands}
@@ -98,7 +97,7 @@ fills_at lines rest line first bench last start counts text made goes is fills =
 one_reading : (read : Result Reading LineFault) (first second : Reading) → read ≡ Ok first → read ≡ Ok second → first.names ≡ second.names
 one_reading read first second a b = let same : first ≡ second = cc in ap (λ (r : Reading). r.names) same
 
-read_by : RunsStorms all_words
+pub read_by : RunsStorms dialects.Run
 read_by = (refl, (refl, (refl, (refl, (refl, (refl, (refl, (refl, (refl, (refl, (refl, (refl, (refl, (refl, (refl, (refl, tt))))))))))))))))
 
 -- the lines of the set-up from one on are read by these names, and leave names that are ready for words
@@ -108,8 +107,8 @@ pub record AreLeft (texts : List (List ℕ)) (names : Declared) : Type 0 where
   pub says : Says names texts script last
   pub ready : IsReady last
 
-pub all_left : AreLeft set_up_lines (nothing_declared all_words)
-all_left = let h = are_read all_words read_by in record { script = h.said; last = h.names; says = h.set_up; ready = h.each }
+pub all_left : AreLeft set_up_lines (nothing_declared dialects.Run)
+all_left = let h = are_read dialects.Run read_by in record { script = h.said; last = h.names; says = h.set_up; ready = λ word frames ends few made. let r = h.each word frames ends few made in (r.0, r.1) }
 
 known_first : (text : List ℕ) (texts : List (List ℕ)) (names last : Declared) (script : List Line) → Says names (text ∷ texts) script last → IsKnown names text
 known_first text texts names last [] h = absurd h
@@ -210,7 +209,7 @@ unfolding first_words
 word_length step zero state = refl
 word_length step (suc count) state = ap suc (word_length step count ((step state).1))
 
-few_frames : (count size : ℕ) → count ≤ size → size ≤ most_events → count < 1000000000
+pub few_frames : (count size : ℕ) → count ≤ size → size ≤ most_events → count < 1000000000
 few_frames count size few most = omega arith
 
 ready_read : (names : Declared) (bench : Bench) (counts : Counts) (word : ℕ) → IsReady names → HasJournal bench counts

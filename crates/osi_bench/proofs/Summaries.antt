@@ -1,5 +1,5 @@
 -- A generated script asks for one status and one text, and that comes, or a failure in its place.
-use Rattle.std.proofs.Common.{◌≡◌, ◌≢◌, ◌⊎◌, ℕ, List, [], ◌∷◌, ◌++◌, Option, None, Some, inl, inr, refl, sym, ◌∙◌, ap, subst}
+use Rattle.std.proofs.Common.{◌≡◌, ◌⊎◌, ℕ, List, [], ◌∷◌, ◌++◌, Option, None, Some, inl, inr, refl, sym, ◌∙◌, ap, subst}
 use Rattle.line_loop.specs.Exact.{IsFailure}
 use Rattle.osi_base.specs.Ends.{HasRisen, Put}
 use Rattle.osi_base.specs.declared.status.Status.{Status}
@@ -8,10 +8,10 @@ use Rattle.osi_journal.specs.declared.event.Event.{Event}
 use Rattle.osi_storm.specs.Counted.{counts_of}
 use Rattle.osi_storm.specs.declared.request.Storm.{Storm}
 use Rattle.osi_storm.specs.Summary.{summary_line}
-use Rattle.osi_bench.specs.Bench.{Bench, RunsLine, first_bench}
+use Rattle.law_run.specs.Bench.{Bench, first_bench}
 use Rattle.osi_bench.specs.Storm.{AsksSummary, StormFills, StormRuns, SummaryOutcome, storm_lines}
 use Rattle.osi_bench.specs.Text.{done_line}
-use Rattle.osi_bench.specs.steps.WorldLaws.{bench_laws}
+use Rattle.law_run.specs.steps.WorldLaws.{bench_laws}
 
 -- ---- one course
 

@@ -9,9 +9,12 @@ use Rattle.osi_storm.specs.Counted.{counts_of}
 use Rattle.osi_storm.specs.Line.{set_up_lines, line_text}
 use Rattle.osi_storm.specs.Summary.{summary_line}
 use Rattle.osi_storm.specs.Words.{words}
-use Rattle.osi_bench.specs.Bench.{Bench, RunsLine, FillsJournal, first_bench}
+use Rattle.law_run.specs.Bench.{Bench, RunsLine, FillsJournal, first_bench}
 use Rattle.osi_bench.specs.Text.{done_line, toomuch_line}
-use Rattle.osi_bench.specs.Top.{IsScriptRun}
+use Rattle.law_run.specs.Transcript.{IsScriptRun}
+use Rattle.law_run.specs.World.{HasNoInject, frozen_of, life_of, titles_of}
+use Rattle.osi_journal.specs.Lawful.{Lawful}
+use Rattle.osi_journal.specs.RawLawful.{RawLawful}
 
 -- the line of a word, by the frames and the ends of the journal before it
 abbrev pub line_after : ℕ → List Event → List ℕ
@@ -68,7 +71,24 @@ SummaryOutcome storm written ReadFault = ⊥
 SummaryOutcome storm written RefusedWords = ⊥
 SummaryOutcome storm written RefusedCapture = ⊥
 
--- the lines of a generated script are a script, and its journal is that of the run of the network for them
+-- each raw unit that is shown was sent, and each end shows what its partner submitted
+abbrev pub IsLawfulRun : Bench → List Event → Type 0
+IsLawfulRun last journal = RawLawful (life_of last.world) (titles_of last.world) journal × Lawful (frozen_of last.world) (titles_of last.world) journal
+
+-- whatever front of the lines of a generated script ran, its journal is lawful; so is what was told where a line fills the journal
+pub record IsLawfulStorm (storm : Storm) : Type 0 where
+  pub ran : (lines rest : List (List Event → List ℕ)) (journal : List Event) (last : Bench) → storm_lines storm ≡ lines ++ rest
+      → StormRuns first_bench [] lines journal last → IsLawfulRun last journal
+  pub filled : (lines rest : List (List Event → List ℕ)) (line : List Event → List ℕ) (journal made : List Event) (state last : Bench)
+      → storm_lines storm ≡ lines ++ line ∷ rest → StormRuns first_bench [] lines journal state → FillsJournal state (line journal) made last
+      → IsLawfulRun last (journal ++ made)
+
+-- what was written is told as the status says; and whatever front of the lines ran, its journal is lawful
+pub record IsStormRun (storm : Storm) (written : List ℕ) (status : Status) : Type 0 where
+  pub outcome : SummaryOutcome storm written status
+  pub lawful : IsLawfulStorm storm
+
+-- the lines of a generated script are a script in which nothing is injected, and its journal is that of the run of the network for them
 abbrev pub RunsGenerated : Type 0
 RunsGenerated = (storm : Storm) (journal : List Event) (last : Bench) → StormRuns first_bench [] (storm_lines storm) journal last
-    → (texts : List (List ℕ)) × IsScriptRun texts journal last
+    → (texts : List (List ℕ)) × (run : IsScriptRun texts journal last) × HasNoInject run.script

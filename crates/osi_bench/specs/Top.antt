@@ -1,27 +1,6 @@
--- The words of the program, and what it writes for a script: the transcript of the run of the network; and for a capture.
-use Rattle.std.specs.Prelude.{◌≡◌, ℕ, ◌+◌, ◌<◌, ◌≤◌, Bool, false, List, [], ◌∷◌, length, take, codes}
-use Rattle.std.proofs.Common.{inl, inr}
+-- The words of the program.
+use Rattle.std.specs.Prelude.{◌≡◌, ℕ, Bool, false, List, [], ◌∷◌, codes}
 use Rattle.std.specs.Str.{bytes_eq}
-use Rattle.osi_base.specs.declared.status.Status.{Status}
-use Rattle.osi_journal.specs.declared.event.Event.{Event}
-use Rattle.osi_script.specs.declared.line.Line.{Line}
-use Rattle.line_loop.specs.Course.{Runs}
-use Rattle.line_loop.specs.Limits.{most_octets, most_read}
-use Rattle.line_loop.specs.Outcome.{Outcome}
-use Rattle.osi_script.specs.Known.{nothing_declared}
-use Rattle.osi_script.specs.Script.{Says}
-use Rattle.tp4_calm.specs.Calm.{IsCalmScript}
-use Rattle.script_bench.specs.Claims.{IsRun as IsRunOf, lines_handled as lines_handled_of, lines_run as lines_run_of}
-pub use Rattle.script_bench.specs.Claims.{texts_in}
-use Rattle.script_bench.specs.Told.{OutcomeRun as OutcomeRunOf, RanScript as RanScriptOf}
-use Rattle.osi_script.specs.Table.{all_words}
-use Rattle.osi_bench.specs.Bench.{Bench, first_bench, bench_meaning, most_events}
-use Rattle.osi_bench.specs.Calm.{Serves}
-use Rattle.osi_bench.specs.World.{Ends, HasNoInject, life_of, titles_of, world_acts, WorldRun}
-use Rattle.osi_bench.specs.declared.world.World.TheVariants.{Running}
-use Rattle.osi_journal.specs.Lawful.{Lawful}
-use Rattle.osi_journal.specs.RawLawful.{RawLawful}
-use Rattle.line_loop.specs.Writing.{IsPrefix}
 use Rattle.osi_storm.specs.declared.request.Storm.{Storm}
 use Rattle.osi_storm.specs.Request.{Asks as AsksStorm}
 
@@ -46,78 +25,3 @@ abbrev pub is_decode : List (List ℕ) → Bool
 is_decode [] = false
 is_decode (word ∷ []) = bytes_eq word (codes "decode")
 is_decode (word ∷ other ∷ words) = false
-
--- the texts are the lines of a script, and by the run of the network they have this journal and leave that network; where none of them
--- is an `inject` line, each raw unit that is shown was sent
-pub record IsScriptRun (texts : List (List ℕ)) (journal : List Event) (last : Bench) : Type 0 where
-  pub script : List Line
-  pub lines : Says (nothing_declared all_words) texts script last.names
-  pub run : WorldRun script journal last.world
-  pub sent : HasNoInject script → RawLawful (life_of last.world) (titles_of last.world) journal
-
--- what runs on the bench is a script, line by line, and the run of the network for its lines
-abbrev pub RunsScripts : Type 0
-RunsScripts = (texts : List (List ℕ)) (journal : List Event) (last : Bench) → Runs bench_meaning first_bench texts journal last → IsScriptRun texts journal last
-
--- the texts are the lines of a script whose journal by the run of the network is longer than a journal may be, and this is its front
-pub record IsFilledRun (texts : List (List ℕ)) (journal : List Event) (last : Bench) : Type 0 where
-  pub whole : List Event
-  pub run : IsScriptRun texts whole last
-  pub over : most_events < length whole
-  pub journal_is : journal ≡ take most_events whole
-  pub sent : HasNoInject run.script → RawLawful (life_of last.world) (titles_of last.world) journal
-
--- where what was written is a transcript or a front of it: the lines whose journal it tells are a script, and it is that of the run of the network
-abbrev pub OutcomeRun : (end : Type 0) (read written : List ℕ) (status : Status) → Outcome bench_meaning end first_bench read written status → Type 0
-OutcomeRun = OutcomeRunOf world_acts IsScriptRun IsFilledRun
-
--- how far octets were run: to the end of the lines that have their line feed, to the end of all lines, or to a limit
-abbrev pub IsRun : List ℕ → List Event → Bench → Type 0
-IsRun = IsRunOf world_acts
-
--- the lines of octets that were run are a script, and their journal is that of the run of the network, or its front at a limit
-abbrev pub RanScript : (octets : List ℕ) (journal : List Event) (last : Bench) → IsRun octets journal last → Type 0
-RanScript = RanScriptOf world_acts IsScriptRun IsFilledRun
-
--- whatever front of the octets was run: a script was run, and where no line of it is an `inject` line, each raw unit that is shown was
--- sent
-abbrev pub ShowsSent : List ℕ → Type 0
-ShowsSent octets = (front : List ℕ) (journal : List Event) (last : Bench) → IsPrefix front octets → (run : IsRun front journal last) → RanScript front journal last run
-
--- the lines that ran
-abbrev pub lines_run : (first : Bench) (texts : List (List ℕ)) (journal : List Event) (last : Bench) → Runs bench_meaning first texts journal last → List Line
-lines_run = lines_run_of world_acts
-
--- the lines of the octets that were handled
-abbrev pub lines_handled : (octets : List ℕ) (journal : List Event) (last : Bench) → IsRun octets journal last → List Line
-lines_handled = lines_handled_of world_acts
-
--- whatever front of the octets was run: where no line handled is an `inject` line, the journal is lawful, and so is each front of it. Each
--- connect indication has one request, which says the same: its partner. What an end shows of the connection is a front, in order, of what
--- its partner submitted, of normal units and of expedited ones, and no normal unit comes before an expedited one that was submitted
--- before it. An end without a partner shows nothing
-abbrev pub ShowsWhatWasSubmitted : List ℕ → Type 0
-ShowsWhatWasSubmitted octets = (front : List ℕ) (journal : List Event) (last : Bench) → IsPrefix front octets
-    → (run : IsRun front journal last) → HasNoInject (lines_handled front journal last run) → Lawful (titles_of last.world) journal
-
--- the lines ran whole: none went past a limit
-abbrev pub RanWhole : (octets : List ℕ) (journal : List Event) (last : Bench) → IsRun octets journal last → Type 0
-RanWhole octets journal last (inl read) = Unit {0}
-RanWhole octets journal last (inr (inl whole)) = Unit {0}
-RanWhole octets journal last (inr (inr past)) = ⊥
-
--- whatever front of the octets was run whole: where its lines are a calm script, nothing is missing after them, as long as nothing was dropped
-abbrev pub ServesWhereCalm : List ℕ → Type 0
-ServesWhereCalm octets = (front : List ℕ) (journal : List Event) (last : Bench) → IsPrefix front octets → (run : IsRun front journal last) → RanWhole front journal last run
-    → (titles : List (List ℕ)) (ends : Ends) → last.world ≡ Running titles ends → IsCalmScript (lines_handled front journal last run) → Serves last.names journal titles ends
-
--- of the octets read, what was written is told as the status says, and tells the run of the network for the lines of the
--- script; whatever part of the octets was run, each raw unit that is shown was sent, and each end shows what its partner submitted,
--- unless a frame was injected; where the lines are calm, nothing is missing; and no more was read than an input may have, and one read more
-pub record IsTranscript (end : Type 0) (read written : List ℕ) (status : Status) : Type 0 where
-  pub outcome : Outcome bench_meaning end first_bench read written status
-  pub run : OutcomeRun end read written status outcome
-  pub sent : ShowsSent read
-  pub lawful : ShowsWhatWasSubmitted read
-  pub calm : ServesWhereCalm read
-  pub within : length read ≤ most_octets + most_read

@@ -1,12 +1,2 @@
--- What only carries the proofs: what the code keeps from line to line, and the laws of the bench.
-pub mod Agreeing
-pub mod Agreement
-pub mod Begun
-pub mod FrameLaws
-pub mod Known
-pub mod Moving
-pub mod NetServing
-pub mod OneRun
-pub mod Placing
+-- What only carries the proofs: how a generated script goes on.
 pub mod Storming
-pub mod WorldLaws

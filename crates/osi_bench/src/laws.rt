@@ -1,86 +1,19 @@
-//! What holds of every run of the network, for all scripts.
+//! What holds of every generated script.
 
-ghost use Rattle.std.specs.Prelude.{◌≡◌, List, ℕ};
-ghost use Rattle.osi_bench.specs.Calm.{ServesCalmScripts};
-ghost use Rattle.osi_script.specs.Table.{all_words};
-ghost use Rattle.osi_bench.specs.Bench.{bench_meaning, first_bench};
-ghost use Rattle.line_loop.specs.Total.{AsksSomething};
-ghost use Rattle.line_loop.specs.Exact.{OneCourse, AsksOne};
-ghost use Rattle.osi_bench.specs.Frames.{MakesCaptures};
-ghost use Rattle.osi_bench.specs.Storm.{RunsGenerated};
-ghost use Rattle.osi_bench.specs.Top.{RunsScripts};
-ghost use Rattle.osi_journal.specs.declared.event.Event.{Event};
-ghost use Rattle.osi_script.specs.declared.line.Line.{Line};
-ghost use Rattle.osi_script.specs.Known.{Declared, nothing_declared};
-ghost use Rattle.osi_script.specs.Script.{Says};
-ghost use Rattle.osi_bench.specs.World.{HasNoInject, WorldRun, life_of, titles_of};
-ghost use Rattle.osi_bench.specs.declared.world.World.{World};
-ghost use Rattle.osi_journal.specs.Lawful.{Lawful};
-ghost use Rattle.osi_journal.specs.RawLawful.{RawLawful};
+ghost use Rattle.osi_storm.specs.declared.request.Storm.{Storm};
+ghost use Rattle.osi_bench.specs.Storm.{IsLawfulStorm, RunsGenerated};
 
-use clnp_net::ClnpNet;
-use lan_bag::LanBag;
+use law_run::ends_are_lawful;
 
-/// The lines of a script have one journal, and leave one network.
-pub fn one_journal()
-    ensures { (script : List Line) (journal other : List Event) (last end : World)
-        → WorldRun script journal last → WorldRun script other end → (journal ≡ other) × (last ≡ end) }
-{}
-
-/// Where no line is an `inject` line, each raw unit that is shown was sent to that system, from that address, with those octets,
-/// at most the lifetime before.
-pub fn raw_units_are_lawful()
-    ensures { (script : List Line) (journal : List Event) (last : World) → WorldRun script journal last → HasNoInject script
-        → RawLawful (life_of last) (titles_of last) journal }
-{}
-
-/// Where no line of a script is an `inject` line, its journal is lawful, and with it each front of the journal: what an end shows of a
-/// connection is a front, in order, of what its one partner was asked to send, of normal units and of expedited ones; no normal unit
-/// comes before an expedited one that was submitted before it; and an end without a partner shows nothing.
-pub fn ends_are_lawful()
-    ensures { (texts : List (List ℕ)) (script : List Line) (names : Declared) (journal : List Event) (last : World)
-        → Says (nothing_declared all_words) texts script names → WorldRun script journal last → HasNoInject script
-        → Lawful (titles_of last) journal }
-{
-    tp4_headline::lawful::<ClnpNet<LanBag>>();
-}
-
-/// What runs on the bench is a script, line by line, and the run of the network for its lines.
-pub fn script_runs()
-    ensures { RunsScripts }
-{}
-
-/// The frames of the lines of a script are those of its journal, and what is written of them is a capture, whose records they are.
-pub fn frames_make_captures()
-    ensures { MakesCaptures }
-{}
-
-/// What runs of a generated script is a script, line by line, and the run of the network for its lines.
+/// What runs of a generated script is a script in which nothing is injected, line by line, and the run of the network for its lines.
 pub fn generated_scripts_run()
     ensures { RunsGenerated }
 {}
 
-/// All octets ask for a status and a transcript: each line has a step, or fills the journal, or is refused.
-pub fn some_outcome()
-    ensures { (all : List ℕ) → AsksSomething bench_meaning first_bench all }
+/// Whatever front of the lines of a generated script ran, its journal is lawful: each raw unit that is shown was sent, and each end shows what
+/// its partner submitted.
+pub fn generated_scripts_are_lawful()
+    ensures { (storm : Storm) → IsLawfulStorm storm }
 {
-    script_bench::some_outcome::<crate::world::World>();
-}
-
-/// A script does not ask for two statuses or two transcripts; and octets do not come to two of these: they were read, they
-/// are refused at a line, they pass a limit.
-pub fn one_outcome()
-    ensures course { OneCourse bench_meaning }
-    ensures asks { AsksOne bench_meaning }
-{
-    script_bench::one_outcome::<crate::world::World>();
-}
-
-/// After a calm script nothing is missing, as long as nothing was dropped: each two partner ends that are both Opened have shown all that the
-/// other was asked to send, but for want of credit or by the number rule; a connect request has its indication by the `settle` behind it,
-/// word for word, where its selector is registered and a reference free, and no end of that caller is there; and an accept has its confirm.
-pub fn calm_scripts_are_served()
-    ensures { ServesCalmScripts }
-{
-    tp4_world::whole_run::<ClnpNet<LanBag>>();
+    ends_are_lawful();
 }

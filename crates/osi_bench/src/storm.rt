@@ -7,11 +7,11 @@ ghost use Rattle.osi_journal.specs.declared.event.Event.{Event as JournalEvent};
 ghost use Rattle.osi_storm.specs.Counted.{counts_of};
 ghost use Rattle.osi_storm.specs.Line.{set_up_lines};
 ghost use Rattle.osi_storm.specs.Words.{words};
-ghost use Rattle.osi_bench.specs.Bench.{Bench as BenchState, FillsJournal, RunsLine, first_bench};
+ghost use Rattle.law_run.specs.Bench.{Bench as BenchState, FillsJournal, RunsLine, first_bench};
 ghost use Rattle.osi_bench.specs.Storm.{AsksSummary, SummaryOutcome, as_it_stands, line_after, storm_lines};
 ghost use Rattle.osi_bench.specs.steps.Storming.{Fills, Goes, HasJournal, IsKnown, IsReady};
 
-use crate::world::Bench;
+use law_run::Bench;
 use line_loop::{LineError, write_last};
 use osi_base::{NoMemory, Sink, Status};
 use osi_journal::Event;
@@ -129,7 +129,8 @@ fn push_storm(alloc: Global, storm: Storm, out: &mut Vec<u8>) -> Result<Status, 
     requires none { out.old.items ≡ [] }
     ensures { IfOk result (λ end. AsksSummary storm out.new.items end) }
 {
-    let mut rig = Rig::new(alloc);
+    // In a box, since a whole network is a large local.
+    let mut rig = Box::new(alloc, Rig::new(alloc))?;
     match run_storm(&mut rig, alloc, storm) {
         Ok(()) => {
             push_summary(storm, &rig.counts, out)?;

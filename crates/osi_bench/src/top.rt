@@ -1,8 +1,8 @@
 //! The call of the program.
 
-ghost use Rattle.std.specs.Prelude.{◌≡◌, ◌≢◌, ◌⊎◌, ◌+◌, ◌≤◌, ◌++◌, true, false, List, ℕ, [], Some, length, map, max, string_bytes, IfOk, IfSome};
+ghost use Rattle.std.specs.Prelude.{◌≡◌, ◌≢◌, ◌⊎◌, ◌+◌, ◌≤◌, ◌++◌, true, false, List, ℕ, [], None, Some, length, map, max, string_bytes, IfOk, IfSome};
 ghost use Rattle.osi_base.specs.Ends.{HasRisen, Took, Put, IsAtEnd};
-ghost use Rattle.osi_bench.specs.Bench.{first_bench, bench_meaning};
+ghost use Rattle.law_run.specs.Bench.{first_bench, bench_meaning};
 ghost use Rattle.line_loop.specs.Exact.{IsAccepted, IsFailure};
 ghost use Rattle.line_loop.specs.Limits.{most_octets, most_read};
 ghost use Rattle.line_loop.specs.Outcome.{AsksFor};
@@ -10,27 +10,32 @@ ghost use Rattle.octet_loop.specs.Outcome.{AsksFor as CaptureAsksFor, IsOver, Ou
 ghost use Rattle.osi_capture.specs.declared.cause.Cause.{Cause};
 ghost use Rattle.osi_capture.specs.Course.{capture_course, Finishes, Refuses, IsAccepted as IsCaptureAccepted, IsRefused, IsPast};
 ghost use Rattle.osi_bench.specs.Text.{usage_line};
-ghost use Rattle.osi_bench.specs.Frames.{AsksForCapture, IsFramesRun, frames_meaning};
-ghost use Rattle.osi_bench.specs.Storm.{AsksSummary, SummaryOutcome};
-ghost use Rattle.osi_bench.specs.Top.{is_run, is_frames, is_decode, IsStorm, IsTranscript};
+ghost use Rattle.script_frames.specs.Frames.{AsksForCapture, IsFramesRun, frames_meaning};
+ghost use Rattle.osi_bench.specs.Kinds.{AsksOf, IsAcceptedBy, IsToldBy, kind_of};
+ghost use Rattle.osi_bench.specs.declared.kinds.Kind.{Kind as Command};
+ghost use Rattle.osi_bench.specs.Storm.{AsksSummary, IsStormRun};
+ghost use Rattle.law_run.specs.Transcript.{IsTranscript};
+ghost use Rattle.osi_bench.specs.Top.{is_run, is_frames, is_decode, IsStorm};
 ghost use Rattle.osi_storm.specs.declared.request.Storm.{Storm as StormWords};
 ghost use Rattle.line_loop.specs.Writing.{IsPrefix, IsWritten};
 
-use crate::frames::write_capture;
-use crate::laws::{calm_scripts_are_served, ends_are_lawful};
+use crate::kinds::{is_kind, kind_in, run_kind};
+use crate::laws::generated_scripts_are_lawful;
 use crate::storm::write_storm;
-use crate::world::Bench;
-use line_loop::{drive, write_last};
+use law_run::{NetWorld, calm_scripts_are_served, ends_are_lawful, systems_are_silent};
+use line_loop::write_last;
 use osi_base::{Bytes, NoMemory, PlainSink, PlainSource, Sink, Source, Status};
 use osi_capture::decode;
 use osi_storm::Storm;
+use script_bench::run_script;
+use script_frames::write_capture;
 use std::alloc::Global;
 
 /// Does what the words of the program ask for, and answers how it ended.
 ///
 /// `run` reads a script from the source and writes its transcript to the sink; `frames` writes the capture of its frames;
 /// `decode` reads a capture and writes the lines of its records; `storm SEED COUNT` reads nothing, runs a generated script
-/// and writes its summary. Other words write the usage line.
+/// and writes its summary; `datagrams` and `inactive` read a script as `run` does, over another network. Other words write the usage line.
 pub fn osi<S: Source, K: Sink>(
     alloc: Global,
     words: &[String],
@@ -70,10 +75,10 @@ pub fn osi<S: Source, K: Sink>(
         → ¬ HasRisen (S.faults source.old) (S.faults source.new) → ¬ HasRisen (K.faults sink.old) (K.faults sink.new)
         → ((result ≡ Status.Done) × (capture : List ℕ) × AsksForCapture all capture Status.Done × Put (K.held sink.old) capture (K.held sink.new))
         ⊎ (result ≡ Status.NoMemory) }
-    // Of a generated script nothing is read, and what was written is its summary, as the status says.
+    // Of a generated script nothing is read, and what was written is its summary, as the status says; whatever front of its lines ran, its journal is lawful.
     ensures storm { (storm : StormWords) → IsStorm (map string_bytes words.now) storm
         → (S.left source.new ≡ S.left source.old) × (written : List ℕ) × Put (K.held sink.old) written (K.held sink.new)
-        × SummaryOutcome storm written result }
+        × IsStormRun storm written result }
     // What the generated script asks for comes, or a failure in its place.
     ensures storm_exact { (storm : StormWords) → IsStorm (map string_bytes words.now) storm
         → (text : List ℕ) (asked : Status) → AsksSummary storm text asked
@@ -112,9 +117,26 @@ pub fn osi<S: Source, K: Sink>(
         → (all : List ℕ) → S.left source.old ≡ Some all → IsPast all
         → ((result ≡ Status.TooMuch) × (text : List ℕ) × IsOver capture_course all text × Put (K.held sink.old) text (K.held sink.new))
         ⊎ IsFailure result }
+    // Of the octets of a script that were read by another command, what was written is told as the status says.
+    ensures scripts { (kind : Command) → kind_of (map string_bytes words.now) ≡ Some kind
+        → (read : List ℕ) × (written : List ℕ)
+        × Took (S.left source.old) read (S.left source.new)
+        × Put (K.held sink.old) written (K.held sink.new)
+        × IsToldBy kind (IsAtEnd (S.left source.new)) read written result }
+    // What all octets of the source ask for comes, or a failure in its place.
+    ensures scripts_exact { (kind : Command) → kind_of (map string_bytes words.now) ≡ Some kind
+        → (all text : List ℕ) (asked : Status) → S.left source.old ≡ Some all → AsksOf kind all text asked
+        → ((result ≡ asked) × Put (K.held sink.old) text (K.held sink.new)) ⊎ IsFailure result }
+    // A script with no refused line and no limit passed is Done, unless memory runs out, where neither
+    // count of faults rises or stands at its last value.
+    ensures scripts_complete { (kind : Command) → kind_of (map string_bytes words.now) ≡ Some kind
+        → (all : List ℕ) → S.left source.old ≡ Some all → IsAcceptedBy kind all
+        → ¬ HasRisen (S.faults source.old) (S.faults source.new) → ¬ HasRisen (K.faults sink.old) (K.faults sink.new)
+        → ((result ≡ Status.Done) × (text : List ℕ) × AsksOf kind all text Status.Done × Put (K.held sink.old) text (K.held sink.new))
+        ⊎ (result ≡ Status.NoMemory) }
     // Other words: the usage line was written, or a front of it, and nothing was read.
     ensures words { is_run (map string_bytes words.now) ≡ false → is_frames (map string_bytes words.now) ≡ false → is_decode (map string_bytes words.now) ≡ false
-        → ((storm : StormWords) → IsStorm (map string_bytes words.now) storm → ⊥)
+        → kind_of (map string_bytes words.now) ≡ None → ((storm : StormWords) → IsStorm (map string_bytes words.now) storm → ⊥)
         → (S.left source.new ≡ S.left source.old) × IsWritten K.held sink.old usage_line Status.RefusedWords sink.new result }
     // One read asks for no more than 4,096 octets.
     ensures asked { S.asked source.new ≤ max (S.asked source.old) most_read }
@@ -127,13 +149,17 @@ pub fn osi<S: Source, K: Sink>(
 {
     if is_run(words) {
         ends_are_lawful();
+        systems_are_silent();
         calm_scripts_are_served();
-        drive(alloc, Bench::new(alloc), source, sink)
+        run_script::<NetWorld, S, K>(alloc, source, sink)
     } else if is_frames(words) {
         write_capture(alloc, source, sink)
     } else if is_decode(words) {
         decode(alloc, source, sink)
+    } else if is_kind(words) {
+        run_kind(alloc, kind_in(words), source, sink)
     } else if let Some(storm) = storm_of(words) {
+        generated_scripts_are_lawful();
         write_storm(alloc, storm, sink)
     } else {
         refuse_words(sink)
@@ -222,9 +248,13 @@ pub fn run_in_memory(alloc: Global, words: &[String], input: &[u8]) -> Result<Tr
     ensures storm { (storm : StormWords) → IsStorm (map string_bytes words.now) storm
         → (text : List ℕ) (asked : Status) → AsksSummary storm text asked
         → IfOk result (λ made. ((made.status ≡ asked) × (made.octets ≡ text)) ⊎ (made.status ≡ Status.NoMemory)) }
+    // What a script asks another command for comes, unless memory runs out.
+    ensures scripts { (kind : Command) → kind_of (map string_bytes words.now) ≡ Some kind
+        → (text : List ℕ) (asked : Status) → AsksOf kind input.now text asked
+        → IfOk result (λ made. ((made.status ≡ asked) × (made.octets ≡ text)) ⊎ (made.status ≡ Status.NoMemory)) }
     // Other words: the usage line, or a front of it where memory runs out.
     ensures words { is_run (map string_bytes words.now) ≡ false → is_frames (map string_bytes words.now) ≡ false → is_decode (map string_bytes words.now) ≡ false
-        → ((storm : StormWords) → IsStorm (map string_bytes words.now) storm → ⊥)
+        → kind_of (map string_bytes words.now) ≡ None → ((storm : StormWords) → IsStorm (map string_bytes words.now) storm → ⊥)
         → IfOk result (λ made. ((made.status ≡ Status.RefusedWords) × (made.octets ≡ usage_line))
         ⊎ ((made.status ≡ Status.NoMemory) × IsPrefix made.octets usage_line)) }
 {
@@ -239,5 +269,5 @@ pub fn run_in_memory(alloc: Global, words: &[String], input: &[u8]) -> Result<Tr
 fn usage() -> &'static [u8]
     ensures { result.now ≡ usage_line }
 {
-    b"usage: osi run | frames | decode | storm SEED COUNT\n"
+    b"usage: osi run | frames | decode | storm SEED COUNT | datagrams | inactive\n"
 }

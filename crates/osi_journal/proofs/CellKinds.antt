@@ -112,6 +112,13 @@ shapes =
     ∷ (codes "redirect", these (OfSystem ∷ OfDigits ∷ OfDigits ∷ []))
     ∷ (codes "badtpdu", these (OfSystem ∷ OfWord ∷ OfNumber ∷ []))
     ∷ (codes "unknown", these (OfSystem ∷ OfWord ∷ []))
+    ∷ (codes "restart", these (OfSystem ∷ []))
+    ∷ (codes "silent", these (OfSystem ∷ []))
+    ∷ (codes "send", these (OfSystem ∷ OfOctets ∷ OfDigits ∷ OfOctets ∷ OfOctets ∷ []))
+    ∷ (codes "datagram", these (OfSystem ∷ OfDigits ∷ OfOctets ∷ OfOctets ∷ OfOctets ∷ []))
+    ∷ (codes "badud", these (OfSystem ∷ OfWord ∷ OfNumber ∷ []))
+    ∷ (codes "nouser", these (OfSystem ∷ []))
+    ∷ (codes "joined", these (OfNumber ∷ OfNumber ∷ []))
     ∷ []
 
 by_shape : List Shape → List ℕ → List (List ℕ) → List Kind
@@ -178,9 +185,11 @@ shaped tags (events.No refused.TooLong) names told = refl
 shaped tags (events.No refused.NoExpedited) names told = refl
 shaped tags (events.No refused.QueueFull) names told = refl
 shaped tags (events.No refused.RefsSpent) names told = refl
+shaped tags (events.No refused.Silent) names told = refl
 shaped tags (events.No refused.NoRoute) names told = refl
 shaped tags (events.No refused.Full) names told = refl
 shaped tags (events.No refused.IdsSpent) names told = refl
+shaped tags (events.No refused.Relayed) names told = refl
 shaped tags (events.No (refused.WrongState standing)) names told = refl
 shaped tags (events.Sent system to octets) names told = refl
 shaped tags (events.Unit system from octets) names told = refl
@@ -205,3 +214,10 @@ shaped tags (events.Hello system kind snpa) names told = refl
 shaped tags (events.Redirect system address snpa) names told = refl
 shaped tags (events.BadTpdu system cause place) names told = refl
 shaped tags (events.Unknown system kind) names told = refl
+shaped tags (events.Restart system) names told = refl
+shaped tags (events.Silent system) names told = refl
+shaped tags (events.Send system selector to called octets) names told = refl
+shaped tags (events.Datagram system from calling called octets) names told = refl
+shaped tags (events.BadUd system cause place) names told = refl
+shaped tags (events.NoUser system) names told = refl
+shaped tags (events.Joined inbound outbound) names told = refl

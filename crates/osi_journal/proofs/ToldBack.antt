@@ -22,6 +22,8 @@ use Rattle.osi_journal.specs.declared.cause.TpduCause.{TpduCause}
 use Rattle.osi_journal.specs.declared.cause.TpduCause.TheVariants as tpdu_causes
 use Rattle.osi_journal.specs.declared.cause.TpduKind.{TpduKind}
 use Rattle.osi_journal.specs.declared.cause.TpduKind.TheVariants as tpdus
+use Rattle.osi_journal.specs.declared.cause.UdCause.{UdCause}
+use Rattle.osi_journal.specs.declared.cause.UdCause.TheVariants as ud_causes
 use Rattle.osi_journal.specs.Told.{Cell, Word, Number, Preferred, System, Lan, Digits, Octets, cells_of, option_cells, size_cell}
 
 -- the words of causes and kinds
@@ -71,6 +73,16 @@ tpdu_cause_of text =
     else if is_word (codes "checksum") text then tpdu_causes.Checksum
     else tpdu_causes.Body
 
+ud_cause_of : List ℕ → UdCause
+ud_cause_of text =
+    if is_word (codes "short") text then ud_causes.Short
+    else if is_word (codes "length") text then ud_causes.Length
+    else if is_word (codes "code") text then ud_causes.Code
+    else if is_word (codes "param") text then ud_causes.Param
+    else if is_word (codes "unknown") text then ud_causes.Unknown
+    else if is_word (codes "missing") text then ud_causes.Missing
+    else ud_causes.Checksum
+
 tpdu_of : List ℕ → TpduKind
 tpdu_of text =
     if is_word (codes "cr") text then tpdus.Cr
@@ -105,9 +117,11 @@ refused_of (Word cause ∷ []) =
     else if is_word (codes "noexpedited") cause then Some (events.No refused.NoExpedited)
     else if is_word (codes "queuefull") cause then Some (events.No refused.QueueFull)
     else if is_word (codes "refsspent") cause then Some (events.No refused.RefsSpent)
+    else if is_word (codes "silent") cause then Some (events.No refused.Silent)
     else if is_word (codes "noroute") cause then Some (events.No refused.NoRoute)
     else if is_word (codes "full") cause then Some (events.No refused.Full)
-    else Some (events.No refused.IdsSpent)
+    else if is_word (codes "idsspent") cause then Some (events.No refused.IdsSpent)
+    else Some (events.No refused.Relayed)
 refused_of (Word cause ∷ Word standing ∷ []) = Some (events.No (refused.WrongState (standing_of standing)))
 refused_of cells = None
 
@@ -211,9 +225,9 @@ discard_of : (ℕ → ℕ → ℕ → Event) → List Cell → Option Event
 discard_of make (System s ∷ Digits (reason ∷ []) ∷ Number place ∷ []) = Some (make s reason place)
 discard_of make cells = None
 
-window_of : List Cell → Option Event
-window_of (Number n ∷ Number m ∷ []) = Some (events.Window n m)
-window_of cells = None
+numbers_of : (ℕ → ℕ → Event) → List Cell → Option Event
+numbers_of make (Number n ∷ Number m ∷ []) = Some (make n m)
+numbers_of make cells = None
 
 told_of : (ℕ → List ℕ → Event) → List Cell → Option Event
 told_of make (System s ∷ Word told ∷ []) = Some (make s told)
@@ -230,6 +244,18 @@ redirect_of cells = None
 badtpdu_of : List Cell → Option Event
 badtpdu_of (System s ∷ Word cause ∷ Number place ∷ []) = Some (events.BadTpdu s (tpdu_cause_of cause) place)
 badtpdu_of cells = None
+
+send_of : List Cell → Option Event
+send_of (System s ∷ Octets a ∷ Digits b ∷ Octets c ∷ Octets o ∷ []) = Some (events.Send s a b c o)
+send_of cells = None
+
+datagram_of : List Cell → Option Event
+datagram_of (System s ∷ Digits a ∷ Octets b ∷ Octets c ∷ Octets o ∷ []) = Some (events.Datagram s a b c o)
+datagram_of cells = None
+
+badud_of : List Cell → Option Event
+badud_of (System s ∷ Word cause ∷ Number place ∷ []) = Some (events.BadUd s (ud_cause_of cause) place)
+badud_of cells = None
 
 -- the rows of the transcript: a word and what the cells behind it make
 abbrev Row : Type 0
@@ -249,7 +275,7 @@ rows =
     ∷ (codes "refuse", octets_of events.Refuse)
     ∷ (codes "disconnect", octets_of events.Disconnect)
     ∷ (codes "gone", gone_line_of)
-    ∷ (codes "window", window_of)
+    ∷ (codes "window", numbers_of events.Window)
     ∷ (codes "held", held_of)
     ∷ (codes "no", refused_of)
     ∷ (codes "sent", raw_of events.Sent)
@@ -273,6 +299,13 @@ rows =
     ∷ (codes "redirect", redirect_of)
     ∷ (codes "badtpdu", badtpdu_of)
     ∷ (codes "unknown", told_of (λ s kind. events.Unknown s (tpdu_of kind)))
+    ∷ (codes "restart", system_of events.Restart)
+    ∷ (codes "silent", system_of events.Silent)
+    ∷ (codes "send", send_of)
+    ∷ (codes "datagram", datagram_of)
+    ∷ (codes "badud", badud_of)
+    ∷ (codes "nouser", system_of events.NoUser)
+    ∷ (codes "joined", numbers_of events.Joined)
     ∷ []
 
 by_row : List Row → List ℕ → List Cell → Option Event
@@ -326,8 +359,9 @@ indicated_back heard = by heard.options.preferred refl
 
 -- the cells of an event make it
 pub told_back : (event : Event) → event_of (cells_of event) ≡ Some event
-unfolding event_of by_row rows number_of system_of answer_of octets_of raw_of agreed_of options_of connect_of incoming_of gone_line_of gone_of told_gone window_of held_of refused_of
+unfolding event_of by_row rows number_of system_of answer_of octets_of raw_of agreed_of options_of connect_of incoming_of gone_line_of gone_of told_gone numbers_of held_of refused_of
     standing_of frame_of drop_of drop_cause_of inject_of discard_of told_of hello_cause_of hello_line_of hello_of redirect_of badtpdu_of tpdu_cause_of tpdu_of
+    send_of datagram_of badud_of ud_cause_of
 told_back (events.Tick now) = refl
 told_back (events.Connect asked) = refl
 told_back (events.Incoming heard) = indicated_back heard
@@ -353,9 +387,11 @@ told_back (events.No refused.TooLong) = refl
 told_back (events.No refused.NoExpedited) = refl
 told_back (events.No refused.QueueFull) = refl
 told_back (events.No refused.RefsSpent) = refl
+told_back (events.No refused.Silent) = refl
 told_back (events.No refused.NoRoute) = refl
 told_back (events.No refused.Full) = refl
 told_back (events.No refused.IdsSpent) = refl
+told_back (events.No refused.Relayed) = refl
 told_back (events.No (refused.WrongState standings.CrWait)) = refl
 told_back (events.No (refused.WrongState standings.WaitBeforeClose)) = refl
 told_back (events.No (refused.WrongState standings.UserWait)) = refl
@@ -414,3 +450,16 @@ told_back (events.Unknown system tpdus.Ed) = refl
 told_back (events.Unknown system tpdus.Ak) = refl
 told_back (events.Unknown system tpdus.Ea) = refl
 told_back (events.Unknown system tpdus.Er) = refl
+told_back (events.Restart system) = refl
+told_back (events.Silent system) = refl
+told_back (events.Send system selector to called octets) = refl
+told_back (events.Datagram system from calling called octets) = refl
+told_back (events.BadUd system ud_causes.Short place) = refl
+told_back (events.BadUd system ud_causes.Length place) = refl
+told_back (events.BadUd system ud_causes.Code place) = refl
+told_back (events.BadUd system ud_causes.Param place) = refl
+told_back (events.BadUd system ud_causes.Unknown place) = refl
+told_back (events.BadUd system ud_causes.Missing place) = refl
+told_back (events.BadUd system ud_causes.Checksum place) = refl
+told_back (events.NoUser system) = refl
+told_back (events.Joined inbound outbound) = refl

@@ -1,10 +1,11 @@
--- What a journal may tell (X.214, model of the transport service: two queues for each connection).
+-- What a journal may tell (X.214, model of the transport service: two queues for each connection; X.224, frozen references).
 use Rattle.std.specs.Prelude.{◌≡◌, ℕ, ◌+◌, ◌<◌, ◌≤◌, ◌==◌, true, if◌then◌else◌, List, [], ◌∷◌, ◌++◌, length, get_or, slice_get, Some}
 use Rattle.nsap.specs.Address.{is_same_system}
 use Rattle.osi_journal.specs.declared.event.Event.{Event}
 use Rattle.osi_journal.specs.declared.event.Event.TheVariants as events
 use Rattle.osi_journal.specs.declared.event.Indication.{Indication}
 use Rattle.osi_journal.specs.declared.event.Request.{Request}
+use Rattle.osi_journal.specs.RawLawful.{tick_after}
 
 -- ---- partners
 
@@ -78,7 +79,7 @@ pub record IsQueue (given got : List Marked) : Type 0 where
   pub expedited : IsFront (expediteds got) (expediteds given)
   pub order : (k : ℕ) → k < length (normals got) → get_or (befores 0 given) k 0 ≤ get_or (befores 0 got) k 0
 
--- ---- lawful
+-- ---- indications
 
 -- the indication and the request say the same, and the indication is in the system of the called address
 pub record IsMatched (titles : List (List ℕ)) (heard : Indication) (asked : Request) : Type 0 where
@@ -97,8 +98,8 @@ pub record HasPartner (titles : List (List ℕ)) (journal : List Event) (p : ℕ
   pub partner : Partner journal p q heard asked
   pub matched : IsMatched titles heard asked
 
--- what holds of one moment of a run
-pub record IsLawful (titles : List (List ℕ)) (journal : List Event) : Type 0 where
+-- each connection is two queues
+pub record AreQueues (titles : List (List ℕ)) (journal : List Event) : Type 0 where
   -- no request is the partner of two indications
   pub one : (p other q : ℕ) (heard again : Indication) (asked : Request) → Partner journal p q heard asked → Partner journal other q again asked → p ≡ other
   -- each indication has a partner
@@ -109,6 +110,49 @@ pub record IsLawful (titles : List (List ℕ)) (journal : List Event) : Type 0 w
   -- an end without a partner shows nothing
   pub none : (end : ℕ) → ((other : ℕ) → AreEnds journal end other → ⊥) → ((other : ℕ) → AreEnds journal other end → ⊥) → shown end journal ≡ []
 
+-- ---- systems that begin again
+
+-- the event makes an end at a system
+abbrev pub MakesAt : ℕ → ℕ → Event → Type 0
+MakesAt system end (events.Connect asked) = (asked.system ≡ system) × (asked.end ≡ end)
+MakesAt system end (events.Incoming heard) = (heard.system ≡ system) × (heard.end ≡ end)
+MakesAt system end event = ⊥
+
+-- the event is one of the end: it makes it, or names it
+abbrev pub IsOf : ℕ → Event → Type 0
+IsOf end (events.Connect asked) = asked.end ≡ end
+IsOf end (events.Incoming heard) = heard.end ≡ end
+IsOf end (events.Accept at options octets) = at ≡ end
+IsOf end (events.Confirm at options octets) = at ≡ end
+IsOf end (events.Data at octets) = at ≡ end
+IsOf end (events.Got at octets) = at ≡ end
+IsOf end (events.Expedite at octets) = at ≡ end
+IsOf end (events.Urgent at octets) = at ≡ end
+IsOf end (events.Refuse at octets) = at ≡ end
+IsOf end (events.Disconnect at octets) = at ≡ end
+IsOf end (events.Gone at cause octets) = at ≡ end
+IsOf end (events.Window at credit) = at ≡ end
+IsOf end (events.Held at expedited number) = at ≡ end
+IsOf end event = ⊥
+
+-- after a system began again nothing is told of the ends that it had, and for `frozen` ticks it makes none
+pub record KeepsSilence (frozen : ℕ) (journal : List Event) : Type 0 where
+  pub lost : (front middle rest back : List Event) (making event : Event) (end system : ℕ)
+      → journal ≡ front ++ making ∷ (middle ++ events.Restart system ∷ (rest ++ event ∷ back)) → MakesAt system end making → IsOf end event → ⊥
+  pub late : (front middle back : List Event) (making : Event) (end system : ℕ) → journal ≡ front ++ events.Restart system ∷ (middle ++ making ∷ back) → MakesAt system end making
+      → tick_after front + frozen < tick_after (front ++ events.Restart system ∷ middle)
+
+-- ---- lawful
+
+-- what holds of one moment of a run
+pub record IsLawful (frozen : ℕ) (titles : List (List ℕ)) (journal : List Event) : Type 0 where
+  pub queues : AreQueues titles journal
+  pub silence : KeepsSilence frozen journal
+
 -- each front of the journal is lawful; the titles are those of the systems, by number
-abbrev pub Lawful : List (List ℕ) → List Event → Type 0
-Lawful titles journal = (front back : List Event) → journal ≡ front ++ back → IsLawful titles front
+abbrev pub Lawful : ℕ → List (List ℕ) → List Event → Type 0
+Lawful frozen titles journal = (front back : List Event) → journal ≡ front ++ back → IsLawful frozen titles front
+
+-- in each front of the journal each connection is two queues
+abbrev pub AllQueues : List (List ℕ) → List Event → Type 0
+AllQueues titles journal = (front back : List Event) → journal ≡ front ++ back → AreQueues titles front

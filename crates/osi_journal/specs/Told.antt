@@ -23,6 +23,8 @@ use Rattle.osi_journal.specs.declared.cause.TpduCause.{TpduCause}
 use Rattle.osi_journal.specs.declared.cause.TpduCause.TheVariants as tpdu_causes
 use Rattle.osi_journal.specs.declared.cause.TpduKind.{TpduKind}
 use Rattle.osi_journal.specs.declared.cause.TpduKind.TheVariants as tpdus
+use Rattle.osi_journal.specs.declared.cause.UdCause.{UdCause}
+use Rattle.osi_journal.specs.declared.cause.UdCause.TheVariants as ud_causes
 
 -- a field of a transcript line
 pub data Cell : Type 0 where
@@ -103,6 +105,15 @@ tpdu_cause_text tpdu_causes.Unknown = codes "unknown"
 tpdu_cause_text tpdu_causes.Checksum = codes "checksum"
 tpdu_cause_text tpdu_causes.Body = codes "body"
 
+abbrev pub ud_cause_text : UdCause → List ℕ
+ud_cause_text ud_causes.Short = codes "short"
+ud_cause_text ud_causes.Length = codes "length"
+ud_cause_text ud_causes.Code = codes "code"
+ud_cause_text ud_causes.Param = codes "param"
+ud_cause_text ud_causes.Unknown = codes "unknown"
+ud_cause_text ud_causes.Missing = codes "missing"
+ud_cause_text ud_causes.Checksum = codes "checksum"
+
 abbrev pub tpdu_text : TpduKind → List ℕ
 tpdu_text tpdus.Cr = codes "cr"
 tpdu_text tpdus.Cc = codes "cc"
@@ -122,9 +133,11 @@ refused_cells refused.TooLong = Word (codes "toolong") ∷ []
 refused_cells refused.NoExpedited = Word (codes "noexpedited") ∷ []
 refused_cells refused.QueueFull = Word (codes "queuefull") ∷ []
 refused_cells refused.RefsSpent = Word (codes "refsspent") ∷ []
+refused_cells refused.Silent = Word (codes "silent") ∷ []
 refused_cells refused.NoRoute = Word (codes "noroute") ∷ []
 refused_cells refused.Full = Word (codes "full") ∷ []
 refused_cells refused.IdsSpent = Word (codes "idsspent") ∷ []
+refused_cells refused.Relayed = Word (codes "relayed") ∷ []
 
 abbrev pub size_cell : Options → Cell
 size_cell options = if options.preferred then Preferred options.size else Number options.size
@@ -179,6 +192,14 @@ cells_of (events.Hello system kind snpa) = Word (codes "hello") ∷ System syste
 cells_of (events.Redirect system address snpa) = Word (codes "redirect") ∷ System system ∷ Digits address ∷ Digits snpa ∷ []
 cells_of (events.BadTpdu system cause place) = Word (codes "badtpdu") ∷ System system ∷ Word (tpdu_cause_text cause) ∷ Number place ∷ []
 cells_of (events.Unknown system kind) = Word (codes "unknown") ∷ System system ∷ Word (tpdu_text kind) ∷ []
+cells_of (events.Restart system) = Word (codes "restart") ∷ System system ∷ []
+cells_of (events.Silent system) = Word (codes "silent") ∷ System system ∷ []
+cells_of (events.Send system selector to called octets) = Word (codes "send") ∷ System system ∷ Octets selector ∷ Digits to ∷ Octets called ∷ Octets octets ∷ []
+cells_of (events.Datagram system from calling called octets) =
+    Word (codes "datagram") ∷ System system ∷ Digits from ∷ Octets calling ∷ Octets called ∷ Octets octets ∷ []
+cells_of (events.BadUd system cause place) = Word (codes "badud") ∷ System system ∷ Word (ud_cause_text cause) ∷ Number place ∷ []
+cells_of (events.NoUser system) = Word (codes "nouser") ∷ System system ∷ []
+cells_of (events.Joined inbound outbound) = Word (codes "joined") ∷ Number inbound ∷ Number outbound ∷ []
 
 abbrev pub texts_of : Tags → Event → List (List ℕ)
 texts_of tags event = map (cell_text tags) (cells_of event)

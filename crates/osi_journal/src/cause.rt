@@ -46,12 +46,16 @@ pub enum Refused {
     QueueFull,
     /// No reference is free.
     RefsSpent,
+    /// The transport entity began again, and is silent.
+    Silent,
     /// No hop for the destination.
     NoRoute,
     /// As many units are on their way as may be.
     Full,
     /// No data unit identifier is free.
     IdsSpent,
+    /// The end is one of a relay.
+    Relayed,
 }
 
 /// How a `settle` ends, with its deliveries.
@@ -75,6 +79,27 @@ pub enum TpduCause {
     Unknown,
     Checksum,
     Body,
+}
+
+/// Why a UD cannot be read (X.234, treatment of invalid TPDUs), in the order in which it is looked for.
+///
+/// Param and Unknown are looked for together, parameter by parameter from left to right.
+#[derive(Clone, Copy, Debug, PartialEq, Eq)]
+pub enum UdCause {
+    /// There are fewer than two octets.
+    Short,
+    /// The length indicator is 0, 255 or above what is left.
+    Length,
+    /// The code is not that of a UD.
+    Code,
+    /// A parameter does not fit, or has another length.
+    Param,
+    /// A parameter is not known.
+    Unknown,
+    /// A transport selector is not there.
+    Missing,
+    /// The checksum does not hold.
+    Checksum,
 }
 
 /// The kinds of TPDU.

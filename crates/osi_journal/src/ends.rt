@@ -130,6 +130,22 @@ pub fn write_window(end: u32, credit: u16, names: &Names, out: &mut Vec<u8>) -> 
     )
 }
 
+/// Two ends that a relay joins.
+pub fn write_joined(
+    inbound: u32,
+    outbound: u32,
+    names: &Names,
+    out: &mut Vec<u8>,
+) -> Result<(), NoMemory>
+    ensures { Appends names.now (Word (codes "joined") ∷ Number inbound ∷ Number outbound ∷ []) out.old.items out.new.items result }
+{
+    write(
+        &[Piece::Word("joined"), number(inbound), number(outbound)],
+        names,
+        out,
+    )
+}
+
 /// A number that is held back.
 pub fn write_held(
     end: u32,
@@ -174,9 +190,11 @@ pub fn write_refused(cause: Refused, names: &Names, out: &mut Vec<u8>) -> Result
         Refused::NoExpedited => write_no("noexpedited", names, out),
         Refused::QueueFull => write_no("queuefull", names, out),
         Refused::RefsSpent => write_no("refsspent", names, out),
+        Refused::Silent => write_no("silent", names, out),
         Refused::NoRoute => write_no("noroute", names, out),
         Refused::Full => write_no("full", names, out),
         Refused::IdsSpent => write_no("idsspent", names, out),
+        Refused::Relayed => write_no("relayed", names, out),
     }
 }
 

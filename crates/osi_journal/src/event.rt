@@ -1,7 +1,7 @@
 //! What happens in a run: one event for each line of the transcript.
 
 use crate::boxed::Boxed;
-use crate::cause::{GoneCause, Refused, Settled, TpduCause, TpduKind};
+use crate::cause::{GoneCause, Refused, Settled, TpduCause, TpduKind, UdCause};
 use osi_base::{Address, Bytes, DropCause, HelloCause, HelloKind, Tick};
 use osi_script::Options;
 
@@ -232,5 +232,45 @@ pub enum Event {
     Unknown {
         system: u8,
         kind: TpduKind,
+    },
+    /// The transport entity of a system begins again, without its ends.
+    Restart {
+        system: u8,
+    },
+    /// A transport unit that came to a system whose entity is silent.
+    Silent {
+        system: u8,
+    },
+    /// A datagram that the network took from a selector of a system, for an address and a selector there. Its lists stand
+    /// apart, so that an event is small.
+    Send {
+        system: u8,
+        selector: Boxed<Bytes>,
+        to: Address,
+        called: Boxed<Bytes>,
+        octets: Boxed<Bytes>,
+    },
+    /// A datagram that is shown at a system, from an address and a selector there, for a selector of the system.
+    Datagram {
+        system: u8,
+        from: Address,
+        calling: Boxed<Bytes>,
+        called: Boxed<Bytes>,
+        octets: Boxed<Bytes>,
+    },
+    /// A UD that cannot be read, with the octet at which it cannot.
+    BadUd {
+        system: u8,
+        cause: UdCause,
+        place: u32,
+    },
+    /// A UD for a selector at which its system has no user.
+    NoUser {
+        system: u8,
+    },
+    /// Two ends that a relay joins: the one that was asked, and the one that it made on.
+    Joined {
+        inbound: u32,
+        outbound: u32,
     },
 }

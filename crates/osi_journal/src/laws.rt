@@ -16,6 +16,6 @@ pub fn text_is_injective()
 
 /// Each front of a lawful journal is lawful.
 pub fn fronts_are_lawful()
-    ensures lawful { (titles : List (List ℕ)) (front back : List Event) → Lawful titles (front ++ back) → Lawful titles front }
+    ensures lawful { (frozen : ℕ) (titles : List (List ℕ)) (front back : List Event) → Lawful frozen titles (front ++ back) → Lawful frozen titles front }
     ensures raw { (life : ℕ) (titles : List (List ℕ)) (front back : List Event) → RawLawful life titles (front ++ back) → RawLawful life titles front }
 {}

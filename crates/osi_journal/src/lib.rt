@@ -3,6 +3,7 @@
 
 mod boxed;
 mod cause;
+mod datagrams;
 mod ends;
 mod event;
 mod fields;
@@ -15,7 +16,7 @@ mod text;
 mod words;
 
 pub use boxed::Boxed;
-pub use cause::{GoneCause, Refused, Settled, Standing, TpduCause, TpduKind};
+pub use cause::{GoneCause, Refused, Settled, Standing, TpduCause, TpduKind, UdCause};
 pub use event::{Event, Indication, Request};
 pub use journal::{Journal, JournalRefusal};
 pub use laws::{fronts_are_lawful, text_is_injective};

@@ -5,9 +5,10 @@ ghost use Rattle.osi_script.specs.Tags.{tags_of};
 ghost use Rattle.osi_journal.specs.Told.{event_text};
 
 use crate::cause::Settled;
+use crate::datagrams::{write_bad_ud, write_datagram, write_send};
 use crate::ends::{
-    write_agreed, write_connect, write_gone, write_held, write_incoming, write_refused,
-    write_window,
+    write_agreed, write_connect, write_gone, write_held, write_incoming, write_joined,
+    write_refused, write_window,
 };
 use crate::event::Event;
 use crate::networks::{write_bad_tpdu, write_frame, write_hello, write_redirect};
@@ -128,5 +129,44 @@ pub fn write_event(event: &Event, names: &Names, out: &mut Vec<u8>) -> Result<()
             names,
             out,
         ),
+        Event::Restart { system } => write_system("restart", *system, names, out),
+        Event::Silent { system } => write_system("silent", *system, names, out),
+        Event::Send {
+            system,
+            selector,
+            to,
+            called,
+            octets,
+        } => write_send(
+            *system,
+            selector.get(),
+            to,
+            called.get(),
+            octets.get(),
+            names,
+            out,
+        ),
+        Event::Datagram {
+            system,
+            from,
+            calling,
+            called,
+            octets,
+        } => write_datagram(
+            *system,
+            from,
+            calling.get(),
+            called.get(),
+            octets.get(),
+            names,
+            out,
+        ),
+        Event::BadUd {
+            system,
+            cause,
+            place,
+        } => write_bad_ud(*system, *cause, *place, names, out),
+        Event::NoUser { system } => write_system("nouser", *system, names, out),
+        Event::Joined { inbound, outbound } => write_joined(*inbound, *outbound, names, out),
     }
 }

@@ -2,10 +2,10 @@
 
 ghost use Rattle.std.specs.Prelude.{◌≡◌, if◌then◌else◌};
 ghost use Rattle.osi_script.specs.Tags.{Tags};
-ghost use Rattle.osi_journal.specs.Told.{cell_text, size_cell, gone_cell, standing_text, drop_text, hello_cause_text, hello_text, tpdu_cause_text, tpdu_text};
+ghost use Rattle.osi_journal.specs.Told.{cell_text, size_cell, gone_cell, standing_text, drop_text, hello_cause_text, hello_text, tpdu_cause_text, tpdu_text, ud_cause_text};
 ghost use Rattle.osi_journal.specs.steps.Written.{piece_text};
 
-use crate::cause::{GoneCause, Standing, TpduCause, TpduKind};
+use crate::cause::{GoneCause, Standing, TpduCause, TpduKind, UdCause};
 use crate::pieces::Piece;
 use osi_base::{DropCause, HelloCause, HelloKind};
 use osi_script::Options;
@@ -112,6 +112,20 @@ pub fn tpdu_cause_piece(tpdu_cause: TpduCause) -> Piece<'static>
         TpduCause::Unknown => Piece::Word("unknown"),
         TpduCause::Checksum => Piece::Word("checksum"),
         TpduCause::Body => Piece::Word("body"),
+    }
+}
+
+pub fn ud_cause_piece(ud_cause: UdCause) -> Piece<'static>
+    ensures { (tags : Tags) → piece_text tags result ≡ ud_cause_text ud_cause }
+{
+    match ud_cause {
+        UdCause::Short => Piece::Word("short"),
+        UdCause::Length => Piece::Word("length"),
+        UdCause::Code => Piece::Word("code"),
+        UdCause::Param => Piece::Word("param"),
+        UdCause::Unknown => Piece::Word("unknown"),
+        UdCause::Missing => Piece::Word("missing"),
+        UdCause::Checksum => Piece::Word("checksum"),
     }
 }
 

@@ -4,13 +4,14 @@ use Rattle.std.specs.Prelude.{Option, Result, Ok, Err, if◌then◌else◌}
 use Rattle.osi_script.specs.declared.fault.LineCause.{LineCause}
 use Rattle.osi_script.specs.declared.fault.LineCause.TheVariants as causes
 use Rattle.osi_script.specs.declared.fault.LineFault.{LineFault}
+use Rattle.osi_script.specs.declared.form.Dialect.{Dialect}
 use Rattle.osi_script.specs.declared.form.Word.{Word}
 use Rattle.osi_script.specs.declared.form.Word.TheVariants as words
 use Rattle.osi_script.specs.declared.line.Line.TheVariants as lines
 use Rattle.osi_script.specs.declared.parts.Parts.{Parts}
 use Rattle.osi_script.specs.Field.{fields_of}
 use Rattle.osi_script.specs.Known.{Declared, no_parts}
-use Rattle.osi_script.specs.Table.{row_of}
+use Rattle.osi_script.specs.Table.{row_of, word_of}
 use Rattle.osi_script.specs.Grammar.{Reading, fault, next_column, count_fault, fields_read, next_number, line_for, declared_by, with_limit, whole_read, counted_read, is_of_later_version, is_out_of_order, worded_read, split_read, is_idle, text_read, printable_read, line_read}
 use Rattle.osi_script.proofs.Filled.{AllGood, are_clear, onto, all_good}
 
@@ -30,6 +31,7 @@ row_clear words.Port = refl
 row_clear words.Route = refl
 row_clear words.Path = refl
 row_clear words.Tsap = refl
+row_clear words.Relay = refl
 row_clear words.Start = refl
 row_clear words.Connect = refl
 row_clear words.Accept = refl
@@ -43,43 +45,51 @@ row_clear words.Tick = refl
 row_clear words.Settle = refl
 row_clear words.Deliver = refl
 row_clear words.Inject = refl
+row_clear words.Restart = refl
+row_clear words.Send = refl
+
+-- the word names a line in the scripts of the command
+abbrev pub IsWordOf : Dialect → Word → Type 0
+IsWordOf dialect word = (field : List ℕ) × (word_of dialect field ≡ Some word)
 
 -- where a reading comes from
 pub data Came (names : Declared) (reading : Reading) : Type 0 where
   Idle : reading ≡ record { line = lines.Nothing; names = names } → Came names reading
-  Worded : (word : Word) (parts : Parts) → AllGood names (onto (row_of word).fields []) parts
+  Worded : (word : Word) (parts : Parts) → IsWordOf names.dialect word → AllGood names (onto (row_of word).fields []) parts
       → reading ≡ record { line = line_for (next_number names (row_of word).effect) word parts; names = declared_by names (row_of word).effect parts } → Came names reading
 
-limited : (names : Declared) (word : Word) (parts : Parts) (limit : Option LineCause) (reading : Reading) → with_limit names word parts limit ≡ Ok reading
+limited : (names : Declared) (word : Word) (parts : Parts) (limit : Option LineCause) (reading : Reading) → IsWordOf names.dialect word → with_limit names word parts limit ≡ Ok reading
     → AllGood names (onto (row_of word).fields []) parts → Came names reading
-limited names word parts (Some cause) reading is g = absurd (cc)
-limited names word parts None reading is g = Worded word parts g (sym (ok_same _ reading is))
+limited names word parts (Some cause) reading its is g = absurd (cc)
+limited names word parts None reading its is g = Worded word parts its g (sym (ok_same _ reading is))
 
-whole : (names : Declared) (word : Word) (past column : ℕ) (fields : List (List ℕ)) (read : Result Parts LineFault) (reading : Reading)
+whole : (names : Declared) (word : Word) (past column : ℕ) (fields : List (List ℕ)) (read : Result Parts LineFault) (reading : Reading) → IsWordOf names.dialect word
     → count_fault past column (row_of word).fields fields ≡ None → fields_read names no_parts column (row_of word).fields fields ≡ read
     → whole_read names word read ≡ Ok reading → Came names reading
-whole names word past column fields (Err found) reading count is i = absurd (cc)
-whole names word past column fields (Ok parts) reading count is i =
-    limited names word parts _ reading i (all_good names no_parts parts past column [] (row_of word).fields fields (row_clear word) tt count is)
+whole names word past column fields (Err found) reading its count is i = absurd (cc)
+whole names word past column fields (Ok parts) reading its count is i =
+    limited names word parts _ reading its i (all_good names no_parts parts past column [] (row_of word).fields fields (row_clear word) tt count is)
 
-counted : (names : Declared) (word : Word) (past column : ℕ) (fields : List (List ℕ)) (found : Option LineFault) (reading : Reading)
+counted : (names : Declared) (word : Word) (past column : ℕ) (fields : List (List ℕ)) (found : Option LineFault) (reading : Reading) → IsWordOf names.dialect word
     → count_fault past column (row_of word).fields fields ≡ found → counted_read names word column fields found ≡ Ok reading → Came names reading
-counted names word past column fields (Some found) reading count i = absurd (cc)
-counted names word past column fields None reading count i = whole names word past column fields _ reading count refl i
+counted names word past column fields (Some found) reading its count i = absurd (cc)
+counted names word past column fields None reading its count i = whole names word past column fields _ reading its count refl i
 
-ordered : (names : Declared) (word : Word) (past column : ℕ) (fields : List (List ℕ)) (late out : Bool) (reading : Reading)
+ordered : (names : Declared) (word : Word) (past column : ℕ) (fields : List (List ℕ)) (late out : Bool) (reading : Reading) → IsWordOf names.dialect word
     → (if late then Err (fault causes.Word 1) else if out then Err (fault causes.Order 1) else counted_read names word column fields (count_fault past column (row_of word).fields fields)) ≡ Ok reading → Came names reading
-ordered names word past column fields true out reading i = absurd (cc)
-ordered names word past column fields false true reading i = absurd (cc)
-ordered names word past column fields false false reading i = counted names word past column fields _ reading refl i
+ordered names word past column fields true out reading its i = absurd (cc)
+ordered names word past column fields false true reading its i = absurd (cc)
+ordered names word past column fields false false reading its i = counted names word past column fields _ reading its refl i
 
-worded : (names : Declared) (past column : ℕ) (fields : List (List ℕ)) (word : Option Word) (reading : Reading) → worded_read names past column fields word ≡ Ok reading → Came names reading
-worded names past column fields None reading i = absurd (cc)
-worded names past column fields (Some word) reading i = ordered names word past column fields (is_of_later_version names word) (is_out_of_order names word) reading i
+worded : (names : Declared) (field : List ℕ) (past column : ℕ) (fields : List (List ℕ)) (word : Option Word) (reading : Reading) → word_of names.dialect field ≡ word
+    → worded_read names past column fields word ≡ Ok reading → Came names reading
+worded names field past column fields None reading named i = absurd (cc)
+worded names field past column fields (Some word) reading named i =
+    ordered names word past column fields (is_of_later_version names word) (is_out_of_order names word) reading (field, named) i
 
 split : (names : Declared) (past : ℕ) (fields : List (List ℕ)) (reading : Reading) → split_read names past fields ≡ Ok reading → Came names reading
 split names past [] reading i = absurd (cc)
-split names past (word ∷ fields) reading i = worded names past (next_column 1 word) fields _ reading i
+split names past (word ∷ fields) reading i = worded names word past (next_column 1 word) fields _ reading refl i
 
 idle : (names : Declared) (octets : List ℕ) (is_it : Bool) (reading : Reading)
     → (if is_it then Ok (record { line = lines.Nothing; names = names }) else split_read names (length octets + 1) (fields_of octets)) ≡ Ok reading → Came names reading

@@ -1,5 +1,5 @@
 -- One turn of the table's two loops, and how the answers of the steps make the answer of a line.
-use Rattle.std.proofs.Common.{◌≡◌, ℕ, ◌+◌, ◌<◌, Bool, true, false, List, [], ◌∷◌, length, drop, refl, subst, add-one, drop-cons}
+use Rattle.std.proofs.Common.{◌≡◌, ℕ, ◌+◌, ◌<◌, Bool, false, List, [], ◌∷◌, length, drop, refl, subst, add-one, drop-cons}
 use Rattle.std.specs.Prelude.{Err, Some, None, Option, Result, ◌&&◌, not}
 use Rattle.osi_script.specs.declared.fault.LineCause.TheVariants as causes
 use Rattle.osi_script.specs.declared.fault.LineFault.{LineFault}

@@ -1,7 +1,8 @@
 -- What the fields of a line name is declared: each form says so of the place that it fills, and no form of a row fills the
 -- place of another.
 use Rattle.std.proofs.Common.{◌≡◌, ℕ, ◌+◌, ◌<◌, Bool, true, false, List, [], ◌∷◌, length, Some, None, refl, sym, ◌∙◌, ap, subst, arith}
-use Rattle.std.specs.Prelude.{◌&&◌, not, Option, Result, Ok, Err, is_some, position, if◌then◌else◌, codes}
+use Rattle.std.specs.Prelude.{◌==◌, ◌&&◌, not, Option, Result, Ok, Err, is_some, position, if◌then◌else◌, codes}
+use Rattle.std.proofs.lemmas.Bool.Decides.{nat_tests}
 use Rattle.std.proofs.lemmas.List.Quantifiers.{position-Some}
 use Rattle.osi_script.specs.declared.fault.LineCause.{LineCause}
 use Rattle.osi_script.specs.declared.fault.LineCause.TheVariants as causes
@@ -13,10 +14,10 @@ use Rattle.osi_script.specs.declared.parts.Parts.{Parts}
 use Rattle.osi_script.specs.Field.{is_word, is_name}
 use Rattle.osi_script.specs.Gives.{into, then_read}
 use Rattle.osi_script.specs.Known.{Declared, system_at, lan_at, path_at, is_end}
-use Rattle.osi_script.specs.Reading.{field_read, passing, known, from_one, system_of, end_system_of, lan_of, port_lan_of, route_lan_of, path_of, intermediate, each_intermediate, hops_of, new_name}
+use Rattle.osi_script.specs.Reading.{field_read, passing, known, from_one, system_of, end_system_of, other_end_of, lan_of, port_lan_of, route_lan_of, path_of, intermediate, each_intermediate, hops_of, new_name}
 use Rattle.osi_script.specs.Grammar.{next_column, count_fault, at_column, fields_read}
 use Rattle.osi_script.specs.Names.{IsSystem, IsEndSystem, IsLan, IsPath, AreIntermediateSystems}
-use Rattle.osi_script.proofs.Places.{Place, Fact, AtSystem, AtOther, AtLan, AtWish, AtHops, AtName, Elsewhere, apart, home, Good, IsFreshLan, IsFreshSystem, fact_of, place_of, rest_of, moved}
+use Rattle.osi_script.proofs.Places.{Place, Fact, AtSystem, AtOther, AtLan, AtWish, AtHops, AtName, Elsewhere, spares, both, Good, IsFreshLan, IsFreshSystem, IsOtherEnd, fact_of, place_of, rest_of, moved}
 
 -- ---- what a name gives
 
@@ -61,6 +62,14 @@ end_there : (names : Declared) (field : List ℕ) (n : ℕ) → end_system_of na
 unfolding end_system_of
 end_there names field n is =
     let both = then_there (system_of names field) (is_end names) _ n is in (system_there names field n both.0, both.1)
+
+differ : (m n : ℕ) → not (m == n) ≡ true → m ≡ n → ⊥
+differ m n is same = let here : (m == n) ≡ true = grind (arith, nat_tests) in absurd (cc)
+
+other_there : (names : Declared) (own : ℕ) (field : List ℕ) (n : ℕ) → other_end_of names own field ≡ Ok n → IsOtherEnd names own n
+unfolding other_end_of
+other_there names own field n is =
+    let both = then_there (end_system_of names field) (λ m. not (m == own)) _ n is in (end_there names field n both.0, differ n own both.1)
 
 port_lan_there : (names : Declared) (system : ℕ) (field : List ℕ) (n : ℕ) → port_lan_of names system field ≡ Ok n → IsLan names n
 unfolding port_lan_of
@@ -141,6 +150,11 @@ fills : (names : Declared) (old : Parts) (form : Form) (field : List ℕ) (new :
 fills names old (forms.Named named.System) field new is = record { good = given (IsSystem names) (λ parts. parts.system) _ _ new (λ v. refl) (system_there names field) is; keeps = through _ _ (rest_of AtSystem) _ new (λ v. refl) is }
 fills names old (forms.Named named.EndSystem) field new is = record { good = given (IsEndSystem names) (λ parts. parts.system) _ _ new (λ v. refl) (end_there names field) is; keeps = through _ _ (rest_of AtSystem) _ new (λ v. refl) is }
 fills names old (forms.Named named.To) field new is = record { good = given (IsEndSystem names) (λ parts. parts.other) _ _ new (λ v. refl) (end_there names field) is; keeps = through _ _ (rest_of AtOther) _ new (λ v. refl) is }
+fills names old (forms.Named named.Other) field new is = record {
+  good = subst (λ (own : ℕ). IsOtherEnd names own new.other) (sym (through _ _ (λ (parts : Parts). parts.system) _ new (λ v. refl) is))
+      (given (IsOtherEnd names old.system) (λ parts. parts.other) _ _ new (λ v. refl) (other_there names old.system field) is);
+  keeps = through _ _ (rest_of AtOther) _ new (λ v. refl) is;
+}
 fills names old (forms.Named named.Next) field new is = record { good = given (IsSystem names) (λ parts. parts.other) _ _ new (λ v. refl) (system_there names field) is; keeps = through _ _ (rest_of AtOther) _ new (λ v. refl) is }
 fills names old (forms.Named named.Lan) field new is = record { good = given (IsLan names) (λ parts. parts.lan) _ _ new (λ v. refl) (lan_there names field) is; keeps = through _ _ (rest_of AtLan) _ new (λ v. refl) is }
 fills names old (forms.Named named.PortLan) field new is = record { good = given (IsLan names) (λ parts. parts.lan) _ _ new (λ v. refl) (port_lan_there names old.system field) is; keeps = through _ _ (rest_of AtLan) _ new (λ v. refl) is }
@@ -175,7 +189,7 @@ AllGood names (form ∷ forms) parts = Good names (fact_of form) parts × AllGoo
 
 abbrev pub clear_of : Form → List Form → Bool
 clear_of form [] = true
-clear_of form (other ∷ done) = apart (place_of form) (home (fact_of other)) && clear_of form done
+clear_of form (other ∷ done) = spares (place_of form) (fact_of other) && clear_of form done
 
 abbrev pub are_clear : List Form → List Form → Bool
 are_clear done [] = true
@@ -185,15 +199,10 @@ abbrev pub onto : List Form → List Form → List Form
 onto [] done = done
 onto (form ∷ forms) done = onto forms (form ∷ done)
 
-both : (a b : Bool) → a && b ≡ true → (a ≡ true) × (b ≡ true)
-both true true is = (refl, refl)
-both true false is = absurd (cc)
-both false b is = absurd (cc)
-
 all_moved : (names : Declared) (done : List Form) (form : Form) (old new : Parts) → clear_of form done ≡ true → rest_of (place_of form) new ≡ rest_of (place_of form) old → AllGood names done old → AllGood names done new
 all_moved names [] form old new clear is good = tt
 all_moved names (other ∷ done) form old new clear is good =
-    let parts = both (apart (place_of form) (home (fact_of other))) (clear_of form done) clear in
+    let parts = both (spares (place_of form) (fact_of other)) (clear_of form done) clear in
     (moved names (fact_of other) (place_of form) old new parts.0 is good.0, all_moved names done form old new parts.1 is good.1)
 
 pub all_good : (names : Declared) (parts out : Parts) (past column : ℕ) (done forms : List Form) (fields : List (List ℕ))

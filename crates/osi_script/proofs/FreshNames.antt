@@ -10,6 +10,7 @@ use Rattle.std.proofs.lemmas.Bool.Decides.{nat_tests}
 use Rattle.std.proofs.lemmas.List.{length-map, map-append}
 use Rattle.std.proofs.lemmas.List.Sums.{fails_before_first}
 use Rattle.std.proofs.lemmas.Option.{unwrap_or-slice_get, slice_get-get_or, get_or_from_slice_get}
+use Rattle.osi_script.specs.declared.form.Dialect.{Dialect}
 use Rattle.osi_script.specs.declared.form.Word.{Word}
 use Rattle.osi_script.specs.declared.form.Word.TheVariants as words
 use Rattle.osi_script.specs.declared.line.Line.{Line}
@@ -100,6 +101,7 @@ kept_by names words.Tsap parts g h = (subst AreNames (sym (kept names.systems pa
 kept_by names words.Version parts g h = h
 kept_by names words.Set parts g h = h
 kept_by names words.Path parts g h = h
+kept_by names words.Relay parts g h = (subst AreNames (sym (kept names.systems parts.system _ (λ system. refl))) h.0, h.1)
 kept_by names words.Start parts g h = h
 kept_by names words.Connect parts g h = h
 kept_by names words.Accept parts g h = h
@@ -113,10 +115,12 @@ kept_by names words.Tick parts g h = h
 kept_by names words.Settle parts g h = h
 kept_by names words.Deliver parts g h = h
 kept_by names words.Inject parts g h = h
+kept_by names words.Restart parts g h = h
+kept_by names words.Send parts g h = h
 
 by_origin : (names : Declared) (reading : Reading) → Came names reading → HaveNames names → HaveNames reading.names
 by_origin names reading (Idle is) h = subst HaveNames (sym (ap (λ (r : Reading). r.names) is)) h
-by_origin names reading (Worded word parts good is) h = subst HaveNames (sym (ap (λ (r : Reading). r.names) is)) (kept_by names word parts good h)
+by_origin names reading (Worded word parts its good is) h = subst HaveNames (sym (ap (λ (r : Reading). r.names) is)) (kept_by names word parts good h)
 
 line_keeps : (names : Declared) (octets : List ℕ) (reading : Reading) → line_read names octets ≡ Ok reading → HaveNames names → HaveNames reading.names
 line_keeps names octets reading is h = by_origin names reading (came names octets reading is) h
@@ -135,5 +139,5 @@ no_names = record {
 }
 
 -- the names of a script are names
-pub script_names : (known : List Word) (script : List (List ℕ)) (said : List Line) (last : Declared) → Says (nothing_declared known) script said last → HaveNames last
-script_names known script said last says = says_keep (nothing_declared known) script said last says (no_names, no_names)
+pub script_names : (dialect : Dialect) (script : List (List ℕ)) (said : List Line) (last : Declared) → Says (nothing_declared dialect) script said last → HaveNames last
+script_names dialect script said last says = says_keep (nothing_declared dialect) script said last says (no_names, no_names)

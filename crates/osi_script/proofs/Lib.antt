@@ -1,4 +1,5 @@
 pub mod Came
+pub mod CommandLines
 pub mod Changes
 pub mod Digits
 pub mod Ends

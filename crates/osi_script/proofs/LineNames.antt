@@ -21,6 +21,7 @@ named names words.Port parts g = (g.1.1.0, g.1.0)
 named names words.Route parts g = (g.1.1.1.0, g.1.0, g.0)
 named names words.Path parts g = (refl, g.0)
 named names words.Tsap parts g = g.1.0
+named names words.Relay parts g = (g.1.1.1.0, g.1.0.0, g.1.0.1)
 named names words.Start parts g = tt
 named names words.Connect parts g = (g.1.1.1.1.1.1.1.1.0, g.1.1.1.1.1.1.0)
 named names words.Accept parts g = tt
@@ -34,10 +35,12 @@ named names words.Tick parts g = tt
 named names words.Settle parts g = tt
 named names words.Deliver parts g = g.0
 named names words.Inject parts g = (g.1.1.0, g.1.0)
+named names words.Restart parts g = g.0
+named names words.Send parts g = (g.1.1.1.1.0, g.1.1.0)
 
 by_origin : (names : Declared) (reading : Reading) → Came names reading → NamesDeclared names reading.line
 by_origin names reading (Idle is) = subst (NamesDeclared names) (sym (ap (λ (r : Reading). r.line) is)) tt
-by_origin names reading (Worded word parts good is) = subst (NamesDeclared names) (sym (ap (λ (r : Reading). r.line) is)) (named names word parts good)
+by_origin names reading (Worded word parts its good is) = subst (NamesDeclared names) (sym (ap (λ (r : Reading). r.line) is)) (named names word parts good)
 
 pub line_named : (names : Declared) (octets : List ℕ) (reading : Reading) → line_read names octets ≡ Ok reading → NamesDeclared names reading.line
 line_named names octets reading is = by_origin names reading (came names octets reading is)

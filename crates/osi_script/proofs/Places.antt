@@ -1,6 +1,6 @@
 -- The places that the forms of a row fill, and what each form says of its place.
-use Rattle.std.proofs.Common.{◌≡◌, ℕ, Bool, true, List, [], sym, ap, subst}
-use Rattle.std.specs.Prelude.{◌==◌, not, None}
+use Rattle.std.proofs.Common.{◌≡◌, ℕ, Bool, true, false, List, [], refl, sym, ◌∙◌, ap, subst}
+use Rattle.std.specs.Prelude.{◌==◌, ◌&&◌, not, None}
 use Rattle.osi_script.specs.declared.form.Form.{Form}
 use Rattle.osi_script.specs.declared.form.Form.TheVariants as forms
 use Rattle.osi_script.specs.declared.form.Named.TheVariants as named
@@ -37,6 +37,7 @@ pub data Fact : Type 0 where
   ASystem : Fact
   AnEnd : Fact
   ToEnd : Fact
+  AnOther : Fact
   ANext : Fact
   ALan : Fact
   APath : Fact
@@ -45,17 +46,19 @@ pub data Fact : Type 0 where
   FreshSystem : Fact
   NoFact : Fact
 
-abbrev pub home : Fact → Place
-home ASystem = AtSystem
-home AnEnd = AtSystem
-home ToEnd = AtOther
-home ANext = AtOther
-home ALan = AtLan
-home APath = AtWish
-home AllHops = AtHops
-home FreshLan = AtName
-home FreshSystem = AtName
-home NoFact = Nowhere
+-- a fact speaks of no such place
+abbrev pub spares : Place → Fact → Bool
+spares place ASystem = apart place AtSystem
+spares place AnEnd = apart place AtSystem
+spares place ToEnd = apart place AtOther
+spares place AnOther = apart place AtOther && apart place AtSystem
+spares place ANext = apart place AtOther
+spares place ALan = apart place AtLan
+spares place APath = apart place AtWish
+spares place AllHops = apart place AtHops
+spares place FreshLan = apart place AtName
+spares place FreshSystem = apart place AtName
+spares place NoFact = true
 
 -- a name that no LAN, no system has
 abbrev pub IsFreshLan : Declared → List ℕ → Type 0
@@ -64,10 +67,15 @@ IsFreshLan names name = (is_name name ≡ true) × (lan_at names.lans name ≡ N
 abbrev pub IsFreshSystem : Declared → List ℕ → Type 0
 IsFreshSystem names name = (is_name name ≡ true) × (system_at names.systems name ≡ None)
 
+-- an end system that is not this one
+abbrev pub IsOtherEnd : Declared → ℕ → ℕ → Type 0
+IsOtherEnd names own system = IsEndSystem names system × (system ≡ own → ⊥)
+
 abbrev pub Good : Declared → Fact → Parts → Type 0
 Good names ASystem parts = IsSystem names parts.system
 Good names AnEnd parts = IsEndSystem names parts.system
 Good names ToEnd parts = IsEndSystem names parts.other
+Good names AnOther parts = IsOtherEnd names parts.system parts.other
 Good names ANext parts = IsSystem names parts.other
 Good names ALan parts = IsLan names parts.lan
 Good names APath parts = IsPath names parts.wish.path
@@ -80,6 +88,7 @@ abbrev pub fact_of : Form → Fact
 fact_of (forms.Named named.System) = ASystem
 fact_of (forms.Named named.EndSystem) = AnEnd
 fact_of (forms.Named named.To) = ToEnd
+fact_of (forms.Named named.Other) = AnOther
 fact_of (forms.Named named.Next) = ANext
 fact_of (forms.Named named.Lan) = ALan
 fact_of (forms.Named named.PortLan) = ALan
@@ -112,6 +121,7 @@ abbrev pub place_of : Form → Place
 place_of (forms.Named named.System) = AtSystem
 place_of (forms.Named named.EndSystem) = AtSystem
 place_of (forms.Named named.To) = AtOther
+place_of (forms.Named named.Other) = AtOther
 place_of (forms.Named named.Next) = AtOther
 place_of (forms.Named named.Lan) = AtLan
 place_of (forms.Named named.PortLan) = AtLan
@@ -219,11 +229,23 @@ same_name AtName old new far is = absurd (cc)
 same_name Elsewhere old new far is = ap (λ (six : Six). six.name) is
 same_name Nowhere old new far is = ap (λ (six : Six). six.name) is
 
+pub both : (a b : Bool) → a && b ≡ true → (a ≡ true) × (b ≡ true)
+both true true is = (refl, refl)
+both true false is = absurd (cc)
+both false b is = absurd (cc)
+
+other_kept : (names : Declared) (old new : Parts) → new.other ≡ old.other → new.system ≡ old.system → IsOtherEnd names old.system old.other → IsOtherEnd names new.system new.other
+other_kept names old new other system good =
+    (subst (IsEndSystem names) (sym other) good.0, λ same. good.1 (sym other ∙ same ∙ system))
+
 -- what holds of a place holds after another place is filled
-pub moved : (names : Declared) (fact : Fact) (place : Place) (old new : Parts) → apart place (home fact) ≡ true → rest_of place new ≡ rest_of place old → Good names fact old → Good names fact new
+pub moved : (names : Declared) (fact : Fact) (place : Place) (old new : Parts) → spares place fact ≡ true → rest_of place new ≡ rest_of place old → Good names fact old → Good names fact new
 moved names ASystem place old new far is good = subst (IsSystem names) (sym (same_system place old new far is)) good
 moved names AnEnd place old new far is good = subst (IsEndSystem names) (sym (same_system place old new far is)) good
 moved names ToEnd place old new far is good = subst (IsEndSystem names) (sym (same_other place old new far is)) good
+moved names AnOther place old new far is good =
+    let fars = both (apart place AtOther) (apart place AtSystem) far in
+    other_kept names old new (same_other place old new fars.0 is) (same_system place old new fars.1 is) good
 moved names ANext place old new far is good = subst (IsSystem names) (sym (same_other place old new far is)) good
 moved names ALan place old new far is good = subst (IsLan names) (sym (same_lan place old new far is)) good
 moved names APath place old new far is good = subst (IsPath names) (sym (same_path place old new far is)) good

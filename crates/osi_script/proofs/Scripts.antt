@@ -3,7 +3,7 @@ use Rattle.std.proofs.Common.{◌≡◌, ℕ, suc, ◌+◌, List, [], ◌∷◌,
 use Rattle.std.specs.Prelude.{Result, Ok, Err}
 use Rattle.osi_script.specs.declared.fault.LineFault.{LineFault}
 use Rattle.osi_script.specs.declared.line.Line.{Line}
-use Rattle.osi_script.specs.declared.form.Word.{Word}
+use Rattle.osi_script.specs.declared.form.Dialect.{Dialect}
 use Rattle.osi_script.specs.Known.{Declared, nothing_declared}
 use Rattle.osi_script.specs.Grammar.{Reading, line_read}
 use Rattle.osi_script.specs.Script.{Says, Script, LineFaultAt}
@@ -80,14 +80,14 @@ says_no_fault old (o ∷ a) r c f (x ∷ k) (y ∷ l) m n p pf q =
     let names : q.0 ≡ p.0 = sym (ap (λ (z : Reading). z.names) same) in
     says_no_fault p.0 a r c f k l m n p.2 pf (subst (λ (z : Declared). Says z (a ++ r ∷ c) l n) names q.2)
 
-pub one_script : (known : List Word) (script : List (List ℕ)) (a b : List Line) → Script known script a → Script known script b → a ≡ b
-one_script known script a b p q = (says_one (nothing_declared known) script a b p.0 q.0 p.1 q.1).0
+pub one_script : (dialect : Dialect) (script : List (List ℕ)) (a b : List Line) → Script dialect script a → Script dialect script b → a ≡ b
+one_script dialect script a b p q = (says_one (nothing_declared dialect) script a b p.0 q.0 p.1 q.1).0
 
-pub one_fault : (known : List Word) (script : List (List ℕ)) (m n : ℕ) (f g : LineFault) → LineFaultAt known script m f → LineFaultAt known script n g → (m ≡ n) × (f ≡ g)
-one_fault known script m n f g p q =
-    let same = fails_one (nothing_declared known) p.before q.before p.refused q.refused p.after q.after f g p.lines q.lines p.names q.names p.said p.found_is q.said q.found_is (sym p.is ∙ q.is) in
+pub one_fault : (dialect : Dialect) (script : List (List ℕ)) (m n : ℕ) (f g : LineFault) → LineFaultAt dialect script m f → LineFaultAt dialect script n g → (m ≡ n) × (f ≡ g)
+one_fault dialect script m n f g p q =
+    let same = fails_one (nothing_declared dialect) p.before q.before p.refused q.refused p.after q.after f g p.lines q.lines p.names q.names p.said p.found_is q.said q.found_is (sym p.is ∙ q.is) in
     (p.number_is ∙ ap (λ (k : ℕ). k + 1) same.places ∙ sym q.number_is, same.faults)
 
-pub no_fault : (known : List Word) (script : List (List ℕ)) (a : List Line) (n : ℕ) (f : LineFault) → Script known script a → LineFaultAt known script n f → ⊥
-no_fault known script a n f p q =
-    says_no_fault (nothing_declared known) q.before q.refused q.after f q.lines a q.names p.0 q.said q.found_is (subst (λ (s : List (List ℕ)). Says (nothing_declared known) s a p.0) q.is p.1)
+pub no_fault : (dialect : Dialect) (script : List (List ℕ)) (a : List Line) (n : ℕ) (f : LineFault) → Script dialect script a → LineFaultAt dialect script n f → ⊥
+no_fault dialect script a n f p q =
+    says_no_fault (nothing_declared dialect) q.before q.refused q.after f q.lines a q.names p.0 q.said q.found_is (subst (λ (s : List (List ℕ)). Says (nothing_declared dialect) s a p.0) q.is p.1)

@@ -89,6 +89,7 @@ line_for number words.Port parts = lines.Port parts.system parts.lan (given_stat
 line_for number words.Route parts = lines.Route parts.system (given_prefix parts) parts.other parts.lan
 line_for number words.Path parts = lines.Path number parts.kind parts.hops
 line_for number words.Tsap parts = lines.Tsap parts.system parts.selector
+line_for number words.Relay parts = lines.Relay parts.system parts.selector parts.other parts.called
 line_for number words.Start parts = lines.Start
 line_for number words.Connect parts = lines.Connect parts.system parts.selector parts.other parts.called parts.options parts.octets
 line_for number words.Accept parts = lines.Accept parts.number parts.options parts.octets
@@ -102,6 +103,8 @@ line_for number words.Tick parts = lines.Tick
 line_for number words.Settle parts = lines.Settle
 line_for number words.Deliver parts = lines.Deliver parts.number parts.system
 line_for number words.Inject parts = lines.Inject parts.lan parts.system parts.octets
+line_for number words.Restart parts = lines.Restart parts.system
+line_for number words.Send parts = lines.Send parts.system parts.selector parts.other parts.called parts.octets
 
 abbrev pub new_system : Bool → Parts → KnownSystem
 new_system is_end parts = record { name = parts.name; is_end = is_end; title = given_title parts; ports = []; routes = []; selectors = [] }
@@ -165,7 +168,7 @@ worded_read names past column fields (Some word) =
 
 abbrev pub split_read : Declared → ℕ → List (List ℕ) → Result Reading LineFault
 split_read names past [] = Err (fault causes.Word 1)
-split_read names past (word ∷ fields) = worded_read names past (next_column 1 word) fields (word_of names.words word)
+split_read names past (word ∷ fields) = worded_read names past (next_column 1 word) fields (word_of names.dialect word)
 
 -- an empty line, or one that begins with `#`
 abbrev pub is_idle : List ℕ → Bool

@@ -1,5 +1,5 @@
 -- What the lines so far declare, and what the fields of a line give.
-use Rattle.std.specs.Prelude.{ℕ, ◌==◌, ◌&&◌, not, Bool, false, nat_eq, List, [], ◌∷◌, length, Option, Some, None, slice_get, slice_set, position}
+use Rattle.std.specs.Prelude.{ℕ, ◌==◌, ◌&&◌, not, Bool, true, false, nat_eq, List, [], ◌∷◌, length, Option, Some, None, slice_get, slice_set, position}
 use Rattle.std.specs.List.{list_any}
 use Rattle.std.specs.Option.{unwrap_or}
 use Rattle.std.specs.BTreeSet.{insert_key}
@@ -8,7 +8,8 @@ use Rattle.std.specs.Ordering.{nat_cmp}
 use Rattle.nsap.specs.declared.port.Port.{Port}
 use Rattle.osi_script.specs.declared.settings.Settings.{Settings}
 use Rattle.osi_script.specs.declared.settings.Key.TheVariants as keys
-use Rattle.osi_script.specs.declared.form.Word.{Word}
+use Rattle.osi_script.specs.declared.form.Dialect.{Dialect}
+use Rattle.osi_script.specs.declared.form.Dialect.TheVariants as dialects
 use Rattle.osi_script.specs.Settings.{is_unset}
 use Rattle.osi_script.specs.declared.line.PathKind.TheVariants as kinds
 use Rattle.osi_script.specs.declared.parts.Parts.{Parts}
@@ -27,9 +28,9 @@ pub record KnownSystem : Type 0 where
 abbrev pub with : List (List ℕ) → List ℕ → List (List ℕ)
 with selectors selector = insert_key (slice_cmp nat_cmp) selectors selector
 
--- what the lines so far declare, and the words that name a line
+-- what the lines so far declare, and the command that reads them
 pub record Declared : Type 0 where
-  pub words : List Word
+  pub dialect : Dialect
   pub settings : Settings
   pub lans : List LanRow
   pub systems : List KnownSystem
@@ -40,15 +41,22 @@ pub record Declared : Type 0 where
   -- a line named the version
   pub versioned : Bool
 
-abbrev pub nothing_declared : List Word → Declared
-nothing_declared words = record {
-  words = words;
+-- the lines are those of version 2 from the first on
+abbrev pub is_second : Dialect → Bool
+is_second dialects.Run = false
+is_second dialects.Datagrams = false
+is_second dialects.Inactive = true
+is_second dialects.Relay = true
+
+abbrev pub nothing_declared : Dialect → Declared
+nothing_declared dialect = record {
+  dialect = dialect;
   settings = record { life = None; t1 = None; w = None; i = None; n = None; refs = None; credit = None; ct = None; hold = None };
   lans = [];
   systems = [];
   paths = [];
   started = false;
-  second = false;
+  second = is_second dialect;
   versioned = false;
 }
 

@@ -1,4 +1,5 @@
 pub mod Causes
+pub mod Commands
 pub mod Field
 pub mod Gives
 pub mod Grammar

@@ -40,6 +40,10 @@ system_of names field = if is_name field then known (system_at names.systems fie
 unfoldable pub end_system_of : Declared → List ℕ → Result ℕ LineCause
 end_system_of names field = then_read (system_of names field) (λ number. passing (is_end names number) causes.Unknown number)
 
+-- an end system that is not this one
+unfoldable pub other_end_of : Declared → ℕ → List ℕ → Result ℕ LineCause
+other_end_of names own field = then_read (end_system_of names field) (λ number. passing (not (number == own)) causes.Unknown number)
+
 abbrev pub lan_of : Declared → List ℕ → Result ℕ LineCause
 lan_of names field = if is_name field then known (lan_at names.lans field) else Err causes.Syntax
 
@@ -164,6 +168,7 @@ abbrev pub named_read : Declared → Parts → Named → List ℕ → Result Par
 named_read names parts named.System field = into (system_of names field) (λ system. record parts { system = system })
 named_read names parts named.EndSystem field = into (end_system_of names field) (λ system. record parts { system = system })
 named_read names parts named.To field = into (end_system_of names field) (λ system. record parts { other = system })
+named_read names parts named.Other field = into (other_end_of names parts.system field) (λ system. record parts { other = system })
 named_read names parts named.Next field = into (system_of names field) (λ system. record parts { other = system })
 named_read names parts named.Lan field = into (lan_of names field) (λ lan. record parts { lan = lan })
 named_read names parts named.PortLan field = into (port_lan_of names parts.system field) (λ lan. record parts { lan = lan })

@@ -2,7 +2,7 @@
 use Rattle.std.specs.Prelude.{◌≡◌, ℕ, ◌+◌, List, [], ◌∷◌, ◌++◌, length, Ok, Err}
 use Rattle.osi_script.specs.declared.fault.LineFault.{LineFault}
 use Rattle.osi_script.specs.declared.line.Line.{Line}
-use Rattle.osi_script.specs.declared.form.Word.{Word}
+use Rattle.osi_script.specs.declared.form.Dialect.{Dialect}
 use Rattle.osi_script.specs.Known.{Declared, nothing_declared}
 use Rattle.osi_script.specs.Grammar.{line_read}
 
@@ -14,18 +14,18 @@ Says old (octets ∷ others) [] new = ⊥
 Says old (octets ∷ others) (line ∷ lines) new =
     (names : Declared) × (line_read old octets ≡ Ok (record { line = line; names = names })) × Says names others lines new
 
--- a script, where these words name a line: no line of it is refused
-abbrev pub Script : List Word → List (List ℕ) → List Line → Type 0
-Script words script lines = (last : Declared) × Says (nothing_declared words) script lines last
+-- a script of a command: no line of it is refused
+abbrev pub Script : Dialect → List (List ℕ) → List Line → Type 0
+Script dialect script lines = (last : Declared) × Says (nothing_declared dialect) script lines last
 
 -- the first refused line, by its number from 1
-pub record LineFaultAt (words : List Word) (script : List (List ℕ)) (number : ℕ) (found : LineFault) : Type 0 where
+pub record LineFaultAt (dialect : Dialect) (script : List (List ℕ)) (number : ℕ) (found : LineFault) : Type 0 where
   pub before : List (List ℕ)
   pub refused : List ℕ
   pub after : List (List ℕ)
   pub lines : List Line
   pub names : Declared
   pub is : script ≡ before ++ refused ∷ after
-  pub said : Says (nothing_declared words) before lines names
+  pub said : Says (nothing_declared dialect) before lines names
   pub found_is : line_read names refused ≡ Err found
   pub number_is : number ≡ length before + 1

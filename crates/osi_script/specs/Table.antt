@@ -1,7 +1,9 @@
 -- The lines of the script as a table: for each line word its text, whether it belongs to the set-up, to version 2 alone and to the front of the
--- script, its fields and what it does.
+-- script, its fields and what it does. And the words of each command.
 use Rattle.std.specs.Prelude.{ℕ, Bool, true, false, List, [], ◌∷◌, Option, codes, find}
 use Rattle.osi_script.specs.Field.{is_word}
+use Rattle.osi_script.specs.declared.form.Dialect.{Dialect}
+use Rattle.osi_script.specs.declared.form.Dialect.TheVariants as dialects
 use Rattle.osi_script.specs.declared.form.Word.{Word}
 use Rattle.osi_script.specs.declared.form.Word.TheVariants as words
 use Rattle.osi_script.specs.declared.form.Effect.{Effect}
@@ -28,6 +30,10 @@ set_up text fields effect = record { text = text; of_set_up = true; is_later = f
 abbrev pub event : List ℕ → List Form → LineRow
 event text fields = record { text = text; of_set_up = false; is_later = false; is_first = false; fields = fields; effect = effects.Nothing }
 
+-- an event of version 2 alone
+abbrev pub later_event : List ℕ → List Form → LineRow
+later_event text fields = record { text = text; of_set_up = false; is_later = true; is_first = false; fields = fields; effect = effects.Nothing }
+
 -- a number of an end or a frame
 abbrev pub any_number : Form
 any_number = forms.Plain (plain.Number 0 999999999)
@@ -50,6 +56,7 @@ row_of words.Port = set_up (codes "port") (name named.System ∷ name named.Port
 row_of words.Route = set_up (codes "route") (name named.System ∷ forms.Prefix ∷ name named.Next ∷ name named.RouteLan ∷ []) effects.Route
 row_of words.Path = set_up (codes "path") (forms.NewPath ∷ forms.Plain plain.PathKind ∷ forms.Hops ∷ []) effects.Path
 row_of words.Tsap = set_up (codes "tsap") (name named.EndSystem ∷ forms.NewSelector ∷ []) effects.Selector
+row_of words.Relay = set_up (codes "relay") (name named.EndSystem ∷ forms.NewSelector ∷ name named.Other ∷ forms.Called ∷ []) effects.Selector
 row_of words.Start = set_up (codes "start") [] effects.Start
 row_of words.Connect = event (codes "connect") (name named.EndSystem ∷ forms.Selector ∷ name named.To ∷ forms.Called ∷ agreement)
 row_of words.Accept = event (codes "accept") (any_number ∷ agreement)
@@ -63,13 +70,24 @@ row_of words.Tick = event (codes "tick") []
 row_of words.Settle = event (codes "settle") []
 row_of words.Deliver = event (codes "deliver") (any_number ∷ name named.System ∷ [])
 row_of words.Inject = event (codes "inject") (name named.Lan ∷ name named.System ∷ forms.Octets ∷ [])
+row_of words.Restart = later_event (codes "restart") (name named.EndSystem ∷ [])
+row_of words.Send = event (codes "send") (name named.EndSystem ∷ forms.Selector ∷ name named.To ∷ forms.Called ∷ forms.Octets ∷ [])
 
--- all words, those of long scripts first
-abbrev pub all_words : List Word
-all_words =
+-- the words that name a line in the scripts of each command, those of long scripts first
+abbrev pub words_of : Dialect → List Word
+words_of dialects.Run =
     words.Deliver ∷ words.Data ∷ words.Tick ∷ words.Settle ∷ words.Unit ∷ words.Expedite ∷ words.Window ∷ words.Connect ∷ words.Accept ∷ words.Disconnect
-    ∷ words.Refuse ∷ words.Inject ∷ words.Route ∷ words.Port ∷ words.Es ∷ words.Is ∷ words.Tsap ∷ words.Lan ∷ words.Path ∷ words.Set ∷ words.Start ∷ words.Version ∷ []
+    ∷ words.Refuse ∷ words.Inject ∷ words.Restart ∷ words.Route ∷ words.Port ∷ words.Es ∷ words.Is ∷ words.Tsap ∷ words.Lan ∷ words.Path ∷ words.Set ∷ words.Start ∷ words.Version ∷ []
+words_of dialects.Datagrams =
+    words.Deliver ∷ words.Send ∷ words.Tick ∷ words.Settle ∷ words.Route ∷ words.Port ∷ words.Es ∷ words.Is ∷ words.Tsap ∷ words.Lan ∷ words.Path ∷ words.Set
+    ∷ words.Start ∷ []
+words_of dialects.Inactive =
+    words.Deliver ∷ words.Data ∷ words.Tick ∷ words.Settle ∷ words.Expedite ∷ words.Window ∷ words.Connect ∷ words.Accept ∷ words.Disconnect ∷ words.Refuse
+    ∷ words.Restart ∷ words.Port ∷ words.Es ∷ words.Tsap ∷ words.Lan ∷ words.Set ∷ words.Start ∷ []
+words_of dialects.Relay =
+    words.Deliver ∷ words.Data ∷ words.Tick ∷ words.Settle ∷ words.Unit ∷ words.Expedite ∷ words.Window ∷ words.Connect ∷ words.Accept ∷ words.Disconnect
+    ∷ words.Refuse ∷ words.Route ∷ words.Port ∷ words.Es ∷ words.Is ∷ words.Tsap ∷ words.Relay ∷ words.Lan ∷ words.Path ∷ words.Set ∷ words.Start ∷ []
 
 -- the word that a field is, among those that name a line
-abbrev pub word_of : List Word → List ℕ → Option Word
-word_of words field = find (λ word. is_word (row_of word).text field) words
+abbrev pub word_of : Dialect → List ℕ → Option Word
+word_of dialect field = find (λ word. is_word (row_of word).text field) (words_of dialect)

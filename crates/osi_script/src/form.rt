@@ -1,5 +1,18 @@
 //! The words of the lines, the kinds of their fields, and what they do.
 
+/// The command that reads a script. It says which words name a line, and whether the lines are those of version 2 from the first on.
+#[derive(Clone, Copy)]
+pub enum Dialect {
+    /// Connections over the network, in the version that the script names.
+    Run,
+    /// Datagrams over the network.
+    Datagrams,
+    /// Connections over the inactive subset of the network layer (X.233).
+    Inactive,
+    /// Connections over the network, and relays that join two of them.
+    Relay,
+}
+
 /// The first field of a line.
 #[derive(Clone, Copy)]
 pub enum Word {
@@ -12,6 +25,7 @@ pub enum Word {
     Route,
     Path,
     Tsap,
+    Relay,
     Start,
     Connect,
     Accept,
@@ -25,6 +39,8 @@ pub enum Word {
     Settle,
     Deliver,
     Inject,
+    Restart,
+    Send,
 }
 
 /// A name that stands in a field, and what is asked of it.
@@ -36,6 +52,8 @@ pub enum Named {
     EndSystem,
     /// The end system that a line goes to.
     To,
+    /// The end system that a line goes to, where it is not the line's own.
+    Other,
     /// The system that a route goes through.
     Next,
     /// A LAN.

@@ -21,8 +21,8 @@ mod system;
 mod table;
 
 pub use fault::{LineCause, LineFault, LineRefusal};
-pub use form::Word;
-pub use laws::{names_are_known, names_stay_names, one_reading};
+pub use form::{Dialect, Word};
+pub use laws::{lines_are_of_command, names_are_known, names_stay_names, one_reading};
 pub use line::{Line, Options, PathKind};
 pub use names::Names;
 pub use settings::{Key, default_of};

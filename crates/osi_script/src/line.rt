@@ -81,6 +81,13 @@ pub enum Line {
         system: u8,
         selector: Bytes,
     },
+    /// A transport selector at which a system joins each connection with one to another system, where `called` is the selector.
+    Relay {
+        system: u8,
+        selector: Bytes,
+        to: u8,
+        called: Bytes,
+    },
     /// The end of the set-up.
     Start,
     /// A connect request, with the calling and the called selector.
@@ -143,6 +150,18 @@ pub enum Line {
     Inject {
         lan: u8,
         system: u8,
+        octets: Bytes,
+    },
+    /// The transport entity of an end system begins again, without its ends.
+    Restart {
+        system: u8,
+    },
+    /// A datagram to send, with the source and the destination selector.
+    Send {
+        system: u8,
+        selector: Bytes,
+        to: u8,
+        called: Bytes,
         octets: Bytes,
     },
 }

@@ -89,7 +89,7 @@ impl Names {
         }
         let mut fields = Fields::of(text);
         match fields.next() {
-            Some(field) => match word_of(self.words, field) {
+            Some(field) => match word_of(self.dialect, field) {
                 Some(word) => self.read_worded(text.len() as u32 + 1, word, fields),
                 None => Err(LineRefusal::Fault(fault(LineCause::Word, 1))),
             },
@@ -239,6 +239,12 @@ fn line_for(number: u8, word: Word, parts: Parts) -> Line
             system: parts.system,
             selector: parts.selector,
         },
+        Word::Relay => Line::Relay {
+            system: parts.system,
+            selector: parts.selector,
+            to: parts.other,
+            called: parts.called,
+        },
         Word::Start => Line::Start,
         Word::Connect => Line::Connect {
             system: parts.system,
@@ -288,6 +294,16 @@ fn line_for(number: u8, word: Word, parts: Parts) -> Line
         Word::Inject => Line::Inject {
             lan: parts.lan,
             system: parts.system,
+            octets: parts.octets,
+        },
+        Word::Restart => Line::Restart {
+            system: parts.system,
+        },
+        Word::Send => Line::Send {
+            system: parts.system,
+            selector: parts.selector,
+            to: parts.other,
+            called: parts.called,
             octets: parts.octets,
         },
     }

@@ -3,24 +3,23 @@
 ghost use Rattle.std.specs.Prelude.{◌≡◌, ◌<◌, map, length, nat_eq, slice_get, IfSome, OnOk, OnErr};
 ghost use Rattle.std.specs.Option.{option_copied};
 ghost use Rattle.std.specs.List.{list_any};
-ghost use Rattle.osi_script.specs.Known.{system_at, lan_at, path_at, has_snpa};
+ghost use Rattle.osi_script.specs.Known.{system_at, lan_at, path_at, has_snpa, is_second};
 ghost use Rattle.osi_script.specs.Tags.{name_at, tags_of};
 ghost use Rattle.std.specs.Cmp.Lexicographic.{pointwise};
 
-use crate::form::Word;
+use crate::form::Dialect;
 use crate::settings::Settings;
 use crate::system::{LanRow, SystemRow};
-use crate::table::WORDS;
 use nsap::{Nsap, Prefix, Snpa};
 use osi_base::Bytes;
 use std::alloc::Global;
 use std::marker::Model;
 
-/// The words that name a line; the settings, LANs, systems and source routes that were declared; the version; and whether the set-up has ended.
+/// The command that reads the script; the settings, LANs, systems and source routes that were declared; the version; and whether the set-up has ended.
 #[derive(Drop)]
 pub struct Names {
     pub(crate) alloc: Global,
-    pub(crate) words: &'static [Word],
+    pub(crate) dialect: Dialect,
     pub(crate) settings: Settings,
     pub(crate) lans: Vec<LanRow>,
     pub(crate) systems: Vec<SystemRow>,
@@ -40,7 +39,7 @@ impl Model for Names {
     ghost Value = { Declared };
 
     ghost view = { λ n. record {
-      words = n.words.now;
+      dialect = n.dialect;
       settings = n.settings;
       lans = n.lans.items;
       systems = n.systems.items;
@@ -55,21 +54,49 @@ impl Model for Names {
 
 impl Names {
     ghost use Rattle.osi_script.specs.Known.{nothing_declared, is_among, is_end, has_port, has_station, routes_of, selectors_of};
-    ghost use Rattle.osi_script.specs.Table.{all_words};
+    ghost use Rattle.osi_script.specs.declared.form.Dialect.TheVariants as dialects;
+
+    /// Nothing is declared yet in a script of `run`, which `frames` reads too.
+    pub fn new(alloc: Global) -> Names
+        ensures { result ≡ nothing_declared dialects.Run }
+    {
+        Names::of(alloc, Dialect::Run)
+    }
+
+    /// Nothing is declared yet in a script of `datagrams`.
+    pub fn datagrams(alloc: Global) -> Names
+        ensures { result ≡ nothing_declared dialects.Datagrams }
+    {
+        Names::of(alloc, Dialect::Datagrams)
+    }
+
+    /// Nothing is declared yet in a script of `inactive`.
+    pub fn inactive(alloc: Global) -> Names
+        ensures { result ≡ nothing_declared dialects.Inactive }
+    {
+        Names::of(alloc, Dialect::Inactive)
+    }
+
+    /// Nothing is declared yet in a script of `relay`.
+    pub fn relay(alloc: Global) -> Names
+        ensures { result ≡ nothing_declared dialects.Relay }
+    {
+        Names::of(alloc, Dialect::Relay)
+    }
 
     /// Nothing is declared yet.
-    pub fn new(alloc: Global) -> Names
-        ensures { result ≡ nothing_declared all_words }
+    fn of(alloc: Global, dialect: Dialect) -> Names
+        ensures { result ≡ nothing_declared dialect }
     {
         Names {
             alloc,
-            words: &WORDS,
+            dialect,
             settings: Settings::new(),
             lans: Vec::new(alloc),
             systems: Vec::new(alloc),
             paths: Vec::new(alloc),
             started: false,
-            second: false,
+            second: is_second(dialect),
             versioned: false,
         }
     }
@@ -181,6 +208,16 @@ impl Names {
         ensures { result ≡ list_any (λ system. pointwise nat_eq system.title title.now) self.now.systems }
     {
         any_title(&self.systems, title)
+    }
+}
+
+/// Whether the lines are those of version 2 from the first on.
+fn is_second(dialect: Dialect) -> bool
+    ensures { result ≡ is_second dialect }
+{
+    match dialect {
+        Dialect::Run | Dialect::Datagrams => false,
+        Dialect::Inactive | Dialect::Relay => true,
     }
 }
 

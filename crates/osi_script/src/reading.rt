@@ -33,7 +33,7 @@ impl Names {
     ghost use Rattle.osi_script.specs.Gives.{Gives, Found};
     ghost use Rattle.osi_script.specs.Known.{system_at};
     ghost use Rattle.osi_script.specs.Settings.{key_of};
-    ghost use Rattle.osi_script.specs.Reading.{system_of, end_system_of, lan_of, port_lan_of, route_lan_of, path_of, new_name, unset_key, value_of};
+    ghost use Rattle.osi_script.specs.Reading.{system_of, end_system_of, other_end_of, lan_of, port_lan_of, route_lan_of, path_of, new_name, unset_key, value_of};
     ghost use Rattle.osi_script.specs.Reading.{new_title, new_station, new_prefix, new_selector, hops_of, each_intermediate, intermediate};
     ghost use Rattle.osi_script.specs.Reading.{named_read, plain_read, field_read};
 
@@ -55,6 +55,18 @@ impl Names {
     {
         match self.system_of(field) {
             Ok(system) if self.is_end(system) => Ok(system),
+            Ok(_) => Err(LineCause::Unknown),
+            Err(cause) => Err(cause),
+        }
+    }
+
+    /// An end system that is not this one.
+    #[tactic(auto, unfolding(crate::specs::Reading::other_end_of))]
+    fn other_end_of(&self, own: u8, field: &str) -> Result<u8, LineCause>
+        ensures { result ≡ other_end_of self.now own field.now }
+    {
+        match self.end_system_of(field) {
+            Ok(system) if system != own => Ok(system),
             Ok(_) => Err(LineCause::Unknown),
             Err(cause) => Err(cause),
         }
@@ -247,6 +259,7 @@ impl Names {
             Named::System => put(&mut parts.system, self.system_of(field)),
             Named::EndSystem => put(&mut parts.system, self.end_system_of(field)),
             Named::To => put(&mut parts.other, self.end_system_of(field)),
+            Named::Other => put(&mut parts.other, self.other_end_of(parts.system, field)),
             Named::Next => put(&mut parts.other, self.system_of(field)),
             Named::Lan => put(&mut parts.lan, self.lan_of(field)),
             Named::PortLan => put(&mut parts.lan, self.port_lan_of(parts.system, field)),

@@ -2,9 +2,9 @@
 
 ghost use Rattle.std.specs.Prelude.{◌≡◌, true, false};
 ghost use Rattle.osi_script.specs.Field.{is_word};
-ghost use Rattle.osi_script.specs.Table.{row_of, word_of};
+ghost use Rattle.osi_script.specs.Table.{row_of, word_of, words_of};
 
-use crate::form::{Effect, Form, Named, Plain, Word};
+use crate::form::{Dialect, Effect, Form, Named, Plain, Word};
 
 /// What a line consists of.
 #[derive(Clone, Copy)]
@@ -23,8 +23,8 @@ pub struct Row {
     pub effect: Effect,
 }
 
-/// All words, those of long scripts first.
-pub const WORDS: [Word; 22] = [
+/// The words of `run`, those of long scripts first.
+const RUN: [Word; 23] = [
     Word::Deliver,
     Word::Data,
     Word::Tick,
@@ -37,6 +37,7 @@ pub const WORDS: [Word; 22] = [
     Word::Disconnect,
     Word::Refuse,
     Word::Inject,
+    Word::Restart,
     Word::Route,
     Word::Port,
     Word::Es,
@@ -47,6 +48,69 @@ pub const WORDS: [Word; 22] = [
     Word::Set,
     Word::Start,
     Word::Version,
+];
+
+/// The words of `datagrams`.
+const DATAGRAMS: [Word; 13] = [
+    Word::Deliver,
+    Word::Send,
+    Word::Tick,
+    Word::Settle,
+    Word::Route,
+    Word::Port,
+    Word::Es,
+    Word::Is,
+    Word::Tsap,
+    Word::Lan,
+    Word::Path,
+    Word::Set,
+    Word::Start,
+];
+
+/// The words of `inactive`.
+const INACTIVE: [Word; 17] = [
+    Word::Deliver,
+    Word::Data,
+    Word::Tick,
+    Word::Settle,
+    Word::Expedite,
+    Word::Window,
+    Word::Connect,
+    Word::Accept,
+    Word::Disconnect,
+    Word::Refuse,
+    Word::Restart,
+    Word::Port,
+    Word::Es,
+    Word::Tsap,
+    Word::Lan,
+    Word::Set,
+    Word::Start,
+];
+
+/// The words of `relay`.
+const RELAY: [Word; 21] = [
+    Word::Deliver,
+    Word::Data,
+    Word::Tick,
+    Word::Settle,
+    Word::Unit,
+    Word::Expedite,
+    Word::Window,
+    Word::Connect,
+    Word::Accept,
+    Word::Disconnect,
+    Word::Refuse,
+    Word::Route,
+    Word::Port,
+    Word::Es,
+    Word::Is,
+    Word::Tsap,
+    Word::Relay,
+    Word::Lan,
+    Word::Path,
+    Word::Set,
+    Word::Start,
 ];
 
 /// The number of an end or of a frame.
@@ -107,6 +171,20 @@ const fn event(text: &'static str, fields: &'static [Form]) -> Row
     }
 }
 
+/// A line after the set-up, of version 2 alone.
+const fn later_event(text: &'static str, fields: &'static [Form]) -> Row
+    ensures { result ≡ record { text = text.entry; of_set_up = false; is_later = true; is_first = false; fields = fields.entry; effect = Effect.Nothing } }
+{
+    Row {
+        text,
+        of_set_up: false,
+        is_later: true,
+        is_first: false,
+        fields,
+        effect: Effect::Nothing,
+    }
+}
+
 /// The row of a word.
 pub fn row_of(word: Word) -> Row
     ensures text { result.text.now ≡ (row_of word).text }
@@ -158,6 +236,16 @@ pub fn row_of(word: Word) -> Row
             Effect::Path,
         ),
         Word::Tsap => set_up("tsap", &[END_SYSTEM, Form::NewSelector], Effect::Selector),
+        Word::Relay => set_up(
+            "relay",
+            &[
+                END_SYSTEM,
+                Form::NewSelector,
+                Form::Named(Named::Other),
+                Form::Called,
+            ],
+            Effect::Selector,
+        ),
         Word::Start => set_up("start", &[], Effect::Start),
         Word::Connect => event(
             "connect",
@@ -196,14 +284,40 @@ pub fn row_of(word: Word) -> Row
         Word::Settle => event("settle", &[]),
         Word::Deliver => event("deliver", &[ANY_NUMBER, SYSTEM]),
         Word::Inject => event("inject", &[Form::Named(Named::Lan), SYSTEM, Form::Octets]),
+        Word::Restart => later_event("restart", &[END_SYSTEM]),
+        Word::Send => event(
+            "send",
+            &[
+                END_SYSTEM,
+                Form::Selector,
+                Form::Named(Named::To),
+                Form::Called,
+                Form::Octets,
+            ],
+        ),
     }
 }
 
-/// The first of the words whose text is the field.
-pub fn word_of(words: &[Word], field: &str) -> Option<Word>
-    ensures { result ≡ word_of words.now field.now }
+/// The words that name a line.
+pub fn words_of(dialect: Dialect) -> &'static [Word]
+    ensures { result.now ≡ words_of dialect }
 {
-    words.iter().copied().find(|word| is_named(*word, field))
+    match dialect {
+        Dialect::Run => &RUN,
+        Dialect::Datagrams => &DATAGRAMS,
+        Dialect::Inactive => &INACTIVE,
+        Dialect::Relay => &RELAY,
+    }
+}
+
+/// The word whose text is the field, if it names a line.
+pub fn word_of(dialect: Dialect, field: &str) -> Option<Word>
+    ensures { result ≡ word_of dialect field.now }
+{
+    words_of(dialect)
+        .iter()
+        .copied()
+        .find(|word| is_named(*word, field))
 }
 
 fn is_named(word: Word, field: &str) -> bool

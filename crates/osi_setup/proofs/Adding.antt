@@ -1,6 +1,7 @@
 -- A set-up is well after each of its calls: with what was added, and as it was where memory ran out.
 use Rattle.std.proofs.Common.{◌≡◌, ℕ, zero, suc, ◌+◌, ◌≤◌, Bool, true, false, List, [], ◌∷◌, ◌++◌, take, Some, Result, Ok, Err, sym, ◌∙◌, ap, subst}
 use Rattle.std.specs.Prelude.{if◌then◌else◌, map, slice_get, slice_set, IsSome, OnErr, OnOk}
+use Rattle.std.specs.List.{AllByRecursion}
 use Rattle.nsap.specs.declared.port.Hop.{Hop}
 use Rattle.nsap.specs.declared.port.Port.{Port}
 use Rattle.lan_bag.specs.declared.setup.Lan.{Lan}
@@ -9,10 +10,11 @@ use Rattle.lan_bag.specs.Rows.{IsLan}
 use Rattle.osi_script.specs.declared.settings.Key.{Key}
 use Rattle.osi_script.specs.declared.settings.Key.TheVariants as keys
 use Rattle.osi_script.specs.Settings.{least_of, most_of}
+use Rattle.osi_setup.specs.declared.relay.RelayLine.{RelayLine}
 use Rattle.osi_setup.specs.SetUp.{System, SetUp, end_at, hop_to, port_on, ports_at, selected, title_at, with_selector, with_time}
-use Rattle.osi_setup.specs.Fitting.{IsNewPath, IsNewPort, IsNewRoute, IsNewSelector, IsNewTitle, IsWell}
+use Rattle.osi_setup.specs.Fitting.{IsNewPath, IsNewPort, IsNewRelay, IsNewRoute, IsNewSelector, IsNewTitle, IsRelay, IsTaken, IsWell}
 use Rattle.osi_setup.proofs.Ports.{own_port, ports_push}
-use Rattle.osi_setup.proofs.Wellness.{hop_on, lan_well, one_well, path_well, port_well, row_well, system_well, time_well, with_one, with_row}
+use Rattle.osi_setup.proofs.Wellness.{fresh_apart, hop_on, lan_well, one_well, path_well, port_well, relay_there, relay_well, row_well, system_well, time_well, with_one, with_row}
 
 abbrev with : SetUp → List System → SetUp
 with shared systems = record shared { systems = systems }
@@ -74,6 +76,20 @@ selector_set (Ok done) setup made number system old new selector same is view ok
     ap (λ (s : List System). record setup { systems = s }) here
     ∙ ap (λ (n : ℕ). record setup { systems = with_selector setup.systems n selector }) same
     ∙ ap (λ (s : SetUp). record s { systems = with_selector s.systems system selector }) view
+
+-- a relay is added once its selector is
+pub relay_added : {T E : Type 0} (result : Result T E) (setup shared new : SetUp) (systems : List System) (relay : RelayLine) → IsWell setup → IsNewRelay setup relay → IsWell (with shared systems)
+    → with shared systems ≡ record setup { systems = with_selector setup.systems relay.system relay.selector }
+    → OnOk result (new ≡ record shared { relays = shared.relays ++ relay ∷ [] }) → OnErr result (new ≡ shared) → IsWell (with new systems)
+relay_added (Ok done) setup shared new systems relay was fits w is ok err =
+    let there = relay_there setup relay fits in
+    let now : systems ≡ with_selector setup.systems relay.system relay.selector = ap (λ (s : SetUp). s.systems) is in
+    let relays : shared.relays ≡ setup.relays = ap (λ (s : SetUp). s.relays) is in
+    subst (λ (s : SetUp). IsWell (with s systems)) (sym ok)
+    (relay_well (with shared systems) relay w (subst (λ (s : List System). IsRelay s relay) (sym now) there.0) (subst (λ (s : List System). IsTaken s relay) (sym now) there.1)
+    (subst (AllByRecursion (λ other. other.system ≡ relay.system → other.selector ≡ relay.selector → ⊥)) (sym relays)
+    (fresh_apart setup.systems relay setup.relays was.taken fits.fresh.fresh)))
+relay_added (Err error) setup shared new systems relay was fits w is ok err = subst (λ (s : SetUp). IsWell (with s systems)) (sym err) w
 
 -- ---- a time or a limit
 

@@ -2,5 +2,6 @@ pub mod Adding
 pub mod Elements
 pub mod Entities
 pub mod Ports
+pub mod Served
 pub mod Starting
 pub mod Wellness

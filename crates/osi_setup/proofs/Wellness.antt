@@ -1,10 +1,12 @@
 -- A set-up stays well with each line that fits it.
 use Rattle.std.proofs.Common.{◌≡◌, ◌==◌, ◌⊎◌, ℕ, zero, suc, ◌+◌, ◌<◌, ◌≤◌, Bool, true, false, List, [], ◌∷◌, ◌++◌, length, map, Option, Some, None, inl, inr, refl, sym, ◌∙◌, ap, subst, arith, length-append, append_assoc}
-use Rattle.std.specs.Prelude.{find, slice_get, slice_set, if◌then◌else◌, IsSome, option_map}
+use Rattle.std.specs.Prelude.{◌||◌, find, nat_eq, slice_get, slice_set, if◌then◌else◌, IsSome, option_map}
 use Rattle.std.specs.List.{AllByRecursion}
+use Rattle.std.specs.Cmp.Lexicographic.{pointwise}
 use Rattle.std.proofs.Math.ListN.{length-set}
 use Rattle.std.proofs.Math.Seq.{map-set_same}
-use Rattle.std.proofs.lemmas.Bool.{cases_lt}
+use Rattle.std.proofs.lemmas.Bool.{cases_lt, false≢true}
+use Rattle.std.proofs.lemmas.Bool.Decides.{nat_tests}
 use Rattle.std.proofs.lemmas.List.{append-nil, length-map, map-append}
 use Rattle.std.proofs.lemmas.Option.{get_or_from_slice_get}
 use Rattle.nsap.specs.Address.{is_same_system}
@@ -21,10 +23,11 @@ use Rattle.osi_script.specs.Settings.{least_of, most_of}
 use Rattle.osi_script.specs.declared.line.Line.{Line}
 use Rattle.osi_script.specs.declared.line.Line.TheVariants as lines
 use Rattle.tp4_entity.specs.Association.{is_registered}
+use Rattle.osi_setup.specs.declared.relay.RelayLine.{RelayLine}
 use Rattle.osi_setup.specs.declared.transport.Limits.{Limits}
-use Rattle.osi_setup.specs.SetUp.{System, SetUp, end_of, end_at, rows_of, rows_at, selectors_of, title_at, ports_at, port_on, hop_to, hop_title, titles_of, routed, selected, with_route, with_selector, with_time, nothing_said, is_complete, set_up}
-use Rattle.osi_setup.specs.Fitting.{Fits, IsWell, IsTitle, AreTitlesApart, AreTimes, AreLimits, AreSelectorsApart, IsNewTitle, IsNewPort, IsNewRoute, IsNewPath, IsNewSelector, most_ports}
-use Rattle.osi_setup.proofs.Elements.{push, each, at, get_front, set_each, set_keeps, find_passes, find_front}
+use Rattle.osi_setup.specs.SetUp.{System, SetUp, end_of, end_at, rows_of, rows_at, selectors_at, selectors_of, title_at, ports_at, port_on, hop_to, hop_title, titles_of, routed, selected, with_route, with_selector, with_time, nothing_said, is_complete, set_up}
+use Rattle.osi_setup.specs.Fitting.{Fits, IsWell, IsTitle, AreTitlesApart, AreTimes, AreLimits, AreSelectorsApart, AreRelaysApart, IsRelay, IsTaken, IsNewTitle, IsNewPort, IsNewRoute, IsNewPath, IsNewRelay, IsNewSelector, most_ports}
+use Rattle.osi_setup.proofs.Elements.{There, push, each, at, get_front, set_each, set_keeps, find_passes, find_front, there}
 use Rattle.osi_setup.proofs.Ports.{own_port, ports_push, own_is, none_at, of_one, rows_push, number_is}
 
 pub nothing_well : IsWell nothing_said
@@ -55,6 +58,9 @@ nothing_well = record {
     most_references = omega arith;
   };
   selectors = tt;
+  relays = tt;
+  taken = tt;
+  relays_apart = tt;
 }
 
 -- ---- a LAN more
@@ -76,6 +82,9 @@ lan_well setup lan w fits = record {
   paths = w.paths;
   limits = w.limits;
   selectors = w.selectors;
+  relays = w.relays;
+  taken = w.taken;
+  relays_apart = w.relays_apart;
 }
 
 -- ---- a system more
@@ -102,6 +111,22 @@ few_more setup system n w (inr past) =
     (each (λ (row : PortRow). (row.system < length setup.systems) × (row.end ≡ end_at setup.systems row.system)) (λ (row : PortRow). row.system < length setup.systems) setup.ports (λ row k. k.0) w.kinds) past in
     subst (λ (ports : List Port). length ports ≤ most_ports (setup.systems ++ system ∷ []) n) (sym none) (omega arith)
 
+-- a relay is such after ends stay ends
+relay_kept : (systems new : List System) → ((n : ℕ) → end_at systems n ≡ true → end_at new n ≡ true) → (relay : RelayLine) → IsRelay systems relay → IsRelay new relay
+relay_kept systems new ends relay is =
+    record { own = ends relay.system is.own; other = ends relay.to is.other; apart = is.apart; selector = is.selector; called = is.called }
+
+ends_on : (systems : List System) (system : System) (n : ℕ) → end_at systems n ≡ true → end_at (systems ++ system ∷ []) n ≡ true
+ends_on [] system n is = absurd (cc)
+ends_on (first ∷ systems) system zero is = is
+ends_on (first ∷ systems) system (suc n) is = ends_on systems system n is
+
+taken_on : (systems : List System) (system : System) (n : ℕ) (selector : List ℕ) → is_registered (selectors_at systems n) selector ≡ true
+    → is_registered (selectors_at (systems ++ system ∷ []) n) selector ≡ true
+taken_on [] system n selector is = absurd (cc)
+taken_on (first ∷ systems) system zero selector is = is
+taken_on (first ∷ systems) system (suc n) selector is = taken_on systems system n selector is
+
 pub system_well : (setup : SetUp) (end : Bool) (title : List ℕ) → IsWell setup → IsNewTitle setup title
     → IsWell (record setup { systems = setup.systems ++ record { end = end; title = title; rows = []; selectors = [] } ∷ [] })
 system_well setup end title w new =
@@ -124,6 +149,10 @@ system_well setup end title w new =
       paths = w.paths;
       limits = w.limits;
       selectors = push (λ (s : System). AreSelectorsApart [] s.selectors) setup.systems added w.selectors tt;
+      relays = each (IsRelay setup.systems) (IsRelay (setup.systems ++ added ∷ [])) setup.relays (relay_kept setup.systems (setup.systems ++ added ∷ []) (ends_on setup.systems added)) w.relays;
+      taken = each (IsTaken setup.systems) (IsTaken (setup.systems ++ added ∷ [])) setup.relays
+          (λ relay is. taken_on setup.systems added relay.system relay.selector is) w.taken;
+      relays_apart = w.relays_apart;
     }
 
 -- ---- a port more
@@ -176,6 +205,9 @@ port_well setup row w new kind = record {
   paths = w.paths;
   limits = w.limits;
   selectors = w.selectors;
+  relays = w.relays;
+  taken = w.taken;
+  relays_apart = w.relays_apart;
 }
 
 -- ---- a system that is changed, but for its kind and its title
@@ -193,9 +225,21 @@ pub set_titles : (systems : List System) (i : ℕ) (system new : System) → sli
 set_titles systems i system new is same =
     map-set_same (λ (s : System). s.title) systems i new system (same ∙ ap (λ (s : System). s.title) (sym (get_or_from_slice_get systems i system system is)))
 
+still_taken : (systems : List System) (i : ℕ) (system new : System) (n : ℕ) (selector : List ℕ) → slice_get systems i ≡ Some system
+    → ((s : List ℕ) → is_registered system.selectors s ≡ true → is_registered new.selectors s ≡ true)
+    → is_registered (selectors_at systems n) selector ≡ true → is_registered (selectors_at (slice_set systems i new) n) selector ≡ true
+still_taken [] i system new n selector is stay at = absurd (cc)
+still_taken (first ∷ systems) zero system new zero selector is stay at =
+    let same : first ≡ system = cc in
+    stay selector (subst (λ (s : System). is_registered s.selectors selector ≡ true) same at)
+still_taken (first ∷ systems) zero system new (suc n) selector is stay at = at
+still_taken (first ∷ systems) (suc i) system new zero selector is stay at = at
+still_taken (first ∷ systems) (suc i) system new (suc n) selector is stay at = still_taken systems i system new n selector is stay at
+
 pub system_changed : (setup : SetUp) (i : ℕ) (system new : System) → IsWell setup → slice_get setup.systems i ≡ Some system → new.end ≡ system.end → new.title ≡ system.title
-    → AllByRecursion (λ (row : RouteRow). IsSome (port_on setup.ports i row.hop.port.lan)) new.rows → AreSelectorsApart [] new.selectors → IsWell (record setup { systems = slice_set setup.systems i new })
-system_changed setup i system new w is same_end same_title on apart =
+    → AllByRecursion (λ (row : RouteRow). IsSome (port_on setup.ports i row.hop.port.lan)) new.rows → AreSelectorsApart [] new.selectors
+    → ((selector : List ℕ) → is_registered system.selectors selector ≡ true → is_registered new.selectors selector ≡ true) → IsWell (record setup { systems = slice_set setup.systems i new })
+system_changed setup i system new w is same_end same_title on apart stay =
     let systems = slice_set setup.systems i new in
     let ends : (n : ℕ) → end_at systems n ≡ end_at setup.systems n = λ n. set_keeps end_of setup.systems i system new is same_end n in
     let count : length systems ≡ length setup.systems = length-set setup.systems i new in
@@ -216,6 +260,10 @@ system_changed setup i system new w is same_end same_title on apart =
       paths = w.paths;
       limits = w.limits;
       selectors = set_each (λ (s : System). AreSelectorsApart [] s.selectors) setup.systems i new w.selectors apart;
+      relays = each (IsRelay setup.systems) (IsRelay systems) setup.relays (relay_kept setup.systems systems (λ n end. ends n ∙ end)) w.relays;
+      taken = each (IsTaken setup.systems) (IsTaken systems) setup.relays
+          (λ relay at. still_taken setup.systems i system new relay.system relay.selector is stay at) w.taken;
+      relays_apart = w.relays_apart;
     }
 
 -- ---- a route more
@@ -233,12 +281,33 @@ row_well setup i system row w is on =
     system_changed setup i system (with_row system row) w is refl refl
     (push (λ (r : RouteRow). IsSome (port_on setup.ports i r.hop.port.lan)) system.rows row
     (rows_there (λ (n : ℕ). λ (r : RouteRow). IsSome (port_on setup.ports n r.hop.port.lan)) setup.systems i system is w.hops) on)
-    (at (λ (s : System). AreSelectorsApart [] s.selectors) setup.systems i system w.selectors is)
+    (at (λ (s : System). AreSelectorsApart [] s.selectors) setup.systems i system w.selectors is) (λ selector at. at)
 
 -- ---- a selector more
 
+same_octets : (xs : List ℕ) → pointwise nat_eq xs xs ≡ true
+same_octets [] = refl
+same_octets (x ∷ xs) = let here : nat_eq x x ≡ true = grind (arith, nat_tests) in rw here (same_octets xs)
+
 abbrev pub with_one : System → List ℕ → System
 with_one system selector = record system { selectors = system.selectors ++ selector ∷ [] }
+
+registered_on : (selectors : List (List ℕ)) (selector other : List ℕ) → is_registered selectors other ≡ true → is_registered (selectors ++ selector ∷ []) other ≡ true
+registered_on [] selector other is = absurd (cc)
+registered_on (first ∷ selectors) selector other is = by (pointwise nat_eq first other) (registered_on selectors selector other) is
+  where
+    by : (b : Bool) → (is_registered selectors other ≡ true → is_registered (selectors ++ selector ∷ []) other ≡ true) → (b || is_registered selectors other) ≡ true
+        → (b || is_registered (selectors ++ selector ∷ []) other) ≡ true
+    by true rest at = refl
+    by false rest at = rest at
+
+registered_last : (selectors : List (List ℕ)) (selector : List ℕ) → is_registered (selectors ++ selector ∷ []) selector ≡ true
+registered_last [] selector = ap (λ (b : Bool). b || false) (same_octets selector)
+registered_last (first ∷ selectors) selector = by (pointwise nat_eq first selector) (registered_last selectors selector)
+  where
+    by : (b : Bool) → is_registered (selectors ++ selector ∷ []) selector ≡ true → (b || is_registered (selectors ++ selector ∷ []) selector) ≡ true
+    by true rest = refl
+    by false rest = rest
 
 one_apart : (before selectors : List (List ℕ)) (selector : List ℕ) → AreSelectorsApart before selectors → is_registered (before ++ selectors) selector ≡ false
     → AreSelectorsApart before (selectors ++ selector ∷ [])
@@ -253,6 +322,7 @@ one_well setup i system selector w is new =
     (rows_there (λ (n : ℕ). λ (r : RouteRow). IsSome (port_on setup.ports n r.hop.port.lan)) setup.systems i system is w.hops)
     (one_apart [] system.selectors selector (at (λ (s : System). AreSelectorsApart [] s.selectors) setup.systems i system w.selectors is)
     (subst (λ (found : Option System). is_registered (selectors_of found) selector ≡ false) is new.fresh))
+    (λ other at. registered_on system.selectors selector other at)
 
 abbrev pub made_hop : Option (List ℕ) → Port → Hop
 made_hop title port = record { port = port; title = title }
@@ -291,6 +361,9 @@ path_well setup complete systems w new =
           (subst (λ (n : ℕ). 1 ≤ n) (sym count) new.some, subst (λ (n : ℕ). n ≤ 4) (sym count) new.few);
       limits = w.limits;
       selectors = w.selectors;
+      relays = w.relays;
+      taken = w.taken;
+      relays_apart = w.relays_apart;
     }
 
 -- ---- a time
@@ -311,6 +384,9 @@ times_well setup life hello hold w times = record {
   paths = w.paths;
   limits = w.limits;
   selectors = w.selectors;
+  relays = w.relays;
+  taken = w.taken;
+  relays_apart = w.relays_apart;
 }
 
 pub limits_well : (setup : SetUp) (limits : Limits) → IsWell setup → AreLimits limits → IsWell (record setup { limits = limits })
@@ -329,6 +405,9 @@ limits_well setup limits w are = record {
   paths = w.paths;
   limits = are;
   selectors = w.selectors;
+  relays = w.relays;
+  taken = w.taken;
+  relays_apart = w.relays_apart;
 }
 
 module _ (l : Limits) (a : AreLimits l) (value : ℕ) where
@@ -389,6 +468,72 @@ selector_well setup system selector w new = by (slice_get setup.systems system) 
     by None is = w
     by (Some there) is = one_well setup system there selector w is new
 
+-- ---- a relay more
+
+relays_push : (relays : List RelayLine) (relay : RelayLine) → AreRelaysApart relays → AllByRecursion (λ other. other.system ≡ relay.system → other.selector ≡ relay.selector → ⊥) relays
+    → AreRelaysApart (relays ++ relay ∷ [])
+relays_push [] relay apart all = (tt, tt)
+relays_push (first ∷ relays) relay apart all =
+    (push (λ (other : RelayLine). first.system ≡ other.system → first.selector ≡ other.selector → ⊥) relays relay apart.0 all.0, relays_push relays relay apart.1 all.1)
+
+-- a relay that is taken is not at a selector that is not
+pub fresh_apart : (systems : List System) (relay : RelayLine) (relays : List RelayLine) → AllByRecursion (IsTaken systems) relays → is_registered (selectors_at systems relay.system) relay.selector ≡ false
+    → AllByRecursion (λ other. other.system ≡ relay.system → other.selector ≡ relay.selector → ⊥) relays
+fresh_apart systems relay [] taken fresh = tt
+fresh_apart systems relay (other ∷ relays) taken fresh = (
+  λ system selector. false≢true
+      (sym fresh ∙ sym (ap (λ (n : ℕ). is_registered (selectors_at systems n) relay.selector) system)
+      ∙ sym (ap (λ (s : List ℕ). is_registered (selectors_at systems other.system) s) selector) ∙ taken.0),
+  fresh_apart systems relay relays taken.1 fresh,
+)
+
+pub relay_well : (setup : SetUp) (relay : RelayLine) → IsWell setup → IsRelay setup.systems relay → IsTaken setup.systems relay
+    → AllByRecursion (λ other. other.system ≡ relay.system → other.selector ≡ relay.selector → ⊥) setup.relays → IsWell (record setup { relays = setup.relays ++ relay ∷ [] })
+relay_well setup relay w is taken apart = record {
+  lans = w.lans;
+  listed = w.listed;
+  apart = w.apart;
+  single = w.single;
+  kinds = w.kinds;
+  few_ports = w.few_ports;
+  few = w.few;
+  titles = w.titles;
+  distinct = w.distinct;
+  hops = w.hops;
+  times = w.times;
+  paths = w.paths;
+  limits = w.limits;
+  selectors = w.selectors;
+  relays = push (IsRelay setup.systems) setup.relays relay w.relays is;
+  taken = push (IsTaken setup.systems) setup.relays relay w.taken taken;
+  relays_apart = relays_push setup.relays relay w.relays_apart apart;
+}
+
+-- a relay is such, and is taken, after its selector is
+pub relay_there : (setup : SetUp) (relay : RelayLine) → IsNewRelay setup relay
+    → IsRelay (with_selector setup.systems relay.system relay.selector) relay × IsTaken (with_selector setup.systems relay.system relay.selector) relay
+relay_there setup relay new =
+    let system : There setup.systems relay.system = there setup.systems relay.system new.fresh.known in
+    let more : System = with_one system.elem relay.selector in
+    let is : with_selector setup.systems relay.system relay.selector ≡ slice_set setup.systems relay.system more = ap (selected setup.systems relay.system relay.selector) system.is in (
+      subst (λ (systems : List System). IsRelay systems relay) (sym is)
+          (relay_kept setup.systems (slice_set setup.systems relay.system more) (λ n end. set_keeps end_of setup.systems relay.system system.elem more system.is refl n ∙ end) relay new.fits),
+      subst (λ (systems : List System). IsTaken systems relay) (sym is) (taken_there setup.systems relay.system system.elem relay.selector system.is),
+    )
+  where
+    taken_there : (systems : List System) (i : ℕ) (system : System) (selector : List ℕ) → slice_get systems i ≡ Some system
+        → is_registered (selectors_at (slice_set systems i (with_one system selector)) i) selector ≡ true
+    taken_there [] i system selector is = absurd (cc)
+    taken_there (first ∷ systems) zero system selector is = registered_last system.selectors selector
+    taken_there (first ∷ systems) (suc i) system selector is = taken_there systems i system selector is
+
+new_relay_well : (setup : SetUp) (relay : RelayLine) → IsWell setup → IsNewRelay setup relay
+    → IsWell (record setup { systems = with_selector setup.systems relay.system relay.selector; relays = setup.relays ++ relay ∷ [] })
+new_relay_well setup relay w new =
+    let there = relay_there setup relay new in
+    relay_well (record setup { systems = with_selector setup.systems relay.system relay.selector }) relay (selector_well setup relay.system relay.selector w new.fresh) there.0 there.1
+    (fresh_apart setup.systems relay setup.relays w.taken new.fresh.fresh)
+
 pub well_after : (setup : SetUp) (line : Line) → IsWell setup → Fits setup line → IsWell (set_up setup line)
 well_after setup lines.Nothing w f = w
 well_after setup lines.Start w f = w
@@ -401,6 +546,7 @@ well_after setup (lines.Port system lan snpa) w f = port_well setup (record { sy
 well_after setup (lines.Route system prefix next lan) w f = route_well setup system prefix next lan w f
 well_after setup (lines.Path name kind systems) w f = path_well setup (is_complete kind) systems w f
 well_after setup (lines.Tsap system selector) w f = selector_well setup system selector w f
+well_after setup (lines.Relay system selector to called) w f = new_relay_well setup (record { system = system; selector = selector; to = to; called = called }) w f
 well_after setup (lines.Connect system selector to called options octets) w f = absurd f
 well_after setup (lines.Accept end options octets) w f = absurd f
 well_after setup (lines.Refuse end octets) w f = absurd f
@@ -413,3 +559,5 @@ well_after setup lines.Tick w f = absurd f
 well_after setup lines.Settle w f = absurd f
 well_after setup (lines.Deliver number system) w f = absurd f
 well_after setup (lines.Inject lan system octets) w f = absurd f
+well_after setup (lines.Restart system) w f = absurd f
+well_after setup (lines.Send system selector to called octets) w f = absurd f

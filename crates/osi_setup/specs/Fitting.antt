@@ -1,5 +1,5 @@
 -- What the lines so far make of a set-up, and what a line that was read brings: the LANs, ports, titles, routes and times fit each other.
-use Rattle.std.specs.Prelude.{◌≡◌, ℕ, ◌<◌, ◌≤◌, false, if◌then◌else◌, List, [], ◌∷◌, ◌++◌, length, IsSome}
+use Rattle.std.specs.Prelude.{◌≡◌, ℕ, ◌<◌, ◌≤◌, true, false, if◌then◌else◌, List, [], ◌∷◌, ◌++◌, length, IsSome}
 use Rattle.std.specs.List.{AllByRecursion}
 use Rattle.nsap.specs.Address.{selector_of, is_same_system}
 use Rattle.lan_bag.specs.declared.setup.Lan.{Lan}
@@ -10,6 +10,7 @@ use Rattle.osi_script.specs.declared.line.Line.{Line}
 use Rattle.osi_script.specs.declared.line.Line.TheVariants as lines
 use Rattle.osi_script.specs.Settings.{least_of, most_of}
 use Rattle.tp4_entity.specs.Association.{is_registered}
+use Rattle.osi_setup.specs.declared.relay.RelayLine.{RelayLine}
 use Rattle.osi_setup.specs.declared.transport.Limits.{Limits}
 use Rattle.osi_setup.specs.SetUp.{System, SetUp, end_at, rows_at, ports_at, port_on, selectors_at, titles_of}
 
@@ -53,6 +54,28 @@ abbrev pub AreSelectorsApart : List (List ℕ) → List (List ℕ) → Type 0
 AreSelectorsApart before [] = Unit {0}
 AreSelectorsApart before (selector ∷ selectors) = (is_registered before selector ≡ false) × AreSelectorsApart (before ++ selector ∷ []) selectors
 
+-- a selector has 1 to 32 octets
+pub record IsSelector (selector : List ℕ) : Type 0 where
+  pub least : 1 ≤ length selector
+  pub most : length selector ≤ 32
+
+-- a relay is at an end system and joins connections with another one
+pub record IsRelay (systems : List System) (relay : RelayLine) : Type 0 where
+  pub own : end_at systems relay.system ≡ true
+  pub other : end_at systems relay.to ≡ true
+  pub apart : relay.to ≡ relay.system → ⊥
+  pub selector : IsSelector relay.selector
+  pub called : IsSelector relay.called
+
+-- the system of a relay takes connections at its selector
+abbrev pub IsTaken : List System → RelayLine → Type 0
+IsTaken systems relay = is_registered (selectors_at systems relay.system) relay.selector ≡ true
+
+-- no two relays are at one selector of a system
+abbrev pub AreRelaysApart : List RelayLine → Type 0
+AreRelaysApart [] = Unit {0}
+AreRelaysApart (relay ∷ relays) = AllByRecursion (λ other. relay.system ≡ other.system → relay.selector ≡ other.selector → ⊥) relays × AreRelaysApart relays
+
 -- what holds of a set-up after any lines
 pub record IsWell (setup : SetUp) : Type 0 where
   pub lans : AllByRecursion IsLan setup.lans
@@ -69,6 +92,9 @@ pub record IsWell (setup : SetUp) : Type 0 where
   pub paths : AllByRecursion IsPath setup.paths
   pub limits : AreLimits setup.limits
   pub selectors : AllByRecursion (λ system. AreSelectorsApart [] system.selectors) setup.systems
+  pub relays : AllByRecursion (IsRelay setup.systems) setup.relays
+  pub taken : AllByRecursion (IsTaken setup.systems) setup.relays
+  pub relays_apart : AreRelaysApart setup.relays
 
 -- ---- what a line brings
 
@@ -102,6 +128,10 @@ pub record IsNewSelector (setup : SetUp) (system : ℕ) (selector : List ℕ) : 
   pub known : system < length setup.systems
   pub fresh : is_registered (selectors_at setup.systems system) selector ≡ false
 
+pub record IsNewRelay (setup : SetUp) (relay : RelayLine) : Type 0 where
+  pub fits : IsRelay setup.systems relay
+  pub fresh : IsNewSelector setup relay.system relay.selector
+
 -- the line is one of a set-up, and what it says fits what was said before; at the start no bound of a LAN is above the lifetime
 abbrev pub Fits : SetUp → Line → Type 0
 Fits setup lines.Nothing = Unit {0}
@@ -114,5 +144,6 @@ Fits setup (lines.Port system lan snpa) = IsNewPort setup system lan snpa
 Fits setup (lines.Route system prefix next lan) = IsNewRoute setup system prefix next lan
 Fits setup (lines.Path name kind systems) = IsNewPath setup systems
 Fits setup (lines.Tsap system selector) = IsNewSelector setup system selector
+Fits setup (lines.Relay system selector to called) = IsNewRelay setup (record { system = system; selector = selector; to = to; called = called })
 Fits setup lines.Start = AllByRecursion (λ (lan : Lan). lan.bound ≤ setup.life) setup.lans
 Fits setup line = ⊥

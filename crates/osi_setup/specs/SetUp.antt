@@ -1,5 +1,5 @@
 -- What the set-up lines of a script say: the LANs, the systems with their ports, routes and transport selectors, the source routes,
--- the times and the limits; and what is made of it (X.233, network entity title, route PDU; ISO 9542, configuration information;
+-- the relays, the times and the limits; and what is made of it (X.233, network entity title, route PDU; ISO 9542, configuration information;
 -- X.224, class 4: timers, frozen references).
 use Rattle.std.specs.Prelude.{ℕ, ◌+◌, ◌==◌, Bool, true, false, if◌then◌else◌, List, [], ◌∷◌, ◌++◌, find, map, slice_get, slice_set, Option, Some, None, option_map}
 use Rattle.nsap.specs.declared.port.Hop.{Hop}
@@ -23,6 +23,7 @@ use Rattle.tp4_entity.specs.Entity.{Entity}
 use Rattle.tp4_entity.specs.Step.{new_entity}
 use Rattle.tp4_world.specs.Run.{transport_address}
 use Rattle.tp4_world.specs.declared.place.Placed.{Placed}
+use Rattle.osi_setup.specs.declared.relay.RelayLine.{RelayLine}
 use Rattle.osi_setup.specs.declared.transport.Limits.{Limits}
 
 -- a system: whether it is an end system, its title, its routes, and the transport selectors at which it takes connections, in the order
@@ -33,13 +34,14 @@ pub record System : Type 0 where
   pub rows : List RouteRow
   pub selectors : List (List ℕ)
 
--- LANs and systems are numbered from 0, and source routes from 1; the ports stand in the order of their lines. The lifetime and the
+-- LANs and systems are numbered from 0, and source routes from 1; the ports and the relays stand in the order of their lines. The lifetime and the
 -- time from one hello to the next are in ticks, and the holding time is in seconds.
 pub record SetUp : Type 0 where
   pub lans : List Lan
   pub systems : List System
   pub ports : List PortRow
   pub paths : List Path
+  pub relays : List RelayLine
   pub life : ℕ
   pub hello : ℕ
   pub hold : ℕ
@@ -63,6 +65,7 @@ nothing_said = record {
   systems = [];
   ports = [];
   paths = [];
+  relays = [];
   life = default_of keys.Life;
   hello = default_of keys.Ct;
   hold = default_of keys.Hold;
@@ -168,6 +171,10 @@ set_up old (lines.Route system prefix next lan) = record old { systems = with_ro
 set_up old (lines.Path name kind systems) =
     record old { paths = old.paths ++ record { complete = is_complete kind; titles = map (title_at old.systems) systems } ∷ [] }
 set_up old (lines.Tsap system selector) = record old { systems = with_selector old.systems system selector }
+set_up old (lines.Relay system selector to called) = record old {
+  systems = with_selector old.systems system selector;
+  relays = old.relays ++ record { system = system; selector = selector; to = to; called = called } ∷ [];
+}
 set_up old line = old
 
 -- ---- what the systems are made of

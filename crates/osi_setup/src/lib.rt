@@ -3,10 +3,14 @@
 //! timers, frozen references).
 #![tactic(auto)]
 
+mod inactive;
+mod relay;
 mod setup;
 mod shared;
 mod system;
 mod transport;
 
+pub use relay::RelayLine;
 pub use setup::SetUp;
+pub use system::System;
 pub use transport::Limits;

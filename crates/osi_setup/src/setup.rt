@@ -9,11 +9,14 @@ ghost use Rattle.lan_bag.specs.Rows.{IsLan};
 ghost use Rattle.osi_setup.specs.Fitting.{IsWell};
 ghost use Rattle.osi_setup.specs.SetUp.{is_complete, nodes_from};
 
+use crate::inactive::inactive_rows;
+use crate::relay::RelayLine;
 use crate::shared::{Shared, port_on};
 use crate::system::System;
 use crate::transport::entities;
 use clnp_entity::{NetEntity, Path};
 use clnp_net::ClnpNet;
+use inactive_net::InactiveNet;
 use lan_bag::{Lan, LanBag, PortRow};
 use nsap::{Hop, Nsap, Port, Prefix, Snpa};
 use osi_base::{Bytes, Items, NoMemory};
@@ -21,6 +24,7 @@ use osi_script::{Key, Line, PathKind};
 use std::alloc::Global;
 use std::collections::VecDeque;
 use std::marker::Model;
+use tp4_conn::Timers;
 use tp4_world::Placed;
 
 /// What the set-up lines so far say.
@@ -47,9 +51,11 @@ impl SetUp {
     ghost use Rattle.esis_tables.specs.Rows.{no_rows};
     ghost use Rattle.lan_bag.specs.Bag.{BagStep, link_of};
     ghost use Rattle.clnp_step.specs.Step.{Begins};
+    ghost use Rattle.inactive_step.specs.Network.{new_inactive};
+    ghost use Rattle.osi_setup.specs.Inactive.{inactive_rows};
     ghost use Rattle.clnp_system.specs.Tables.{rows_tables};
-    ghost use Rattle.osi_setup.specs.SetUp.{end_at, entities_of, hop_to, nodes_of, nothing_said, set_up, title_at, titles_of, with_route, with_selector, with_time};
-    ghost use Rattle.osi_setup.specs.Fitting.{Fits, IsNewPath, IsNewPort, IsNewRoute, IsNewSelector, IsNewTitle};
+    ghost use Rattle.osi_setup.specs.SetUp.{end_at, entities_of, hop_to, nodes_of, nothing_said, set_up, timers_of, title_at, titles_of, with_route, with_selector, with_time};
+    ghost use Rattle.osi_setup.specs.Fitting.{Fits, IsNewPath, IsNewPort, IsNewRelay, IsNewRoute, IsNewSelector, IsNewTitle};
     ghost use Rattle.osi_script.specs.Settings.{least_of, most_of};
 
     /// Nothing is said yet.
@@ -86,6 +92,17 @@ impl SetUp {
             } => self.add_route(system, prefix, next, lan),
             Line::Path { kind, systems, .. } => self.add_path(kind, systems.as_slice()),
             Line::Tsap { system, selector } => self.add_selector(system, selector),
+            Line::Relay {
+                system,
+                selector,
+                to,
+                called,
+            } => self.add_relay(RelayLine {
+                system,
+                selector,
+                to,
+                called,
+            }),
             // These lines are of no set-up.
             Line::Connect { .. }
             | Line::Accept { .. }
@@ -98,7 +115,9 @@ impl SetUp {
             | Line::Tick
             | Line::Settle
             | Line::Deliver { .. }
-            | Line::Inject { .. } => unreachable!(),
+            | Line::Inject { .. }
+            | Line::Restart { .. }
+            | Line::Send { .. } => unreachable!(),
         }
     }
 
@@ -114,6 +133,35 @@ impl SetUp {
         let bag = shared.bag(alloc)?;
         let nodes = nodes(alloc, &shared, systems)?;
         ClnpNet::new(alloc, bag, nodes, shared.life())
+    }
+
+    /// The network by the inactive subset that was set up. An end system without a port is not in it.
+    pub fn start_inactive(self) -> Result<InactiveNet<LanBag>, NoMemory>
+        ensures { IfOk result (λ net. net ≡ new_inactive (new_bag self.lans self.ports) (inactive_rows self)) }
+    {
+        let SetUp {
+            alloc,
+            systems,
+            shared,
+        } = self;
+        let bag = shared.bag(alloc)?;
+        let rows = inactive_rows(alloc, &bag, &shared.ports, &systems)?;
+        InactiveNet::new(alloc, bag, rows)
+    }
+
+    /// The lifetime of a PDU in ticks.
+    pub fn life(&self) -> u8
+        ensures { result ≡ self.now.life }
+    {
+        self.shared.life()
+    }
+
+    /// The systems, by number.
+    pub fn systems(&self) -> &[System]
+        ensures systems { result.now ≡ self.now.systems }
+        ensures few { length result.now ≤ 16 }
+    {
+        &self.systems
     }
 
     /// The titles of the systems.
@@ -137,6 +185,20 @@ impl SetUp {
             self.shared.life(),
             &self.systems,
         )
+    }
+
+    /// The times of the transport entities.
+    pub fn timers(&self) -> Timers
+        ensures { result ≡ timers_of self.now.life self.now.limits }
+    {
+        self.shared.limits().timers(self.shared.life())
+    }
+
+    /// The relays, in the order of their lines.
+    pub fn relays(&self) -> &[RelayLine]
+        ensures { result.now ≡ self.now.relays }
+    {
+        self.shared.relays()
     }
 
     fn add_lan(&mut self, lan: Lan) -> Result<(), NoMemory>
@@ -236,6 +298,16 @@ impl SetUp {
     {
         let system = &mut self.systems[usize::from(system)];
         system.add_selector(selector)
+    }
+
+    /// A relay takes connections at its selector, as a transport user does.
+    fn add_relay(&mut self, relay: RelayLine) -> Result<(), NoMemory>
+        requires { IsNewRelay self.old relay }
+        ensures { OnOk result (self.new ≡ record self.old { systems = with_selector self.old.systems relay.system relay.selector; relays = self.old.relays ++ relay ∷ [] }) }
+    {
+        let selector = Bytes::copy(self.alloc, relay.selector.as_slice())?;
+        self.add_selector(relay.system, selector)?;
+        self.shared.add_relay(relay)
     }
 
     /// Sets a time or a limit.

@@ -5,6 +5,7 @@ ghost use Rattle.lan_bag.specs.Bag.{new_bag};
 ghost use Rattle.lan_bag.specs.Rows.{IsSetUp};
 ghost use Rattle.osi_setup.specs.SetUp.{port_on, ports_at};
 
+use crate::relay::RelayLine;
 use crate::system::System;
 use crate::transport::Limits;
 use clnp_entity::{Path, SystemSetup};
@@ -15,7 +16,7 @@ use osi_script::{Key, default_of};
 use std::alloc::Global;
 use std::marker::Model;
 
-/// What all systems share: the LANs, the ports, the source routes, the times and the limits of transport.
+/// What all systems share: the LANs, the ports, the source routes, the relays, the times and the limits of transport.
 ///
 /// Contracts see it as a set-up without systems.
 #[derive(Drop)]
@@ -23,6 +24,7 @@ pub struct Shared {
     lans: Vec<Lan>,
     pub ports: Vec<PortRow>,
     paths: Vec<Path>,
+    relays: Vec<RelayLine>,
     life: u8,
     hello: u8,
     hold: u8,
@@ -40,6 +42,7 @@ impl Model for Shared {
       systems = [];
       ports = s.ports.items;
       paths = s.paths.items;
+      relays = s.relays.items;
       life = s.life;
       hello = s.hello;
       hold = s.hold;
@@ -59,6 +62,7 @@ impl Shared {
             lans: Vec::new(alloc),
             ports: Vec::new(alloc),
             paths: Vec::new(alloc),
+            relays: Vec::new(alloc),
             life: default_of(Key::Life) as u8,
             hello: default_of(Key::Ct) as u8,
             hold: default_of(Key::Hold) as u8,
@@ -132,6 +136,22 @@ impl Shared {
     {
         self.paths.push(path)?;
         Ok(())
+    }
+
+    /// One relay more.
+    pub fn add_relay(&mut self, relay: RelayLine) -> Result<(), NoMemory>
+        ensures ok { OnOk result (self.new ≡ record self.old { relays = self.old.relays ++ relay ∷ [] }) }
+        ensures same { OnErr result (self.new ≡ self.old) }
+    {
+        self.relays.push(relay)?;
+        Ok(())
+    }
+
+    /// The relays, in the order of their lines.
+    pub fn relays(&self) -> &[RelayLine]
+        ensures { result.now ≡ self.now.relays }
+    {
+        self.relays.as_slice()
     }
 
     /// What the system of that number is set up with.

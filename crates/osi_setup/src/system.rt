@@ -59,6 +59,13 @@ impl System {
         }
     }
 
+    /// The selectors of its transport users, in the order of their lines.
+    pub fn selectors(&self) -> &[Bytes]
+        ensures { result.now ≡ self.now.selectors }
+    {
+        &self.selectors
+    }
+
     /// Adds a selector at which the system takes connections.
     pub fn add_selector(&mut self, selector: Bytes) -> Result<(), NoMemory>
         ensures ok { OnOk result (self.new ≡ record self.old { selectors = self.old.selectors ++ selector ∷ [] }) }

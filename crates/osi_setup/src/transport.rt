@@ -46,7 +46,7 @@ impl Limits {
     }
 
     /// The times and counts of an end, where a TPDU is under way for so many ticks at most.
-    fn timers(self, life: u8) -> Timers
+    pub fn timers(self, life: u8) -> Timers
         ensures { result ≡ timers_of life self }
     {
         Timers {

@@ -1,9 +1,11 @@
--- That no line of a generated script is refused.
+-- That no line of a generated script is refused, and that none injects octets.
 use Rattle.std.specs.Prelude.{◌≡◌, ℕ, ◌<◌, List, [], ◌∷◌, Some, Ok}
 use Rattle.std.specs.List.{AllByRecursion}
+use Rattle.osi_script.specs.declared.form.Dialect.{Dialect}
 use Rattle.osi_script.specs.declared.form.Word.{Word}
 use Rattle.osi_script.specs.declared.form.Word.TheVariants as words
 use Rattle.osi_script.specs.declared.line.Line.{Line}
+use Rattle.osi_script.specs.declared.line.Line.TheVariants as lines
 use Rattle.osi_script.specs.Grammar.{line_read}
 use Rattle.osi_script.specs.Known.{Declared, nothing_declared}
 use Rattle.osi_script.specs.Script.{Says}
@@ -16,14 +18,20 @@ line_words =
     words.Lan ∷ words.Es ∷ words.Is ∷ words.Port ∷ words.Route ∷ words.Tsap ∷ words.Start ∷ words.Connect ∷ words.Accept
     ∷ words.Data ∷ words.Expedite ∷ words.Deliver ∷ words.Tick ∷ words.Disconnect ∷ words.Refuse ∷ words.Window ∷ []
 
--- each of these words names its line
-abbrev pub RunsStorms : List Word → Type 0
-RunsStorms known = AllByRecursion (λ word. word_of known (row_of word).text ≡ Some word) line_words
+-- each of these words names its line in the scripts of the command
+abbrev pub RunsStorms : Dialect → Type 0
+RunsStorms dialect = AllByRecursion (λ word. word_of dialect (row_of word).text ≡ Some word) line_words
 
--- the lines of the set-up are read one after another, and after them the line of each word, which declares nothing more
-pub record AreRead (known : List Word) : Type 0 where
+-- the line injects no octets
+abbrev pub InjectsNothing : Line → Type 0
+InjectsNothing (lines.Inject lan system octets) = ⊥
+InjectsNothing line = Unit {0}
+
+-- the lines of the set-up are read one after another, and after them the line of each word, which declares nothing more; none of them injects octets
+pub record AreRead (dialect : Dialect) : Type 0 where
   pub said : List Line
   pub names : Declared
-  pub set_up : Says (nothing_declared known) set_up_lines said names
+  pub set_up : Says (nothing_declared dialect) set_up_lines said names
+  pub none_injects : AllByRecursion InjectsNothing said
   pub each : (word frames ends : ℕ) → frames < 1000000000 → ends < 1000000000
-      → (line : Line) × (line_read names (line_text word frames ends) ≡ Ok (record { line = line; names = names }))
+      → (line : Line) × (line_read names (line_text word frames ends) ≡ Ok (record { line = line; names = names })) × InjectsNothing line

@@ -1,11 +1,11 @@
 //! What holds of every generated script.
 
-ghost use Rattle.std.specs.Prelude.{List};
-ghost use Rattle.osi_script.specs.declared.form.Word.{Word};
-ghost use Rattle.osi_storm.specs.Read.{RunsStorms, AreRead, line_words};
+ghost use Rattle.osi_script.specs.declared.form.Dialect.{Dialect};
+ghost use Rattle.osi_script.specs.declared.form.Dialect.TheVariants as dialects;
+ghost use Rattle.osi_storm.specs.Read.{RunsStorms, AreRead};
 
-/// Where the words of generated scripts name their lines, no line of them is refused.
+/// Where the words of generated scripts name their lines, no line of them is refused, and none injects octets; so it is in scripts of `run`.
 pub fn lines_are_read()
-    ensures read { (words : List Word) → RunsStorms words → AreRead words }
-    ensures some { RunsStorms line_words }
+    ensures read { (dialect : Dialect) → RunsStorms dialect → AreRead dialect }
+    ensures some { RunsStorms dialects.Run }
 {}

@@ -2,3 +2,4 @@ pub mod Claimed
 pub mod Courses
 pub mod Given
 pub mod Runs
+pub mod Telling

@@ -11,7 +11,6 @@ use Rattle.osi_script.specs.Script.{Says}
 use Rattle.script_bench.specs.Acts.{Acts, RunsScript}
 use Rattle.script_bench.specs.Bench.{Bench, FillsJournal, RunsLine, bench_meaning, first_bench, most_events}
 use Rattle.script_bench.specs.Claims.{lines_run}
-use Rattle.osi_script.specs.Table.{all_words}
 use Rattle.script_bench.specs.Told.{IsFilledRun, IsScriptRun}
 
 -- one line more
@@ -62,7 +61,7 @@ module _ {W : Type 0} (acts : Acts W) where
       let r = ran (first_bench acts) texts before state runs in
       let script : List Line = lines_run acts (first_bench acts) texts before state runs in
       record {
-        says = says_more (nothing_declared all_words) texts script state.names text line last.names r.says read;
+        says = says_more (nothing_declared acts.dialect) texts script state.names text line last.names r.says read;
         runs = runs_more acts.first script before state.world line made last.world r.runs step;
       }
 

@@ -1,15 +1,18 @@
--- What a script sets up and runs, as values: how it begins, what a line does to it, and what it has in common with the names declared.
+-- What a script sets up and runs, as values: the command that reads it, how it begins, what a line does to it, and what it has in common with the
+-- names declared.
 use Rattle.std.specs.Prelude.{◌≡◌, ℕ, ◌+◌, ◌<◌, false, List, [], ◌∷◌, ◌++◌, Option, Ok}
 use Rattle.line_loop.specs.Lines.{most_lines}
 use Rattle.osi_journal.specs.declared.event.Event.{Event}
+use Rattle.osi_script.specs.declared.form.Dialect.{Dialect}
 use Rattle.osi_script.specs.declared.line.Line.{Line}
 use Rattle.osi_script.specs.Grammar.{line_read}
 use Rattle.osi_script.specs.Known.{Declared, nothing_declared}
-use Rattle.osi_script.specs.Table.{all_words}
 use Rattle.script_bench.specs.Script.{IsPlaced, is_start}
 
 -- what is set up and run, in its states
 pub record Acts (W : Type 0) : Type 1 where
+  -- the command that reads the script
+  pub dialect : Dialect
   -- nothing was said yet
   pub first : W
   -- in a state a line has these events and leads to a state
@@ -41,7 +44,7 @@ pub record HasStep {W : Type 0} (acts : Acts W) (old : W) (line : Line) : Type 0
 pub record StageLaws {W : Type 0} (acts : Acts W) (keeping : Keeping W) : Type 0 where
   pub one_step : (line : Line) (old : W) (made other : List Event) (new last : W) → acts.step old line made new → acts.step old line other last → (made ≡ other) × (new ≡ last)
   pub quiet : (line : Line) (old : W) (made : List Event) (new : W) → IsPlaced false line → is_start line ≡ false → acts.step old line made new → made ≡ []
-  pub begins : keeping.agrees (nothing_declared all_words) acts.first 0
+  pub begins : keeping.agrees (nothing_declared acts.dialect) acts.first 0
   pub read_runs : (names declared : Declared) (old : W) (count : ℕ) (octets : List ℕ) (line : Line) → keeping.agrees names old count → count < most_lines
       → line_read names octets ≡ Ok (record { line = line; names = declared }) → keeping.runs old line
   pub read_agrees : (names declared : Declared) (old : W) (count : ℕ) (octets : List ℕ) (line : Line) (made : List Event) (new : W) → keeping.agrees names old count → count < most_lines

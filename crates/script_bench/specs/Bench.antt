@@ -10,7 +10,6 @@ use Rattle.osi_journal.specs.declared.event.Event.{Event}
 use Rattle.osi_journal.specs.Told.{journal_text}
 use Rattle.line_loop.specs.Meaning.{Meaning}
 use Rattle.script_bench.specs.Acts.{Acts}
-use Rattle.osi_script.specs.Table.{all_words}
 use Rattle.script_bench.specs.Text.{done_lines, refused_line, toomuch_line}
 
 -- the most events of a journal
@@ -26,7 +25,7 @@ pub record Bench (W : Type 0) : Type 0 where
 
 module _ {W : Type 0} (acts : Acts W) where
   abbrev pub first_bench : Bench W
-  first_bench = record { names = nothing_declared all_words; world = acts.first; lines = 0; events = 0 }
+  first_bench = record { names = nothing_declared acts.dialect; world = acts.first; lines = 0; events = 0 }
 
   -- a line of a script is read, declares its names, and takes its step, and the journal has room for its events
   pub record RunsLine (old : Bench W) (octets : List ℕ) (made : List Event) (new : Bench W) : Type 0 where

@@ -10,7 +10,6 @@ use Rattle.osi_script.specs.Known.{Declared, nothing_declared}
 use Rattle.osi_script.specs.Script.{Says}
 use Rattle.script_bench.specs.Acts.{Acts, RunsScript}
 use Rattle.script_bench.specs.Bench.{Bench, RunsLine, bench_meaning, first_bench}
-use Rattle.osi_script.specs.Table.{all_words}
 
 -- the lines that have their line feed, without their ends
 abbrev pub texts_in : List ℕ → List (List ℕ)
@@ -45,7 +44,7 @@ module _ {W : Type 0} (acts : Acts W) where
 
   -- what is claimed of a script, its journal and the state after it: it holds of each run of a script, and then of each front of the journal
   pub record IsLaw (Claim : List Line → List Event → W → Type 0) : Type 0 where
-    pub runs : (texts : List (List ℕ)) (script : List Line) (names : Declared) (journal : List Event) (last : W) → Says (nothing_declared all_words) texts script names
+    pub runs : (texts : List (List ℕ)) (script : List Line) (names : Declared) (journal : List Event) (last : W) → Says (nothing_declared acts.dialect) texts script names
         → RunsScript acts acts.first script journal last → Claim script journal last
     pub front : (script : List Line) (before after : List Event) (last : W) → Claim script (before ++ after) last → Claim script before last
 

@@ -21,6 +21,7 @@ IsPlaced started (lines.Set key value) = started ≡ false
 IsPlaced started (lines.Is name title) = started ≡ false
 IsPlaced started (lines.Path name kind systems) = started ≡ false
 IsPlaced started (lines.Tsap system selector) = started ≡ false
+IsPlaced started (lines.Relay system selector to called) = started ≡ false
 IsPlaced started line = started ≡ true
 
 -- whether the set-up has ended after a line

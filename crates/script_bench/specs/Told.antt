@@ -14,13 +14,12 @@ use Rattle.osi_script.specs.Script.{Says}
 use Rattle.script_bench.specs.Acts.{Acts, RunsScript}
 use Rattle.script_bench.specs.Bench.{Bench, bench_meaning, first_bench, most_events}
 use Rattle.script_bench.specs.Claims.{IsRun, texts_in}
-use Rattle.osi_script.specs.Table.{all_words}
 
 module _ {W : Type 0} (acts : Acts W) where
   -- the texts are the lines of a script, and the stage ran them with this journal up to that state
   pub record IsScriptRun (texts : List (List ℕ)) (journal : List Event) (last : Bench W) : Type 0 where
     pub script : List Line
-    pub lines : Says (nothing_declared all_words) texts script last.names
+    pub lines : Says (nothing_declared acts.dialect) texts script last.names
     pub run : RunsScript acts acts.first script journal last.world
 
   -- the texts are the lines of a script whose journal is longer than a journal may be, and this is its front

@@ -57,7 +57,7 @@ impl<W: Stage + Drop> Bench<W> {
     {
         Bench {
             alloc,
-            names: Names::new(alloc),
+            names: W::names(alloc),
             world: W::begin(alloc),
             lines: 0,
             count: 0,

@@ -4,18 +4,23 @@ ghost use Rattle.std.specs.Prelude.{◌≡◌, [], OnOk};
 
 use osi_base::NoMemory;
 use osi_journal::Event;
-use osi_script::Line;
+use osi_script::{Line, Names};
 use std::alloc::Global;
 
 /// What a script sets up and runs: each line that is read has its events.
 pub trait Stage: Sized {
+    ghost use Rattle.osi_script.specs.Known.{nothing_declared};
     ghost use Rattle.script_bench.specs.Acts.{Acts, Keeping, StageLaws};
 
-    /// How it begins, what a line does, and how many arrivals were strays.
+    /// The command that reads the script, how it begins, what a line does, and how many arrivals were strays.
     ghost acts: { Acts Self };
 
     /// Which lines it has, and what it has in common with the names declared.
     ghost keeping: { Keeping Self };
+
+    /// Nothing is declared yet in a script of the command.
+    fn names(alloc: Global) -> Names
+        ensures { result ≡ nothing_declared acts.dialect };
 
     /// Nothing was said yet.
     fn begin(alloc: Global) -> Self

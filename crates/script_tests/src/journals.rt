@@ -2,11 +2,11 @@
 
 mod lines;
 
-use self::lines::{CALLS, ENDS, NETWORK_CAUSES, NETWORKS, TPDUS};
+use self::lines::{CALLS, DATAGRAMS, ENDS, NETWORK_CAUSES, NETWORKS, TPDUS};
 use osi_base::{Address, Bytes, DropCause, HelloCause, HelloKind};
 use osi_journal::{
     Boxed, Event, GoneCause, Indication, Journal, Refused, Request, Settled, Standing, TpduCause,
-    TpduKind, write_event,
+    TpduKind, UdCause, write_event,
 };
 use osi_script::{Names, Options};
 use std::alloc::Global;
@@ -117,6 +117,8 @@ fn an_event_of_a_network_has_its_line(rt: HostRuntime) -> Result<(), Fail> {
         },
         Event::Alien { system },
         Event::HelloFull { system },
+        Event::Restart { system },
+        Event::Silent { system },
         Event::Redirect {
             system,
             address: address(0x0a),
@@ -203,6 +205,8 @@ fn an_event_of_an_end_has_its_line(rt: HostRuntime) -> Result<(), Fail> {
     carry(rt.alloc(), &mut events)?;
     let end = 1;
     events.push(Event::Window { end, credit: 15 })?;
+    let (inbound, outbound) = (2, 3);
+    events.push(Event::Joined { inbound, outbound })?;
     for (expedited, number) in [(false, 96), (true, 4_294_967_296)] {
         events.push(Event::Held {
             end,
@@ -242,9 +246,11 @@ fn a_cause_has_its_word(rt: HostRuntime) -> Result<(), Fail> {
         Refused::NoExpedited,
         Refused::QueueFull,
         Refused::RefsSpent,
+        Refused::Silent,
         Refused::NoRoute,
         Refused::Full,
         Refused::IdsSpent,
+        Refused::Relayed,
     ] {
         events.push(Event::No { cause })?;
     }
@@ -318,5 +324,46 @@ fn a_tpdu_has_its_words(rt: HostRuntime) -> Result<(), Fail> {
         events.push(Event::Unknown { system, kind })?;
     }
     assert_eq!(rt; told(rt.alloc(), &events)?.as_slice(), TPDUS.as_bytes());
+    Ok(())
+}
+
+#[test]
+fn an_event_of_datagrams_has_its_line(rt: HostRuntime) -> Result<(), Fail> {
+    let (alloc, system) = (rt.alloc(), 1);
+    let mut events = Vec::new(alloc);
+    for octets in [&b"hello"[..], &[]] {
+        events.push(Event::Send {
+            system: 0,
+            selector: boxed(alloc, bytes(alloc, &[0xaa])?)?,
+            to: address(0x0b),
+            called: boxed(alloc, bytes(alloc, &[0xbb, 0xcc])?)?,
+            octets: boxed(alloc, bytes(alloc, octets)?)?,
+        })?;
+        events.push(Event::Datagram {
+            system,
+            from: address(0x0a),
+            calling: boxed(alloc, bytes(alloc, &[0xaa])?)?,
+            called: boxed(alloc, bytes(alloc, &[0xbb, 0xcc])?)?,
+            octets: boxed(alloc, bytes(alloc, octets)?)?,
+        })?;
+    }
+    let place = 3;
+    for cause in [
+        UdCause::Short,
+        UdCause::Length,
+        UdCause::Code,
+        UdCause::Param,
+        UdCause::Unknown,
+        UdCause::Missing,
+        UdCause::Checksum,
+    ] {
+        events.push(Event::BadUd {
+            system,
+            cause,
+            place,
+        })?;
+    }
+    events.push(Event::NoUser { system })?;
+    assert_eq!(rt; told(alloc, &events)?.as_slice(), DATAGRAMS.as_bytes());
     Ok(())
 }

@@ -1,7 +1,9 @@
 //! What lines say, or their first fault, as the format of the script states them.
 
+mod commands;
 mod rows;
 
+use self::commands::{DATAGRAMS, INACTIVE, RELAY, RUN};
 use self::rows::{
     AFTER_START, BEFORE_START, FAULTS, FULL, LATE, LIFE, LINES, ROUTES, SHORT_LIFE, VERSION_1,
     VERSION_2, VERSIONS,
@@ -40,6 +42,7 @@ fn numbers_of(line: &Line) -> (&'static str, [u32; 6]) {
         ),
         Line::Path { name, kind, .. } => ("path", [u32::from(*name), *kind as u32, 0, 0, 0, 0]),
         Line::Tsap { system, .. } => ("tsap", pair(*system, 0)),
+        Line::Relay { system, to, .. } => ("relay", pair(*system, *to)),
         Line::Start => ("start", [0; 6]),
         Line::Connect {
             system,
@@ -66,6 +69,8 @@ fn numbers_of(line: &Line) -> (&'static str, [u32; 6]) {
         Line::Settle => ("settle", [0; 6]),
         Line::Deliver { frame, system } => ("deliver", [*frame, u32::from(*system), 0, 0, 0, 0]),
         Line::Inject { lan, system, .. } => ("inject", pair(*lan, *system)),
+        Line::Restart { system } => ("restart", [u32::from(*system), 0, 0, 0, 0, 0]),
+        Line::Send { system, to, .. } => ("send", pair(*system, *to)),
     }
 }
 
@@ -103,7 +108,18 @@ fn octets_of(line: &Line) -> [&[u8]; 3] {
         Line::Route { prefix, .. } => [prefix.octets(), &[], &[]],
         Line::Path { systems, .. } => [systems.as_slice(), &[], &[]],
         Line::Tsap { selector, .. } => [selector.as_slice(), &[], &[]],
+        Line::Relay {
+            selector,
+            called,
+            ..
+        } => [selector.as_slice(), called.as_slice(), &[]],
         Line::Connect {
+            selector,
+            called,
+            octets,
+            ..
+        }
+        | Line::Send {
             selector,
             called,
             octets,
@@ -124,7 +140,8 @@ fn octets_of(line: &Line) -> [&[u8]; 3] {
         | Line::Window { .. }
         | Line::Tick
         | Line::Settle
-        | Line::Deliver { .. } => [&[], &[], &[]],
+        | Line::Deliver { .. }
+        | Line::Restart { .. } => [&[], &[], &[]],
     }
 }
 
@@ -191,6 +208,18 @@ fn a_version_is_named_first(rt: HostRuntime) -> Result<(), Fail> {
         )?;
     }
     Ok(())
+}
+
+#[test]
+fn a_command_has_its_lines(rt: HostRuntime) -> Result<(), Fail> {
+    let mut names = Names::datagrams(rt.alloc());
+    check(&rt, rt.alloc(), &mut names, DATAGRAMS)?;
+    let mut names = Names::inactive(rt.alloc());
+    check(&rt, rt.alloc(), &mut names, INACTIVE)?;
+    let mut names = Names::relay(rt.alloc());
+    check(&rt, rt.alloc(), &mut names, RELAY)?;
+    let mut names = Names::new(rt.alloc());
+    check(&rt, rt.alloc(), &mut names, RUN)
 }
 
 /// Whether the options of the answer to a connect line have a preferred size, and which size.

@@ -55,13 +55,14 @@ Settles (lines.Nothing ∷ script) = Settles script
 Settles (lines.Settle ∷ script) = Prim.Unit {0}
 Settles (line ∷ script) = ⊥
 
--- after the start nothing is delivered or injected by a line of its own, and each other line is settled
+-- after the start nothing is delivered or injected by a line of its own, no system begins again, and each other line is settled
 abbrev pub IsSettled : List Line → Type 0
 IsSettled [] = Prim.Unit {0}
 IsSettled (lines.Nothing ∷ script) = IsSettled script
 IsSettled (lines.Settle ∷ script) = IsSettled script
 IsSettled (lines.Deliver frame system ∷ script) = ⊥
 IsSettled (lines.Inject lan system octets ∷ script) = ⊥
+IsSettled (lines.Restart system ∷ script) = ⊥
 IsSettled (line ∷ script) = Settles script × IsSettled script
 
 pub record IsCalmScript (script : List Line) : Type 0 where

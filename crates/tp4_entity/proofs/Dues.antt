@@ -295,3 +295,11 @@ pub popped_id : (now place : ℕ) (due new : List (Option ℕ)) (ends : List (Op
 popped_id now place due new ends is h =
     let within : place < length ends = popped_place now place due new ends is h in
     omega (arith, within, ap (λ (xs : List (Option ℕ)). length xs) h.0, length-set due place None, dues_long due ends is)
+
+-- where no end stands none is due
+pub none_later : (now count : ℕ) (ends : List (Option End)) → ends ≡ replicate count None → AreLater now ends
+none_later now count ends is = subst (AreLater now) (sym is) (none count)
+  where
+    none : (k : ℕ) → AreLater now (replicate k None)
+    none zero = tt
+    none (suc k) = (tt, none k)

@@ -1,14 +1,18 @@
 -- A unit has one outcome: octets have one TPDU at their front or a fault, and never both.
-use Rattle.std.proofs.Common.{◌≡◌, ℕ, List, [], ◌∷◌, ◌++◌, length, Some, refl, sym, ap, subst, ◌∙◌, arith}
+use Rattle.std.proofs.Common.{◌≡◌, ℕ, Bool, true, false, List, [], ◌∷◌, ◌++◌, length, Some, refl, sym, ap, subst, ◌∙◌, arith}
 use Rattle.tpdu.specs.Faults.{IsTpduFault}
 use Rattle.tpdu.specs.Grammar.{BeginsWithTpdu}
 use Rattle.tpdu.specs.Values.{TpduAndSum}
 use Rattle.tpdu.specs.declared.fault.TpduFault.{TpduFault}
 use Rattle.tpdu.proofs.Fronts.{apart, same_front}
 use Rattle.tp4_flow.specs.declared.step.EndEvent.{EndEvent}
-use Rattle.tp4_flow.specs.declared.step.What.TheVariants.{BadTpdu}
+use Rattle.tp4_flow.specs.declared.step.What.TheVariants.{BadTpdu, Silent}
+use Rattle.tp4_flow.specs.Told.{Told, Grows}
+use Rattle.tp4_number.specs.Number.{wire}
 use Rattle.tp4_entity.specs.Entity.{Acted, Entity, at}
-use Rattle.tp4_entity.specs.Unit.{EndsWith, Faulty, HearsUnit, Separates, Whole, all_met, extended_of}
+use Rattle.tp4_entity.specs.References.{is_silent}
+use Rattle.tp4_entity.specs.Step.{DoesSo}
+use Rattle.tp4_entity.specs.Unit.{ignored, EndsWith, Faulty, HearsUnit, TakesBy, TakesUnit, Separates, Whole, all_met, extended_of}
 use Rattle.tp4_entity.proofs.Units.{shorter}
 
 -- nothing stands at the front of what ends the reading
@@ -57,3 +61,17 @@ one_outcome wrap now old from octets one other h k =
       events = (h.events ∙ (λ j. (all j).events ++ same.told_is j) ∙ sym k.events) i;
       tpdus = (h.tpdus_are ∙ ap (λ (a : Acted). a.tpdus) all ∙ sym k.tpdus_are) i;
     }
+
+takes_one : (quiet : Bool) (wrap : ℕ → ℕ → ℕ) (now : ℕ) (old : Entity) (from octets : List ℕ) (one other : Acted) → TakesBy quiet wrap now old from octets one → TakesBy quiet wrap now old from octets other → one ≡ other
+takes_one true wrap now old from octets one other h k = h ∙ sym k
+takes_one false wrap now old from octets one other h k = one_outcome wrap now old from octets one other h k
+
+-- silent or not
+pub one_taking : (wrap : ℕ → ℕ → ℕ) (now : ℕ) (old : Entity) (from octets : List ℕ) (one other : Acted) → TakesUnit wrap now old from octets one → TakesUnit wrap now old from octets other → one ≡ other
+one_taking wrap now old from octets one other h k = takes_one (is_silent now old) wrap now old from octets one other h k
+
+-- a silent entity tells the unit alone
+pub ignores : (now : ℕ) (old new : Entity) (from octets : List ℕ) (was out : Told) → is_silent now old ≡ true → new ≡ at now old → Grows was (record { reference = 0; what = Silent } ∷ []) [] out
+    → (x : Acted) × TakesUnit wire now old from octets x × DoesSo x new was out
+ignores now old new from octets was out silent same told =
+    (ignored now old, subst (λ b. TakesBy b wire now old from octets (ignored now old)) (sym silent) refl, record { entity_is = same; told = told })

@@ -1,8 +1,11 @@
 pub mod Answered
+pub mod Beginning
+pub mod Clearing
 pub mod Dues
 pub mod Formats
 pub mod Hearings
 pub mod PlaceLaws
+pub mod Restarts
 pub mod Standings
 pub mod Ticks
 pub mod Units

@@ -37,7 +37,7 @@ use Rattle.tp4_conn.specs.UserWait.{refusing, user_wait_tick}
 use Rattle.tp4_conn.specs.WaitBeforeClose.{wait_before_close_tick}
 use Rattle.tp4_entity.specs.Association.{answers, calls, is_called, is_registered, met, met_by, new_end, refusal, requested, unmatched}
 use Rattle.tp4_entity.specs.Entity.{Acted, Entity, at, end_at, moved, there, with_end}
-use Rattle.tp4_entity.specs.References.{is_free, is_free_place, least_free, was_frozen}
+use Rattle.tp4_entity.specs.References.{is_silent, is_free, is_free_place, least_free, was_frozen}
 use Rattle.tp4_entity.specs.Standing.{Empty, Goes, IsFreeAt, KeepsEnds, Moves, Over, Stays}
 use Rattle.tp4_entity.specs.Step.{call_of, calling, calling_end, connecting, first_due, kept_end, ticked_to, ticking, ticking_at, ticking_end}
 use Rattle.tp4_entity.proofs.PlaceLaws.{Place, end_at_of}
@@ -61,21 +61,27 @@ both : (a b : Bool) → (a && b) ≡ true → (a ≡ true) × (b ≡ true)
 both true b h = (refl, h)
 both false b h = absurd cc
 
-pub free_is : (now reference : ℕ) (e : Entity) → is_free now e reference ≡ true → (1 ≤ reference) × (reference ≤ length e.ends) × IsFreeAt now (end_at e reference)
-free_is now zero e h = absurd cc
-free_is now (suc k) e h =
-    let one = both (not (suc k == 0)) (nat_le (suc k) (length e.ends) && is_free_place now (end_at e (suc k))) h in
-    let two = both (nat_le (suc k) (length e.ends)) (is_free_place now (end_at e (suc k))) one.1 in
-    (omega arith, leb-true (suc k) (length e.ends) two.0, free_at now (end_at e (suc k)) two.1)
+heard : (b c : Bool) → (not b && c) ≡ true → (b ≡ false) × (c ≡ true)
+heard false c h = (refl, h)
+heard true c h = absurd cc
 
-is_free_from : (now reference : ℕ) (e : Entity) → 1 ≤ reference → reference ≤ length e.ends → is_free_place now (end_at e reference) ≡ true → is_free now e reference ≡ true
-is_free_from now zero e least most h = absurd (omega arith)
-is_free_from now (suc k) e least most h =
-    ap (λ (b : Bool). not b && (nat_le (suc k) (length e.ends) && is_free_place now (end_at e (suc k)))) (eqb-suc-zero k)
+pub free_is : (now reference : ℕ) (e : Entity) → is_free now e reference ≡ true → (is_silent now e ≡ false) × (1 ≤ reference) × (reference ≤ length e.ends) × IsFreeAt now (end_at e reference)
+free_is now zero e h = absurd (let quiet = heard (is_silent now e) _ h in cc quiet.1)
+free_is now (suc k) e h =
+    let quiet = heard (is_silent now e) _ h in
+    let one = both (not (suc k == 0)) (nat_le (suc k) (length e.ends) && is_free_place now (end_at e (suc k))) quiet.1 in
+    let two = both (nat_le (suc k) (length e.ends)) (is_free_place now (end_at e (suc k))) one.1 in
+    (quiet.0, omega arith, leb-true (suc k) (length e.ends) two.0, free_at now (end_at e (suc k)) two.1)
+
+is_free_from : (now reference : ℕ) (e : Entity) → is_silent now e ≡ false → 1 ≤ reference → reference ≤ length e.ends → is_free_place now (end_at e reference) ≡ true → is_free now e reference ≡ true
+is_free_from now zero e quiet least most h = absurd (omega arith)
+is_free_from now (suc k) e quiet least most h =
+    ap (λ (b : Bool). not b && (not (suc k == 0) && (nat_le (suc k) (length e.ends) && is_free_place now (end_at e (suc k))))) quiet
+    ∙ ap (λ (b : Bool). not b && (nat_le (suc k) (length e.ends) && is_free_place now (end_at e (suc k)))) (eqb-suc-zero k)
     ∙ ap (λ (b : Bool). b && is_free_place now (end_at e (suc k))) (le-leb (suc k) (length e.ends) most) ∙ h
 
-pub is_free_at : (now reference : ℕ) (e : Entity) → 1 ≤ reference → reference ≤ length e.ends → IsFreeAt now (end_at e reference) → is_free now e reference ≡ true
-is_free_at now reference e least most h = is_free_from now reference e least most (at_free now (end_at e reference) h)
+pub is_free_at : (now reference : ℕ) (e : Entity) → is_silent now e ≡ false → 1 ≤ reference → reference ≤ length e.ends → IsFreeAt now (end_at e reference) → is_free now e reference ≡ true
+is_free_at now reference e quiet least most h = is_free_from now reference e quiet least most (at_free now (end_at e reference) h)
 
 -- the least free reference
 pub record Free (now reference : ℕ) (e : Entity) : Type 0 where
@@ -98,8 +104,8 @@ free_by now reference e (Some place) is h =
 pub free_least : (now reference : ℕ) (e : Entity) → least_free now e ≡ Some reference → Free now reference e
 free_least now reference e h = free_by now reference e (position (is_free_place now) e.ends) refl h
 
-pub least_is_free : (now reference : ℕ) (e : Entity) → least_free now e ≡ Some reference → is_free now e reference ≡ true
-least_is_free now reference e h = let f = free_least now reference e h in is_free_from now reference e f.least f.most f.free
+pub least_is_free : (now reference : ℕ) (e : Entity) → is_silent now e ≡ false → least_free now e ≡ Some reference → is_free now e reference ≡ true
+least_is_free now reference e quiet h = let f = free_least now reference e h in is_free_from now reference e quiet f.least f.most f.free
 
 -- ---- one place changes
 

@@ -22,7 +22,8 @@ use Rattle.tp4_entity.specs.Association.{is_called, is_frozen, is_registered, me
 use Rattle.tp4_entity.specs.Entity.{Acted, Entity, at, end_at, moved, there, with_end}
 use Rattle.tp4_entity.specs.References.{is_free_place, least_free, was_frozen}
 use Rattle.tp4_entity.specs.Step.{call_of, calling, calling_end, connecting, first_due, is_due, is_due_by, kept_end, ticked_to, ticking, ticking_at, ticking_end}
-use Rattle.tp4_entity.specs.Unit.{EndsWith, HearsUnit, Separates, all_met, extended_from, extended_of, followed, listed_if}
+use Rattle.tp4_entity.specs.References.{is_silent}
+use Rattle.tp4_entity.specs.Unit.{EndsWith, HearsUnit, TakesBy, TakesUnit, Separates, all_met, extended_from, extended_of, followed, listed_if}
 use Rattle.tp4_entity.specs.Wire.{acted_on_wire, entity_on_wire}
 use Rattle.tp4_entity.proofs.PlaceLaws.{Place, end_at_of}
 
@@ -259,3 +260,11 @@ hearing_on now e from octets acted h =
       events = h.events ∙ ap (λ (a : Acted). a.events ++ h.told) (sym all);
       tpdus_are = h.tpdus_are ∙ ap (λ (a : Acted). a.tpdus) (sym all);
     }
+
+takes_by : (quiet : Bool) (now : ℕ) (e : Entity) (from octets : List ℕ) (acted : Acted) → TakesBy quiet whole now e from octets acted → TakesBy quiet wire now (entity_on_wire e) from octets (acted_on_wire acted)
+takes_by true now e from octets acted h = ap acted_on_wire h
+takes_by false now e from octets acted h = hearing_on now e from octets acted h
+
+-- silent or not: what makes an entity silent is no number of its ends
+pub taking_on : (now : ℕ) (e : Entity) (from octets : List ℕ) (acted : Acted) → TakesUnit whole now e from octets acted → TakesUnit wire now (entity_on_wire e) from octets (acted_on_wire acted)
+taking_on now e from octets acted h = takes_by (is_silent now e) now e from octets acted h

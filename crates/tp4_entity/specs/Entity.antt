@@ -15,6 +15,8 @@ pub record Entity : Type 0 where
   pub selectors : List (List ℕ)
   -- the end of the reference n stands at place n - 1
   pub ends : List (Option End)
+  -- the tick at which it last began again without its ends, if it did
+  pub restarted : Option ℕ
 
 -- what came of a step: the entity after it, the events and the TPDUs, each in order
 pub record Acted : Type 0 where

@@ -15,9 +15,18 @@ abbrev pub is_free_place : ℕ → Option End → Bool
 is_free_place now None = true
 is_free_place now (Some end) = was_frozen now (frozen_for end.base.timers) end.stage
 
--- a reference of the entity that is free
+-- at the latest so many ticks after it began again
+abbrev pub is_within : ℕ → ℕ → Option ℕ → Bool
+is_within now ticks None = false
+is_within now ticks (Some when) = nat_le now (when + ticks)
+
+-- an entity that began again is silent for F ticks
+abbrev pub is_silent : ℕ → Entity → Bool
+is_silent now e = is_within now (frozen_for e.timers) e.restarted
+
+-- a reference of the entity that is free: none is while it is silent
 abbrev pub is_free : ℕ → Entity → ℕ → Bool
-is_free now e reference = not (reference == 0) && (nat_le reference (length e.ends) && is_free_place now (end_at e reference))
+is_free now e reference = not (is_silent now e) && (not (reference == 0) && (nat_le reference (length e.ends) && is_free_place now (end_at e reference)))
 
 -- the least free reference
 abbrev pub least_free : ℕ → Entity → Option ℕ

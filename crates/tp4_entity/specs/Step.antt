@@ -16,18 +16,19 @@ use Rattle.tp4_entity.specs.declared.refusal.ConnectRefusal.TheVariants as conne
 use Rattle.tp4_entity.specs.declared.refusal.EntityRefusal.{EntityRefusal}
 use Rattle.tp4_entity.specs.declared.refusal.EntityRefusal.TheVariants as refusals
 use Rattle.tp4_entity.specs.Entity.{Entity, Acted, at, end_at, moved, with_end}
-use Rattle.tp4_entity.specs.References.{least_free}
+use Rattle.tp4_entity.specs.References.{is_silent, least_free}
 
 -- an entity with so many references, no end and no selector
 abbrev pub new_entity : List ℕ → ℕ → Timers → Entity
-new_entity own references timers = record { own = own; timers = timers; clock = 0; selectors = []; ends = replicate references None }
+new_entity own references timers = record { own = own; timers = timers; clock = 0; selectors = []; ends = replicate references None; restarted = None }
 
 -- ---- connect
 
--- more than 32 octets, or no reference is free
+-- the entity is silent, more than 32 octets, or no reference is free
 abbrev pub connect_refusal : ℕ → Entity → List ℕ → Option ConnectRefusal
 connect_refusal now e octets =
-    if nat_lt 32 (length octets) then Some connects.TooLong
+    if is_silent now e then Some connects.Silent
+    else if nat_lt 32 (length octets) then Some connects.TooLong
     else if is_none (least_free now e) then Some connects.RefsSpent
     else None
 
@@ -96,6 +97,12 @@ ticking_at wrap now e (Some reference) = ticking_end wrap now e reference (end_a
 
 abbrev pub ticking : (ℕ → ℕ → ℕ) → ℕ → Entity → Acted
 ticking wrap now e = ticking_at wrap now (at now e) (first_due now e)
+
+-- ---- restart
+
+-- it begins again, with its selectors and without its ends
+abbrev pub restarted : ℕ → Entity → Entity
+restarted now e = record e { clock = now; ends = replicate (length e.ends) None; restarted = Some now }
 
 -- ---- what is told
 

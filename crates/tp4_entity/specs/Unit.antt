@@ -1,5 +1,5 @@
 -- A unit that came: its TPDUs one after another (X.224, concatenation and separation).
-use Rattle.std.specs.Prelude.{◌≡◌, ◌≢◌, ℕ, ◌+◌, List, [], ◌∷◌, ◌++◌, Option, Some, None}
+use Rattle.std.specs.Prelude.{◌≡◌, ◌≢◌, ℕ, ◌+◌, Bool, true, false, List, [], ◌∷◌, ◌++◌, Option, Some, None}
 use Rattle.tpdu.specs.declared.fault.TpduFault.{TpduFault}
 use Rattle.tpdu.specs.declared.tpdu.Format.{Format}
 use Rattle.tpdu.specs.declared.tpdu.Format.TheVariants.{Normal, Extended}
@@ -7,10 +7,11 @@ use Rattle.tpdu.specs.Faults.{IsTpduFault}
 use Rattle.tpdu.specs.Grammar.{BeginsWithTpdu}
 use Rattle.tpdu.specs.Values.{TpduAndSum}
 use Rattle.tp4_flow.specs.declared.step.EndEvent.{EndEvent}
-use Rattle.tp4_flow.specs.declared.step.What.TheVariants.{BadTpdu}
+use Rattle.tp4_flow.specs.declared.step.What.TheVariants.{BadTpdu, Silent}
 use Rattle.tp4_conn.specs.End.{End, agreed_format}
 use Rattle.tp4_entity.specs.Entity.{Entity, Acted, at}
 use Rattle.tp4_entity.specs.Association.{met}
+use Rattle.tp4_entity.specs.References.{is_silent}
 
 -- in front of others, where it holds
 abbrev pub listed_if : Format → ℕ → List ℕ → List ℕ
@@ -55,3 +56,15 @@ pub record HearsUnit (wrap : ℕ → ℕ → ℕ) (now : ℕ) (old : Entity) (fr
   pub entity : new.entity ≡ (all_met wrap now (at now old) from tpdus).entity
   pub events : new.events ≡ (all_met wrap now (at now old) from tpdus).events ++ told
   pub tpdus_are : new.tpdus ≡ (all_met wrap now (at now old) from tpdus).tpdus
+
+-- a silent entity tells a unit, and does nothing else
+abbrev pub ignored : ℕ → Entity → Acted
+ignored now e = record { entity = at now e; events = record { reference = 0; what = Silent } ∷ []; tpdus = [] }
+
+abbrev pub TakesBy : Bool → (ℕ → ℕ → ℕ) → ℕ → Entity → List ℕ → List ℕ → Acted → Type 0
+TakesBy true wrap now old from octets new = new ≡ ignored now old
+TakesBy false wrap now old from octets new = HearsUnit wrap now old from octets new
+
+-- a unit that comes, silent or not
+abbrev pub TakesUnit : (ℕ → ℕ → ℕ) → ℕ → Entity → List ℕ → List ℕ → Acted → Type 0
+TakesUnit wrap now old from octets new = TakesBy (is_silent now old) wrap now old from octets new

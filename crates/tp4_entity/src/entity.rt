@@ -9,8 +9,8 @@ ghost use Rattle.tp4_entity.specs.Association.{is_registered};
 ghost use Rattle.std.specs.List.{list_any};
 ghost use Rattle.tp4_entity.specs.Dues.{AreFrom, AreLater};
 ghost use Rattle.tp4_entity.specs.Entity.{Acted, at, end_at, with_end};
-ghost use Rattle.tp4_entity.specs.References.{is_free, least_free};
-ghost use Rattle.tp4_entity.specs.Step.{DoesSo, calling, connect_refusal, connecting, dues, first_due, is_due, new_entity, state_at, ticking, user_refusal};
+ghost use Rattle.tp4_entity.specs.References.{is_free, is_silent, least_free};
+ghost use Rattle.tp4_entity.specs.Step.{DoesSo, calling, connect_refusal, connecting, dues, first_due, is_due, new_entity, restarted, state_at, ticking, user_refusal};
 ghost use Rattle.tp4_entity.specs.Unit.{HearsUnit};
 ghost use Rattle.tp4_entity.specs.declared.refusal.ConnectRefusal.{ConnectRefusal};
 ghost use Rattle.tp4_entity.specs.declared.refusal.ConnectRefusal.TheVariants.{NoMemory as ConnectOutOfMemory};
@@ -19,7 +19,10 @@ ghost use Rattle.tp4_entity.specs.declared.refusal.EntityRefusal.TheVariants.{Ca
 ghost use Rattle.tp4_entity.specs.declared.refusal.TsapRefusal.TheVariants.{TsapTaken};
 ghost use Rattle.tp4_entity.specs.steps.Places.{IsOwn};
 
-use crate::places::{call_place, clock_after, free_place, is_over, no_ends, state_of, tick_place};
+use crate::places::{
+    call_place, clear_dues, clear_places, clock_after, free_place, is_over, no_ends, state_of,
+    tick_place,
+};
 use crate::{ConnectRefusal, EntityRefusal, TsapRefusal};
 use due_links::Due;
 use nsap::Nsap;
@@ -43,6 +46,7 @@ pub struct TpEntity {
     pub(crate) selectors: Vec<Bytes>,
     pub(crate) ends: Vec<Option<Connection>>,
     pub(crate) due: Due,
+    pub(crate) restarted: Option<Tick>,
 }
 
 // The timers are in their ranges, there are 1 to 64 references, and each end has its reference, these timers and no later clock;
@@ -55,9 +59,9 @@ impl Model for TpEntity {
 
     ghost Value = { Entity };
 
-    ghost view = { λ a. record { own = a.own; timers = a.timers; clock = a.clock; selectors = a.selectors.items; ends = a.ends.items } };
+    ghost view = { λ a. record { own = a.own; timers = a.timers; clock = a.clock; selectors = a.selectors.items; ends = a.ends.items; restarted = a.restarted } };
 
-    ghost invariant = { λ a. IsEntity (record { own = a.own; timers = a.timers; clock = a.clock; selectors = a.selectors.items; ends = a.ends.items })
+    ghost invariant = { λ a. IsEntity (record { own = a.own; timers = a.timers; clock = a.clock; selectors = a.selectors.items; ends = a.ends.items; restarted = a.restarted })
         × (a.due ≡ dues_of a.ends.items) };
 }
 
@@ -84,6 +88,7 @@ impl TpEntity {
             selectors: Vec::new(alloc),
             ends,
             due,
+            restarted: None,
         })
     }
 
@@ -109,13 +114,36 @@ impl TpEntity {
         requires clock { self.now.clock ≤ now }
         ensures { result ≡ is_free now self.now reference }
     {
-        if reference == 0 || self.ends.len() < usize::from(reference) {
+        if self.is_silent(now) || reference == 0 || self.ends.len() < usize::from(reference) {
             return false;
         }
         match self.end_at(reference) {
             Some(end) => is_over(end, now),
             None => true,
         }
+    }
+
+    /// Whether the entity began again at most F ticks ago: it takes no TPDU then, and begins no connection.
+    pub fn is_silent(&self, now: Tick) -> bool
+        ensures { result ≡ is_silent now self.now }
+    {
+        match self.restarted {
+            Some(when) => { u64::from(now) <= u64::from(when) + u64::from(self.timers.frozen()) }
+            None => false,
+        }
+    }
+
+    /// The entity begins again: its ends are gone, and nothing is told or sent. Its selectors stay. It is silent for F ticks.
+    pub fn restart(&mut self, now: Tick)
+        requires clock { self.old.clock ≤ now }
+        ensures value { self.new ≡ restarted now self.old }
+        ensures later { AreLater now self.new.ends }
+    {
+        let count = self.ends.len() as u32;
+        clear_places(&mut self.ends);
+        clear_dues(&mut self.due, count);
+        self.clock = now;
+        self.restarted = Some(now);
     }
 
     /// Connections are taken at that selector.
@@ -139,7 +167,8 @@ impl TpEntity {
 
     /// A new end calls, at the least free reference. The reference, the user's address and the timers of the call are set here.
     ///
-    /// `TooLong` exactly above 32 octets, `RefsSpent` exactly where no reference is free; nothing is changed then.
+    /// `Silent` exactly while the entity is silent, `TooLong` exactly above 32 octets, `RefsSpent` exactly where no reference is free, in
+    /// this order; nothing is changed then.
     pub fn connect(
         &mut self,
         now: Tick,
@@ -160,6 +189,9 @@ impl TpEntity {
         ensures same { IfErr result (λ why. why ≢ ConnectOutOfMemory → (self.new ≡ self.old) × (out.new ≡ out.old)) }
         ensures clock { self.new.clock ≤ now }
     {
+        if self.is_silent(now) {
+            return Err(ConnectRefusal::Silent);
+        }
         if MOST_OCTETS < call.octets.as_slice().len() {
             return Err(ConnectRefusal::TooLong);
         }

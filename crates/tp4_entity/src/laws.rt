@@ -1,35 +1,46 @@
 //! Laws of the ends of a system (X.224, frozen references; association of TPDUs with connections; concatenation and separation).
 
-ghost use Rattle.std.specs.Prelude.{◌≡◌, ◌≤◌, ◌<◌, ℕ, Bool, true, false, List, [], length, Option, Some, None};
+ghost use Rattle.std.specs.Prelude.{◌≡◌, ◌≤◌, ◌<◌, ℕ, ◌+◌, nat_le, Bool, true, false, List, [], length, Option, Some, None};
 ghost use Rattle.tpdu.specs.Values.{TpduAndSum};
 ghost use Rattle.tpdu.specs.declared.tpdu.Tpdu.TheVariants.{Dr};
 ghost use Rattle.tp4_number.specs.Number.{whole, wire};
 ghost use Rattle.tp4_conn.specs.declared.call.ConnectCall.{ConnectCall};
 ghost use Rattle.tp4_conn.specs.declared.call.UserCall.{UserCall};
+ghost use Rattle.tp4_conn.specs.End.{frozen_for};
 ghost use Rattle.tp4_entity.specs.Association.{met};
 ghost use Rattle.tp4_entity.specs.Entity.{Acted, Entity, end_at};
-ghost use Rattle.tp4_entity.specs.References.{is_free, least_free};
+ghost use Rattle.tp4_entity.specs.References.{is_free, is_silent, least_free};
 ghost use Rattle.tp4_entity.specs.Standing.{IsFreeAt, KeepsEnds, Meets};
-ghost use Rattle.tp4_entity.specs.Step.{calling, connecting, ticking};
-ghost use Rattle.tp4_entity.specs.Unit.{HearsUnit};
+ghost use Rattle.tp4_entity.specs.Step.{calling, connecting, restarted, ticking};
+ghost use Rattle.tp4_entity.specs.Unit.{TakesUnit};
 ghost use Rattle.tp4_entity.specs.Wire.{acted_on_wire, entity_on_wire};
 
-/// A reference is free exactly where it is one of the entity's and no end stands there, or one that entered Frozen more than
-/// F ticks ago. No step takes out another end than such a one, and a new end takes the place of no other.
+/// A reference is free exactly where the entity is not silent, it is one of the entity's, and no end stands there, or one that entered
+/// Frozen more than F ticks ago. No step takes out another end than such a one, and a new end takes the place of no other.
 pub fn over_references()
-    ensures free { (now reference : ℕ) (e : Entity) → is_free now e reference ≡ true → (1 ≤ reference) × (reference ≤ length e.ends) × IsFreeAt now (end_at e reference) }
-    ensures only { (now reference : ℕ) (e : Entity) → 1 ≤ reference → reference ≤ length e.ends → IsFreeAt now (end_at e reference) → is_free now e reference ≡ true }
-    ensures least { (now reference : ℕ) (e : Entity) → least_free now e ≡ Some reference → is_free now e reference ≡ true }
+    ensures free { (now reference : ℕ) (e : Entity) → is_free now e reference ≡ true → (is_silent now e ≡ false) × (1 ≤ reference) × (reference ≤ length e.ends) × IsFreeAt now (end_at e reference) }
+    ensures only { (now reference : ℕ) (e : Entity) → is_silent now e ≡ false → 1 ≤ reference → reference ≤ length e.ends → IsFreeAt now (end_at e reference) → is_free now e reference ≡ true }
+    ensures least { (now reference : ℕ) (e : Entity) → is_silent now e ≡ false → least_free now e ≡ Some reference → is_free now e reference ≡ true }
     ensures connecting { (wrap : ℕ → ℕ → ℕ) (now reference : ℕ) (e : Entity) (call : ConnectCall) → least_free now e ≡ Some reference → KeepsEnds wrap now e (connecting now e reference call).entity }
     ensures calling { (wrap : ℕ → ℕ → ℕ) (now reference : ℕ) (e : Entity) (call : UserCall) → KeepsEnds wrap now e (calling wrap now e reference call).entity }
     ensures met { (wrap : ℕ → ℕ → ℕ) (now : ℕ) (e : Entity) (from : List ℕ) (tpdu : TpduAndSum) → KeepsEnds wrap now e (met wrap now e from tpdu).entity }
     ensures ticking { (wrap : ℕ → ℕ → ℕ) (now : ℕ) (e : Entity) → KeepsEnds wrap now e (ticking wrap now e).entity }
 {}
 
+/// An entity that begins again has no end, and is silent for F ticks from then on; nothing else makes it silent.
+pub fn over_restarts()
+    ensures none { (now reference : ℕ) (e : Entity) → end_at (restarted now e) reference ≡ None }
+    ensures silent { (now later : ℕ) (e : Entity) → is_silent later (restarted now e) ≡ nat_le later (now + frozen_for e.timers) }
+    ensures connecting { (now reference : ℕ) (e : Entity) (call : ConnectCall) → (connecting now e reference call).entity.restarted ≡ e.restarted }
+    ensures calling { (wrap : ℕ → ℕ → ℕ) (now reference : ℕ) (e : Entity) (call : UserCall) → (calling wrap now e reference call).entity.restarted ≡ e.restarted }
+    ensures met { (wrap : ℕ → ℕ → ℕ) (now : ℕ) (e : Entity) (from : List ℕ) (tpdu : TpduAndSum) → (met wrap now e from tpdu).entity.restarted ≡ e.restarted }
+    ensures ticking { (wrap : ℕ → ℕ → ℕ) (now : ℕ) (e : Entity) → (ticking wrap now e).entity.restarted ≡ e.restarted }
+{}
+
 /// A unit has one outcome.
 pub fn one_hearing()
     ensures { (wrap : ℕ → ℕ → ℕ) (now : ℕ) (old : Entity) (from octets : List ℕ) (one other : Acted)
-        → HearsUnit wrap now old from octets one → HearsUnit wrap now old from octets other → one ≡ other }
+        → TakesUnit wrap now old from octets one → TakesUnit wrap now old from octets other → one ≡ other }
 {}
 
 /// What is sent for a TPDU is sent by the end that it matches, or it is one answer of the entity: a DR with source 0 to a CR or a CC, or a
@@ -47,5 +58,5 @@ pub fn over_wires()
     ensures calling { (now reference : ℕ) (e : Entity) (call : UserCall) → calling wire now (entity_on_wire e) reference call ≡ acted_on_wire (calling whole now e reference call) }
     ensures met { (now : ℕ) (e : Entity) (from : List ℕ) (tpdu : TpduAndSum) → met wire now (entity_on_wire e) from tpdu ≡ acted_on_wire (met whole now e from tpdu) }
     ensures ticking { (now : ℕ) (e : Entity) → ticking wire now (entity_on_wire e) ≡ acted_on_wire (ticking whole now e) }
-    ensures hearing { (now : ℕ) (e : Entity) (from octets : List ℕ) (acted : Acted) → HearsUnit whole now e from octets acted → HearsUnit wire now (entity_on_wire e) from octets (acted_on_wire acted) }
+    ensures hearing { (now : ℕ) (e : Entity) (from octets : List ℕ) (acted : Acted) → TakesUnit whole now e from octets acted → TakesUnit wire now (entity_on_wire e) from octets (acted_on_wire acted) }
 {}

@@ -35,6 +35,25 @@ pub(crate) fn no_ends(alloc: Global, count: usize) -> Result<Vec<Option<Connecti
     Ok(ends)
 }
 
+/// No end stands at any place then.
+pub(crate) fn clear_places(places: &mut [Option<Connection>])
+    ensures { places.new ≡ replicate (length places.old) None }
+{
+    for at in 0..places.len() {
+        places[at] = None;
+    }
+}
+
+/// Of so many ids none is due then.
+pub(crate) fn clear_dues(due: &mut Due, count: u32)
+    requires { length due.old ≡ count }
+    ensures { due.new ≡ replicate count None }
+{
+    for id in 0..count {
+        due.clear(id);
+    }
+}
+
 /// Whether no end stands there, or one that entered Frozen more than F ticks ago.
 fn is_free_place(place: &Option<Connection>, now: Tick) -> bool
     requires { IsBehind now place.now }
@@ -124,6 +143,8 @@ pub(crate) fn due_at(place: &Option<Connection>) -> Option<Tick>
 }
 
 /// A place is due at that tick, or at none.
+// Inlined: most places stay due at the tick that they had, which is seen by one look.
+#[inline(always)]
 pub(crate) fn keep(due: &mut Due, id: u32, tick: Option<Tick>)
     requires { id < length due.old }
     ensures { due.new ≡ slice_set due.old id tick }

@@ -14,6 +14,8 @@ pub enum TsapRefusal {
 /// Why a connection was not begun, in this order.
 #[derive(Clone, Copy, Debug, PartialEq, Eq)]
 pub enum ConnectRefusal {
+    /// The entity began again, and is silent.
+    Silent,
     /// The connect request has more than 32 octets.
     TooLong,
     /// Each reference is used or frozen.

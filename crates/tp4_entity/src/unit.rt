@@ -9,10 +9,10 @@ ghost use Rattle.tp4_number.specs.Number.{wire};
 ghost use Rattle.tp4_entity.specs.Dues.{AreFrom, AreLater};
 ghost use Rattle.tp4_entity.specs.Entity.{Acted, at, end_at};
 ghost use Rattle.tp4_entity.specs.Step.{DoesSo};
-ghost use Rattle.tp4_entity.specs.Unit.{HearsUnit, extended_of, listed_if};
+ghost use Rattle.tp4_entity.specs.Unit.{HearsUnit, TakesUnit, extended_of, listed_if};
 ghost use Rattle.tp4_entity.specs.steps.Places.{destination_in, extended_front, format_of, is_extended};
 ghost use Rattle.tp4_flow.specs.Told.{Grows};
-ghost use Rattle.tp4_flow.specs.declared.step.What.TheVariants.{BadTpdu};
+ghost use Rattle.tp4_flow.specs.declared.step.What.TheVariants.{BadTpdu, Silent};
 
 use crate::TpEntity;
 use nsap::Nsap;
@@ -23,8 +23,31 @@ use tpdu::{Format, TpduFault, TpduRef, read_first};
 impl TpEntity {
     /// A unit that came from an address.
     ///
-    /// At an octet that is no TPDU's the reading stops, and the fault is told.
+    /// At an octet that is no TPDU's the reading stops, and the fault is told. A silent entity tells `Silent` alone.
     pub fn on_unit(
+        &mut self,
+        now: Tick,
+        from: Nsap,
+        octets: &[u8],
+        out: &mut Step,
+    ) -> Result<(), NoMemory>
+        requires clock { self.old.clock ≤ now }
+        requires now { now ≤ 4000000000 }
+        requires due { AreFrom now self.old.ends }
+        ensures takes { OnOk result ((acted : Acted) × TakesUnit wire now self.old from octets.now acted × DoesSo acted self.new out.old out.new) }
+        ensures from { OnOk result (AreFrom now self.new.ends) }
+        ensures later { OnOk result (AreLater now self.old.ends → AreLater now self.new.ends) }
+        ensures clock { self.new.clock ≤ now }
+    {
+        if self.is_silent(now) {
+            self.wake(now);
+            return ignore(out);
+        }
+        self.hear_unit(now, from, octets, out)
+    }
+
+    /// A unit that is heard: its TPDUs one after another.
+    fn hear_unit(
         &mut self,
         now: Tick,
         from: Nsap,
@@ -97,6 +120,16 @@ fn destination_in(octets: &[u8]) -> Option<u16>
         [_, _, high, low, ..] => Some(u16::from(*high) * 256 + u16::from(*low)),
         _ => None,
     }
+}
+
+/// That a unit came to a silent entity is told.
+fn ignore(out: &mut Step) -> Result<(), NoMemory>
+    ensures { OnOk result (Grows out.old (record { reference = 0; what = Silent } ∷ []) [] out.new) }
+{
+    out.event(EndEvent {
+        reference: 0,
+        what: What::Silent,
+    })
 }
 
 /// What is no TPDU is told.

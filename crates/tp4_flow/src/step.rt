@@ -68,6 +68,8 @@ pub enum What {
     BadTpdu(TpduCause, u32),
     /// A TPDU of this kind matches no end.
     Unknown(Kind),
+    /// A unit came to an entity that is silent.
+    Silent,
 }
 
 /// What the end of a reference tells; the reference is 0 where no end is concerned.

@@ -43,7 +43,8 @@ use Rattle.tp4_headline.specs.steps.Acting.{Acts, Comes, IsLike, first_of}
 use Rattle.tp4_headline.specs.steps.Known.{AreOffered, AreTerms, Follows, HaveBegun, IsKnown, Known}
 use Rattle.tp4_headline.proofs.ActsLines.{Did, Flowing, Says, acted, did}
 use Rattle.tp4_headline.proofs.ActsSame.{step_leaves}
-use Rattle.tp4_headline.proofs.ActsTold.{AreTold, HasOwn, ends_stay, step_told}
+use Rattle.tp4_headline.proofs.ActsRows.{AreTold, IsStageOf, row_of}
+use Rattle.tp4_headline.proofs.ActsTold.{ends_stay}
 use Rattle.tp4_headline.proofs.ActsUnits.{given_other, given_own, made_none, shown_other, shown_own, tells_none}
 use Rattle.tp4_headline.proofs.Frames.{owners_with}
 use Rattle.tp4_headline.proofs.FramesKnown.{Frames, at_on, calls_back, holds_on, keeps, known_on, known_stays, known_with, number_at, partner_back}
@@ -137,15 +138,15 @@ same_frames h = record {
   restarts = refl;
 }
 
--- the receiving half is of the reference of the end
-has_own : (birth : Birth) (took last : ℕ) (b : Base) (stage : Stage) → IsSeenIn birth took last b stage → HasOwn whole b stage
-has_own birth took last b (stages.AkWait w) at = ap (λ (r : FlowRules). r.own) at.halves.receiving
-has_own birth took last b (stages.Opened o) at = ap (λ (r : FlowRules). r.own) at.halves.receiving
-has_own birth took last b (stages.CrWait w) at = tt
-has_own birth took last b (stages.WaitBeforeClose w) at = tt
-has_own birth took last b (stages.UserWait since) at = tt
-has_own birth took last b (stages.Closing c) at = tt
-has_own birth took last b (stages.Frozen when) at = tt
+-- the halves are of the reference of the end
+stage_of : (birth : Birth) (took last : ℕ) (b : Base) (stage : Stage) → IsSeenIn birth took last b stage → IsStageOf b.own stage
+stage_of birth took last b (stages.AkWait w) at = (ap (λ (r : FlowRules). r.own) at.halves.sending, ap (λ (r : FlowRules). r.own) at.halves.receiving)
+stage_of birth took last b (stages.Opened o) at = (ap (λ (r : FlowRules). r.own) at.halves.sending, ap (λ (r : FlowRules). r.own) at.halves.receiving)
+stage_of birth took last b (stages.CrWait w) at = tt
+stage_of birth took last b (stages.WaitBeforeClose w) at = tt
+stage_of birth took last b (stages.UserWait since) at = tt
+stage_of birth took last b (stages.Closing c) at = tt
+stage_of birth took last b (stages.Frozen when) at = tt
 
 module _ (titles : List (List ℕ)) (timers : Timers) (w : Whole) (journal : List Told) (entities : List Placed) (ends : List EndAt) (known : Known titles timers w journal entities ends)
     (system : ℕ) (entity other : Entity) (reference : ℕ) (e : ConnEnd) (kn : IsKnown w entity.own reference e) (n : ℕ) (event : Event) (taken : Option Offer)
@@ -173,7 +174,7 @@ module _ (titles : List (List ℕ)) (timers : Timers) (w : Whole) (journal : Lis
 
   told : AreTold reference m.events
   told = subst (λ (r : ℕ). AreTold r m.events) (sym kn.sees.reference ∙ kn.at.reference_is)
-      (step_told whole w.base.clock e event (has_own (w.base.end kn.k).birth (w.base.end kn.k).took (w.base.end kn.k).latest e.base e.stage kn.sees.state))
+      (row_of whole w.base.clock e.base.own e event (refl, stage_of (w.base.end kn.k).birth (w.base.end kn.k).took (w.base.end kn.k).latest e.base e.stage kn.sees.state)).told
 
   says : Says kn.k event m made
   says = record {
@@ -251,7 +252,7 @@ module _ (titles : List (List ℕ)) (timers : Timers) (w : Whole) (journal : Lis
         }
 
     after : Known titles timers new (journal ++ made) (with_entity entities system place) ends
-    after = known_on titles timers w journal entities ends known new made wrote.written frames (with_entity entities system place) (owners_with entities system entity place is like.own)
+    after = known_on titles timers w journal entities ends known new made wrote.written frames (with_entity entities system place) (owners_with entities system entity place is like.own like.restarted)
         (holds_on titles timers w journal entities ends known new frames refl system entity other is like reference e there (Some (end_of m)) others here place_timed) begun
 
     goes_on : Follows titles timers w journal entities ends system entity.own (first_of (kn.k + 1) event) (moved other reference m)
@@ -296,7 +297,7 @@ module _ (titles : List (List ℕ)) (timers : Timers) (w : Whole) (journal : Lis
       goes_on = record { clock = refl; offers = λ o c. c };
       known = subst (λ (told_ : List Told). Known titles timers w told_ (with_entity entities system place) (ends_after ends system m.events)) (sym same_journal)
           (subst (Known titles timers w journal (with_entity entities system place)) (sym same_ends)
-          (known_with titles timers w journal entities ends known (with_entity entities system place) (owners_with entities system entity place is like.own)
+          (known_with titles timers w journal entities ends known (with_entity entities system place) (owners_with entities system entity place is like.own like.restarted)
           (holds_on titles timers w journal entities ends known w (same_frames w.base) refl system entity other is like reference e there (Some (end_of m)) (λ own r one o timed_ apart. o) rests_here place_timed)));
       offered = subst (AreOffered w.base w.base.clock entity.own) (sym rests.2) tt;
     }
@@ -318,7 +319,7 @@ module _ (titles : List (List ℕ)) (timers : Timers) (w : Whole) (journal : Lis
     untaken_after : Known titles timers (note (times_of timers) w) (journal ++ made) (with_entity entities system place) ends
     untaken_after =
         known_on titles timers w journal entities ends known (note (times_of timers) w) made (note_written titles timers w journal entities ends known made aside) (note_frames titles timers w journal entities ends known)
-        (with_entity entities system place) (owners_with entities system entity place is like.own)
+        (with_entity entities system place) (owners_with entities system entity place is like.own like.restarted)
         (holds_on titles timers w journal entities ends known (note (times_of timers) w) (note_frames titles timers w journal entities ends known) refl system entity other is like reference e there (Some (end_of m))
         (λ own r one o timed_ apart. note_known titles timers w journal entities ends known own r one o) untaken_here place_timed)
         (note_begun titles timers w journal entities ends known)

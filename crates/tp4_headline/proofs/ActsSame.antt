@@ -21,7 +21,7 @@ use Rattle.tp4_conn.specs.declared.stage.Releasing.{Releasing}
 use Rattle.tp4_conn.specs.declared.stage.Requesting.{Requesting}
 use Rattle.tp4_conn.specs.declared.stage.Stage.{Stage}
 use Rattle.tp4_conn.specs.declared.stage.Stage.TheVariants as stages
-use Rattle.tp4_conn.specs.Agreeing.{options_in, is_within}
+use Rattle.tp4_conn.specs.Agreeing.{is_within}
 use Rattle.tp4_conn.specs.AkWait.{opening, ak_wait_tpdu, ak_wait_tick}
 use Rattle.tp4_conn.specs.Closing.{closing_tpdu, closing_tick}
 use Rattle.tp4_conn.specs.CrWait.{cr_wait_tpdu, cr_wait_tick}

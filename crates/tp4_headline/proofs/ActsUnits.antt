@@ -14,7 +14,8 @@ use Rattle.tp4_world.specs.Telling.{events_after}
 use Rattle.tp4_world.specs.World.{latest}
 use Rattle.tp4_world.specs.declared.place.EndAt.{EndAt}
 use Rattle.tp4_headline.specs.steps.Acting.{first_of}
-use Rattle.tp4_headline.proofs.ActsTold.{AreTold, first_gives, first_gives_none, first_makes_none, first_shows_none, lines_give_none, lines_make_none, others_show_none, own_shows}
+use Rattle.tp4_headline.proofs.ActsRows.{AreTold}
+use Rattle.tp4_headline.proofs.ActsTold.{first_gives, first_gives_none, first_makes_none, first_shows_none, lines_give_none, lines_make_none, others_show_none, own_shows}
 
 module _ (ends : List EndAt) (system : ℕ) (address : List ℕ) (reference number : ℕ) (event : Event) (told : List EndEvent) (are : AreTold reference told) (at : latest ends system reference ≡ number) where
   abbrev first : List Told

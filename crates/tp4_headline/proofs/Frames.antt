@@ -84,19 +84,24 @@ pub record Owner (placed : List Placed) (system : ℕ) (own : List ℕ) : Type 0
   pub is : entity_at placed system ≡ Some entity
   pub own_is : entity.own ≡ own
 
--- both have entities of the same systems, with the same addresses
+-- and it began again at the same tick, or as little
+pub record Before (placed : List Placed) (system : ℕ) (entity : Entity) : Type 0 where
+  pub owner : Owner placed system entity.own
+  pub began : entity.restarted ≡ owner.entity.restarted
+
+-- both have entities of the same systems, with the same addresses; none began again
 pub record AreOwners (old new : List Placed) : Type 0 where
   pub on : (system : ℕ) (entity : Entity) → entity_at old system ≡ Some entity → Owner new system entity.own
-  pub back : (system : ℕ) (entity : Entity) → entity_at new system ≡ Some entity → Owner old system entity.own
+  pub back : (system : ℕ) (entity : Entity) → entity_at new system ≡ Some entity → Before old system entity
 
 pub owners_same : (placed : List Placed) → AreOwners placed placed
-owners_same placed = record { on = λ system entity is. record { entity = entity; is = is; own_is = refl }; back = λ system entity is. record { entity = entity; is = is; own_is = refl } }
+owners_same placed = record { on = λ system entity is. record { entity = entity; is = is; own_is = refl }; back = λ system entity is. record { owner = record { entity = entity; is = is; own_is = refl }; began = refl } }
 
 some_same : (one other : Entity) → Some one ≡ Some other → one ≡ other
 some_same one other e = cc e
 
-pub owners_with : (placed : List Placed) (system : ℕ) (entity new : Entity) → entity_at placed system ≡ Some entity → new.own ≡ entity.own → AreOwners placed (with_entity placed system new)
-owners_with placed system entity new is own = record {
+pub owners_with : (placed : List Placed) (system : ℕ) (entity new : Entity) → entity_at placed system ≡ Some entity → new.own ≡ entity.own → new.restarted ≡ entity.restarted → AreOwners placed (with_entity placed system new)
+owners_with placed system entity new is own began = record {
   on = λ other one there_. elim (cases_eq other system) [
     | inl same ↦
         (let one_is : entity ≡ one = some_same entity one (sym is ∙ ap (entity_at placed) (sym same) ∙ there_) in
@@ -106,7 +111,10 @@ owners_with placed system entity new is own = record {
   back = λ other one there_. elim (cases_eq other system) [
     | inl same ↦
         (let one_is : new ≡ one = some_same new one (sym (entity_set placed system entity new is) ∙ ap (entity_at (with_entity placed system new)) (sym same) ∙ there_) in
-        record { entity = entity; is = ap (entity_at placed) same ∙ is; own_is = sym own ∙ ap (λ (e : Entity). e.own) one_is })
-    | inr apart ↦ record { entity = one; is = sym (entity_other placed system other new apart) ∙ there_; own_is = refl }
+        record {
+          owner = record { entity = entity; is = ap (entity_at placed) same ∙ is; own_is = sym own ∙ ap (λ (e : Entity). e.own) one_is };
+          began = ap (λ (e : Entity). e.restarted) (sym one_is) ∙ began;
+        })
+    | inr apart ↦ record { owner = record { entity = one; is = sym (entity_other placed system other new apart) ∙ there_; own_is = refl }; began = refl }
   ];
 }

@@ -21,8 +21,9 @@ use Rattle.tp4_world.specs.World.{entity_at, is_at, latest, latest_from, with_en
 use Rattle.tp4_world.specs.declared.place.EndAt.{EndAt}
 use Rattle.tp4_world.specs.declared.place.Placed.{Placed}
 use Rattle.tp4_headline.specs.steps.Acting.{IsLike}
-use Rattle.tp4_headline.specs.steps.Known.{AreTerms, HaveBegun, Holds, IsEndAt, IsKnown, IsThere, Known}
+use Rattle.tp4_headline.specs.steps.Known.{AreTerms, HaveBegun, Holds, IsEndAt, IsKnown, IsThere, Known, AreBegan}
 use Rattle.tp4_headline.proofs.Frames.{AreOwners, entity_other, entity_set, place_other, place_there}
+use Rattle.tp4_headline.proofs.Restarts.{later_began, same_began}
 
 -- what a step leaves of a history
 pub record Frames (old new : History) : Type 0 where
@@ -147,13 +148,13 @@ module _ (titles : List (List ℕ)) (timers : Timers) (w : Whole) (journal : Lis
       → Known titles timers w journal others ends
   known_with others owners holds = record {
     written = known.written;
-    restarts = known.restarts;
+    restarts = λ system entity is. (let a = owners.back system entity is in same_began w.base.clock w.base.restarts a.owner.entity entity (sym a.owner.own_is) a.began (known.restarts system a.owner.entity a.owner.is));
     count = known.count;
     listed = λ k end is. (let l = known.listed k end is in let o = owners.on end.system l.entity l.entity_is in record { entity = o.entity; entity_is = o.is; address = l.address ∙ sym o.own_is; reference = l.reference });
     holds = holds;
     apart = λ one other entity next is too same.
-        (let a = owners.back one entity is in let b = owners.back other next too in known.apart one other a.entity b.entity a.is b.is (a.own_is ∙ same ∙ sym b.own_is));
-    titled = λ system entity is. (let a = owners.back system entity is in let t = known.titled system a.entity a.is in (t.0, t.1, ap (is_same_system t.0) (sym a.own_is) ∙ t.2));
+        (let a = owners.back one entity is in let b = owners.back other next too in known.apart one other a.owner.entity b.owner.entity a.owner.is b.owner.is (a.owner.own_is ∙ same ∙ sym b.owner.own_is));
+    titled = λ system entity is. (let a = owners.back system entity is in let t = known.titled system a.owner.entity a.owner.is in (t.0, t.1, ap (is_same_system t.0) (sym a.owner.own_is) ∙ t.2));
     begun = known.begun;
   }
 
@@ -164,7 +165,10 @@ module _ (titles : List (List ℕ)) (timers : Timers) (w : Whole) (journal : Lis
       → Known titles timers new (journal ++ made) others ends
   known_on new made written f others owners holds begun = record {
     written = written;
-    restarts = f.restarts ∙ known.restarts;
+    restarts = λ system entity is.
+        (let a = owners.back system entity is in
+        let was = same_began w.base.clock w.base.restarts a.owner.entity entity (sym a.owner.own_is) a.began (known.restarts system a.owner.entity a.owner.is) in
+        later_began w.base.clock new.base.clock new.base.restarts entity f.later.clock (subst (λ (rs : List (List ℕ × ℕ)). AreBegan w.base.clock rs entity) (sym f.restarts) was));
     count = known.count ∙ sym f.count;
     listed = λ k end is.
         (let l = known.listed k end is in
@@ -173,8 +177,8 @@ module _ (titles : List (List ℕ)) (timers : Timers) (w : Whole) (journal : Lis
         record { entity = o.entity; entity_is = o.is; address = address_on w.base new.base f k low ∙ l.address ∙ sym o.own_is; reference = reference_on w.base new.base f k low ∙ l.reference });
     holds = holds;
     apart = λ one other entity next_ is too same.
-        (let a = owners.back one entity is in let b = owners.back other next_ too in known.apart one other a.entity b.entity a.is b.is (a.own_is ∙ same ∙ sym b.own_is));
-    titled = λ system entity is. (let a = owners.back system entity is in let t = known.titled system a.entity a.is in (t.0, t.1, ap (is_same_system t.0) (sym a.own_is) ∙ t.2));
+        (let a = owners.back one entity is in let b = owners.back other next_ too in known.apart one other a.owner.entity b.owner.entity a.owner.is b.owner.is (a.owner.own_is ∙ same ∙ sym b.owner.own_is));
+    titled = λ system entity is. (let a = owners.back system entity is in let t = known.titled system a.owner.entity a.owner.is in (t.0, t.1, ap (is_same_system t.0) (sym a.owner.own_is) ∙ t.2));
     begun = begun;
   }
 

@@ -2,6 +2,7 @@ pub mod Frames
 pub mod FramesKnown
 pub mod FramesLines
 pub mod FramesNotes
+pub mod ActsRows
 pub mod ActsTold
 pub mod ActsSame
 pub mod ActsUnits
@@ -25,6 +26,10 @@ pub mod ReferencesLater
 pub mod ReferencesSince
 pub mod ReferencesStarts
 pub mod ReferencesStays
+pub mod Restarts
+pub mod SilenceSteps
+pub mod SilenceEntities
+pub mod SilenceRuns
 pub mod WorldActs
 pub mod WorldAsides
 pub mod WorldCalls
@@ -34,6 +39,7 @@ pub mod WorldKnown
 pub mod WorldOutcomes
 pub mod WorldPlaces
 pub mod WorldQuiet
+pub mod WorldRestarts
 pub mod WorldStarts
 pub mod WorldSteps
 pub mod WorldTicks

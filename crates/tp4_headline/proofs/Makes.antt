@@ -1,21 +1,20 @@
 -- A user asks for a connection: the reference is released where an end was frozen there, and an end begins by the request.
-use Rattle.std.proofs.Common.{◌≡◌, inl, inr, ℕ, ◌+◌, List, [], ◌∷◌, ◌++◌, length, Some, refl, sym, ap, subst, arith, append-nil, Contains}
-use Rattle.std.proofs.lemmas.Bool.{cases_eq}
+use Rattle.std.proofs.Common.{◌≡◌, inl, inr, ℕ, ◌+◌, List, [], ◌∷◌, ◌++◌, length, Some, refl, sym, ap, subst, arith, append-nil, Contains, false, Option}
+use Rattle.std.proofs.lemmas.Bool.{cases_eq, leb-false}
 use Rattle.std.proofs.lemmas.List.Elements.{Contains-append_left, Contains-append_right}
 use Rattle.osi_journal.specs.declared.event.Event.{Event}
-use Rattle.tp4_number.proofs.Accounts.{none}
 use Rattle.tp4_flow.specs.declared.step.Sent.{Sent}
 use Rattle.tp4_conn.specs.declared.call.ConnectCall.{ConnectCall}
 use Rattle.tp4_conn.specs.declared.timers.Timers.{Timers}
 use Rattle.tp4_conn.specs.Agreeing.{is_extended, request}
-use Rattle.tp4_conn.specs.End.{end_of}
+use Rattle.tp4_conn.specs.End.{end_of, frozen_for}
 use Rattle.tp4_conn.specs.Making.{caller, connected}
 use Rattle.tp4_conn.specs.Proper.{IsProperCall}
 use Rattle.tp4_conn.proofs.Propers.{connected_row}
 use Rattle.tp4_entity.specs.Entity.{Entity, at, end_at, with_end}
 use Rattle.tp4_entity.specs.Step.{call_of, connecting}
 use Rattle.tp4_entity.proofs.Standings.{Free, free_at, free_least}
-use Rattle.tp4_history.specs.Ends.{Times, Offer, Sent as SentBy, End as Seen}
+use Rattle.tp4_history.specs.Ends.{Offer, Sent as SentBy, End as Seen}
 use Rattle.tp4_history.specs.History.{History, Connect, IsNotSilent, IsPartner, May, event_of}
 use Rattle.tp4_history.specs.Journals.{MayFollow, Written}
 use Rattle.tp4_history.specs.Tracks.{Whole, Moment, Nothing, onward}
@@ -25,21 +24,34 @@ use Rattle.tp4_history.proofs.Written.{written_kept, written_more}
 use Rattle.tp4_moves.specs.Begins.{begun}
 use Rattle.tp4_moves.specs.Moves.{Sees, times_of}
 use Rattle.tp4_moves.specs.Seen.{seen}
-use Rattle.tp4_moves.proofs.Beginnings.{begins, begun_seen, fit_times}
+use Rattle.tp4_moves.proofs.Beginnings.{begins, begun_seen, fit_times, frozen_is}
 use Rattle.tp4_world.specs.Telling.{connect_event}
 use Rattle.tp4_world.specs.World.{entity_at, with_entity}
 use Rattle.tp4_world.specs.declared.place.EndAt.{EndAt}
 use Rattle.tp4_world.specs.declared.place.Placed.{Placed}
-use Rattle.tp4_headline.specs.steps.Known.{AfterConnect, Follows, Known}
+use Rattle.tp4_headline.specs.steps.Known.{AfterConnect, Follows, Known, AreBegan}
 use Rattle.tp4_headline.proofs.MakesEnds.{made_known}
 use Rattle.tp4_headline.proofs.MakesFree.{Freed, freed, no_events}
+use Rattle.tp4_entity.specs.References.{is_silent, is_within}
 
--- where no address began again
-pub never_silent : (times : Times) (h : History) (address : List ℕ) → h.restarts ≡ [] → IsNotSilent times h address
-never_silent times h address none_is r c = absurd (none _ (subst (λ (xs : List (List ℕ × ℕ)). Contains xs (address, r)) none_is c))
+-- an entity that is not silent is not in a history either
+pub not_silent : (h : History) (entity : Entity) → AreBegan h.clock h.restarts entity → is_silent h.clock entity ≡ false → IsNotSilent (times_of entity.timers) h entity.own
+not_silent h entity began quiet r there =
+    let b = began r there in
+    let past = leb-false h.clock (b.tick + frozen_for entity.timers) (subst (λ (o : Option ℕ). is_within h.clock (frozen_for entity.timers) o ≡ false) b.began quiet) in
+    omega (arith, past, b.since, frozen_is entity.timers)
+
+-- where a reference was released, too
+pub freed_audible : (titles : List (List ℕ)) (timers : Timers) (w : Whole) (journal : List Event) (entities : List Placed) (ends : List EndAt) (system reference : ℕ) (entity : Entity)
+    → Known titles timers w journal entities ends → entity_at entities system ≡ Some entity → is_silent w.base.clock entity ≡ false
+    → (f : Freed titles timers w journal entities ends system reference entity.own) → IsNotSilent (times_of entity.timers) f.new.base entity.own
+freed_audible titles timers w journal entities ends system reference entity known there quiet f =
+    not_silent f.new.base entity
+    (subst (λ (rs : List (List ℕ × ℕ)). AreBegan f.new.base.clock rs entity) (sym f.restarts) (subst (λ (n : ℕ). AreBegan n w.base.restarts entity) (sym f.clock) (known.restarts system entity there)))
+    (subst (λ (n : ℕ). is_silent n entity ≡ false) (sym f.clock) quiet)
 
 module _ (titles : List (List ℕ)) (timers : Timers) (w : Whole) (journal : List Event) (entities : List Placed) (ends : List EndAt) (system : ℕ) (entity : Entity) (call : ConnectCall) (reference : ℕ)
-    (known : Known titles timers w journal entities ends) (there : entity_at entities system ≡ Some entity) (proper : IsProperCall (call_of entity reference call))
+    (known : Known titles timers w journal entities ends) (there : entity_at entities system ≡ Some entity) (quiet : is_silent w.base.clock entity ≡ false) (proper : IsProperCall (call_of entity reference call))
     (free : Free w.base.clock reference entity) (f : Freed titles timers w journal entities ends system reference entity.own) where
   abbrev h : History
   h = f.new.base
@@ -68,7 +80,7 @@ module _ (titles : List (List ℕ)) (timers : Timers) (w : Whole) (journal : Lis
   may : May (times_of timers) h (Connect e (offer ∷ []))
   may =
       subst (λ (t : Timers). May (times_of t) h (Connect e (offer ∷ []))) timers_are
-      (begins h entity.own set (offer ∷ []) (omega (arith, free.least)) f.free (never_silent (times_of entity.timers) h entity.own f.restarts) (record { n = 0; numbered = tt; is = refl }, refl))
+      (begins h entity.own set (offer ∷ []) (omega (arith, free.least)) f.free (freed_audible titles timers w journal entities ends system reference entity known there quiet f) (record { n = 0; numbered = tt; is = refl }, refl))
 
   follows : MayFollow (times_of timers) titles f.new moment made
   follows = record {
@@ -119,7 +131,7 @@ module _ (titles : List (List ℕ)) (timers : Timers) (w : Whole) (journal : Lis
   known_base : Known titles timers (record { base = after.base; track = f.new.track }) (journal ++ made) (with_entity entities system (with_end (at w.base.clock entity) reference (Some (end_of (connected w.base.clock set)))))
       (ends ++ record { system = system; reference = reference } ∷ [])
   known_base =
-      made_known titles timers w journal entities ends known system reference entity (at w.base.clock entity) there f (record { own = refl; timers = refl; ends = refl; clock = omega arith }) free.least free.most
+      made_known titles timers w journal entities ends known system reference entity (at w.base.clock entity) there f (record { own = refl; timers = refl; ends = refl; restarted = refl; clock = omega arith }) free.least free.most
       (connected w.base.clock set) (connected_row w.base.clock set proper).proper timers_are e may.0.new refl refl sees (h.offers ++ offer ∷ []) (h.events ++ event_of e ∷ []) made written
       (λ z terms p. absurd (alone z p))
 
@@ -152,7 +164,7 @@ module _ (titles : List (List ℕ)) (timers : Timers) (w : Whole) (journal : Lis
   }
 
 pub after_connect : (titles : List (List ℕ)) (timers : Timers) → AfterConnect titles timers
-after_connect titles timers w journal entities ends system entity call reference known there proper least =
+after_connect titles timers w journal entities ends system entity call reference known there quiet proper least =
     let free = free_least w.base.clock reference entity least in
-    connects titles timers w journal entities ends system entity call reference known there proper free
+    connects titles timers w journal entities ends system entity call reference known there quiet proper free
     (freed titles timers w journal entities ends known system reference entity there (free_at w.base.clock (end_at entity reference) free.free))

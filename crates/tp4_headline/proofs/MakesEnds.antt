@@ -30,9 +30,10 @@ use Rattle.tp4_world.specs.World.{entity_at, with_entity}
 use Rattle.tp4_world.specs.declared.place.EndAt.{EndAt}
 use Rattle.tp4_world.specs.declared.place.Placed.{Placed}
 use Rattle.tp4_headline.specs.steps.Acting.{IsLike}
-use Rattle.tp4_headline.specs.steps.Known.{AreTerms, HaveBegun, Holds, IsKnown, IsListed, IsThere, Known}
+use Rattle.tp4_headline.specs.steps.Known.{AreTerms, HaveBegun, Holds, IsKnown, IsListed, IsThere, Known, AreBegan}
 use Rattle.tp4_headline.proofs.MakesFree.{Freed, kept_known}
 use Rattle.tp4_headline.proofs.MakesPlaces.{at_other, at_same, entity_other, entity_same, get_last, made_last}
+use Rattle.tp4_headline.proofs.Restarts.{same_began}
 
 -- the ends of an entity are those of one that is like it
 pub like_at : (now r : ℕ) (entity other : Entity) → IsLike now entity other → end_at other r ≡ end_at entity r
@@ -217,12 +218,12 @@ module _ (titles : List (List ℕ)) (timers : Timers) (w : Whole) (journal : Lis
       after_there r different = at_other b reference r (Some (end_of m)) least different ∙ like_at w.base.clock r entity b like
 
   -- whether an entity changes
-  was_at : (one : ℕ) (x : Entity) → entity_at (with_entity entities system after) one ≡ Some x → (old : Entity) × (entity_at entities one ≡ Some old) × (old.own ≡ x.own)
+  was_at : (one : ℕ) (x : Entity) → entity_at (with_entity entities system after) one ≡ Some x → (old : Entity) × (entity_at entities one ≡ Some old) × (old.own ≡ x.own) × (x.restarted ≡ old.restarted)
   was_at one x has = elim (cases_eq one system) [
     | inl same ↦
         (let it : after ≡ x = same_Some _ _ (sym (entity_same entities system entity after at) ∙ ap (entity_at (with_entity entities system after)) (sym same) ∙ has) in
-        (entity, ap (entity_at entities) same ∙ at, sym like.own ∙ ap (λ (y : Entity). y.own) it))
-    | inr different ↦ (x, sym (entity_other entities system one after different) ∙ has, refl)
+        (entity, ap (entity_at entities) same ∙ at, sym like.own ∙ ap (λ (y : Entity). y.own) it, ap (λ (y : Entity). y.restarted) (sym it) ∙ like.restarted))
+    | inr different ↦ (x, sym (entity_other entities system one after different) ∙ has, refl, refl)
   ]
 
   is_at : (one : ℕ) (old : Entity) → entity_at entities one ≡ Some old → (x : Entity) × (entity_at (with_entity entities system after) one ≡ Some x) × (old.own ≡ x.own)
@@ -283,7 +284,11 @@ module _ (titles : List (List ℕ)) (timers : Timers) (w : Whole) (journal : Lis
   pub made_known : Known titles timers new (journal ++ made) (with_entity entities system after) (ends ++ record { system = system; reference = reference } ∷ [])
   made_known = record {
     written = written;
-    restarts = f.restarts;
+    restarts = λ one x has.
+        (let first = was_at one x has in
+        same_began new.base.clock new.base.restarts first.0 x (sym first.2) first.3
+        (subst (λ (rs : List (List ℕ × ℕ)). AreBegan new.base.clock rs first.0) (sym f.restarts)
+        (subst (λ (n : ℕ). AreBegan n w.base.restarts first.0) (sym f.clock) (known.restarts one first.0 first.1))));
     count = made_last ends (record { system = system; reference = reference }) ∙ ap (λ (k : ℕ). k + 1) f.count;
     listed = listed_after;
     holds = holds_one;

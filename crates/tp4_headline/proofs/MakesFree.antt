@@ -57,7 +57,7 @@ pub record Freed (titles : List (List ℕ)) (timers : Timers) (w : Whole) (journ
   pub clock : new.base.clock ≡ w.base.clock
   pub offers : new.base.offers ≡ w.base.offers
   pub written : Written (times_of timers) titles new journal
-  pub restarts : new.base.restarts ≡ []
+  pub restarts : new.base.restarts ≡ w.base.restarts
   pub count : length ends ≡ new.base.count
   pub listed : (k : ℕ) (end : EndAt) → slice_get ends k ≡ Some end → IsListed new.base entities k end
   pub begun : (a b : ℕ) (terms : Terms) → IsCaller new.base a b → (new.base.end b).agreed ≡ Some terms → HaveBegun new a b terms
@@ -72,7 +72,7 @@ module _ (titles : List (List ℕ)) (timers : Timers) (w : Whole) (journal : Lis
     clock = refl;
     offers = refl;
     written = known.written;
-    restarts = known.restarts;
+    restarts = refl;
     count = known.count;
     listed = known.listed;
     begun = known.begun;
@@ -167,7 +167,7 @@ module _ (titles : List (List ℕ)) (timers : Timers) (w : Whole) (journal : Lis
       clock = refl;
       offers = refl;
       written = written_after;
-      restarts = known.restarts;
+      restarts = refl;
       count = known.count;
       listed = λ k end is.
           (let l = known.listed k end is in

@@ -245,7 +245,7 @@ module _ (titles : List (List ℕ)) (timers : Timers) (w : Whole) (journal : Lis
       takes =
           let reached = written_reached (times_of timers) titles w journal known.written in
           acts w journal entities ends system entity entity reference e own io.n (Took t sum) (Some o) known at stands
-          (record { own = refl; timers = refl; ends = refl; clock = (known.holds system entity at).clock })
+          (record { own = refl; timers = refl; ends = refl; restarted = refl; clock = (known.holds system entity at).clock })
           (both _ (fits e.base e.stage t) match)
           (read_sourced (times_of timers) w.base o (seen io.n t) (fit_times timers) (reached_base (times_of timers) w reached) io.offered taken.reading)
           (subst (λ (x : Format). IsAllowed x t) (ap (format_for (extended_of entity)) destination ∙ wanted) reading.allowed)

@@ -20,11 +20,11 @@ use Rattle.tp4_conn.specs.Matching.{is_called_by}
 use Rattle.tp4_conn.proofs.Propers.{called_row}
 use Rattle.tp4_entity.specs.Association.{answers, is_called, is_frozen, is_registered, new_end, refusal, requested}
 use Rattle.tp4_entity.specs.Entity.{Entity, end_at, moved, there, with_end}
-use Rattle.tp4_entity.specs.References.{least_free}
+use Rattle.tp4_entity.specs.References.{least_free, is_silent}
 use Rattle.tp4_entity.proofs.PlaceLaws.{end_at_of}
 use Rattle.tp4_entity.proofs.Standings.{Free, free_at, free_least}
 use Rattle.tp4_history.specs.Ends.{Cr, Tpdu, Offer, Origin, Sent as SentBy, Answer, End as Seen}
-use Rattle.tp4_history.specs.History.{History, Indicate, IsAnswer, IsFree, May, answers_to, event_of}
+use Rattle.tp4_history.specs.History.{History, Indicate, IsAnswer, IsFree, May, answers_to, event_of, IsNotSilent}
 use Rattle.tp4_history.specs.Journals.{MayFollow, Written}
 use Rattle.tp4_history.specs.Tracks.{Moment, Nothing, Whole, onward}
 use Rattle.tp4_history.proofs.Sound.{Sound}
@@ -40,7 +40,7 @@ use Rattle.tp4_world.specs.World.{entity_at, latest, with_entity}
 use Rattle.tp4_world.specs.declared.place.EndAt.{EndAt}
 use Rattle.tp4_world.specs.declared.place.Placed.{Placed}
 use Rattle.tp4_headline.specs.steps.Known.{Follows, IsOffered, IsReadAs, IsThere, Known}
-use Rattle.tp4_headline.proofs.Makes.{never_silent}
+use Rattle.tp4_headline.proofs.Makes.{freed_audible}
 use Rattle.tp4_headline.proofs.MakesEnds.{made_known}
 use Rattle.tp4_headline.proofs.MakesFree.{Freed, cases_out, freed, no_events}
 use Rattle.tp4_headline.proofs.MakesPlaces.{latest_last}
@@ -88,7 +88,7 @@ found_one entity from source r e h called none none_frozen = by (is_frozen e.sta
         cc (any_end (is_called false from source) entity r e h (ap (λ (b : Bool). b && not (is_frozen e.stage)) called ∙ ap not is), none)
 
 module _ (titles : List (List ℕ)) (timers : Timers) (w : Whole) (journal : List Event) (entities : List Placed) (ends : List EndAt) (known : Known titles timers w journal entities ends)
-    (timed : IsTimed timers) (system : ℕ) (entity : Entity) (at : entity_at entities system ≡ Some entity)
+    (timed : IsTimed timers) (system : ℕ) (entity : Entity) (at : entity_at entities system ≡ Some entity) (quiet : is_silent w.base.clock entity ≡ false)
     (tick : ℕ) (from : List ℕ) (sent : Sent) (io : IsOffered w.base tick from sent) (to : sent.to ≡ entity.own) (soon : w.base.clock ≤ tick + timers.life)
     (credit source : ℕ) (width : Format) (calling called : List ℕ) (size preferred : Option ℕ) (extra : ℕ) (version : Option ℕ) (classes : Option (List ℕ)) (ack_time : Option ℕ) (text : List ℕ) (sum : Bool)
     (reading : IsReadAs entity sent (wires.Cr credit source width calling called size preferred extra version classes ack_time text, sum)) where
@@ -204,7 +204,9 @@ module _ (titles : List (List ℕ)) (timers : Timers) (w : Whole) (journal : Lis
         indicates h reference caller io.n timers cr o m timed (omega (arith, free.least)) has_source made_by
         (subst (λ (os : List Offer). Contains os o) (sym f.offers) io.offered) (omega (arith, soon, f.clock, io.tick_is))
         (record { kind = sym (ap (λ (t : Tpdu). t.kind) is); target = sym (ap (λ (t : Tpdu). t.target) is); control = λ _. sym is })
-        (sender o.origin refl).1 (subst (λ (xs : List ℕ). IsFree h xs reference) (sym to_own) f.free) (never_silent (times_of timers) h o.to f.restarts) has_no_end
+        (sender o.origin refl).1 (subst (λ (xs : List ℕ). IsFree h xs reference) (sym to_own) f.free)
+        (subst (λ (xs : List ℕ). IsNotSilent (times_of timers) h xs) (sym to_own)
+        (subst (λ (t : Timers). IsNotSilent (times_of t) h entity.own) timers_are (freed_audible titles timers w journal entities ends system reference entity known at quiet f))) has_no_end
 
     abbrev made : List Event
     made = events_after ends system entity.own m.events
@@ -258,7 +260,7 @@ module _ (titles : List (List ℕ)) (timers : Timers) (w : Whole) (journal : Lis
 
     known_after : Known titles timers after (journal ++ made) (with_entity entities system (with_end entity reference (Some (end_of m)))) (ends ++ record { system = system; reference = reference } ∷ [])
     known_after =
-        made_known titles timers w journal entities ends known system reference entity entity at f (record { own = refl; timers = refl; ends = refl; clock = (known.holds system entity at).clock }) free.least free.most
+        made_known titles timers w journal entities ends known system reference entity entity at f (record { own = refl; timers = refl; ends = refl; restarted = refl; clock = (known.holds system entity at).clock }) free.least free.most
         m (called_row w.base.clock reference from entity.timers cr m (subst IsTimed (sym timers_are) timed) allowed refl).proper timers_are e begins.1.new to_own refl begins.0 h.offers (h.events ++ event_of e ∷ []) made written
         (λ z terms p. omega (arith, allowed.few_credits))
 

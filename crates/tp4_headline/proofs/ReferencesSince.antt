@@ -93,6 +93,7 @@ event_up c system own number reference (whats.Held kind held) = λ now low. low
 event_up c system own number reference (whats.Gone cause octets) = λ now low. low
 event_up c system own number reference (whats.BadTpdu cause place) = λ now low. low
 event_up c system own number reference (whats.Unknown kind) = λ now low. low
+event_up c system own number reference whats.Silent = λ now low. low
 
 events_up : (c : ℕ) (made : List EndEvent) (ends : List EndAt) (system : ℕ) (own : List ℕ) → AreUpTo c (events_after ends system own made)
 events_up c [] ends system own = tt
@@ -171,7 +172,7 @@ module _ {C : Type 0} (link : C → Link (List ℕ)) (steps : C → Call (List �
   call_grows old new (NextUp answer) k entry there = inl (k.grows entry there)
   call_grows old new Tick k entry there = inl (k.grows entry there)
 
-  passed : (old new : C) (call : Call (List ℕ)) (ups : List (Up (List ℕ))) → Passes link steps old call ups new → SinceBy (ticks_by call) old (told ups) new
+  pub passed : (old new : C) (call : Call (List ℕ)) (ups : List (Up (List ℕ))) → Passes link steps old call ups new → SinceBy (ticks_by call) old (told ups) new
   passed old new call ups p =
       let k = law old call p.called p.steps_to in
       record {
@@ -180,7 +181,7 @@ module _ {C : Type 0} (link : C → Link (List ℕ)) (steps : C → Call (List �
         ticks = told_up (link new).clock ups;
       }
 
-  sent_all : (tpdus : List Sent) (old new : C) (system : ℕ) (own : List ℕ) (made : List Event) → SendsTpdus link steps old system own tpdus made new → Since old made new
+  pub sent_all : (tpdus : List Sent) (old new : C) (system : ℕ) (own : List ℕ) (made : List Event) → SendsTpdus link steps old system own tpdus made new → Since old made new
   sent_all [] old new system own made s = stays old new made s.0 s.1
   sent_all (sent ∷ tpdus) old new system own made s =
       let one = s.3 in
@@ -188,7 +189,7 @@ module _ {C : Type 0} (link : C → Link (List ℕ)) (steps : C → Call (List �
       (led old s.0 s.1 (drop_events system one.answer) (told one.ups) (drop_up (link old).clock system one.answer) (passed old s.0 _ one.ups one.passes) one.made_is)
       (sent_all tpdus s.0 new system own s.2 s.4) s.5
 
-  raw_sent : (old new : C) (system : ℕ) (sender receiver octets : List ℕ) (wish : Wish) (made : List Event) → SendsUnit link steps old system sender receiver wish octets made new → Since old made new
+  pub raw_sent : (old new : C) (system : ℕ) (sender receiver octets : List ℕ) (wish : Wish) (made : List Event) → SendsUnit link steps old system sender receiver wish octets made new → Since old made new
   raw_sent old new system sender receiver [] wish made s = tells old new made _ s.0 s.1 (λ now low. low, tt)
   raw_sent old new system sender receiver (octet ∷ octets) wish made s =
       led old new made (sent_event system (raw_address receiver) (octet ∷ octets) s.0 ∷ []) (told s.1)
@@ -317,6 +318,8 @@ module _ {C : Type 0} (link : C → Link (List ℕ)) (steps : C → Call (List �
   line_goes wrap titles (lines.Deliver number system) old new made none s = still old new made (delivered wrap old new number system s.0 made s.1)
   line_goes wrap titles lines.Settle old new made none s = still old new made (settled wrap 0 old made new s)
   line_goes wrap titles (lines.Inject lan system octets) old new made none s = absurd none
+  line_goes wrap titles (lines.Restart system) old new made none s = still old new made (tells old.carrier new.carrier made _ s.2 (ap (λ (w : World C). w.carrier) s.3) (λ now low. low, tt))
+  line_goes wrap titles (lines.Send system selector to called octets) old new made none s = absurd s
   line_goes wrap titles (lines.Version version) old new made none s = absurd s
   line_goes wrap titles (lines.Set key value) old new made none s = absurd s
   line_goes wrap titles (lines.Lan name bound room) old new made none s = absurd s
@@ -326,6 +329,7 @@ module _ {C : Type 0} (link : C → Link (List ℕ)) (steps : C → Call (List �
   line_goes wrap titles (lines.Route system prefix hop lan) old new made none s = absurd s
   line_goes wrap titles (lines.Path name kind systems) old new made none s = absurd s
   line_goes wrap titles (lines.Tsap system selector) old new made none s = absurd s
+  line_goes wrap titles (lines.Relay system selector to called) old new made none s = absurd s
   line_goes wrap titles lines.Start old new made none s = absurd s
 
   pub lines_go : (wrap : ℕ → ℕ → ℕ) (titles : List (List ℕ)) (script : List Line) (first last : World C) (made : List Event) → AllByRecursion IsNoInjection script

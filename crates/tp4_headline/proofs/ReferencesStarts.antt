@@ -26,6 +26,7 @@ use Rattle.tp4_headline.proofs.WorldSteps.{after_call, after_tick}
 use Rattle.tp4_headline.proofs.WorldCalls.{lines_hold}
 use Rattle.tp4_number.specs.Number.{whole, wire}
 use Rattle.tp4_headline.specs.References.{OnRuns}
+use Rattle.tp4_headline.proofs.WorldRestarts.{after_restart}
 
 -- the history follows each step of an entity
 pub followed_by : Flowing → KnowsTaken → (titles : List (List ℕ)) (timers : Timers) → Followed titles timers
@@ -36,6 +37,7 @@ followed_by flowing knows titles timers = record {
   ticks = after_tick titles timers (acts flowing titles timers);
   aside = after_aside titles timers;
   clock = after_clock flowing.later titles timers;
+  restarts = after_restart titles timers;
 }
 
 module _ {C : Type 0} (link : C → Link (List ℕ)) (steps : C → Call (List ℕ) → C → Type 0) (law : (old : C) (call : Call (List ℕ)) (new : C) → steps old call new → Keeps (link old) call (link new))

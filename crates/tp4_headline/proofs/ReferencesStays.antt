@@ -1,7 +1,5 @@
 -- Beside a line of a script a history goes on, and all that was offered in it stays: also past a tick.
 use Rattle.std.proofs.Common.{◌≡◌, ℕ, ◌+◌, ◌≤◌, Bool, true, false, List, [], ◌∷◌, ◌++◌, length, Option, Some, None, refl, sym, ◌∙◌, ap, subst, append_assoc, append-nil, Contains}
-use Rattle.std.specs.Prelude.{if◌then◌else◌, nat_lt}
-use Rattle.std.proofs.lemmas.Bool.{ltb-false}
 use Rattle.osi_base.specs.declared.unit.Picked.TheVariants.{Taken as WasPicked}
 use Rattle.osi_base.specs.Link.{Link}
 use Rattle.osi_base.specs.Calls.{Call, Keeps}
@@ -26,8 +24,9 @@ use Rattle.tp4_conn.specs.declared.timers.Timers.{Timers}
 use Rattle.tp4_entity.specs.declared.refusal.ConnectRefusal.{ConnectRefusal}
 use Rattle.tp4_entity.specs.declared.refusal.EntityRefusal.{EntityRefusal}
 use Rattle.tp4_entity.specs.Entity.{Entity, at}
-use Rattle.tp4_entity.specs.References.{least_free}
+use Rattle.tp4_entity.specs.References.{least_free, is_silent}
 use Rattle.tp4_entity.specs.Step.{call_of, calling, connect_refusal, connecting, first_due, ticking, ticking_at, user_refusal}
+use Rattle.tp4_entity.proofs.Beginning.{audible, short}
 use Rattle.tp4_history.specs.Ends.{Offer}
 use Rattle.tp4_history.specs.History.{Tick as HistoryTick}
 use Rattle.tp4_history.specs.Tracks.{Nothing, Whole, onward}
@@ -47,13 +46,7 @@ use Rattle.tp4_headline.proofs.WorldCalls.{IsAsked}
 use Rattle.tp4_headline.proofs.WorldFloats.{raw_goes, tick_goes}
 use Rattle.tp4_headline.proofs.WorldHears.{Ran, delivered}
 use Rattle.tp4_headline.proofs.WorldKnown.{known_at}
-
-short : (now : ℕ) (e : Entity) (octets : List ℕ) → connect_refusal now e octets ≡ None → length octets ≤ 32
-short now e octets is = by_long _ _ (nat_lt 32 (length octets)) refl is
-  where
-    by_long : (x : ConnectRefusal) (rest : Option ConnectRefusal) (long : Bool) → nat_lt 32 (length octets) ≡ long → (if long then Some x else rest) ≡ None → length octets ≤ 32
-    by_long x rest true at is = absurd cc
-    by_long x rest false at is = ltb-false 32 (length octets) at
+use Rattle.tp4_headline.proofs.WorldRestarts.{restart_goes}
 
 module _ (titles : List (List ℕ)) (timers : Timers) (timed : IsTimed timers) {C : Type 0} (link : C → Link (List ℕ)) (steps : C → Call (List ℕ) → C → Type 0)
     (law : (old : C) (call : Call (List ℕ)) (new : C) → steps old call new → Keeps (link old) call (link new))
@@ -94,10 +87,11 @@ module _ (titles : List (List ℕ)) (timers : Timers) (timed : IsTimed timers) {
     refused (Some why) step = told_stays (events.No why ∷ []) (record { submits = λ end. refl; shows = λ end. refl; makes = refl }, tt) step.0 step.1
 
     begun : (system : ℕ) (entity : Entity) (call : ConnectCall) (found : Option ℕ) → entity_at old.entities system ≡ Some entity
-        → IsAsked call → length call.octets ≤ 32 → least_free (clock_of link steps old) entity ≡ found → BeginsAt link steps old system entity call found made new → Stays w (journal ++ made) new
-    begun system entity call None there asked octets least step = absurd step
-    begun system entity call (Some reference) there asked octets least step =
+        → is_silent (clock_of link steps old) entity ≡ false → IsAsked call → length call.octets ≤ 32 → least_free (clock_of link steps old) entity ≡ found → BeginsAt link steps old system entity call found made new → Stays w (journal ++ made) new
+    begun system entity call None there still asked octets least step = absurd step
+    begun system entity call (Some reference) there still asked octets least step =
         let now = e.carries.clock in
+        let quiet : is_silent w.base.clock entity ≡ false = subst (λ (n : ℕ). is_silent n entity ≡ false) now still in
         let free : least_free w.base.clock entity ≡ Some reference = subst (λ (n : ℕ). least_free n entity ≡ Some reference) now least in
         let event : Event = connect_event (length old.ends + 1) system reference entity.own call in
         let with_end : World C = record old { ends = old.ends ++ record { system = system; reference = reference } ∷ [] } in
@@ -113,12 +107,12 @@ module _ (titles : List (List ℕ)) (timers : Timers) (timed : IsTimed timers) {
         behind w new journal made (event ∷ []) step.0
         (went_stays w ((journal ++ event ∷ []) ++ step.0) new
         (went_on titles timers link steps law followed.aside w journal (event ∷ []) step.0 with_end new system entity.own (connecting w.base.clock entity reference call) e.carries
-        (followed.connects w journal old.entities old.ends system entity call reference e.known there proper free) acts)) step.2
+        (followed.connects w journal old.entities old.ends system entity call reference e.known there quiet proper free) acts)) step.2
 
     connect_by : (system : ℕ) (entity : Entity) (call : ConnectCall) (why : Option ConnectRefusal) → entity_at old.entities system ≡ Some entity → IsAsked call
         → connect_refusal (clock_of link steps old) entity call.octets ≡ why → ConnectsBy link steps old system entity call why made new → Stays w (journal ++ made) new
     connect_by system entity call (Some why) there asked is step = refused _ step
-    connect_by system entity call None there asked is step = begun system entity call (least_free (clock_of link steps old) entity) there asked (short (clock_of link steps old) entity call.octets is) refl step
+    connect_by system entity call None there asked is step = begun system entity call (least_free (clock_of link steps old) entity) there (audible (clock_of link steps old) entity call.octets is) asked (short (clock_of link steps old) entity call.octets is) refl step
 
     call_by : (number : ℕ) (end : EndAt) (entity : Entity) (call : UserCall) (why : Option EntityRefusal) → end_numbered old.ends number ≡ Some end → entity_at old.entities end.system ≡ Some entity
         → IsCall call → has_ended (clock_of link steps old) old.ends number end entity ≡ false → user_refusal entity end.reference call ≡ why
@@ -234,6 +228,9 @@ module _ (titles : List (List ℕ)) (timers : Timers) (timed : IsTimed timers) {
       ran_stays w (journal ++ made) new (delivered titles timers timed link steps law followed.aside followed.meets one Sound InTime outcomes w old new journal made number system step.0 e rested step.1)
   line_stays lines.Settle w old new journal made none proper e rested step = settled 0 old made new step w journal e rested
   line_stays (lines.Inject lan system octets) w old new journal made none proper e rested step = absurd none
+  line_stays (lines.Restart system) w old new journal made none proper e rested step =
+      went_stays w (journal ++ made) new (restart_goes titles timers link steps law followed.aside followed.restarts w old new journal made system e step)
+  line_stays (lines.Send system selector to called octets) w old new journal made none proper e rested step = absurd step
   line_stays (lines.Version version) w old new journal made none proper e rested step = absurd step
   line_stays (lines.Set key value) w old new journal made none proper e rested step = absurd step
   line_stays (lines.Lan name bound room) w old new journal made none proper e rested step = absurd step
@@ -243,4 +240,5 @@ module _ (titles : List (List ℕ)) (timers : Timers) (timed : IsTimed timers) {
   line_stays (lines.Route system prefix hop lan) w old new journal made none proper e rested step = absurd step
   line_stays (lines.Path name kind systems) w old new journal made none proper e rested step = absurd step
   line_stays (lines.Tsap system selector) w old new journal made none proper e rested step = absurd step
+  line_stays (lines.Relay system selector to called) w old new journal made none proper e rested step = absurd step
   line_stays lines.Start w old new journal made none proper e rested step = absurd step

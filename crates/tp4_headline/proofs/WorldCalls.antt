@@ -1,8 +1,6 @@
 -- What users ask, and what a line of a script does: the history goes on beside it, and at its end no end is due.
-use Rattle.std.proofs.Common.{◌≡◌, ℕ, ◌+◌, ◌≤◌, Bool, true, false, if◌then◌else◌, List, [], ◌∷◌, ◌++◌, length, Option, Some, None, refl, sym, ◌∙◌, ap, subst, append_assoc}
-use Rattle.std.specs.Prelude.{nat_lt}
+use Rattle.std.proofs.Common.{◌≡◌, ℕ, ◌+◌, ◌≤◌, Bool, true, false, List, [], ◌∷◌, ◌++◌, length, Option, Some, None, refl, sym, ◌∙◌, ap, subst, append_assoc}
 use Rattle.std.specs.List.{AllByRecursion}
-use Rattle.std.proofs.lemmas.Bool.{ltb-false}
 use Rattle.osi_base.specs.declared.unit.Picked.TheVariants.{Taken as WasPicked}
 use Rattle.osi_base.specs.Link.{Link}
 use Rattle.osi_base.specs.Calls.{Call, Keeps}
@@ -26,8 +24,9 @@ use Rattle.tp4_conn.specs.declared.timers.Timers.{Timers}
 use Rattle.tp4_entity.specs.declared.refusal.ConnectRefusal.{ConnectRefusal}
 use Rattle.tp4_entity.specs.declared.refusal.EntityRefusal.{EntityRefusal}
 use Rattle.tp4_entity.specs.Entity.{Entity}
-use Rattle.tp4_entity.specs.References.{least_free}
+use Rattle.tp4_entity.specs.References.{least_free, is_silent}
 use Rattle.tp4_entity.specs.Step.{call_of, calling, connect_refusal, connecting, user_refusal}
+use Rattle.tp4_entity.proofs.Beginning.{audible, short}
 use Rattle.tp4_history.specs.Tracks.{Whole}
 use Rattle.tp4_world.specs.Laws.{IsNoInjection}
 use Rattle.tp4_world.specs.Run.{Acts, BeginsAt, Calls, CallsAt, CallsBy, CallsEnd, Connects, ConnectsBy, IsRefused, NoneLeft, OneMore, RunsLine, RunsLines, Settles, TooMany, clock_of, has_ended}
@@ -41,19 +40,13 @@ use Rattle.tp4_headline.proofs.WorldAsides.{AreQuiet}
 use Rattle.tp4_headline.proofs.WorldFloats.{raw_goes}
 use Rattle.tp4_headline.proofs.WorldHears.{Ran, delivered, ran_nowhere, ran_on, rest_then}
 use Rattle.tp4_headline.proofs.WorldTicks.{ticked}
+use Rattle.tp4_headline.proofs.WorldRestarts.{restart_goes, restart_rests}
 
 -- a connect call of a proper line
 pub record IsAsked (call : ConnectCall) : Type 0 where
   pub size : IsSized call.options
   pub calling : length call.from_selector ≤ 32
   pub called : length call.to_selector ≤ 32
-
-short : (now : ℕ) (e : Entity) (octets : List ℕ) → connect_refusal now e octets ≡ None → length octets ≤ 32
-short now e octets is = by_long _ _ (nat_lt 32 (length octets)) refl is
-  where
-    by_long : (x : ConnectRefusal) (rest : Option ConnectRefusal) (long : Bool) → nat_lt 32 (length octets) ≡ long → (if long then Some x else rest) ≡ None → length octets ≤ 32
-    by_long x rest true at is = absurd cc
-    by_long x rest false at is = ltb-false 32 (length octets) at
 
 module _ (titles : List (List ℕ)) (timers : Timers) (timed : IsTimed timers) {C : Type 0} (link : C → Link (List ℕ)) (steps : C → Call (List ℕ) → C → Type 0)
     (law : (old : C) (call : Call (List ℕ)) (new : C) → steps old call new → Keeps (link old) call (link new))
@@ -95,11 +88,12 @@ module _ (titles : List (List ℕ)) (timers : Timers) (timed : IsTimed timers) {
       told_holds old new journal made (events.No why ∷ []) h (record { submits = λ end. refl; shows = λ end. refl; makes = refl }, tt) step.0 step.1
 
   begun : (old new : World C) (journal made : List Event) (system : ℕ) (entity : Entity) (call : ConnectCall) (found : Option ℕ) → Holds old journal → entity_at old.entities system ≡ Some entity
-      → IsAsked call → length call.octets ≤ 32 → least_free (clock_of link steps old) entity ≡ found → BeginsAt link steps old system entity call found made new → Holds new (journal ++ made)
-  begun old new journal made system entity call None h there asked octets least step = absurd step
-  begun old new journal made system entity call (Some reference) h there asked octets least step =
+      → is_silent (clock_of link steps old) entity ≡ false → IsAsked call → length call.octets ≤ 32 → least_free (clock_of link steps old) entity ≡ found → BeginsAt link steps old system entity call found made new → Holds new (journal ++ made)
+  begun old new journal made system entity call None h there still asked octets least step = absurd step
+  begun old new journal made system entity call (Some reference) h there still asked octets least step =
       let w : Whole = h.w in
       let now = h.explains.carries.clock in
+      let quiet : is_silent w.base.clock entity ≡ false = subst (λ (n : ℕ). is_silent n entity ≡ false) now still in
       let free : least_free w.base.clock entity ≡ Some reference = subst (λ (n : ℕ). least_free n entity ≡ Some reference) now least in
       let event : Event = connect_event (length old.ends + 1) system reference entity.own call in
       let with_end : World C = record old { ends = old.ends ++ record { system = system; reference = reference } ∷ [] } in
@@ -115,7 +109,7 @@ module _ (titles : List (List ℕ)) (timers : Timers) (timed : IsTimed timers) {
       subst (λ (n : ℕ). Acts link steps with_end system entity.own (connecting n entity reference call) step.0 new) now step.1 in
       let ran : Runs w ((journal ++ event ∷ []) ++ step.0) new =
       ran_on titles timers timed link steps law followed.aside followed.meets one Sound InTime outcomes w journal (event ∷ []) step.0 with_end new system entity.own (connecting w.base.clock entity reference call)
-      h.explains.carries h.rest (followed.connects w journal old.entities old.ends system entity call reference h.explains.known there proper free)
+      h.explains.carries h.rest (followed.connects w journal old.entities old.ends system entity call reference h.explains.known there quiet proper free)
       (outcomes.connecting w.base.clock reference entity call rest.0 rest.1 free proper) acts in
       behind new journal made (event ∷ []) step.0 (holds w ((journal ++ event ∷ []) ++ step.0) new ran) step.2
 
@@ -124,7 +118,7 @@ module _ (titles : List (List ℕ)) (timers : Timers) (timed : IsTimed timers) {
       → Holds new (journal ++ made)
   connect_by old new journal made system entity call (Some why) h there asked is step = refused old new journal made _ h step
   connect_by old new journal made system entity call None h there asked is step =
-      begun old new journal made system entity call (least_free (clock_of link steps old) entity) h there asked (short (clock_of link steps old) entity call.octets is) refl step
+      begun old new journal made system entity call (least_free (clock_of link steps old) entity) h there (audible (clock_of link steps old) entity call.octets is) asked (short (clock_of link steps old) entity call.octets is) refl step
 
   connected : (old new : World C) (journal made : List Event) (system : ℕ) (call : ConnectCall) → Holds old journal → IsAsked call → Connects link steps old system call made new → Holds new (journal ++ made)
   connected old new journal made system call h asked step =
@@ -210,6 +204,12 @@ module _ (titles : List (List ℕ)) (timers : Timers) (timed : IsTimed timers) {
       holds h.w (journal ++ made) new (delivered titles timers timed link steps law followed.aside followed.meets one Sound InTime outcomes h.w old new journal made number system step.0 h.explains h.rest step.1)
   line_holds lines.Settle old new journal made none proper h step = settled 0 old made new step journal h
   line_holds (lines.Inject lan system octets) old new journal made none proper h step = absurd none
+  line_holds (lines.Restart system) old new journal made none proper h step =
+      holds h.w (journal ++ made) new (record {
+        went = restart_goes titles timers link steps law followed.aside followed.restarts h.w old new journal made system h.explains step;
+        rest = restart_rests link steps Sound h.w.base.clock old new made system h.explains.carries.clock h.rest (λ e sound. outcomes.restarting h.w.base.clock e sound) step;
+      })
+  line_holds (lines.Send system selector to called octets) old new journal made none proper h step = absurd step
   line_holds (lines.Version version) old new journal made none proper h step = absurd step
   line_holds (lines.Set key value) old new journal made none proper h step = absurd step
   line_holds (lines.Lan name bound room) old new journal made none proper h step = absurd step
@@ -219,6 +219,7 @@ module _ (titles : List (List ℕ)) (timers : Timers) (timed : IsTimed timers) {
   line_holds (lines.Route system prefix hop lan) old new journal made none proper h step = absurd step
   line_holds (lines.Path name kind systems) old new journal made none proper h step = absurd step
   line_holds (lines.Tsap system selector) old new journal made none proper h step = absurd step
+  line_holds (lines.Relay system selector to called) old new journal made none proper h step = absurd step
   line_holds lines.Start old new journal made none proper h step = absurd step
 
   pub lines_hold : (script : List Line) (first last : World C) (journal rest : List Event) → AllByRecursion IsNoInjection script → AllByRecursion IsProperLine script → Rests link Sound titles timers journal first

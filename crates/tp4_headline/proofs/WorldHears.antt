@@ -25,7 +25,7 @@ use Rattle.tp4_conn.specs.declared.timers.Timers.{Timers}
 use Rattle.tp4_entity.specs.Association.{met}
 use Rattle.tp4_entity.specs.Entity.{Acted, Entity, at}
 use Rattle.tp4_entity.specs.Step.{first_due}
-use Rattle.tp4_entity.specs.Unit.{HearsUnit, all_met, extended_of}
+use Rattle.tp4_entity.specs.Unit.{HearsUnit, all_met, extended_of, ignored, TakesBy, TakesUnit}
 use Rattle.tp4_history.specs.History.{Note}
 use Rattle.tp4_history.specs.Tracks.{Nothing, Whole, onward}
 use Rattle.tp4_moves.specs.Moves.{times_of}
@@ -42,6 +42,7 @@ use Rattle.tp4_headline.proofs.WorldFloats.{all_explained_on, choice_goes}
 use Rattle.tp4_headline.proofs.WorldKnown.{known_at, rest_with}
 use Rattle.tp4_headline.proofs.WorldPlaces.{with_again}
 use Rattle.tp4_world.proofs.Having.{with_first}
+use Rattle.tp4_entity.specs.References.{is_silent}
 
 acted_same : (a b : Acted) → a.entity ≡ b.entity → a.events ≡ b.events → a.tpdus ≡ b.tpdus → a ≡ b
 acted_same a b entity told tpdus =
@@ -108,15 +109,15 @@ module _ (titles : List (List ℕ)) (timers : Timers) (timed : IsTimed timers) {
   -- one TPDU
   tpdu_heard : (w : Whole) (journal : List Event) (entities : List Placed) (ends : List EndAt) (system : ℕ) (entity : Entity) (unit : CarriedUnit (List ℕ)) (tpdu : TpduAndSum)
       (come : HasCome timers.life w.base unit) → unit.to ≡ entity.own → IsReadAs entity come.backed.sent tpdu
-      → Known titles timers w journal entities ends → AreAtRest Sound w.base.clock entities → entity_at entities system ≡ Some entity
+      → Known titles timers w journal entities ends → AreAtRest Sound w.base.clock entities → entity_at entities system ≡ Some entity → is_silent w.base.clock entity ≡ false
       → Hear w journal entities ends system entity.own (met whole w.base.clock (at w.base.clock entity) unit.from tpdu)
-  tpdu_heard w journal entities ends system entity unit tpdu come to read known rest is =
+  tpdu_heard w journal entities ends system entity unit tpdu come to read known rest is quiet =
       let now : ℕ = w.base.clock in
       let here : Entity = at now entity in
       let read_here : IsReadAs here come.backed.sent tpdu = record { kind = read.kind; target = read.target; control = read.control; flow = read.flow; allowed = read.allowed } in
       let met_here : Follows titles timers w journal (with_entity entities system here) ends system entity.own [] (met whole now here unit.from tpdu) =
       meet w journal (with_entity entities system here) ends system here come.tick unit.from come.backed.sent tpdu (known_at titles timers w journal entities ends known system entity is) timed
-      (with_first entities system here entity is) come.backed.offered (come.backed.to_is ∙ to) come.live read_here in
+      (with_first entities system here entity is) quiet come.backed.offered (come.backed.to_is ∙ to) come.live read_here in
       record {
         follows = follows_at w journal entities ends system entity.own here (met whole now here unit.from tpdu) met_here;
         rest = outcomes.met now here unit.from tpdu (outcomes.clock now entity (rest system entity is).0) (rest system entity is).1 read.allowed;
@@ -124,8 +125,8 @@ module _ (titles : List (List ℕ)) (timers : Timers) (timed : IsTimed timers) {
 
   unit_heard : (w : Whole) (journal : List Event) (entities : List Placed) (ends : List EndAt) (system : ℕ) (entity : Entity) (unit : CarriedUnit (List ℕ)) (acted : Acted)
       → HasCome timers.life w.base unit → unit.to ≡ entity.own → Known titles timers w journal entities ends → AreAtRest Sound w.base.clock entities → entity_at entities system ≡ Some entity
-      → HearsUnit whole w.base.clock entity unit.from unit.octets acted → Hear w journal entities ends system entity.own acted
-  unit_heard w journal entities ends system entity unit acted come to known rest is h =
+      → is_silent w.base.clock entity ≡ false → HearsUnit whole w.base.clock entity unit.from unit.octets acted → Hear w journal entities ends system entity.own acted
+  unit_heard w journal entities ends system entity unit acted come to known rest is quiet h =
       let now : ℕ = w.base.clock in
       let all : acted ≡ outcome now entity unit.from h.tpdus h.told = acted_same acted (outcome now entity unit.from h.tpdus h.told) h.entity h.events h.tpdus_are in
       subst (Hear w journal entities ends system entity.own) (sym all)
@@ -136,13 +137,41 @@ module _ (titles : List (List ℕ)) (timers : Timers) (timed : IsTimed timers) {
             ∙ ap (λ (es : List EndEvent). outcome now entity unit.from (read.0 ∷ []) es) read.2
             ∙ one_met now entity unit.from read.0 in
             subst (Hear w journal entities ends system entity.own) (sym same)
-            (tpdu_heard w journal entities ends system entity unit read.0 come to (record { kind = read.3; target = read.4; control = read.5; flow = read.6; allowed = read.7 }) known rest is)
+            (tpdu_heard w journal entities ends system entity unit read.0 come to (record { kind = read.3; target = read.4; control = read.5; flow = read.6; allowed = read.7 }) known rest is quiet)
         | inr fault ↦
             let same : outcome now entity unit.from h.tpdus h.told ≡ outcome now entity unit.from [] (record { reference = 0; what = BadTpdu fault.0 fault.1 } ∷ []) =
             ap (λ (ts : List TpduAndSum). outcome now entity unit.from ts h.told) fault.2
             ∙ ap (λ (es : List EndEvent). outcome now entity unit.from [] es) fault.3 in
             subst (Hear w journal entities ends system entity.own) (sym same) (fault_heard w journal entities ends system entity unit.from fault.0 fault.1 known rest is)
       ])
+
+  -- a silent entity tells the unit alone
+  ignored_heard : (w : Whole) (journal : List Event) (entities : List Placed) (ends : List EndAt) (system : ℕ) (entity : Entity)
+      → Known titles timers w journal entities ends → AreAtRest Sound w.base.clock entities → entity_at entities system ≡ Some entity
+      → Hear w journal entities ends system entity.own (ignored w.base.clock entity)
+  ignored_heard w journal entities ends system entity known rest is =
+      let event : Event = events.Silent system in
+      let here : Known titles timers w (journal ++ []) (with_entity entities system (at w.base.clock entity)) ends =
+      subst (λ (xs : List Event). Known titles timers w xs (with_entity entities system (at w.base.clock entity)) ends) (sym (append-nil journal)) (known_at titles timers w journal entities ends known system entity is) in
+      record {
+        follows = record {
+          new = onward (times_of timers) w (record { step = Note; doing = Nothing });
+          goes_on = record { clock = refl; offers = λ offer there. there };
+          known = aside w (journal ++ []) (event ∷ []) (with_entity entities system (at w.base.clock entity)) ends here
+              (are_aside (event ∷ []) (record { submits = λ end. refl; shows = λ end. refl; makes = refl }, tt));
+          offered = tt;
+        };
+        rest = (outcomes.clock w.base.clock entity (rest system entity is).0, (rest system entity is).1);
+      }
+
+  unit_taken : (w : Whole) (journal : List Event) (entities : List Placed) (ends : List EndAt) (system : ℕ) (entity : Entity) (unit : CarriedUnit (List ℕ)) (acted : Acted)
+      → HasCome timers.life w.base unit → unit.to ≡ entity.own → Known titles timers w journal entities ends → AreAtRest Sound w.base.clock entities → entity_at entities system ≡ Some entity
+      → TakesUnit whole w.base.clock entity unit.from unit.octets acted → Hear w journal entities ends system entity.own acted
+  unit_taken w journal entities ends system entity unit acted come to known rest is takes = by (is_silent w.base.clock entity) refl takes
+    where
+      by : (silent : Bool) → is_silent w.base.clock entity ≡ silent → TakesBy silent whole w.base.clock entity unit.from unit.octets acted → Hear w journal entities ends system entity.own acted
+      by true at_it h = subst (Hear w journal entities ends system entity.own) (sym h) (ignored_heard w journal entities ends system entity known rest is)
+      by false at_it h = unit_heard w journal entities ends system entity unit acted come to known rest is at_it h
 
   -- the history went on, and all are at rest
   pub record Ran (w : Whole) (journal : List Event) (new : World C) : Type 0 where
@@ -186,8 +215,8 @@ module _ (titles : List (List ℕ)) (timers : Timers) (timed : IsTimed timers) {
   heard_if w old new journal made arrival (Some entity) true e rested come at is step =
       let both = parts (selector_of arrival.unit.to == 1) (pointwise nat_eq entity.own arrival.unit.to) is in
       let to : arrival.unit.to ≡ entity.own = sym (same_text entity.own arrival.unit.to (sym both.1)) in
-      let heard = unit_heard w journal old.entities old.ends arrival.system entity arrival.unit step.0 (come both.0) to e.known rested at
-      (subst (λ (n : ℕ). HearsUnit whole n entity arrival.unit.from arrival.unit.octets step.0) e.carries.clock step.1) in
+      let heard = unit_taken w journal old.entities old.ends arrival.system entity arrival.unit step.0 (come both.0) to e.known rested at
+      (subst (λ (n : ℕ). TakesUnit whole n entity arrival.unit.from arrival.unit.octets step.0) e.carries.clock step.1) in
       let ran : Ran w ((journal ++ []) ++ made) new = ran_on w journal [] made old new arrival.system entity.own step.0 e.carries rested heard.follows heard.rest step.2 in
       subst (λ (xs : List Event). Ran w (xs ++ made) new) (append-nil journal) ran
 

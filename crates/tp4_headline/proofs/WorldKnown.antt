@@ -9,10 +9,11 @@ use Rattle.tp4_history.specs.Tracks.{Whole}
 use Rattle.tp4_world.specs.World.{entity_at, with_entity}
 use Rattle.tp4_world.specs.declared.place.EndAt.{EndAt}
 use Rattle.tp4_world.specs.declared.place.Placed.{Placed}
-use Rattle.tp4_headline.specs.steps.Known.{Holds, IsListed, Known}
+use Rattle.tp4_headline.specs.steps.Known.{Holds, IsListed, Known, AreBegan}
 use Rattle.tp4_headline.specs.steps.Worlds.{AreAtRest}
 use Rattle.tp4_headline.proofs.WorldPlaces.{some_same}
 use Rattle.tp4_world.proofs.Having.{with_any, with_first, with_other}
+use Rattle.tp4_headline.proofs.Restarts.{same_began}
 
 equal : (n m : ℕ) → (n == m) ≡ true → n ≡ m
 equal n m is = grind arith
@@ -27,7 +28,7 @@ rest_with Sound now entities system new rest here other x is =
     ]
 
 module _ (titles : List (List ℕ)) (timers : Timers) (w : Whole) (journal : List Event) (entities : List Placed) (ends : List EndAt) (known : Known titles timers w journal entities ends) where
-  module _ (system : ℕ) (old new : Entity) (is : entity_at entities system ≡ Some old) (same : new.own ≡ old.own) where
+  module _ (system : ℕ) (old new : Entity) (is : entity_at entities system ≡ Some old) (same : new.own ≡ old.own) (began : new.restarted ≡ old.restarted) where
     -- what stood there before
     before : (other : ℕ) (x : Entity) → entity_at (with_entity entities system new) other ≡ Some x → (y : Entity) × (entity_at entities other ≡ Some y) × (x.own ≡ y.own)
     before other x at =
@@ -54,7 +55,11 @@ module _ (titles : List (List ℕ)) (timers : Timers) (w : Whole) (journal : Lis
     pub known_with : Holds timers w new → Known titles timers w journal (with_entity entities system new) ends
     known_with holds = record {
       written = known.written;
-      restarts = known.restarts;
+      restarts = λ other x at.
+          elim (with_any entities system other new x at) [
+            | inl here ↦ subst (AreBegan w.base.clock w.base.restarts) (sym here.1) (same_began w.base.clock w.base.restarts old new same began (known.restarts system old is))
+            | inr there ↦ known.restarts other x there
+          ];
       count = known.count;
       listed = λ k end at. listed_on k end (known.listed k end at);
       holds = λ other x at.
@@ -77,4 +82,4 @@ module _ (titles : List (List ℕ)) (timers : Timers) (w : Whole) (journal : Lis
   pub known_at : (system : ℕ) (entity : Entity) → entity_at entities system ≡ Some entity → Known titles timers w journal (with_entity entities system (at w.base.clock entity)) ends
   known_at system entity is =
       let holds = known.holds system entity is in
-      known_with system entity (at w.base.clock entity) is refl (record { timers_are = holds.timers_are; clock = omega arith; there = holds.there; theirs = holds.theirs })
+      known_with system entity (at w.base.clock entity) is refl refl (record { timers_are = holds.timers_are; clock = omega arith; there = holds.there; theirs = holds.theirs })

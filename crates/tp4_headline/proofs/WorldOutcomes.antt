@@ -1,16 +1,18 @@
 -- What entities keep through their steps, and what a unit of one TPDU is read as, is what is asked of them.
-use Rattle.std.proofs.Common.{inl, inr, ap}
+use Rattle.std.proofs.Common.{inl, inr, ap, length, refl}
 use Rattle.tpdu.specs.Values.{TpduAndSum}
 use Rattle.tp4_number.specs.Number.{whole}
 use Rattle.tp4_outcome.specs.Rest.{AreInTime, AreProper}
 use Rattle.tp4_outcome.proofs.Ends.{calling_rests, connecting_rests, met_rests, new_rests, ticking_proper, waits}
 use Rattle.tp4_outcome.proofs.OneUnits.{one_in_unit}
 use Rattle.tp4_headline.specs.steps.Worlds.{OneInUnit, Outcomes}
+use Rattle.tp4_entity.specs.Step.{restarted}
 
 pub outcomes : Outcomes AreProper AreInTime
 outcomes = record {
   new = λ now references e is timed some. let r = new_rests now references e is timed some in (r.proper, r.idle);
   clock = λ now e p. record { timers = p.timers; inactive = p.inactive; ends = p.ends };
+  restarting = λ now e p. let r = new_rests now (length e.ends) (restarted now e) refl p.timers p.inactive in (r.proper, r.idle);
   connecting = λ now reference e call p idle free proper.
       let s = connecting_rests now reference e call (record { proper = p; idle = idle }) free proper in (s.rest.proper, s.rest.idle);
   calling = λ now reference e call p idle may c. let s = calling_rests whole now reference e call (record { proper = p; idle = idle }) may c in (s.rest.proper, s.rest.idle);

@@ -1,9 +1,7 @@
 -- Options that are the same; of two entities that are put at a system one after the other the last one stands.
-use Rattle.std.proofs.Common.{◌≡◌, ℕ, ◌⊎◌, ◌==◌, Bool, true, false, if◌then◌else◌, cond, List, [], ◌∷◌, ◌||◌, Option, Some, None, refl, sym, ◌∙◌, ap, inl, inr, arith}
-use Rattle.std.specs.Prelude.{option_map}
-use Rattle.std.specs.List.{find, list_any}
+use Rattle.std.proofs.Common.{◌≡◌, ℕ, Bool, true, false, if◌then◌else◌, List, [], ◌∷◌, Some, None, refl, ◌∙◌, ap}
 use Rattle.tp4_entity.specs.Entity.{Entity}
-use Rattle.tp4_world.specs.World.{entity_at, is_of, with_entity}
+use Rattle.tp4_world.specs.World.{is_of, with_entity}
 use Rattle.tp4_world.specs.declared.place.Placed.{Placed}
 
 pub some_same : {A : Type 0} (x y : A) → Some x ≡ Some y → x ≡ y

@@ -1,17 +1,17 @@
 -- A network before its first line is explained by a history in which nothing ever was. So a run of lines is explained, and its journal, which that
 -- history writes, is lawful.
-use Rattle.std.proofs.Common.{◌≡◌, ℕ, zero, suc, ◌-◌, ◌≤◌, ◌==◌, Bool, true, false, if◌then◌else◌, cond, List, [], ◌∷◌, ◌++◌, length, replicate, Option, Some, None, refl, sym, ◌∙◌, ap, subst, arith}
+use Rattle.std.proofs.Common.{◌≡◌, ℕ, zero, suc, ◌-◌, ◌≤◌, ◌==◌, Bool, true, false, if◌then◌else◌, cond, List, [], ◌∷◌, ◌++◌, length, replicate, Option, Some, None, refl, sym, ◌∙◌, ap, subst, arith, append_assoc}
 use Rattle.std.specs.Prelude.{option_map, slice_get}
 use Rattle.std.specs.List.{AllByRecursion, find}
 use Rattle.nsap.specs.Address.{is_same_system, system_part}
 use Rattle.nsap.proofs.AddressLemmas.{is_same_system-Decides, system_part-append}
 use Rattle.osi_base.specs.Link.{Link}
 use Rattle.osi_base.specs.Calls.{Call, Keeps}
-use Rattle.osi_journal.specs.Lawful.{Lawful}
+use Rattle.osi_journal.specs.Lawful.{AllQueues, KeepsSilence}
 use Rattle.osi_journal.specs.declared.event.Event.{Event}
 use Rattle.osi_journal.specs.declared.event.Event.TheVariants as events
 use Rattle.net_world.specs.Told.{told}
-use Rattle.tp4_conn.specs.End.{End, IsTimed}
+use Rattle.tp4_conn.specs.End.{End, IsTimed, frozen_for}
 use Rattle.tp4_conn.specs.declared.timers.Timers.{Timers}
 use Rattle.tp4_entity.specs.Entity.{Entity, end_at, there}
 use Rattle.tp4_history.specs.Ends.{CrWait, End as HistoryEnd, IsFit, Times}
@@ -24,7 +24,7 @@ use Rattle.tp4_world.specs.Laws.{HasNoEnd, IsFirst, IsNew, WholeRun}
 use Rattle.tp4_world.specs.Run.{Starts, transport_address}
 use Rattle.tp4_world.specs.World.{World, entity_at, is_of}
 use Rattle.tp4_world.specs.declared.place.Placed.{Placed}
-use Rattle.tp4_headline.specs.Headline.{AreDistinct, IsUntouched, ReceivesWhatWasSubmitted}
+use Rattle.tp4_headline.specs.Headline.{AreDistinct, IsUntouched, ReceivesWhatWasSubmitted, StaysSilent}
 use Rattle.tp4_headline.specs.steps.Known.{Holds, IsThere, Known}
 use Rattle.tp4_headline.specs.steps.Worlds.{AreAtRest, Followed, OneInUnit, Outcomes, Rests}
 use Rattle.tp4_headline.proofs.WorldActs.{Went, went_aside}
@@ -60,16 +60,16 @@ nothing_yet = record { end = λ k. no_end; base = refl; none = λ k. refl }
 -- ---- the entities
 
 -- what holds of each entity that was placed
-record IsOne (P : Placed → Type 0) (system : ℕ) (e : Entity) : Type 0 where
-  one : Placed
-  system_is : one.system ≡ system
-  entity_is : one.entity ≡ e
-  holds : P one
+pub record IsOne (P : Placed → Type 0) (system : ℕ) (e : Entity) : Type 0 where
+  pub one : Placed
+  pub system_is : one.system ≡ system
+  pub entity_is : one.entity ≡ e
+  pub holds : P one
 
 equal : (n m : ℕ) → (n == m) ≡ true → n ≡ m
 equal n m is = grind arith
 
-found : (P : Placed → Type 0) (placed : List Placed) (system : ℕ) (e : Entity) → AllByRecursion P placed → entity_at placed system ≡ Some e → IsOne P system e
+pub found : (P : Placed → Type 0) (placed : List Placed) (system : ℕ) (e : Entity) → AllByRecursion P placed → entity_at placed system ≡ Some e → IsOne P system e
 found P [] system e all is = absurd (none_some e is)
 found P (one ∷ placed) system e all is = by_first (is_of system one) refl is (found P placed system e all.1)
   where
@@ -83,7 +83,7 @@ none_there [] none n = refl
 none_there (place ∷ ends) none zero = ap (λ (p : Option End). there (Some p)) none.0
 none_there (place ∷ ends) none (suc n) = none_there ends none.1 n
 
-no_end_at : (e : Entity) → HasNoEnd e → (reference : ℕ) → end_at e reference ≡ None
+pub no_end_at : (e : Entity) → HasNoEnd e → (reference : ℕ) → end_at e reference ≡ None
 no_end_at e none reference = by_zero (reference == 0)
   where
     by_zero : (z : Bool) → (if z then None else there (slice_get e.ends (reference - 1))) ≡ None
@@ -138,7 +138,7 @@ module _ (titles : List (List ℕ)) (timers : Timers) (timed : IsTimed timers) (
   first_known : Known titles timers no_history [] placed []
   first_known = record {
     written = begins (times_of timers) titles no_history nothing_yet;
-    restarts = refl;
+    restarts = λ system e is r there. absurd (omega (arith, there.1));
     count = refl;
     listed = λ k end at. absurd (none_some end at);
     holds = first_holds;
@@ -175,17 +175,32 @@ module _ (titles : List (List ℕ)) (timers : Timers) (timed : IsTimed timers) (
       (subst (λ (xs : List Event). Rests link Sound titles timers xs new) (sym start.made_is)
       (record { w = went.next; explains = went.explains; rest = first_rest Sound InTime outcomes went.next.base.clock }))
 
+-- a front of a journal that keeps silence keeps it
+front_silent : (frozen : ℕ) (front back : List Event) → KeepsSilence frozen (front ++ back) → KeepsSilence frozen front
+front_silent frozen front back s = record {
+  lost = λ first middle rest last making event end system is.
+      s.lost first middle rest (last ++ back) making event end system
+      (ap (λ (xs : List Event). xs ++ back) is ∙ append_assoc first (making ∷ (middle ++ events.Restart system ∷ (rest ++ event ∷ last))) back
+      ∙ ap (λ (xs : List Event). first ++ making ∷ xs) (append_assoc middle (events.Restart system ∷ (rest ++ event ∷ last)) back
+      ∙ ap (λ (xs : List Event). middle ++ events.Restart system ∷ xs) (append_assoc rest (event ∷ last) back)));
+  late = λ first middle last making end system is.
+      s.late first middle (last ++ back) making end system
+      (ap (λ (xs : List Event). xs ++ back) is ∙ append_assoc first (events.Restart system ∷ (middle ++ making ∷ last)) back
+      ∙ ap (λ (xs : List Event). first ++ events.Restart system ∷ xs) (append_assoc middle (making ∷ last) back));
+}
+
 -- the laws of histories that the conclusion takes
 pub record Histories : Type 0 where
   pub fit : (t : Timers) → IsFit (times_of t)
   pub begins : (times : Times) (titles : List (List ℕ)) (w : Whole) → IsNothing w → Written times titles w []
-  pub lawful : (times : Times) (titles : List (List ℕ)) (w : Whole) (journal : List Event) → IsFit times → Written times titles w journal → Lawful titles journal
+  pub lawful : (times : Times) (titles : List (List ℕ)) (w : Whole) (journal : List Event) → IsFit times → Written times titles w journal → AllQueues titles journal
 
 -- what is shown was submitted
 pub receives : {C : Type 0} (link : C → Link (List ℕ)) (steps : C → Call (List ℕ) → C → Type 0) (law : (old : C) (call : Call (List ℕ)) (new : C) → steps old call new → Keeps (link old) call (link new))
     → WholeRun link steps → ((titles : List (List ℕ)) (timers : Timers) → Followed titles timers) → OneInUnit → (Sound : Entity → Type 0) (InTime : ℕ → Entity → Type 0) → Outcomes Sound InTime → Histories
-    → ReceivesWhatWasSubmitted link steps
-receives {C} link steps law whole_run followed one Sound InTime outcomes histories titles timers made placed begun journal script first last timed inactive distinct is untouched start none proper run =
+    → StaysSilent link steps → ReceivesWhatWasSubmitted link steps
+receives {C} link steps law whole_run followed one Sound InTime outcomes histories silent titles timers made placed begun journal script first last timed inactive distinct is untouched start none proper run =
+    let silence : KeepsSilence (frozen_for timers) (begun ++ journal) = silent titles timers made placed begun journal script first last is untouched start run in
     let f = followed titles timers in
     let rests : Rests link Sound titles timers begun first =
     started titles timers timed inactive distinct placed is.entities untouched histories.begins link steps law f Sound InTime outcomes made begun first is start in
@@ -193,4 +208,5 @@ receives {C} link steps law whole_run followed one Sound InTime outcomes histori
     subst (λ (x : World C). AllByRecursion (λ (y : Placed). HasNoEnd y.entity) x.entities) (sym start.becomes) (no_ends titles placed is.entities) in
     let above = whole_run titles first script journal last new run in
     let all = lines_hold titles timers timed link steps law f one Sound InTime outcomes script first above.0 begun journal none proper rests above.1 in
-    histories.lawful (times_of timers) titles all.w (begun ++ journal) (histories.fit timers) all.explains.known.written
+    let queues : AllQueues titles (begun ++ journal) = histories.lawful (times_of timers) titles all.w (begun ++ journal) (histories.fit timers) all.explains.known.written in
+    λ front back at. record { queues = queues front back at; silence = front_silent (frozen_for timers) front back (subst (KeepsSilence (frozen_for timers)) at silence) }

@@ -40,10 +40,11 @@ use Rattle.tp4_headline.proofs.FramesKnown.{Frames, calls_back, holds_on, keeps,
 use Rattle.tp4_headline.proofs.WorldAsides.{are_aside}
 use Rattle.tp4_headline.proofs.WorldKnown.{known_at}
 use Rattle.tp4_headline.proofs.WorldPlaces.{none_some}
+use Rattle.std.specs.Prelude.{is_none}
 
 -- the same entity at another tick
 like_at : (now : ℕ) (entity : Entity) → IsLike now entity (at now entity)
-like_at now entity = record { own = refl; timers = refl; ends = refl; clock = omega arith }
+like_at now entity = record { own = refl; timers = refl; ends = refl; restarted = refl; clock = omega arith }
 
 -- ---- a call
 
@@ -70,7 +71,7 @@ after_call titles timers acts w journal entities ends number end entity call kno
     by_end None there may free = absurd (none_some _ (sym may))
     by_end (Some e) there may one =
         let same : number ≡ one.k + 1 =
-        sym (latest_is (latest ends end.system end.reference) number (is_free w.base.clock entity end.reference) ended) ∙ number_at titles timers w journal entities ends known end.system entity end.reference one.k is one.at in
+        sym (latest_is (latest ends end.system end.reference) number (is_none (end_at entity end.reference) || is_free w.base.clock entity end.reference) ended) ∙ number_at titles timers w journal entities ends known end.system entity end.reference one.k is one.at in
         let goes : call_refusal e.base e.stage call ≡ None = not_refused (call_refusal e.base e.stage call) may in
         let did = acts w journal entities ends end.system entity (at w.base.clock entity) end.reference e one 0 (Called call) None known is there (like_at w.base.clock entity) tt tt (goes, proper) refl (λ z terms p are. tt) in
         subst (λ (x : Acted). Follows titles timers w journal entities ends end.system entity.own (call_events number call) x)
@@ -152,7 +153,7 @@ module _ (titles : List (List ℕ)) (timers : Timers) (w : Whole) (journal : Lis
       let written : Written (times_of timers) titles released (journal ++ []) =
       written_more (times_of timers) titles w journal (record { step = Release one.k; doing = Nothing }) [] known.written (record { may = may; lines = record {}; makes = aside }) in
       known_on titles timers w journal entities ends known released [] written frames (with_entity entities system (with_end (at now entity) reference None))
-      (owners_with entities system entity (with_end (at now entity) reference None) is refl)
+      (owners_with entities system entity (with_end (at now entity) reference None) is refl refl)
       (holds_on titles timers w journal entities ends known released frames refl system entity (at now entity) is (like_at now entity) reference e there None others_stay now_free (λ x none. absurd (none_some x none)))
       (λ a b terms calls agreed.
       let h = known.begun a b terms (calls_back w.base released.base frames a b calls) (sym (agreed_stays b) ∙ agreed) in

@@ -5,12 +5,12 @@ use Rattle.std.specs.List.{AllByRecursion}
 use Rattle.nsap.specs.Address.{system_part}
 use Rattle.osi_base.specs.Link.{Link}
 use Rattle.osi_base.specs.Calls.{Call}
-use Rattle.osi_journal.specs.Lawful.{Lawful}
+use Rattle.osi_journal.specs.Lawful.{Lawful, KeepsSilence}
 use Rattle.osi_journal.specs.declared.event.Event.{Event}
 use Rattle.osi_script.specs.declared.line.Line.{Line}
 use Rattle.osi_script.specs.declared.line.Line.TheVariants as lines
 use Rattle.tp4_number.specs.Number.{wire}
-use Rattle.tp4_conn.specs.End.{IsSized, IsTimed}
+use Rattle.tp4_conn.specs.End.{IsSized, IsTimed, frozen_for}
 use Rattle.tp4_conn.specs.declared.timers.Timers.{Timers}
 use Rattle.tp4_world.specs.Laws.{IsFirst, IsNoInjection}
 use Rattle.tp4_world.specs.Run.{RunsLines, Starts}
@@ -36,11 +36,20 @@ IsProperLine line = Unit {0}
 
 -- over any carrier: where nothing is injected, each front of the journal is lawful. So no connect request has two indications, and each indication
 -- has a request, which says the same. Of what an end was asked to send its partner shows a front, in order, of normal and of expedited units; no
--- normal unit comes before an expedited one that was submitted before it. An end without a partner shows nothing
+-- normal unit comes before an expedited one that was submitted before it. An end without a partner shows nothing. After a system began again
+-- nothing is told of the ends that it had, and it makes none until no TPDU of them can float
 abbrev pub ReceivesWhatWasSubmitted : {C : Type 0} → (C → Link (List ℕ)) → (C → Call (List ℕ) → C → Type 0) → Type 0
 ReceivesWhatWasSubmitted {C} link steps =
     (titles : List (List ℕ)) (timers : Timers) (made : C) (placed : List Placed) (begun journal : List Event) (script : List Line) (first last : World C)
     → IsTimed timers → 1 ≤ timers.inactive → AreDistinct titles
     → IsFirst timers.life titles (link made) placed → AllByRecursion (IsUntouched timers) placed → Starts link steps made placed begun first
     → AllByRecursion IsNoInjection script → AllByRecursion IsProperLine script → RunsLines link steps wire titles first script journal last
-    → Lawful titles (begun ++ journal)
+    → Lawful (frozen_for timers) titles (begun ++ journal)
+
+-- over any carrier, and also where octets are injected: after a system began again nothing is told of the ends that it had, and it makes none for as
+-- long as references are frozen
+abbrev pub StaysSilent : {C : Type 0} → (C → Link (List ℕ)) → (C → Call (List ℕ) → C → Type 0) → Type 0
+StaysSilent {C} link steps =
+    (titles : List (List ℕ)) (timers : Timers) (made : C) (placed : List Placed) (begun journal : List Event) (script : List Line) (first last : World C)
+    → IsFirst timers.life titles (link made) placed → AllByRecursion (IsUntouched timers) placed → Starts link steps made placed begun first
+    → RunsLines link steps wire titles first script journal last → KeepsSilence (frozen_for timers) (begun ++ journal)

@@ -1,6 +1,6 @@
 //! What a receiver of a connection may see, over any carrier of units (X.214, model of the transport service).
 
-ghost use Rattle.tp4_headline.specs.Headline.{ReceivesWhatWasSubmitted};
+ghost use Rattle.tp4_headline.specs.Headline.{ReceivesWhatWasSubmitted, StaysSilent};
 ghost use Rattle.tp4_headline.specs.Numbers.{AreRead};
 ghost use Rattle.tp4_headline.specs.References.{AreCarried, IsNotBefore, IsOfPartner, OnRuns};
 ghost use Rattle.tp4_number.specs.Number.{whole, wire};
@@ -8,12 +8,19 @@ ghost use Rattle.tp4_number.specs.Number.{whole, wire};
 use nsap::Nsap;
 use osi_base::Carrier;
 
+/// A system whose transport entity began again tells nothing of the ends that it had, and makes none for as long as references are frozen;
+/// whatever comes to it, also octets that nobody sent.
+pub fn silent<C: Carrier<Addr = Nsap>>()
+    ensures { StaysSilent C.link C.steps }
+{}
+
 /// Whatever a carrier loses, repeats, delays and reorders: what an end shows of a connection is a front of what its one partner was
 /// asked to send, in order, of normal units and of expedited ones; and no normal unit comes before an expedited one that was submitted
-/// before it.
+/// before it. Of an end that a system lost as it began again nothing more is told.
 pub fn lawful<C: Carrier<Addr = Nsap>>()
     ensures { ReceivesWhatWasSubmitted C.link C.steps }
 {
+    silent::<C>();
     tp4_world::whole_run::<C>();
     tp4_history::journals_are_lawful();
     tp4_moves::times();

@@ -3,4 +3,4 @@
 
 mod laws;
 
-pub use laws::{lawful, numbers, references};
+pub use laws::{lawful, numbers, references, silent};

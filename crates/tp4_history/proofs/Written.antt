@@ -3,7 +3,7 @@
 use Rattle.std.proofs.Common.{◌≡◌, ◌≢◌, ◌⊎◌, inl, inr, ℕ, ◌+◌, ◌-◌, true, false, List, [], ◌∷◌, ◌++◌, refl, sym, ◌∙◌, ap, subst, arith, append-nil, append_assoc, length-append}
 use Rattle.std.proofs.Math.ListN.{get_or-append}
 use Rattle.std.proofs.lemmas.Bool.{cases_eq, cases_Bool}
-use Rattle.osi_journal.specs.Lawful.{Marked, submitted, shown, AreEnds, IsQueue, IsLawful, Lawful}
+use Rattle.osi_journal.specs.Lawful.{Marked, submitted, shown, AreEnds, IsQueue, AllQueues, AreQueues}
 use Rattle.osi_journal.specs.declared.event.Event.{Event}
 use Rattle.osi_journal.specs.declared.event.Event.TheVariants as events
 use Rattle.osi_journal.specs.declared.event.Indication.{Indication}
@@ -73,7 +73,7 @@ module _ (times : Times) (titles : List (List ℕ)) (h : History) (s : Sound tim
     (queue : (x y : ℕ) → IsPartner h x y → IsQueue (submitted (x + 1) journal) (shown (y + 1) journal))
     (alone : (y : ℕ) → ((x : ℕ) → IsPartner h x y → ⊥) → shown (y + 1) journal ≡ [])
     (zero : shown 0 journal ≡ []) where
-  lawful_by : IsLawful titles journal
+  lawful_by : AreQueues titles journal
   lawful_by = record {
     one = one_incoming times titles h s ends journal f;
     some = has_partner times titles h s ends journal f;
@@ -104,7 +104,7 @@ module _ (times : Times) (fit : IsFit times) (titles : List (List ℕ)) (w : Who
         cc (begun, not_begun, ap (λ (j : ℕ). (w.track j).is_begun) same))))
   ]
 
-  pub kept_lawful : IsLawful titles journal
+  pub kept_lawful : AreQueues titles journal
   kept_lawful = lawful_by times titles w.base k.sound k.listed journal k.placed queue_at (λ y no_one. k.telling.alone y (λ x p _. no_one x p)) k.zero
 
 -- the units that a step tells
@@ -254,20 +254,20 @@ module _ (times : Times) (fit : IsFit times) (titles : List (List ℕ)) (w : Who
           (subst (IsQueue (submitted (x + 1) before)) (sym (same_shown (y + 1) before part none_yet)) (queue_before x y p))))
     ]
 
-    part_lawful : (part ≡ [] → made ≡ []) → IsLawful titles (before ++ part)
+    part_lawful : (part ≡ [] → made ≡ []) → AreQueues titles (before ++ part)
     part_lawful some = lawful_by times titles (next times w.base m.step) new_sound new_listed (before ++ part) (placed_part times fit titles w before k m made part rest f is some) queue_part
         (λ y no_one. shown_front (y + 1) (before ++ part) rest (ap (shown (y + 1)) whole ∙ kept_next.telling.alone y (λ x p _. no_one x p)))
         (told_zero part rest is)
 
-  pub lawful_next : Lawful titles before → Lawful titles (before ++ made)
+  pub lawful_next : AllQueues titles before → AllQueues titles (before ++ made)
   lawful_next old front back is = elim (front_cases before made front back is) [
     | inl within ↦ old front within.0 within.1
     | inr past ↦ by past.0 past.1 past.2
   ]
     where
-      by : (part : List Event) → front ≡ before ++ part → made ≡ part ++ back → IsLawful titles front
+      by : (part : List Event) → front ≡ before ++ part → made ≡ part ++ back → AreQueues titles front
       by [] at all = old front [] (sym (append-nil before) ∙ sym at ∙ sym (append-nil front))
-      by (event ∷ part) at all = subst (IsLawful titles) (sym at) (part_lawful (event ∷ part) back all (λ none. absurd (cc none)))
+      by (event ∷ part) at all = subst (AreQueues titles) (sym at) (part_lawful (event ∷ part) back all (λ none. absurd (cc none)))
 
 kept_start : (times : Times) (titles : List (List ℕ)) (w : Whole) → IsNothing w → Kept times titles w []
 kept_start times titles w is = record {
@@ -292,22 +292,22 @@ kept_start times titles w is = record {
 }
 
 writes_on : (times : Times) (fit : IsFit times) (titles : List (List ℕ)) (old w : Whole) (before after : List Event) (sayings : List Saying) → Writes times titles old before sayings w after
-    → Kept times titles old before → Lawful titles before → Kept times titles w after × Lawful titles after
-writes_on times fit titles old w before after [] l k lawful = (subst (λ (x : Whole). Kept times titles x after) (sym l.0) (subst (Kept times titles old) (sym l.1) k), subst (Lawful titles) (sym l.1) lawful)
+    → Kept times titles old before → AllQueues titles before → Kept times titles w after × AllQueues titles after
+writes_on times fit titles old w before after [] l k lawful = (subst (λ (x : Whole). Kept times titles x after) (sym l.0) (subst (Kept times titles old) (sym l.1) k), subst (AllQueues titles) (sym l.1) lawful)
 writes_on times fit titles old w before after (m ∷ ms) l k lawful =
     writes_on times fit titles (onward times old m.moment) w (before ++ m.made) after ms l.1 (kept_next times fit titles old before k m.moment m.made l.0) (lawful_next times fit titles old before k m.moment m.made l.0 lawful)
 
-start_lawful : (times : Times) (fit : IsFit times) (titles : List (List ℕ)) (w : Whole) → IsNothing w → Lawful titles []
-start_lawful times fit titles w is front back at = subst (IsLawful titles) (sym (nil_left front back (sym at))) (kept_lawful times fit titles w [] (kept_start times titles w is))
+start_lawful : (times : Times) (fit : IsFit times) (titles : List (List ℕ)) (w : Whole) → IsNothing w → AllQueues titles []
+start_lawful times fit titles w is front back at = subst (AreQueues titles) (sym (nil_left front back (sym at))) (kept_lawful times fit titles w [] (kept_start times titles w is))
 
-written : (times : Times) (titles : List (List ℕ)) (w : Whole) (journal : List Event) → IsFit times → Written times titles w journal → Kept times titles w journal × Lawful titles journal
+written : (times : Times) (titles : List (List ℕ)) (w : Whole) (journal : List Event) → IsFit times → Written times titles w journal → Kept times titles w journal × AllQueues titles journal
 written times titles w journal fit r = writes_on times fit titles r.0 w [] journal r.2 r.3 (kept_start times titles r.0 r.1) (start_lawful times fit titles r.0 r.1)
 
 -- what a history that wrote its journal keeps
 pub written_kept : (times : Times) (titles : List (List ℕ)) (w : Whole) (journal : List Event) → IsFit times → Written times titles w journal → Kept times titles w journal
 written_kept times titles w journal fit r = (written times titles w journal fit r).0
 
-pub written_lawful : (times : Times) (titles : List (List ℕ)) (w : Whole) (journal : List Event) → IsFit times → Written times titles w journal → Lawful titles journal
+pub written_lawful : (times : Times) (titles : List (List ℕ)) (w : Whole) (journal : List Event) → IsFit times → Written times titles w journal → AllQueues titles journal
 written_lawful times titles w journal fit r = (written times titles w journal fit r).1
 
 writes_more : (times : Times) (titles : List (List ℕ)) (old w : Whole) (before after : List Event) (sayings : List Saying) (m : Moment) (made : List Event) → Writes times titles old before sayings w after

@@ -1,7 +1,7 @@
 //! Laws of histories and of their journals, whatever is lost, repeated, delayed or reordered.
 
 ghost use Rattle.std.specs.Prelude.{◌<◌, ◌++◌, ℕ, List, []};
-ghost use Rattle.osi_journal.specs.Lawful.{Marked, IsQueue, Lawful};
+ghost use Rattle.osi_journal.specs.Lawful.{AllQueues, Marked, IsQueue};
 ghost use Rattle.osi_journal.specs.declared.event.Event.{Event};
 ghost use Rattle.tp4_number.specs.Traffic.{Rules, IsFit as IsLong};
 ghost use Rattle.tp4_history.specs.Ends.{Times, IsFit};
@@ -51,9 +51,9 @@ pub fn journal()
     ensures { (times : Times) (w : Whole) (journal : List Event) → IsFit times → Spoken times w journal → TellsTrue w journal }
 {}
 
-/// The journal that a history writes is lawful. It is written from nothing on, one step after another.
+/// In the journal that a history writes each connection is two queues. It is written from nothing on, one step after another.
 pub fn journals_are_lawful()
-    ensures lawful { (times : Times) (titles : List (List ℕ)) (w : Whole) (journal : List Event) → IsFit times → Written times titles w journal → Lawful titles journal }
+    ensures lawful { (times : Times) (titles : List (List ℕ)) (w : Whole) (journal : List Event) → IsFit times → Written times titles w journal → AllQueues titles journal }
     ensures begins { (times : Times) (titles : List (List ℕ)) (w : Whole) → IsNothing w → Written times titles w [] }
     ensures more { (times : Times) (titles : List (List ℕ)) (w : Whole) (journal : List Event) (m : Moment) (made : List Event) → Written times titles w journal
         → MayFollow times titles w m made → Written times titles (onward times w m) (journal ++ made) }

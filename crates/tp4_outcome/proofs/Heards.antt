@@ -1,5 +1,5 @@
 -- A unit TPDU by TPDU: the formats are those from before it, since what makes an end agree on one reaches to the end of the unit.
-use Rattle.std.proofs.Common.{◌≡◌, ℕ, Bool, true, false, List, [], ◌∷◌, length, refl, sym, ap, subst, arith}
+use Rattle.std.proofs.Common.{◌≡◌, ◌∙◌, ℕ, zero, suc, replicate, Option, Some, None, Bool, true, false, List, [], ◌∷◌, length, refl, sym, ap, subst, arith}
 use Rattle.carrier_answers.specs.Answers.{AreOctets}
 use Rattle.tpdu.specs.Grammar.{BeginsWithTpdu}
 use Rattle.tpdu.specs.Values.{TpduAndSum, reaches_end}
@@ -9,7 +9,11 @@ use Rattle.tp4_conn.specs.Proper.{AreSendable}
 use Rattle.tp4_conn.proofs.Sendables.{appended as sendable_both}
 use Rattle.tp4_entity.specs.Association.{met}
 use Rattle.tp4_entity.specs.Entity.{Acted, Entity, at}
-use Rattle.tp4_entity.specs.Unit.{HearsUnit, Separates, all_met, extended_of, followed}
+use Rattle.tp4_conn.specs.End.{End}
+use Rattle.tp4_entity.specs.References.{is_silent}
+use Rattle.tp4_entity.specs.Step.{restarted}
+use Rattle.tp4_entity.specs.Unit.{HearsUnit, Separates, TakesBy, TakesUnit, all_met, extended_of, followed}
+use Rattle.tp4_entity.proofs.Restarts.{none_stands}
 use Rattle.tp4_entity.proofs.Units.{met_keeps, shorter}
 use Rattle.tp4_outcome.specs.Octets.{AreAddressed, EntityInOctets, StepInOctets}
 use Rattle.tp4_outcome.specs.Rest.{IsAtRest, IsProperStep}
@@ -55,6 +59,13 @@ heard_rests wrap now e from octets acted r h =
       tpdus = subst AreSendable (sym h.tpdus_are) all.tpdus;
     }
 
+pub taken_rests : (wrap : ℕ → ℕ → ℕ) (now : ℕ) (e : Entity) (from octets : List ℕ) (acted : Acted) → IsAtRest now e → TakesUnit wrap now e from octets acted → IsProperStep now acted
+taken_rests wrap now e from octets acted r t = by (is_silent now e) t
+  where
+    by : (b : Bool) → TakesBy b wrap now e from octets acted → IsProperStep now acted
+    by true h = subst (λ (x : Acted). IsProperStep now x) (sym h) (record { rest = clocked now now e r; tpdus = tt })
+    by false h = heard_rests wrap now e from octets acted r h
+
 module _ (is_address : List ℕ → Bool) where
   none_in : (e : Entity) → EntityInOctets is_address e → StepInOctets is_address (record { entity = e; events = []; tpdus = [] })
   none_in e i = record { entity = i; tpdus = tt }
@@ -84,3 +95,22 @@ module _ (is_address : List ℕ → Bool) where
         entity = subst (λ (x : Entity). EntityInOctets is_address x) (sym u.entity) all.entity;
         tpdus = subst (λ (l : List Sent). AreAddressed is_address l) (sym u.tpdus_are) all.tpdus;
       }
+
+  pub taken_in : (wrap : ℕ → ℕ → ℕ) (now : ℕ) (e : Entity) (from octets : List ℕ) (acted : Acted) → is_address from ≡ true → AreOctets octets → IsAtRest now e → EntityInOctets is_address e
+      → TakesUnit wrap now e from octets acted → StepInOctets is_address acted
+  taken_in wrap now e from octets acted address h r i t = by (is_silent now e) t
+    where
+      by : (b : Bool) → TakesBy b wrap now e from octets acted → StepInOctets is_address acted
+      by true is = subst (λ (x : Acted). StepInOctets is_address x) (sym is) (record { entity = clocked_in is_address now e i; tpdus = tt })
+      by false heard = heard_in wrap now e from octets acted address h r i heard
+
+  long_none : (count : ℕ) → length (replicate {A = Option End} count None) ≡ count
+  long_none zero = refl
+  long_none (suc count) = ap suc (long_none count)
+
+  pub restarting_in : (now : ℕ) (e : Entity) → EntityInOctets is_address e → EntityInOctets is_address (restarted now e)
+  restarting_in now e i = record {
+    own = i.own;
+    few = let long = long_none (length e.ends) in let few = i.few in omega (arith, long, few);
+    ends = λ reference end h. let gone : None ≡ Some end = sym (none_stands now reference e) ∙ h in absurd (cc gone);
+  }

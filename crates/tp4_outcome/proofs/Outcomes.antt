@@ -1,12 +1,13 @@
 -- Octets begin with a TPDU or have a fault, and what stands behind a TPDU is shorter.
-use Rattle.std.proofs.Common.{inl, inr, ℕ, zero, suc, ◌≤◌, List, [], ◌∷◌, ◌++◌, length, refl, arith}
+use Rattle.std.proofs.Common.{Bool, true, false, inl, inr, ℕ, zero, suc, ◌≤◌, List, [], ◌∷◌, ◌++◌, length, refl, arith}
 use Rattle.tpdu.specs.Grammar.{BeginsWithTpdu}
 use Rattle.tpdu.specs.Values.{TpduAndSum}
 use Rattle.tpdu.proofs.Fronts.{front_or}
 use Rattle.tp4_flow.specs.declared.step.EndEvent.{EndEvent}
 use Rattle.tp4_flow.specs.declared.step.What.TheVariants.{BadTpdu}
 use Rattle.tp4_entity.specs.Entity.{Acted, Entity, at}
-use Rattle.tp4_entity.specs.Unit.{EndsWith, Faulty, HearsUnit, Separates, Whole, all_met, extended_of}
+use Rattle.tp4_entity.specs.References.{is_silent}
+use Rattle.tp4_entity.specs.Unit.{EndsWith, Faulty, HearsUnit, Separates, TakesBy, TakesUnit, Whole, all_met, extended_of, ignored}
 use Rattle.tp4_entity.proofs.Units.{shorter}
 
 record Read (extended octets : List ℕ) : Type 0 where
@@ -42,3 +43,10 @@ some_outcome wrap now entity from octets =
       record { entity = all.entity; events = all.events ++ r.told; tpdus = all.tpdus },
       record { tpdus = r.tpdus; rest = r.rest; told = r.told; separates = r.separates; ends = r.ends; entity = refl; events = refl; tpdus_are = refl },
     )
+
+pub some_taking : (wrap : ℕ → ℕ → ℕ) (now : ℕ) (entity : Entity) (from octets : List ℕ) → (acted : Acted) × TakesUnit wrap now entity from octets acted
+some_taking wrap now entity from octets = by (is_silent now entity)
+  where
+    by : (b : Bool) → (acted : Acted) × TakesBy b wrap now entity from octets acted
+    by true = (ignored now entity, refl)
+    by false = some_outcome wrap now entity from octets

@@ -17,8 +17,8 @@ ghost use Rattle.tp4_conn.specs.declared.call.UserCall.{UserCall};
 ghost use Rattle.tp4_entity.specs.Association.{met};
 ghost use Rattle.tp4_entity.specs.Entity.{Acted, Entity, at, end_at};
 ghost use Rattle.tp4_entity.specs.References.{least_free};
-ghost use Rattle.tp4_entity.specs.Step.{call_of, calling, connecting, dues, first_due, is_due, ticking, user_refusal};
-ghost use Rattle.tp4_entity.specs.Unit.{EndsWith, HearsUnit, Separates, extended_of};
+ghost use Rattle.tp4_entity.specs.Step.{call_of, calling, connecting, dues, first_due, is_due, restarted, ticking, user_refusal};
+ghost use Rattle.tp4_entity.specs.Unit.{EndsWith, Separates, TakesUnit, extended_of};
 ghost use Rattle.tp4_outcome.specs.Octets.{CallInOctets, ConnectInOctets, EntityInOctets, HasOctets, StepInOctets};
 ghost use Rattle.tp4_outcome.specs.Rest.{AreInTime, AreProper, IsAtRest, IsProperStep, IsProperTick};
 ghost use Rattle.tp4_outcome.specs.Units.{IsOneOrBad};
@@ -27,13 +27,14 @@ ghost use Rattle.tp4_outcome.specs.Units.{IsOneOrBad};
 /// at rest afterwards, and all that it sends has octets.
 pub fn rests()
     ensures new { (now references : ℕ) (e : Entity) → e.ends ≡ replicate references None → IsTimed e.timers → 1 ≤ e.timers.inactive → IsAtRest now e }
+    ensures restarting { (now : ℕ) (e : Entity) → IsTimed e.timers → 1 ≤ e.timers.inactive → IsAtRest now (restarted now e) }
     ensures connecting { (now reference : ℕ) (e : Entity) (call : ConnectCall) → IsAtRest now e → least_free now e ≡ Some reference
         → IsProperCall (call_of e reference call) → IsProperStep now (connecting now e reference call) }
     ensures calling { (wrap : ℕ → ℕ → ℕ) (now reference : ℕ) (e : Entity) (call : UserCall) → IsAtRest now e → user_refusal e reference call ≡ None → IsCall call
         → IsProperStep now (calling wrap now e reference call) }
     ensures met { (wrap : ℕ → ℕ → ℕ) (now : ℕ) (e : Entity) (from : List ℕ) (tpdu : TpduAndSum) → IsAtRest now e
         → IsAllowed (format_for (extended_of e) (destination_of tpdu.0)) tpdu.0 → IsProperStep now (met wrap now e from tpdu) }
-    ensures heard { (wrap : ℕ → ℕ → ℕ) (now : ℕ) (e : Entity) (from octets : List ℕ) (acted : Acted) → IsAtRest now e → HearsUnit wrap now e from octets acted
+    ensures heard { (wrap : ℕ → ℕ → ℕ) (now : ℕ) (e : Entity) (from octets : List ℕ) (acted : Acted) → IsAtRest now e → TakesUnit wrap now e from octets acted
         → IsProperStep now acted }
 {}
 
@@ -59,7 +60,7 @@ pub fn one_in_unit()
 
 /// Each unit has an outcome.
 pub fn some_hearing()
-    ensures { (wrap : ℕ → ℕ → ℕ) (now : ℕ) (entity : Entity) (from octets : List ℕ) → (acted : Acted) × HearsUnit wrap now entity from octets acted }
+    ensures { (wrap : ℕ → ℕ → ℕ) (now : ℕ) (entity : Entity) (from octets : List ℕ) → (acted : Acted) × TakesUnit wrap now entity from octets acted }
 {}
 
 /// What a format allows can be written, in octets where its fields are; and what is read from octets has such fields.
@@ -80,6 +81,7 @@ pub fn stays_in_octets()
     ensures met { (is_address : List ℕ → Bool) (wrap : ℕ → ℕ → ℕ) (now : ℕ) (e : Entity) (from : List ℕ) (tpdu : TpduAndSum) → EntityInOctets is_address e → AreProper e
         → is_address from ≡ true → HasOctets tpdu.0 → StepInOctets is_address (met wrap now e from tpdu) }
     ensures heard { (is_address : List ℕ → Bool) (wrap : ℕ → ℕ → ℕ) (now : ℕ) (e : Entity) (from octets : List ℕ) (acted : Acted) → is_address from ≡ true → AreOctets octets
-        → IsAtRest now e → EntityInOctets is_address e → HearsUnit wrap now e from octets acted → StepInOctets is_address acted }
+        → IsAtRest now e → EntityInOctets is_address e → TakesUnit wrap now e from octets acted → StepInOctets is_address acted }
+    ensures restarting { (is_address : List ℕ → Bool) (now : ℕ) (e : Entity) → EntityInOctets is_address e → EntityInOctets is_address (restarted now e) }
     ensures ticking { (is_address : List ℕ → Bool) (wrap : ℕ → ℕ → ℕ) (now : ℕ) (e : Entity) → EntityInOctets is_address e → StepInOctets is_address (ticking wrap now e) }
 {}

@@ -1,5 +1,5 @@
 -- What users ask: a refusal alone, or what the entity does.
-use Rattle.std.proofs.Common.{◌≡◌, ℕ, ◌+◌, Bool, true, false, List, [], ◌∷◌, ◌++◌, length, slice_get, Option, Some, None, refl, sym, ◌∙◌, ap, subst}
+use Rattle.std.proofs.Common.{◌≡◌, ℕ, ◌+◌, Bool, true, false, List, [], ◌∷◌, ◌++◌, length, slice_get, slice_set, Option, Some, None, refl, sym, ◌∙◌, ap, subst}
 use Rattle.std.specs.Prelude.{◌≢◌}
 use Rattle.std.specs.List.{position}
 use Rattle.osi_base.specs.Link.{Link}
@@ -19,13 +19,13 @@ use Rattle.tp4_entity.specs.declared.refusal.ConnectRefusal.TheVariants as conne
 use Rattle.tp4_entity.specs.declared.refusal.EntityRefusal.TheVariants as entities
 use Rattle.tp4_entity.specs.Entity.{Entity}
 use Rattle.tp4_entity.specs.References.{least_free}
-use Rattle.tp4_entity.specs.Step.{DoesSo, calling, connect_refusal, connecting, user_refusal}
+use Rattle.tp4_entity.specs.Step.{DoesSo, calling, connect_refusal, connecting, restarted, user_refusal}
 use Rattle.tp4_world.proofs.Acting.{acts, nothing, own_of}
-use Rattle.tp4_world.proofs.Entities.{entity_there}
+use Rattle.tp4_world.proofs.Entities.{changed_there, entity_there}
 use Rattle.tp4_world.proofs.Places.{first_is_some, some_same}
 use Rattle.tp4_world.specs.Run.{Acts, BeginsAt, Calls, CallsAt, CallsBy, CallsEnd, Connects, ConnectsBy, IsRefused, clock_of, has_ended}
 use Rattle.tp4_world.specs.Telling.{call_events, connect_event, told_connect, told_refusal}
-use Rattle.tp4_world.specs.World.{World, end_numbered, entity_at, is_of}
+use Rattle.tp4_world.specs.World.{World, end_numbered, entity_at, is_of, with_entity}
 use Rattle.tp4_world.specs.declared.place.EndAt.{EndAt}
 use Rattle.tp4_world.specs.declared.place.Placed.{Placed}
 use Rattle.tp4_world.specs.steps.Parts.{ChangesAt, Follows, Tells, world_of}
@@ -37,7 +37,24 @@ connect_memory why cause is e = let h : None ≡ Some cause = subst (λ (w : Con
 pub call_memory : (why : EntityRefusal) (cause : Refused) → told_refusal why ≡ Some cause → why ≢ entities.Call calls.NoMemory
 call_memory why cause is e = let h : None ≡ Some cause = subst (λ (w : EntityRefusal). told_refusal w ≡ Some cause) e is in cc
 
+-- the entity at the place of a system begins again
+pub restarts_there : (placed changed : List Placed) (system place now : ℕ) → position (is_of system) placed ≡ Some place → ChangesAt place placed changed (λ before after. after ≡ restarted now before)
+    → (entity : Entity) × (entity_at placed system ≡ Some entity) × (changed ≡ with_entity placed system (restarted now entity))
+restarts_there placed changed system place now found change =
+    let one = change.one in (
+      one.entity,
+      entity_there placed system place one found change.at,
+      change.becomes ∙ ap (λ (e : Entity). slice_set placed place (record one { entity = e })) change.does ∙ sym (changed_there placed system place one (restarted now one.entity) found change.at),
+    )
+
 module _ {C : Type 0} (link : C → Link (List ℕ)) (steps : C → Call (List ℕ) → C → Type 0) where
+  -- the network of an entity that begins again
+  pub restarted_world : (carrier : C) (placed changed : List Placed) (ends after : List EndAt) (system now : ℕ) (entity : Entity) → (link carrier).clock ≡ now
+      → changed ≡ with_entity placed system (restarted now entity) → after ≡ ends
+      → world_of carrier changed after ≡ record (world_of carrier placed ends) { entities = with_entity placed system (restarted (link carrier).clock entity) }
+  restarted_world carrier placed changed ends after system now entity clock is same =
+      λ i. record { carrier = carrier; entities = (is ∙ ap (λ (n : ℕ). with_entity placed system (restarted n entity)) (sym clock)) i; ends = same i }
+
   refused_as : (old new : World C) (why : Option Refused) (cause : Refused) (made : List Event) → why ≡ Some cause → made ≡ events.No cause ∷ [] → new ≡ old → IsRefused link steps old why made new
   refused_as old new why cause made is told same = subst (λ (w : Option Refused). IsRefused link steps old w made new) (sym is) (told, same)
 

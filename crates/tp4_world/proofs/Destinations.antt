@@ -1,6 +1,6 @@
 -- Where the TPDUs of an entity go: each goes to the address of the partner of an end, or back to where the unit came from that it answers.
 -- So where the addresses of all partners are of some kind, and units are taken from such addresses alone, all TPDUs go to such addresses.
-use Rattle.std.proofs.Common.{◌≡◌, ℕ, zero, suc, ◌-◌, true, false, not, ◌==◌, List, [], ◌∷◌, slice_get, slice_set, Option, Some, None, refl, sym, ◌∙◌, ap, subst}
+use Rattle.std.proofs.Common.{◌≡◌, ℕ, zero, suc, ◌-◌, Bool, true, false, not, ◌==◌, List, [], ◌∷◌, slice_get, slice_set, Option, Some, None, refl, sym, ◌∙◌, ap, subst}
 use Rattle.std.specs.List.{AllByRecursion, list_any}
 use Rattle.tpdu.specs.Values.{TpduAndSum}
 use Rattle.tpdu.specs.declared.tpdu.Tpdu.{Tpdu}
@@ -14,9 +14,9 @@ use Rattle.tp4_conn.specs.Matching.{is_match}
 use Rattle.tp4_conn.specs.Table.{Called, Ticked, Took, due, stepped}
 use Rattle.tp4_entity.specs.Association.{answer, is_called, is_registered, met, met_at, met_by, new_end, requested, stateless, unmatched}
 use Rattle.tp4_entity.specs.Entity.{Acted, Entity, at, end_at, moved, there, with_end}
-use Rattle.tp4_entity.specs.References.{least_free}
+use Rattle.tp4_entity.specs.References.{least_free, is_silent}
 use Rattle.tp4_entity.specs.Step.{call_of, calling, calling_end, connecting, first_due, kept_end, ticking, ticking_at, ticking_end}
-use Rattle.tp4_entity.specs.Unit.{HearsUnit, all_met}
+use Rattle.tp4_entity.specs.Unit.{HearsUnit, all_met, TakesBy, TakesUnit}
 use Rattle.tp4_world.proofs.Addressees.{AllTo, MovesTo, PointsTo, all_append, either, row_to}
 
 module _ (Fine : List ℕ → Type 0) where
@@ -182,3 +182,10 @@ module _ (Fine : List ℕ → Type 0) where
           ends = subst (λ (x : Entity). EndsFine x.ends) (sym h.entity) did.ends;
           tpdus = subst SentFine (sym h.tpdus_are) did.tpdus;
         }
+
+    pub taking_fine : (wrap : ℕ → ℕ → ℕ) (now : ℕ) (e : Entity) (octets : List ℕ) (acted : Acted) → EndsFine e.ends → TakesUnit wrap now e from octets acted → ActsFine e.own acted
+    taking_fine wrap now e octets acted all t = by (is_silent now e) t
+      where
+        by : (silent : Bool) → TakesBy silent wrap now e from octets acted → ActsFine e.own acted
+        by true is = subst (ActsFine e.own) (sym is) (record { own_is = refl; ends = all; tpdus = tt })
+        by false heard = hearing_fine wrap now e octets acted all heard

@@ -70,6 +70,10 @@ entity_some placed system = by_place (position (is_of system) placed) refl
         let there = first_is_some (is_of system) placed place is in
         sym (ap is_some (entity_there placed system place there.0 is there.1))
 
+-- a system that has an entity has a place
+pub listed_place : (placed : List Placed) (system : ℕ) → is_some (entity_at placed system) ≡ true → position (is_of system) placed ≡ None → ⊥
+listed_place placed system listed none = let gone : false ≡ true = ap is_some (sym (no_entity placed system none)) ∙ listed in cc
+
 pub system_read : (placed read : List Placed) (place : ℕ) (o : Option Placed) → read ≡ placed → o ≡ slice_get read place → option_map (λ (one : Placed). one.system) o ≡ slice_get (systems_of placed) place
 system_read placed read place o same is =
     ap (option_map (λ (one : Placed). one.system)) (is ∙ ap (λ (ps : List Placed). slice_get ps place) same) ∙ sym (system_there placed place)

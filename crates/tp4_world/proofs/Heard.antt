@@ -18,7 +18,7 @@ use Rattle.net_world.specs.Told.{told, up_events}
 use Rattle.tp4_flow.specs.Told.{Told}
 use Rattle.tp4_entity.specs.Entity.{Entity, Acted}
 use Rattle.tp4_entity.specs.Step.{DoesSo}
-use Rattle.tp4_entity.specs.Unit.{HearsUnit}
+use Rattle.tp4_entity.specs.Unit.{TakesUnit}
 use Rattle.tp4_world.proofs.Acting.{acts, nothing, own_of}
 use Rattle.tp4_world.proofs.Entities.{entity_there}
 use Rattle.tp4_world.specs.Run.{Arrives, Hears, HearsAll, HearsIf, is_for}
@@ -117,7 +117,7 @@ module _ {C : Type 0} (link : C → Link (List ℕ)) (steps : C → Call (List �
   pub hears_there : (carrier new : C) (placed changed : List Placed) (ends after : List EndAt) (arrival : Arrival (List ℕ)) (place now : ℕ) (own : List ℕ) (was told : Told) (before behind : List Event)
       → position (is_of arrival.system) placed ≡ Some place → ((one : Placed) → slice_get placed place ≡ Some one → Some own ≡ Some one.entity.own)
       → (selector_of arrival.unit.to == 1 && pointwise nat_eq own arrival.unit.to) ≡ true → (link carrier).clock ≡ now → was ≡ nothing
-      → ChangesAt place placed changed (λ entity next. (acted : Acted) × HearsUnit wrap now entity arrival.unit.from arrival.unit.octets acted × DoesSo acted next was told)
+      → ChangesAt place placed changed (λ entity next. (acted : Acted) × TakesUnit wrap now entity arrival.unit.from arrival.unit.octets acted × DoesSo acted next was told)
       → Tells before behind (λ made. Follows link steps carrier ends arrival.system own told made new after)
       → Tells before behind (λ made. Hears link steps wrap (world_of carrier placed ends) arrival made (world_of new changed after))
   hears_there carrier new placed changed ends after arrival place now own was told before behind found owns fits clock start change tells =
@@ -130,7 +130,7 @@ module _ {C : Type 0} (link : C → Link (List ℕ)) (steps : C → Call (List �
         are = hears_entity (world_of carrier placed ends) (world_of new changed after) arrival one.entity tells.made (entity_there placed arrival.system place one found change.at)
             (ap (λ (o : List ℕ). selector_of arrival.unit.to == 1 && pointwise nat_eq o arrival.unit.to) (sym is) ∙ fits) (
               does.0,
-              subst (λ (n : ℕ). HearsUnit wrap n one.entity arrival.unit.from arrival.unit.octets does.0) (sym clock) does.1,
+              subst (λ (n : ℕ). TakesUnit wrap n one.entity arrival.unit.from arrival.unit.octets does.0) (sym clock) does.1,
               acts link steps carrier new placed changed ends after arrival.system place own does.0 one change.after was told tells.made found change.at change.becomes is start does.2 tells.are,
             );
       }

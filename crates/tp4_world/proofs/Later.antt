@@ -1,6 +1,6 @@
 -- When the ends of each entity are due, as one entity changes: what holds of those that are found by their systems holds again. The
 -- systems may repeat; then the entity of a system is the first, and it alone is called.
-use Rattle.std.proofs.Common.{◌≡◌, ◌==◌, nat_lt, ℕ, zero, suc, ◌+◌, ◌<◌, ◌≤◌, ◌⊎◌, Bool, true, false, cond, List, [], ◌∷◌, length, slice_get, option_map, Option, Some, None, inl, inr, refl, sym, ◌∙◌, ap, subst, arith}
+use Rattle.std.proofs.Common.{◌≡◌, nat_lt, ℕ, zero, suc, ◌+◌, ◌<◌, ◌≤◌, ◌⊎◌, Bool, true, false, cond, List, [], ◌∷◌, length, slice_get, option_map, Some, inl, inr, refl, sym, ◌∙◌, ap, subst, arith}
 use Rattle.std.specs.List.{AllByRecursion, find, position}
 use Rattle.std.proofs.lemmas.Bool.{eqb-true, ltb-false, ltb-true}
 use Rattle.tp4_entity.specs.Dues.{AreFrom, AreLater}
@@ -56,6 +56,14 @@ kept_changed now placed changed system place found change other later entity the
 pub later_changed : (now : ℕ) (placed changed : List Placed) (system place : ℕ) → position (is_of system) placed ≡ Some place → AreLaterAll now placed
     → ChangesAt place placed changed (λ before after. AreLater now before.ends → AreLater now after.ends) → AreLaterAll now changed
 later_changed now placed changed system place found later change other = kept_changed now placed changed system place found change other (later other)
+
+pub rested_all : (now : ℕ) (placed changed : List Placed) (system place : ℕ) → position (is_of system) placed ≡ Some place → AreLaterAll now placed
+    → ChangesAt place placed changed (λ before after. AreLater now after.ends) → AreLaterAll now changed
+rested_all now placed changed system place found later change other entity there =
+    elim (changed_any placed changed system place other _ entity found change there) [
+      | inl here ↦ subst (λ (e : Entity). AreLater now e.ends) (sym here.1) change.does
+      | inr kept ↦ later other entity kept
+    ]
 
 pub from_changed : (now : ℕ) (placed changed : List Placed) (system place : ℕ) → position (is_of system) placed ≡ Some place → AreFromAll now placed
     → ChangesAt place placed changed (λ before after. AreFrom now after.ends) → AreFromAll now changed

@@ -21,9 +21,9 @@ use Rattle.tp4_entity.specs.declared.refusal.ConnectRefusal.{ConnectRefusal}
 use Rattle.tp4_entity.specs.declared.refusal.EntityRefusal.{EntityRefusal}
 use Rattle.tp4_entity.specs.Entity.{Acted, Entity}
 use Rattle.tp4_entity.specs.References.{least_free}
-use Rattle.tp4_entity.specs.Step.{calling, connect_refusal, connecting, ticking, user_refusal}
+use Rattle.tp4_entity.specs.Step.{calling, connect_refusal, connecting, ticking, user_refusal, restarted}
 use Rattle.tp4_entity.specs.Wire.{acted_on_wire, entity_on_wire}
-use Rattle.tp4_world.proofs.OnWire.{connect_refusal_on, ended_on, first_due_on, found_on, least_on, lower_there, user_refusal_on, with_on}
+use Rattle.tp4_world.proofs.OnWire.{connect_refusal_on, ended_on, first_due_on, found_on, least_on, lower_there, user_refusal_on, with_on, restarted_on}
 use Rattle.tp4_world.proofs.Whole.{OverWires}
 use Rattle.tp4_world.specs.Laws.{WireLine, placed_on_wire, world_on_wire}
 use Rattle.tp4_world.specs.Run.{Acts, Arrives, BeginsAt, Calls, CallsAt, CallsBy, CallsEnd, Connects, ConnectsBy, Hears, HearsAll, HearsIf, IsRefused, NoneDue, NoneLeft, OneDue, OneMore, RunsLine, Settles, Ticks, TicksAll, TicksEntity, TooMany, clock_of, has_ended, is_for}
@@ -206,6 +206,16 @@ module _ {C : Type 0} (link : C → Link (List ℕ)) (steps : C → Call (List �
   line_below titles old (lines.Deliver number system) made new a = (a.0, arrived_below old (Choose number system a.0) (picked_event number system a.0) made new a.1)
   line_below titles old lines.Settle made new a = settled_below 0 old made new a
   line_below titles old (lines.Inject lan system octets) made new a = (a.0, arrived_below old (Inject lan system octets a.0) (inject_event system a.0) made new a.1)
+  line_below titles old (lines.Restart system) made new a =
+      let clock = clock_of link steps old in (
+        entity_on_wire a.0,
+        lower_there old.entities system a.0 a.1,
+        a.2,
+        ap world_on_wire a.3
+            ∙ ap (λ (ps : List Placed). record (on old) { entities = ps }) (sym (with_on old.entities system (restarted clock a.0)))
+            ∙ ap (λ (x : Entity). record (on old) { entities = with_entity (map placed_on_wire old.entities) system x }) (sym (restarted_on clock a.0)),
+      )
+  line_below titles old (lines.Send system selector to called octets) made new a = absurd a
   line_below titles old (lines.Version version) made new a = absurd a
   line_below titles old (lines.Set key value) made new a = absurd a
   line_below titles old (lines.Lan name bound room) made new a = absurd a
@@ -215,6 +225,7 @@ module _ {C : Type 0} (link : C → Link (List ℕ)) (steps : C → Call (List �
   line_below titles old (lines.Route system prefix hop lan) made new a = absurd a
   line_below titles old (lines.Path name kind systems) made new a = absurd a
   line_below titles old (lines.Tsap system selector) made new a = absurd a
+  line_below titles old (lines.Relay system selector to called) made new a = absurd a
   line_below titles old lines.Start made new a = absurd a
 
 pub wire_line : {C : Type 0} (link : C → Link (List ℕ)) (steps : C → Call (List ℕ) → C → Type 0) → OverWires → WireLine link steps

@@ -1,5 +1,5 @@
 -- What an entity is asked is the same of its ends as they stand on the wire: which references are free, which end is due, what is refused.
-use Rattle.std.proofs.Common.{◌≡◌, ℕ, zero, suc, ◌+◌, ◌-◌, Bool, true, false, not, ◌&&◌, ◌||◌, ◌==◌, nat_lt, nat_le, cond, List, [], ◌∷◌, length, map, slice_get, option_map, Option, Some, None, refl, sym, ap, ◌∙◌, if◌then◌else◌}
+use Rattle.std.proofs.Common.{◌≡◌, ℕ, zero, suc, ◌+◌, ◌-◌, Bool, true, false, not, ◌&&◌, ◌||◌, ◌==◌, nat_lt, nat_le, cond, List, [], ◌∷◌, length, map, slice_get, option_map, Option, Some, None, refl, sym, ap, ◌∙◌, if◌then◌else◌, replicate}
 use Rattle.std.specs.Prelude.{is_none}
 use Rattle.std.specs.List.{find, position, position_or_len}
 use Rattle.tp4_conn.specs.declared.base.Base.{Base}
@@ -12,8 +12,8 @@ use Rattle.tp4_conn.specs.Table.{due}
 use Rattle.tp4_conn.specs.Wire.{end_on_wire, stage_on_wire}
 use Rattle.tp4_entity.specs.declared.refusal.ConnectRefusal.TheVariants as connects
 use Rattle.tp4_entity.specs.Entity.{Entity, end_at, there}
-use Rattle.tp4_entity.specs.References.{is_free, is_free_place, least_free, was_frozen}
-use Rattle.tp4_entity.specs.Step.{connect_refusal, end_refusal, first_due, is_due, is_due_by, refused_by, user_refusal}
+use Rattle.tp4_entity.specs.References.{is_free, is_free_place, least_free, was_frozen, is_silent}
+use Rattle.tp4_entity.specs.Step.{connect_refusal, end_refusal, first_due, is_due, is_due_by, refused_by, user_refusal, restarted}
 use Rattle.tp4_entity.specs.Unit.{extended_from, extended_of, listed_if}
 use Rattle.tp4_entity.specs.Wire.{entity_on_wire}
 use Rattle.tp4_world.proofs.Places.{some_same}
@@ -106,7 +106,8 @@ first_due_on now e = ap (option_map (λ place. place + 1)) (position_on (is_due 
 
 pub connect_refusal_on : (now : ℕ) (e : Entity) (octets : List ℕ) → connect_refusal now (entity_on_wire e) octets ≡ connect_refusal now e octets
 connect_refusal_on now e octets =
-    ap (λ (found : Option ℕ). if nat_lt 32 (length octets) then Some connects.TooLong else if is_none found then Some connects.RefsSpent else None) (least_on now e)
+    ap (λ (found : Option ℕ). if is_silent now e then Some connects.Silent else if nat_lt 32 (length octets) then Some connects.TooLong else if is_none found then Some connects.RefsSpent else None)
+    (least_on now e)
 
 end_refusal_on : (call : UserCall) (place : Option End) → end_refusal call (on place) ≡ end_refusal call place
 end_refusal_on call None = refl
@@ -119,10 +120,28 @@ is_free_on : (now : ℕ) (e : Entity) (reference : ℕ) → is_free now (entity_
 is_free_on now e reference =
     let free : is_free_place now (end_at (entity_on_wire e) reference) ≡ is_free_place now (end_at e reference) =
     ap (is_free_place now) (end_on e reference) ∙ free_on now (end_at e reference) in
-    λ i. not (reference == 0) && (nat_le reference (length_on e.ends i) && free i)
+    λ i. not (is_silent now e) && (not (reference == 0) && (nat_le reference (length_on e.ends i) && free i))
+
+none_same : (place : Option End) → is_none (on place) ≡ is_none place
+none_same None = refl
+none_same (Some end) = refl
+
+stands_on : (e : Entity) (reference : ℕ) → is_none (end_at (entity_on_wire e) reference) ≡ is_none (end_at e reference)
+stands_on e reference = ap is_none (end_on e reference) ∙ none_same (end_at e reference)
 
 pub ended_on : (now : ℕ) (ends : List EndAt) (number : ℕ) (end : EndAt) (e : Entity) → has_ended now ends number end (entity_on_wire e) ≡ has_ended now ends number end e
-ended_on now ends number end e = ap (λ (free : Bool). not (latest ends end.system end.reference == number) || free) (is_free_on now e end.reference)
+ended_on now ends number end e =
+    λ i. not (latest ends end.system end.reference == number) || (stands_on e end.reference i || is_free_on now e end.reference i)
+
+nothing_on : (count : ℕ) → map on (replicate count None) ≡ replicate count None
+nothing_on zero = refl
+nothing_on (suc count) = ap (λ (places : List (Option End)). None ∷ places) (nothing_on count)
+
+-- an entity that begins again has no numbers
+pub restarted_on : (now : ℕ) (e : Entity) → restarted now (entity_on_wire e) ≡ entity_on_wire (restarted now e)
+restarted_on now e =
+    ap (λ (places : List (Option End)). record e { clock = now; ends = places; restarted = Some now })
+    (ap (λ n. replicate n None) (length_on e.ends) ∙ sym (nothing_on (length e.ends)))
 
 -- ---- the entities of a network
 

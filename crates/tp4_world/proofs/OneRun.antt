@@ -21,8 +21,8 @@ use Rattle.tp4_entity.specs.declared.refusal.ConnectRefusal.{ConnectRefusal}
 use Rattle.tp4_entity.specs.declared.refusal.EntityRefusal.{EntityRefusal}
 use Rattle.tp4_entity.specs.Entity.{Entity, Acted}
 use Rattle.tp4_entity.specs.References.{least_free}
-use Rattle.tp4_entity.specs.Step.{calling, connect_refusal, first_due, ticking, user_refusal}
-use Rattle.tp4_entity.specs.Unit.{HearsUnit}
+use Rattle.tp4_entity.specs.Step.{calling, connect_refusal, first_due, ticking, user_refusal, restarted}
+use Rattle.tp4_entity.specs.Unit.{TakesUnit}
 use Rattle.osi_journal.specs.declared.cause.Refused.{Refused}
 use Rattle.osi_journal.specs.declared.cause.Refused.TheVariants as refusals
 use Rattle.osi_journal.specs.declared.cause.Settled.TheVariants.{Settled, Stopped}
@@ -49,7 +49,7 @@ OneWriting = (format : Format) (sum : Bool) (tpdu : Tpdu) (octets others : List 
 -- a unit has one outcome
 abbrev pub OneHearing : Type 0
 OneHearing = (wrap : ℕ → ℕ → ℕ) (now : ℕ) (old : Entity) (from octets : List ℕ) (one other : Acted)
-    → HearsUnit wrap now old from octets one → HearsUnit wrap now old from octets other → one ≡ other
+    → TakesUnit wrap now old from octets one → TakesUnit wrap now old from octets other → one ≡ other
 
 -- a connect call with what the entity sets in it anew
 abbrev set_as : ConnectCall → ConnectCall → ConnectCall
@@ -396,6 +396,13 @@ module _ {C : Type 0} (link : C → Link (List ℕ)) (steps : C → Call (List �
     one_line titles old (lines.Deliver number system) made other new next a b = one_delivery old number system a.0 b.0 made other new next a.1 b.1
     one_line titles old lines.Settle made other new next a b = one_settling 0 old made new a other next b
     one_line titles old (lines.Inject lan system octets) made other new next a b = one_injection old lan system octets a.0 b.0 made other new next a.1 b.1
+    one_line titles old (lines.Restart system) made other new next a b =
+        let same : a.0 ≡ b.0 = some_same a.0 b.0 (sym a.1 ∙ b.1) in
+        record {
+          events = a.2 ∙ sym b.2;
+          state = a.3 ∙ ap (λ (e : Entity). record old { entities = with_entity old.entities system (restarted (clock_of link steps old) e) }) same ∙ sym b.3;
+        }
+    one_line titles old (lines.Send system selector to called octets) made other new next a b = absurd a
     one_line titles old (lines.Version version) made other new next a b = absurd a
     one_line titles old (lines.Set key value) made other new next a b = absurd a
     one_line titles old (lines.Lan name bound room) made other new next a b = absurd a
@@ -405,6 +412,7 @@ module _ {C : Type 0} (link : C → Link (List ℕ)) (steps : C → Call (List �
     one_line titles old (lines.Route system prefix hop lan) made other new next a b = absurd a
     one_line titles old (lines.Path name kind systems) made other new next a b = absurd a
     one_line titles old (lines.Tsap system selector) made other new next a b = absurd a
+    one_line titles old (lines.Relay system selector to called) made other new next a b = absurd a
     one_line titles old lines.Start made other new next a b = absurd a
 
   pub one_begin : (first : C) (placed : List Placed) (made other : List Event) (new next : World C) → Starts link steps first placed made new → Starts link steps first placed other next

@@ -3,7 +3,7 @@ use Rattle.std.proofs.Common.{◌≡◌, ◌||◌, not, cond, nat_lt, get_or, �
 use Rattle.std.specs.List.{find, list_any, position, position_or_len}
 use Rattle.std.proofs.lemmas.Bool.{ltb-false}
 use Rattle.std.proofs.lemmas.List.Quantifiers.{position-Some}
-use Rattle.std.proofs.lemmas.Option.{get_or_from_slice_get}
+use Rattle.std.proofs.lemmas.Option.{get_or_from_slice_get, slice_get_within}
 
 pub some_same : {A : Type 0} (x y : A) → Some x ≡ Some y → x ≡ y
 some_same x y e = cc e
@@ -84,3 +84,7 @@ first_is_some p xs place is = within_has xs place (within is)
     within_has [] place low = absurd (omega (arith, low))
     within_has (x ∷ xs) zero low = (x, refl)
     within_has (x ∷ xs) (suc place) low = within_has xs place (omega (arith, low))
+
+-- the first such place is one of the list
+pub first_within : {A : Type 0} (p : A → Bool) (xs : List A) (place : ℕ) → position p xs ≡ Some place → place < length xs
+first_within p xs place is = let there = first_is_some p xs place is in slice_get_within xs place there.0 there.1

@@ -1,5 +1,5 @@
 -- What stands between the lines of a network stands after each line by which nothing is injected, and at its start.
-use Rattle.std.proofs.Common.{◌≡◌, ℕ, ◌+◌, Bool, true, false, List, [], ◌∷◌, ◌++◌, length, Option, Some, None, refl, sym, ◌∙◌, ap, subst, arith, append_assoc}
+use Rattle.std.proofs.Common.{◌≡◌, ℕ, ◌+◌, Bool, true, false, List, [], ◌∷◌, ◌++◌, length, Option, Some, None, refl, sym, ◌∙◌, ap, subst, arith, append_assoc, replicate, suc, zero}
 use Rattle.std.specs.Prelude.{◌==◌, ◌&&◌, nat_eq}
 use Rattle.std.specs.Cmp.Lexicographic.{pointwise}
 use Rattle.std.specs.List.{AllByRecursion, Contains}
@@ -32,9 +32,9 @@ use Rattle.tp4_entity.specs.declared.refusal.ConnectRefusal.{ConnectRefusal}
 use Rattle.tp4_entity.specs.declared.refusal.EntityRefusal.{EntityRefusal}
 use Rattle.tp4_entity.specs.Entity.{Entity}
 use Rattle.tp4_entity.specs.References.{least_free}
-use Rattle.tp4_entity.specs.Step.{calling, connect_refusal, connecting, ticking, user_refusal}
-use Rattle.tp4_world.proofs.Destinations.{EndFine, EndsFine, calling_fine, connecting_fine, hearing_fine, ticking_fine}
-use Rattle.tp4_world.proofs.Standing.{AreApart, AreFine, AreStill, IsApart, IsFine, IsFromApart, Stands, act_stands, apart_on, changed_stands, delivery_carries, entity_fine, raw_carries, tick_carries, told_stands}
+use Rattle.tp4_entity.specs.Step.{calling, connect_refusal, connecting, ticking, user_refusal, restarted}
+use Rattle.tp4_world.proofs.Destinations.{EndFine, EndsFine, calling_fine, connecting_fine, taking_fine, ticking_fine}
+use Rattle.tp4_world.proofs.Standing.{AreApart, AreFine, AreStill, IsApart, IsFine, IsFromApart, Stands, act_stands, apart_on, changed_stands, delivery_carries, entity_fine, raw_carries, tick_carries, told_stands, with_fine}
 use Rattle.tp4_world.specs.Laws.{IsFirst, IsNew, IsNoInjection, ShowsSent}
 use Rattle.tp4_world.specs.Run.{BeginsAt, Calls, CallsAt, CallsBy, CallsEnd, Connects, ConnectsBy, Delivers, HearsAll, HearsIf, IsRefused, NoneDue, NoneLeft, OneDue, OneMore, RunsLine, RunsLines, Settles, Starts, Ticks, TicksAll, TicksEntity, TooMany, clock_of, has_ended, is_for, transport_address}
 use Rattle.tp4_world.specs.Telling.{call_events, connect_event}
@@ -57,6 +57,10 @@ first_part false other is = is
 new_ends : (ends : List (Option End)) → AllByRecursion (λ place. place ≡ None) ends → EndsFine IsApart ends
 new_ends [] none = tt
 new_ends (place ∷ ends) none = (subst (EndFine IsApart) (sym none.0) tt, new_ends ends none.1)
+
+nothing_stands : (count : ℕ) → AllByRecursion (λ (place : Option End). place ≡ None) (replicate count None)
+nothing_stands zero = tt
+nothing_stands (suc count) = (refl, nothing_stands count)
 
 -- the line of a user's call is no event of a raw unit
 call_still : (number : ℕ) (call : UserCall) → AreStill (call_events number call)
@@ -150,7 +154,7 @@ module _ (life : ℕ) (titles : List (List ℕ)) {C : Type 0} (link : C → Link
         let transport : (selector_of arrival.unit.to == 1) ≡ true = first_part (selector_of arrival.unit.to == 1) (pointwise nat_eq entity.own arrival.unit.to) is in
         let from : IsApart arrival.unit.from = apart (one_apart (selector_of arrival.unit.to) transport) in
         act_stands life titles link steps law old new journal made arrival.system entity.own step.0 h fine.0
-        (hearing_fine IsApart arrival.unit.from from wrap (clock_of link steps old) entity arrival.unit.octets step.0 fine.1 step.1) step.2
+        (taking_fine IsApart arrival.unit.from from wrap (clock_of link steps old) entity arrival.unit.octets step.0 fine.1 step.1) step.2
 
     heard_all : (ups : List (Up (List ℕ))) (old new : World C) (journal made : List Event) → Holds old journal → AllByRecursion (IsFromApart life titles link steps law) ups
         → HearsAll link steps wrap old ups made new → Holds new (journal ++ made)
@@ -225,6 +229,14 @@ module _ (life : ℕ) (titles : List (List ℕ)) {C : Type 0} (link : C → Link
     line_holds (lines.Deliver number system) old new journal made none h step = delivered old new journal made number system step.0 h step.1
     line_holds lines.Settle old new journal made none h step = settled 0 old made new step journal h
     line_holds (lines.Inject lan system octets) old new journal made none h step = absurd none
+    line_holds (lines.Restart system) old new journal made none h step =
+        let told : Holds old (journal ++ made) = told_holds old old journal made (events.Restart system ∷ []) h (record { other = tt; clock = λ now. refl }, tt) step.2 refl in
+        let fine = entity_fine life titles link steps law old.entities system step.0 h.fine step.1 in
+        subst (λ (w : World C). Holds w (journal ++ made)) (sym step.3) (record {
+          carries = told.carries;
+          fine = with_fine life titles link steps law old.entities system (restarted (clock_of link steps old) step.0) h.fine (fine.0, new_ends _ (nothing_stands (length step.0.ends)));
+        })
+    line_holds (lines.Send system selector to called octets) old new journal made none h step = absurd step
     line_holds (lines.Version version) old new journal made none h step = absurd step
     line_holds (lines.Set key value) old new journal made none h step = absurd step
     line_holds (lines.Lan name bound room) old new journal made none h step = absurd step
@@ -234,6 +246,7 @@ module _ (life : ℕ) (titles : List (List ℕ)) {C : Type 0} (link : C → Link
     line_holds (lines.Route system prefix hop lan) old new journal made none h step = absurd step
     line_holds (lines.Path name kind systems) old new journal made none h step = absurd step
     line_holds (lines.Tsap system selector) old new journal made none h step = absurd step
+    line_holds (lines.Relay system selector to called) old new journal made none h step = absurd step
     line_holds lines.Start old new journal made none h step = absurd step
 
     lines_hold : (script : List Line) (first last : World C) (journal rest : List Event) → AllByRecursion IsNoInjection script → Holds first journal

@@ -23,7 +23,7 @@ use Rattle.tp4_conn.proofs.Timely.{if_kept}
 use Rattle.tp4_entity.specs.declared.refusal.ConnectRefusal.{ConnectRefusal}
 use Rattle.tp4_entity.specs.declared.refusal.EntityRefusal.{EntityRefusal}
 use Rattle.tp4_entity.specs.Entity.{Entity}
-use Rattle.tp4_entity.specs.References.{least_free}
+use Rattle.tp4_entity.specs.References.{is_silent, least_free}
 use Rattle.tp4_entity.specs.Step.{call_of, calling, connect_refusal, connecting, user_refusal}
 use Rattle.tp4_entity.proofs.Standings.{free_least}
 use Rattle.tp4_outcome.specs.Octets.{CallInOctets}
@@ -92,11 +92,13 @@ module _ {C : Type 0} (link : C → Link (List ℕ)) (steps : C → Call (List �
       → Makes (ConnectsBy link steps old system e call (connect_refusal (now_of old) e call.octets))
   connects_by old system e call r is proper address one two three =
       let P = λ (o : Option ConnectRefusal). Makes (ConnectsBy link steps old system e call o) in
-      if_kept P (nat_lt 32 (length call.octets)) _ _
+      if_kept P (is_silent (now_of old) e) _ _
+      (λ _. refusing old refusals.Silent r)
+      (λ _. if_kept P (nat_lt 32 (length call.octets)) _ _
       (λ _. refusing old refusals.TooLong r)
       (λ short. if_kept P (is_none (least_free (now_of old) e)) _ _
       (λ _. refusing old refusals.RefsSpent r)
-      (λ some. begins old system e call (least_free (now_of old) e) refl some r is (proper (ltb-false 32 (length call.octets) short)) address one two three))
+      (λ some. begins old system e call (least_free (now_of old) e) refl some r is (proper (ltb-false 32 (length call.octets) short)) address one two three)))
 
   abbrev Runs : List (List ℕ) → World C → Line → Type 0
   Runs titles old line = HasRun is_address link steps Stands wrap titles old line

@@ -17,8 +17,8 @@ use Rattle.osi_script.specs.declared.line.Line.{Line}
 use Rattle.osi_script.specs.declared.line.Line.TheVariants as lines
 use Rattle.net_world.specs.Told.{picked_event, told}
 use Rattle.tp4_entity.specs.Entity.{Entity}
-use Rattle.tp4_outcome.proofs.Heards.{heard_in, heard_rests}
-use Rattle.tp4_outcome.proofs.Outcomes.{some_outcome}
+use Rattle.tp4_outcome.proofs.Heards.{taken_in, taken_rests}
+use Rattle.tp4_outcome.proofs.Outcomes.{some_taking}
 use Rattle.tp4_world.specs.Run.{Arrives, Delivers, HearsAll, HearsIf, NoneLeft, OneMore, Settles, TooMany, is_for}
 use Rattle.tp4_world.specs.Telling.{inject_event}
 use Rattle.tp4_world.specs.Total.{HasRun, IsReady, IsReadyEntity, Serves, ComesInOctets}
@@ -47,10 +47,10 @@ module _ {C : Type 0} (link : C → Link (List ℕ)) (steps : C → Call (List �
   hears_if old arrival (Some e) false is r may = record { made = []; new = old; runs = (refl, refl); ready = r }
   hears_if old arrival (Some e) true is r may =
       let ready = r.entities arrival.system e is in
-      let u = some_outcome wrap (now_of old) e arrival.unit.from arrival.unit.octets in
+      let u = some_taking wrap (now_of old) e arrival.unit.from arrival.unit.octets in
       let a = acting link steps keeps is_address Stands serves old arrival.system e u.0 r is
-      (heard_rests wrap (now_of old) e arrival.unit.from arrival.unit.octets u.0 ready.rest u.1)
-      (heard_in is_address wrap (now_of old) e arrival.unit.from arrival.unit.octets u.0 may.from may.octets ready.rest ready.octets u.1) in
+      (taken_rests wrap (now_of old) e arrival.unit.from arrival.unit.octets u.0 ready.rest u.1)
+      (taken_in is_address wrap (now_of old) e arrival.unit.from arrival.unit.octets u.0 may.from may.octets ready.rest ready.octets u.1) in
       record { made = a.made; new = a.new; runs = (u.0, u.1, a.runs); ready = a.ready }
 
   hears_all : (old : World C) (ups : List (Up (List ℕ))) → IsSo old → AllByRecursion (ComesInOctets is_address) ups → Makes (HearsAll link steps wrap old ups)

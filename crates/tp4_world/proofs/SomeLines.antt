@@ -1,5 +1,5 @@
 -- Each line, by its kind, and the start.
-use Rattle.std.proofs.Common.{◌≡◌, ℕ, Bool, List, [], ◌∷◌, slice_get, Some, refl, sym, subst}
+use Rattle.std.proofs.Common.{◌≡◌, ℕ, Bool, List, [], ◌∷◌, slice_get, Some, refl, sym, subst, inl, inr, length, true}
 use Rattle.osi_base.specs.declared.unit.Wish.{Wish}
 use Rattle.osi_base.specs.Link.{Link}
 use Rattle.osi_base.specs.Calls.{Call, Keeps}
@@ -20,12 +20,18 @@ use Rattle.tp4_outcome.specs.Octets.{CallInOctets}
 use Rattle.tp4_world.specs.Run.{Calls, RunsLine}
 use Rattle.tp4_world.specs.Telling.{asked_options}
 use Rattle.tp4_world.specs.Total.{AreReady, CanRun, HasRun, HasStart, IsReady, IsReadyEntity, Serves}
-use Rattle.tp4_world.specs.World.{World}
+use Rattle.tp4_world.specs.World.{World, entity_at, with_entity}
 use Rattle.tp4_world.specs.declared.place.Placed.{Placed}
-use Rattle.tp4_world.proofs.SomeRun.{Made, taken}
+use Rattle.tp4_world.proofs.SomeRun.{Made, taken, ends_stay}
 use Rattle.tp4_world.proofs.SomeCalls.{calls, connect_runs}
 use Rattle.tp4_world.proofs.SomeHears.{delivered, inject_runs, settles}
 use Rattle.tp4_world.proofs.SomeTicks.{tick_runs}
+use Rattle.tp4_entity.specs.Step.{restarted}
+use Rattle.tp4_entity.specs.Entity.{Entity}
+use Rattle.tp4_outcome.proofs.Ends.{new_rests}
+use Rattle.tp4_outcome.proofs.Heards.{restarting_in}
+use Rattle.tp4_world.proofs.Having.{found, with_any}
+use Rattle.std.specs.Prelude.{is_some}
 
 module _ {C : Type 0} (link : C → Link (List ℕ)) (steps : C → Call (List ℕ) → C → Type 0) (keeps : (old : C) (call : Call (List ℕ)) (new : C) → steps old call new → Keeps (link old) call (link new))
     (is_address : List ℕ → Bool) (Stands : C → Type 0) (serves : Serves is_address link steps Stands) (wrap : ℕ → ℕ → ℕ) where
@@ -62,6 +68,29 @@ module _ {C : Type 0} (link : C → Link (List ℕ)) (steps : C → Call (List �
 
   -- ---- each line
 
+  restart_runs : (titles : List (List ℕ)) (old : World C) (system : ℕ) → IsSo old → is_some (entity_at old.entities system) ≡ true → Runs titles old (lines.Restart system)
+  restart_runs titles old system r may =
+      let e = found (entity_at old.entities system) may in
+      let was = r.entities system e.0 e.1 in
+      let next : Entity = restarted (now_of old) e.0 in
+      let ready : IsReadyEntity is_address (now_of old) next = record {
+        rest = new_rests (now_of old) (length e.0.ends) next refl was.rest.proper.timers was.rest.proper.inactive;
+        octets = restarting_in is_address (now_of old) e.0 was.octets;
+      } in
+      record {
+        made = events.Restart system ∷ [];
+        new = record old { entities = with_entity old.entities system next };
+        runs = (e.0, e.1, refl, refl);
+        ready = record {
+          carrier = r.carrier;
+          entities = λ other x there. elim (with_any old.entities system other next x there) [
+            | inl here ↦ subst (λ (y : Entity). IsReadyEntity is_address (now_of old) y) (sym here.1) ready
+            | inr before ↦ r.entities other x before
+          ];
+          ends = ends_stay old.entities system next old.ends r.ends;
+        };
+      }
+
   call_runs : (titles : List (List ℕ)) (old : World C) (line : Line) (number : ℕ) (call : UserCall) → ((made : List Event) (new : World C) → Calls link steps wrap old number call made new → RunsLine link steps wrap titles old line made new)
       → IsSo old → IsCall call → CallInOctets is_address call → Runs titles old line
   call_runs titles old line number call is r c octets = let m = calls link steps keeps is_address Stands serves wrap old number call r c octets in record { made = m.made; new = m.new; runs = is m.made m.new m.runs; ready = m.ready }
@@ -82,6 +111,8 @@ module _ {C : Type 0} (link : C → Link (List ℕ)) (steps : C → Call (List �
       let d = delivered link steps keeps is_address Stands serves wrap old number system r in record { made = d.made.made; new = d.made.new; runs = (d.answer, d.made.runs); ready = d.made.ready }
   some_line titles old lines.Settle r may = let m = settles link steps keeps is_address Stands serves wrap 65536 0 old refl r in record { made = m.made; new = m.new; runs = m.runs; ready = m.ready }
   some_line titles old (lines.Inject lan system octets) r may = inject_runs link steps keeps is_address Stands serves wrap titles old lan system octets r may
+  some_line titles old (lines.Restart system) r may = restart_runs titles old system r may
+  some_line titles old (lines.Send system selector to called octets) r may = absurd may
   some_line titles old lines.Tick r may = tick_runs link steps keeps is_address Stands serves wrap titles old r may
   some_line titles old (lines.Version version) r may = absurd may
   some_line titles old (lines.Set key value) r may = absurd may
@@ -92,6 +123,7 @@ module _ {C : Type 0} (link : C → Link (List ℕ)) (steps : C → Call (List �
   some_line titles old (lines.Route system prefix hop lan) r may = absurd may
   some_line titles old (lines.Path name kind systems) r may = absurd may
   some_line titles old (lines.Tsap system selector) r may = absurd may
+  some_line titles old (lines.Relay system selector to called) r may = absurd may
   some_line titles old lines.Start r may = absurd may
 
   pub some_begin : (first : C) (placed : List Placed) → Stands first → AreReady is_address (link first).clock placed → HasStart is_address link steps Stands first placed

@@ -100,6 +100,7 @@ ends_more placed ends system telling (whats.Held kind number) h some = h
 ends_more placed ends system telling (whats.Gone cause octets) h some = h
 ends_more placed ends system telling (whats.BadTpdu cause place) h some = h
 ends_more placed ends system telling (whats.Unknown kind) h some = h
+ends_more placed ends system telling whats.Silent h some = h
 
 ends_all : (placed : List Placed) (ends : List EndAt) (system : ℕ) (all : List EndEvent) → AllByRecursion (HasEntity placed) ends → is_some (entity_at placed system) ≡ true
     → AllByRecursion (HasEntity placed) (ends_after ends system all)

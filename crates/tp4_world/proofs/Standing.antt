@@ -79,6 +79,7 @@ event_still system own number reference (whats.Held kind held) = record { other 
 event_still system own number reference (whats.Gone cause octets) = record { other = tt; clock = λ now. refl }
 event_still system own number reference (whats.BadTpdu cause place) = record { other = tt; clock = λ now. refl }
 event_still system own number reference (whats.Unknown kind) = record { other = tt; clock = λ now. refl }
+event_still system own number reference whats.Silent = record { other = tt; clock = λ now. refl }
 
 -- what ends tell is still
 events_still : (told : List EndEvent) (ends : List EndAt) (system : ℕ) (own : List ℕ) → AreStill (events_after ends system own told)
@@ -275,7 +276,7 @@ module _ (life : ℕ) (titles : List (List ℕ)) where
         by_first true is rest = subst IsFine (some_same one.entity entity is) all.0
         by_first false is rest = rest is
 
-    with_fine : (placed : List Placed) (system : ℕ) (entity : Entity) → AreFine placed → IsFine entity → AreFine (with_entity placed system entity)
+    pub with_fine : (placed : List Placed) (system : ℕ) (entity : Entity) → AreFine placed → IsFine entity → AreFine (with_entity placed system entity)
     with_fine [] system entity all fine = tt
     with_fine (one ∷ placed) system entity all fine =
         either AreFine (is_of system one) (record one { entity = entity } ∷ placed) (one ∷ with_entity placed system entity) (fine, all.1) (all.0, with_fine placed system entity all.1 fine)

@@ -24,12 +24,12 @@ use Rattle.tp4_conn.specs.Wire.{end_on_wire}
 use Rattle.tp4_entity.specs.declared.refusal.ConnectRefusal.{ConnectRefusal}
 use Rattle.tp4_entity.specs.declared.refusal.EntityRefusal.{EntityRefusal}
 use Rattle.tp4_entity.specs.Entity.{Acted, Entity, at}
-use Rattle.tp4_entity.specs.References.{least_free}
-use Rattle.tp4_entity.specs.Step.{calling, connect_refusal, connecting, first_due, ticking, user_refusal}
-use Rattle.tp4_entity.specs.Unit.{EndsWith, HearsUnit, Separates, all_met}
+use Rattle.tp4_entity.specs.References.{least_free, is_silent}
+use Rattle.tp4_entity.specs.Step.{calling, connect_refusal, connecting, first_due, ticking, user_refusal, restarted}
+use Rattle.tp4_entity.specs.Unit.{EndsWith, HearsUnit, Separates, all_met, ignored, TakesBy, TakesUnit}
 use Rattle.tp4_entity.specs.Wire.{acted_on_wire, entity_on_wire}
 use Rattle.tp4_world.proofs.OneRun.{OneHearing}
-use Rattle.tp4_world.proofs.OnWire.{connect_refusal_on, ended_on, first_due_on, formats_on, found_on, least_on, upper, user_refusal_on, with_on}
+use Rattle.tp4_world.proofs.OnWire.{connect_refusal_on, ended_on, first_due_on, formats_on, found_on, least_on, upper, user_refusal_on, with_on, restarted_on}
 use Rattle.tp4_world.specs.Laws.{HasNoEnd, WholeLine, WholeRun, placed_on_wire, world_on_wire}
 use Rattle.tp4_world.specs.Run.{Acts, Arrives, BeginsAt, Calls, CallsAt, CallsBy, CallsEnd, Connects, ConnectsBy, Delivers, Hears, HearsAll, HearsIf, IsRefused, NoneDue, NoneLeft, OneDue, OneMore, RunsLine, RunsLines, Settles, Ticks, TicksAll, TicksEntity, TooMany, clock_of, has_ended, is_for}
 use Rattle.tp4_world.specs.Telling.{ends_after, inject_event}
@@ -42,12 +42,12 @@ pub record OverWires : Type 0 where
   pub connecting : (now reference : ℕ) (e : Entity) (call : ConnectCall) → connecting now (entity_on_wire e) reference call ≡ acted_on_wire (connecting now e reference call)
   pub calling : (now reference : ℕ) (e : Entity) (call : UserCall) → calling wire now (entity_on_wire e) reference call ≡ acted_on_wire (calling whole now e reference call)
   pub ticking : (now : ℕ) (e : Entity) → ticking wire now (entity_on_wire e) ≡ acted_on_wire (ticking whole now e)
-  pub hearing : (now : ℕ) (e : Entity) (from octets : List ℕ) (acted : Acted) → HearsUnit whole now e from octets acted → HearsUnit wire now (entity_on_wire e) from octets (acted_on_wire acted)
+  pub hearing : (now : ℕ) (e : Entity) (from octets : List ℕ) (acted : Acted) → TakesUnit whole now e from octets acted → TakesUnit wire now (entity_on_wire e) from octets (acted_on_wire acted)
 
 -- what a unit does with whole numbers, where it did this on the wire
 record HearsAbove (now : ℕ) (e : Entity) (from octets : List ℕ) (lower : Acted) : Type 0 where
   acted : Acted
-  hears : HearsUnit whole now e from octets acted
+  takes : TakesUnit whole now e from octets acted
   is : lower ≡ acted_on_wire acted
 
 -- a step to what has the wire numbers of that
@@ -57,21 +57,35 @@ pub record Above {C : Type 0} (Does : World C → Type 0) (lower : World C) : Ty
   pub is : lower ≡ world_on_wire up
 
 module _ {C : Type 0} (link : C → Link (List ℕ)) (steps : C → Call (List ℕ) → C → Type 0) (over : OverWires) (one : OneHearing) where
-  heard_above : (now : ℕ) (e : Entity) (from octets : List ℕ) (lower : Acted) → HearsUnit wire now (entity_on_wire e) from octets lower → HearsAbove now e from octets lower
-  heard_above now e from octets lower h =
-      let all = all_met whole now (at now e) from h.tpdus in
-      let acted : Acted = record { entity = all.entity; events = all.events ++ h.told; tpdus = all.tpdus } in
-      let hears : HearsUnit whole now e from octets acted = record {
-        tpdus = h.tpdus;
-        rest = h.rest;
-        told = h.told;
-        separates = subst (λ (x : List ℕ). Separates x octets h.tpdus h.rest) (formats_on e) h.separates;
-        ends = subst (λ (x : List ℕ). EndsWith x h.rest h.told) (formats_on e) h.ends;
-        entity = refl;
-        events = refl;
-        tpdus_are = refl;
-      } in
-      record { acted = acted; hears = hears; is = one wire now (entity_on_wire e) from octets lower (acted_on_wire acted) h (over.hearing now e from octets acted hears) }
+  heard_above : (now : ℕ) (e : Entity) (from octets : List ℕ) (lower : Acted) → TakesUnit wire now (entity_on_wire e) from octets lower → HearsAbove now e from octets lower
+  heard_above now e from octets lower h = by (is_silent now e) refl h
+    where
+      by : (silent : Bool) → is_silent now e ≡ silent → TakesBy silent wire now (entity_on_wire e) from octets lower → HearsAbove now e from octets lower
+      by true is h = record {
+        acted = ignored now e;
+        takes = subst (λ (b : Bool). TakesBy b whole now e from octets (ignored now e)) (sym is) refl;
+        is = h;
+      }
+      by false is h =
+          let all = all_met whole now (at now e) from h.tpdus in
+          let acted : Acted = record { entity = all.entity; events = all.events ++ h.told; tpdus = all.tpdus } in
+          let hears : HearsUnit whole now e from octets acted = record {
+            tpdus = h.tpdus;
+            rest = h.rest;
+            told = h.told;
+            separates = subst (λ (x : List ℕ). Separates x octets h.tpdus h.rest) (formats_on e) h.separates;
+            ends = subst (λ (x : List ℕ). EndsWith x h.rest h.told) (formats_on e) h.ends;
+            entity = refl;
+            events = refl;
+            tpdus_are = refl;
+          } in
+          let takes : TakesUnit whole now e from octets acted = subst (λ (b : Bool). TakesBy b whole now e from octets acted) (sym is) hears in
+          record {
+            acted = acted;
+            takes = takes;
+            is = one wire now (entity_on_wire e) from octets lower (acted_on_wire acted) (subst (λ (b : Bool). TakesBy b wire now (entity_on_wire e) from octets lower) (sym is) h)
+                (over.hearing now e from octets acted takes);
+          }
 
   -- ---- what an entity does
 
@@ -158,7 +172,7 @@ module _ {C : Type 0} (link : C → Link (List ℕ)) (steps : C → Call (List �
   heard_if_above old arrival entity true made new a =
       let heard = heard_above (clock_of link steps old) entity arrival.unit.from arrival.unit.octets a.0 a.1 in
       let act = act_above_as old arrival.system entity.own a.0 heard.acted made new heard.is a.2 in
-      record { up = act.up; does = (heard.acted, heard.hears, act.does); is = act.is }
+      record { up = act.up; does = (heard.acted, heard.takes, act.does); is = act.is }
 
   heard_by_above : (old : World C) (arrival : Arrival (List ℕ)) (found : Option Entity) (made : List Event) (new : World C)
       → HearsIf link steps wire (world_on_wire old) arrival (option_map entity_on_wire found) (is_for link steps wire arrival.unit.to (option_map entity_on_wire found)) made new
@@ -288,6 +302,18 @@ module _ {C : Type 0} (link : C → Link (List ℕ)) (steps : C → Call (List �
   line_above titles old (lines.Inject lan system octets) made new a =
       let done = arrived_above old (Inject lan system octets a.0) (inject_event system a.0) made new a.1 in
       record { up = done.up; does = (a.0, done.does); is = done.is }
+  line_above titles old (lines.Restart system) made new a =
+      let e = upper old.entities system a.0 a.1 in
+      let clock = clock_of link steps old in
+      record {
+        up = record old { entities = with_entity old.entities system (restarted clock e.entity) };
+        does = (e.entity, e.there, a.2, refl);
+        is = a.3
+            ∙ ap (λ (x : Entity). record (world_on_wire old) { entities = with_entity (map placed_on_wire old.entities) system (restarted clock x) }) e.is
+            ∙ ap (λ (x : Entity). record (world_on_wire old) { entities = with_entity (map placed_on_wire old.entities) system x }) (restarted_on clock e.entity)
+            ∙ ap (λ (ps : List Placed). record (world_on_wire old) { entities = ps }) (with_on old.entities system (restarted clock e.entity));
+      }
+  line_above titles old (lines.Send system selector to called octets) made new a = absurd a
   line_above titles old (lines.Version version) made new a = absurd a
   line_above titles old (lines.Set key value) made new a = absurd a
   line_above titles old (lines.Lan name bound room) made new a = absurd a
@@ -297,6 +323,7 @@ module _ {C : Type 0} (link : C → Link (List ℕ)) (steps : C → Call (List �
   line_above titles old (lines.Route system prefix hop lan) made new a = absurd a
   line_above titles old (lines.Path name kind systems) made new a = absurd a
   line_above titles old (lines.Tsap system selector) made new a = absurd a
+  line_above titles old (lines.Relay system selector to called) made new a = absurd a
   line_above titles old lines.Start made new a = absurd a
 
   lines_above : (titles : List (List ℕ)) (script : List Line) (old : World C) (journal : List Event) (last : World C) → RunsLines link steps wire titles (world_on_wire old) script journal last

@@ -35,12 +35,13 @@ OneStart {C} link steps = OneStep steps → (first : C) (placed : List Placed) (
 abbrev pub HasNoEnd : Entity → Type 0
 HasNoEnd entity = AllByRecursion (λ place. place ≡ None) entity.ends
 
--- an entity without ends, at the address of its system's transport users
+-- an entity without ends that never began again, at the address of its system's transport users
 pub record IsNew (titles : List (List ℕ)) (one : Placed) : Type 0 where
   pub title : List ℕ
   pub title_is : slice_get titles one.system ≡ Some title
   pub own : one.entity.own ≡ transport_address title
   pub none : HasNoEnd one.entity
+  pub never : one.entity.restarted ≡ None
 
 -- a network before its first line, with its entities
 pub record IsFirst (life : ℕ) (titles : List (List ℕ)) (carrier : Link (List ℕ)) (placed : List Placed) : Type 0 where

@@ -1,7 +1,7 @@
 -- What each line does to a network with its transport entities, over any carrier of units, and the events that it makes (X.214, service
 -- primitives; X.224, class 4 procedures). A line's own event comes first, then what the network hands up, in order, and then what each
 -- end tells and sends.
-use Rattle.std.specs.Prelude.{◌≡◌, ℕ, ◌+◌, ◌<◌, ◌==◌, Bool, true, false, ◌&&◌, ◌||◌, not, nat_eq, List, [], ◌∷◌, ◌++◌, length, slice_get, Option, Some, None}
+use Rattle.std.specs.Prelude.{◌≡◌, ℕ, ◌+◌, ◌<◌, ◌==◌, Bool, true, false, ◌&&◌, ◌||◌, not, nat_eq, List, [], ◌∷◌, ◌++◌, length, slice_get, is_none, Option, Some, None}
 use Rattle.std.specs.Cmp.Lexicographic.{pointwise}
 use Rattle.nsap.specs.Address.{selector_of, system_part}
 use Rattle.osi_base.specs.declared.unit.Arrival.{Arrival}
@@ -22,10 +22,10 @@ use Rattle.tp4_conn.specs.declared.call.UserCall.{UserCall}
 use Rattle.tp4_conn.specs.declared.call.UserCall.TheVariants as asks
 use Rattle.tp4_entity.specs.declared.refusal.ConnectRefusal.{ConnectRefusal}
 use Rattle.tp4_entity.specs.declared.refusal.EntityRefusal.{EntityRefusal}
-use Rattle.tp4_entity.specs.Entity.{Entity, Acted}
+use Rattle.tp4_entity.specs.Entity.{Entity, Acted, end_at}
 use Rattle.tp4_entity.specs.References.{is_free, least_free}
-use Rattle.tp4_entity.specs.Step.{calling, connect_refusal, connecting, first_due, ticking, user_refusal}
-use Rattle.tp4_entity.specs.Unit.{HearsUnit}
+use Rattle.tp4_entity.specs.Step.{calling, connect_refusal, connecting, first_due, restarted, ticking, user_refusal}
+use Rattle.tp4_entity.specs.Unit.{TakesUnit}
 use Rattle.osi_journal.specs.declared.cause.Refused.{Refused}
 use Rattle.osi_journal.specs.declared.cause.Refused.TheVariants as refusals
 use Rattle.osi_journal.specs.declared.cause.Settled.TheVariants.{Settled, Stopped}
@@ -49,9 +49,11 @@ transport_wish = record { cut = true; report = false; trace = false; path = 0 }
 abbrev pub transport_address : List ℕ → List ℕ
 transport_address title = system_part title ++ 1 ∷ []
 
--- an end whose reference has been free since it was made: a later end has it, or it is free now
+-- an end whose reference has been free since it was made, or whose system began again since: a later end has the reference, none stands there, or
+-- it is free now
 abbrev pub has_ended : ℕ → List EndAt → ℕ → EndAt → Entity → Bool
-has_ended now ends number end entity = not (latest ends end.system end.reference == number) || is_free now entity end.reference
+has_ended now ends number end entity =
+    not (latest ends end.system end.reference == number) || (is_none (end_at entity end.reference) || is_free now entity end.reference)
 
 module _ {C : Type 0} (link : C → Link (List ℕ)) (steps : C → Call (List ℕ) → C → Type 0) where
   -- a TPDU goes out in a unit of its own; what is told of the unit and its frames comes of it
@@ -109,6 +111,14 @@ module _ {C : Type 0} (link : C → Link (List ℕ)) (steps : C → Call (List �
       (entity : Entity) × (entity_at old.entities system ≡ Some entity)
       × ConnectsBy old system entity call (connect_refusal (clock_of old) entity call.octets) made new
 
+  -- ---- restart
+
+  -- the transport entity of a system begins again, without its ends; its line is all that is told
+  abbrev pub Restarts : World C → ℕ → List Event → World C → Type 0
+  Restarts old system made new =
+      (entity : Entity) × (entity_at old.entities system ≡ Some entity) × (made ≡ events.Restart system ∷ [])
+      × (new ≡ record old { entities = with_entity old.entities system (restarted (clock_of old) entity) })
+
   -- ---- a raw unit, and the start
 
   -- a raw unit goes as in a network without transport
@@ -160,7 +170,7 @@ module _ {C : Type 0} (link : C → Link (List ℕ)) (steps : C → Call (List �
     HearsIf old arrival None fits made new = (made ≡ []) × (new ≡ old)
     HearsIf old arrival (Some entity) false made new = (made ≡ []) × (new ≡ old)
     HearsIf old arrival (Some entity) true made new =
-        (acted : Acted) × HearsUnit wrap (clock_of old) entity arrival.unit.from arrival.unit.octets acted
+        (acted : Acted) × TakesUnit wrap (clock_of old) entity arrival.unit.from arrival.unit.octets acted
         × Acts old arrival.system entity.own acted made new
 
     -- a unit for transport is handed to the entity of its system, where it is for the entity's address; else nothing comes of it
@@ -251,6 +261,7 @@ module _ {C : Type 0} (link : C → Link (List ℕ)) (steps : C → Call (List �
     RunsLine titles old (lines.Deliver number system) made new = (answer : Picked) × Delivers old number system answer made new
     RunsLine titles old lines.Settle made new = Settles 0 old made new
     RunsLine titles old (lines.Inject lan system octets) made new = (answer : Injected) × Injects old lan system octets answer made new
+    RunsLine titles old (lines.Restart system) made new = Restarts old system made new
     RunsLine titles old line made new = ⊥
 
     -- the lines have these events, one after another

@@ -114,6 +114,7 @@ told_refusal entities.NoSuchEnd = Some refusals.NoSuchEnd
 told_refusal (entities.Call why) = told_call why
 
 abbrev pub told_connect : ConnectRefusal → Option Refused
+told_connect connects.Silent = Some refusals.Silent
 told_connect connects.TooLong = Some refusals.TooLong
 told_connect connects.RefsSpent = Some refusals.RefsSpent
 told_connect connects.NoMemory = None
@@ -143,6 +144,7 @@ event_for system own number reference (whats.Held kind held_number) = events.Hel
 event_for system own number reference (whats.Gone cause octets) = events.Gone number (told_cause cause) octets
 event_for system own number reference (whats.BadTpdu cause place) = events.BadTpdu system (told_fault cause) place
 event_for system own number reference (whats.Unknown kind) = events.Unknown system (told_kind kind)
+event_for system own number reference whats.Silent = events.Silent system
 
 -- an indication makes an end
 abbrev pub ends_with : List EndAt → ℕ → EndEvent → What → List EndAt

@@ -94,6 +94,7 @@ CanRun is_address titles link world (lines.Unit system to wish octets) =
 CanRun is_address titles link world (lines.Deliver number system) = Prim.Unit {0}
 CanRun is_address titles link world lines.Settle = Prim.Unit {0}
 CanRun is_address titles link world (lines.Inject lan system octets) = AreOctets octets
+CanRun is_address titles link world (lines.Restart system) = IsSome (entity_at world.entities system)
 CanRun is_address titles link world lines.Tick = (link world.carrier).clock < 4000000000
 CanRun is_address titles link world line = ⊥
 

@@ -1,22 +1,22 @@
 //! What users ask of the transport entities (X.214, service primitives).
 
-ghost use Rattle.std.specs.Prelude.{◌≡◌, ◌≤◌, ◌∷◌, [], Some, OnOk};
+ghost use Rattle.std.specs.Prelude.{◌≡◌, ◌≤◌, ◌∷◌, [], Some, IsSome, OnOk};
 ghost use Rattle.tp4_number.specs.Number.{wire};
 ghost use Rattle.tp4_conn.specs.Calls.{IsCall};
 ghost use Rattle.tp4_conn.specs.End.{IsSized};
-ghost use Rattle.osi_journal.specs.declared.event.Event.TheVariants.{No};
+ghost use Rattle.osi_journal.specs.declared.event.Event.TheVariants.{No, Restart};
 ghost use Rattle.osi_journal.specs.declared.cause.Refused.{Refused as Cause};
 ghost use Rattle.std.specs.List.{position};
 ghost use Rattle.tp4_entity.specs.Entity.{Entity};
-ghost use Rattle.tp4_entity.specs.Step.{user_refusal};
+ghost use Rattle.tp4_entity.specs.Step.{restarted, user_refusal};
 ghost use Rattle.tp4_world.specs.Run.{Calls, CallsBy, Connects};
-ghost use Rattle.tp4_world.specs.World.{entity_at, is_of};
+ghost use Rattle.tp4_world.specs.World.{entity_at, is_of, with_entity};
 ghost use Rattle.tp4_world.specs.steps.Parts.{AreBehind, AreLaterAll, world_of};
 
 use crate::EndAt;
 use crate::sending::follow;
 use crate::telling::{call_event, request, tell_some};
-use crate::transport::{Transport, connect_at, has_ended, own_at, place_of, user_at};
+use crate::transport::{Transport, connect_at, has_ended, own_at, place_of, restart_at, user_at};
 use crate::words::{told_connect, told_refusal};
 use nsap::Nsap;
 use osi_base::{Carrier, NoMemory, Tick};
@@ -84,6 +84,31 @@ pub fn begin<C: Carrier<Addr = Nsap>>(
             Ok(())
         }
     }
+}
+
+/// The transport entity of a system begins again, without its ends.
+pub fn restart(
+    transport: &mut Transport,
+    now: Tick,
+    system: u8,
+    events: &mut Vec<Event>,
+) -> Result<(), NoMemory>
+    requires listed { IsSome (entity_at transport.old.entities.items system) }
+    requires behind { AreBehind now transport.old.entities.items }
+    requires later { AreLaterAll now transport.old.entities.items }
+    requires none { events.old.items ≡ [] }
+    ensures restarts { OnOk result ((entity : Entity) × (entity_at transport.old.entities.items system ≡ Some entity) × (events.new.items ≡ Restart system ∷ [])
+        × (transport.new.entities.items ≡ with_entity transport.old.entities.items system (restarted now entity))) }
+    ensures ends { OnOk result (transport.new.ends ≡ transport.old.ends) }
+    ensures behind { OnOk result (AreBehind now transport.new.entities.items) }
+    ensures later { OnOk result (AreLaterAll now transport.new.entities.items) }
+{
+    let Some(place) = place_of(&transport.entities, system) else {
+        unreachable!();
+    };
+    events.push(Event::Restart { system })?;
+    restart_at(&mut transport.entities, place, now);
+    Ok(())
 }
 
 /// A user calls the end of a number.

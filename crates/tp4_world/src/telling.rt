@@ -76,7 +76,8 @@ fn note_end(ends: &mut Ends, system: u8, told: &EndEvent) -> Result<(), NoMemory
         | What::Held(..)
         | What::Gone(..)
         | What::BadTpdu(..)
-        | What::Unknown(_) => Ok(()),
+        | What::Unknown(_)
+        | What::Silent => Ok(()),
     }
 }
 
@@ -155,6 +156,7 @@ fn event_for(
             system,
             kind: told_kind(kind),
         }),
+        What::Silent => Ok(Event::Silent { system }),
     }
 }
 

@@ -1,7 +1,7 @@
 //! The transport entities of the systems, in the order of their declaration, and the ends that were made there (X.224, class 4
 //! procedures).
 
-ghost use Rattle.std.specs.Prelude.{◌≡◌, ◌≢◌, ◌≤◌, ◌<◌, ◌+◌, ℕ, [], None, Some, Err, is_some, slice_get, true, false, IfErr, IfOk, OnOk};
+ghost use Rattle.std.specs.Prelude.{◌≡◌, ◌≢◌, ◌≤◌, ◌<◌, ◌+◌, ℕ, [], None, Some, Err, is_some, length, slice_get, true, false, IfErr, IfOk, OnOk};
 ghost use Rattle.std.specs.List.{position};
 ghost use Rattle.tp4_number.specs.Number.{wire};
 ghost use Rattle.tp4_conn.specs.Calls.{IsCall};
@@ -10,8 +10,8 @@ ghost use Rattle.tp4_conn.specs.declared.call.CallRefusal.TheVariants.{NoMemory 
 ghost use Rattle.tp4_entity.specs.Dues.{AreFrom, AreLater};
 ghost use Rattle.tp4_entity.specs.Entity.{Acted};
 ghost use Rattle.tp4_entity.specs.References.{is_free, least_free};
-ghost use Rattle.tp4_entity.specs.Step.{DoesSo, calling, connect_refusal, connecting, dues, first_due, ticking, user_refusal};
-ghost use Rattle.tp4_entity.specs.Unit.{HearsUnit};
+ghost use Rattle.tp4_entity.specs.Step.{DoesSo, calling, connect_refusal, connecting, dues, first_due, restarted, ticking, user_refusal};
+ghost use Rattle.tp4_entity.specs.Unit.{TakesUnit};
 ghost use Rattle.tp4_entity.specs.declared.refusal.ConnectRefusal.TheVariants.{NoMemory as ConnectOutOfMemory};
 ghost use Rattle.tp4_entity.specs.declared.refusal.EntityRefusal.TheVariants.{Call};
 ghost use Rattle.tp4_world.specs.Run.{has_ended};
@@ -57,7 +57,8 @@ pub fn own_at(entities: &[Placed], place: usize) -> Option<Nsap>
     Some(one.entity.own())
 }
 
-/// Whether the reference of an end has been free since the end was made.
+/// Whether the reference of an end has been free since the end was made, or its system began again since.
+#[tactic(auto, using(tp4_entity::proofs::Restarts::no_state))]
 pub fn has_ended(
     transport: &Transport,
     place: usize,
@@ -70,7 +71,8 @@ pub fn has_ended(
 {
     let one = transport.entities.get(place)?;
     let is_latest = transport.ends.latest(end.system, end.reference) == number;
-    Some(!is_latest || one.entity.is_free(now, end.reference))
+    let is_gone = one.entity.state_of(end.reference).is_none();
+    Some(!is_latest || is_gone || one.entity.is_free(now, end.reference))
 }
 
 /// The entity at a place takes a unit.
@@ -85,7 +87,7 @@ pub fn hear_at(
     requires behind { AreBehind now entities.old.items }
     requires from { (one : PlacedEntity) → slice_get entities.old.items place ≡ Some one → AreFrom now one.entity.ends }
     ensures changed { OnOk result (ChangesAt place entities.old.items entities.new.items
-        (λ before after. (acted : Acted) × HearsUnit wire now before unit.now.from unit.now.octets acted × DoesSo acted after out.old out.new)) }
+        (λ before after. (acted : Acted) × TakesUnit wire now before unit.now.from unit.now.octets acted × DoesSo acted after out.old out.new)) }
     ensures behind { OnOk result (AreBehind now entities.new.items) }
     ensures later { OnOk result (ChangesAt place entities.old.items entities.new.items (λ before after. AreLater now before.ends → AreLater now after.ends)) }
 {
@@ -121,6 +123,20 @@ pub fn connect_at(
         return Err(ConnectRefusal::NoMemory);
     };
     one.entity.connect(now, call, out)
+}
+
+/// The entity at a place begins again.
+pub fn restart_at(entities: &mut Vec<Placed>, place: usize, now: Tick)
+    requires within { place < length entities.old.items }
+    requires behind { AreBehind now entities.old.items }
+    ensures changed { ChangesAt place entities.old.items entities.new.items (λ before after. after ≡ restarted now before) }
+    ensures behind { AreBehind now entities.new.items }
+    ensures rest { ChangesAt place entities.old.items entities.new.items (λ before after. AreLater now after.ends) }
+{
+    let Some(one) = entities.get_mut(place) else {
+        unreachable!();
+    };
+    one.entity.restart(now);
 }
 
 /// A user calls an end of the entity at a place.

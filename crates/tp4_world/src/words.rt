@@ -150,6 +150,7 @@ pub fn told_connect(why: ConnectRefusal) -> Option<Refused>
     ensures { result ≡ told_connect why }
 {
     match why {
+        ConnectRefusal::Silent => Some(Refused::Silent),
         ConnectRefusal::TooLong => Some(Refused::TooLong),
         ConnectRefusal::RefsSpent => Some(Refused::RefsSpent),
         ConnectRefusal::NoMemory => None,

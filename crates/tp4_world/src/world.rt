@@ -1,17 +1,18 @@
 //! The network that a script runs, with its transport entities.
 
-ghost use Rattle.std.specs.Prelude.{◌≡◌, ◌<◌, ◌≤◌, [], length, true, IsTrue, IfOk, OnOk};
+ghost use Rattle.std.specs.Prelude.{◌≡◌, ◌<◌, ◌≤◌, [], length, true, IsSome, IsTrue, IfOk, OnOk};
 ghost use Rattle.osi_base.specs.declared.unit.Injected.{Injected as Answer};
 ghost use Rattle.osi_base.specs.declared.unit.Picked.{Picked as Choice};
 ghost use Rattle.osi_base.specs.declared.unit.Picked.TheVariants.{Taken};
 ghost use Rattle.tp4_conn.specs.Calls.{IsCall};
 ghost use Rattle.tp4_conn.specs.End.{IsSized};
 ghost use Rattle.tp4_number.specs.Number.{wire};
-ghost use Rattle.tp4_world.specs.Run.{Calls, Connects, Delivers, Injects, SendsRaw, Settles, Starts, Ticks};
+ghost use Rattle.tp4_world.specs.Run.{Calls, Connects, Delivers, Injects, Restarts, SendsRaw, Settles, Starts, Ticks};
+ghost use Rattle.tp4_world.specs.World.{entity_at};
 ghost use Rattle.tp4_world.specs.steps.Parts.{AreBehind, AreLaterAll, SettlesSo, Tells, world_of};
 
 use crate::Placed;
-use crate::asking::{ask, begin};
+use crate::asking::{ask, begin, restart};
 use crate::ends::Ends;
 use crate::hearing::hear_waiting;
 use crate::telling::inject_event;
@@ -249,6 +250,25 @@ impl<C: Carrier<Addr = Nsap> + Drop> TpWorld<C> {
         let answer = self.carrier.inject(lan, system, octets)?;
         events.push(inject_event(system, answer))?;
         hear_waiting(&mut self.carrier, &mut self.transport, now, events)?;
+        self.stopped = false;
+        Ok(())
+    }
+
+    /// The transport entity of a system begins again: its ends are gone, and nothing is told of them. It is silent for F ticks.
+    ///
+    /// At NoMemory the run ends.
+    #[inline(never)]
+    pub fn restart(&mut self, system: u8, events: &mut Vec<Event>) -> Result<(), NoMemory>
+        requires listed { IsSome (entity_at self.old.entities system) }
+        requires none { events.old.items ≡ [] }
+        ensures { OnOk result (Restarts C.link C.steps self.old system events.new.items self.new) }
+    {
+        if self.stopped {
+            return Err(NoMemory);
+        }
+        self.stopped = true;
+        let now = self.carrier.now();
+        restart(&mut self.transport, now, system, events)?;
         self.stopped = false;
         Ok(())
     }

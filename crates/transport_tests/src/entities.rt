@@ -85,6 +85,8 @@ impl Play {
             "call" => self.call(words),
             "tick" => self.tick(),
             "spend" => self.spend(),
+            "restart" => self.restart(),
+            "silent" => Ok(format!(in self.alloc; "{}", self.entity.is_silent(self.clock))?),
             "free" => self.free(words),
             "state" => self.state(words),
             "own" => Ok(format!(in self.alloc; "{}", self.entity.own())?),
@@ -174,6 +176,11 @@ impl Play {
         Ok(String::new(self.alloc))
     }
 
+    fn restart(&mut self) -> Result<String, Fail> {
+        self.entity.restart(self.clock);
+        Ok(String::new(self.alloc))
+    }
+
     fn free(&mut self, words: &[&str]) -> Result<String, Fail> {
         let is_free = self.entity.is_free(self.clock, pair(words, 1)?);
         Ok(format!(in self.alloc; "{is_free}")?)
@@ -210,6 +217,7 @@ fn show_event(alloc: Global, event: &EndEvent) -> Result<String, Fail> {
         What::Gone(..) => Ok(format!(in alloc; " gone {reference}")?),
         What::BadTpdu(cause, place) => Ok(format!(in alloc; " badtpdu {cause:?} {place}")?),
         What::Unknown(kind) => Ok(format!(in alloc; " unknown {kind:?}")?),
+        What::Silent => Ok(format!(in alloc; " silent")?),
         _ => Ok(format!(in alloc; " other {reference}")?),
     }
 }

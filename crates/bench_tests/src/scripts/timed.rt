@@ -8,7 +8,7 @@ use std::alloc::Global;
 use std::test::Fail;
 
 /// How many ticks pass, what stands after them, and what is shown of it.
-type Steps<'a> = &'a [(u8, &'a str, &'a str)];
+pub type Steps<'a> = &'a [(u8, &'a str, &'a str)];
 
 /// The one reference of each system is used by a call, which the user of b answers too late.
 const LATE: [(u8, &str, &str); 7] = [
@@ -59,7 +59,7 @@ const SPENT: [(u8, &str, &str); 3] = [
 ];
 
 /// The lines of the steps, and what is shown of them.
-fn over_time(alloc: Global, steps: Steps<'_>) -> Result<[String; 2], Fail> {
+pub fn over_time(alloc: Global, steps: Steps<'_>) -> Result<[String; 2], Fail> {
     let mut lines = String::new(alloc);
     let mut shown = String::new(alloc);
     let mut now = 0u32;

@@ -7,7 +7,7 @@ use Rattle.osi_script.specs.Known.{Declared}
 use Rattle.osi_storm.specs.Counted.{counts_of}
 use Rattle.osi_storm.specs.declared.counts.Counts.{Counts}
 use Rattle.osi_storm.specs.Line.{line_text}
-use Rattle.osi_bench.specs.Bench.{Bench, most_events}
+use Rattle.law_run.specs.Bench.{Bench, most_events}
 use Rattle.osi_bench.specs.Storm.{StormFills, StormRuns}
 
 -- the bench and the counts are those after this journal

@@ -19,7 +19,7 @@ pub record IsWorded (names : Declared) (word : Word) (reading : Reading) : Type 
   pub column : ℕ
   pub fields : List (List ℕ)
   pub parts : Parts
-  pub word_is : word_of names.words field ≡ Some word
+  pub word_is : word_of names.dialect field ≡ Some word
   pub placed : is_out_of_order names word ≡ false
   pub counted : count_fault past column (row_of word).fields fields ≡ None
   pub filled : fields_read names no_parts column (row_of word).fields fields ≡ Ok parts
@@ -36,7 +36,7 @@ ok reading = Ok reading
 ok_same : (first second : Reading) → ok first ≡ ok second → first ≡ second
 ok_same first second is = cc
 
-module _ (names : Declared) (word : Word) (field : List ℕ) (past column : ℕ) (fields : List (List ℕ)) (word_is : word_of names.words field ≡ Some word) where
+module _ (names : Declared) (word : Word) (field : List ℕ) (past column : ℕ) (fields : List (List ℕ)) (word_is : word_of names.dialect field ≡ Some word) where
   limited : (parts : Parts) (limit : Option LineCause) (reading : Reading) → is_out_of_order names word ≡ false → count_fault past column (row_of word).fields fields ≡ None
       → fields_read names no_parts column (row_of word).fields fields ≡ Ok parts → limit_cause names (row_of word).effect parts ≡ limit
       → with_limit names word parts limit ≡ Ok reading → Came names reading
@@ -72,7 +72,7 @@ module _ (names : Declared) (word : Word) (field : List ℕ) (past column : ℕ)
   ordered false true reading placed i = absurd (cc)
   ordered false false reading placed i = counted _ reading placed refl i
 
-worded : (names : Declared) (field : List ℕ) (past column : ℕ) (fields : List (List ℕ)) (word : Option Word) (reading : Reading) → word_of names.words field ≡ word
+worded : (names : Declared) (field : List ℕ) (past column : ℕ) (fields : List (List ℕ)) (word : Option Word) (reading : Reading) → word_of names.dialect field ≡ word
     → worded_read names past column fields word ≡ Ok reading → Came names reading
 worded names field past column fields None reading is i = absurd (cc)
 worded names field past column fields (Some word) reading is i = ordered names word field past column fields is (is_of_later_version names word) _ reading refl i

@@ -44,6 +44,7 @@ word_moves names parts words.Set placed = record { placed = placed; started = re
 word_moves names parts words.Is placed = record { placed = placed; started = refl; kept = inl placed }
 word_moves names parts words.Path placed = record { placed = placed; started = refl; kept = inl placed }
 word_moves names parts words.Tsap placed = record { placed = placed; started = refl; kept = inl placed }
+word_moves names parts words.Relay placed = record { placed = placed; started = refl; kept = inl placed }
 word_moves names parts words.Connect placed = record { placed = is_started names.started placed; started = refl; kept = inr refl }
 word_moves names parts words.Accept placed = record { placed = is_started names.started placed; started = refl; kept = inr refl }
 word_moves names parts words.Refuse placed = record { placed = is_started names.started placed; started = refl; kept = inr refl }
@@ -53,6 +54,8 @@ word_moves names parts words.Expedite placed = record { placed = is_started name
 word_moves names parts words.Window placed = record { placed = is_started names.started placed; started = refl; kept = inr refl }
 word_moves names parts words.Settle placed = record { placed = is_started names.started placed; started = refl; kept = inr refl }
 word_moves names parts words.Inject placed = record { placed = is_started names.started placed; started = refl; kept = inr refl }
+word_moves names parts words.Restart placed = record { placed = is_started names.started placed; started = refl; kept = inr refl }
+word_moves names parts words.Send placed = record { placed = is_started names.started placed; started = refl; kept = inr refl }
 
 came_moves : (names : Declared) (reading : Reading) → Came names reading → Moves names reading.line reading.names
 came_moves names reading (Idle is) = subst (λ (r : Reading). Moves names r.line r.names) (sym is) (idle_moves names)
@@ -73,6 +76,7 @@ start_only (lines.Port system lan snpa) is = absurd (cc)
 start_only (lines.Route system prefix next lan) is = absurd (cc)
 start_only (lines.Path name kind systems) is = absurd (cc)
 start_only (lines.Tsap system selector) is = absurd (cc)
+start_only (lines.Relay system selector to called) is = absurd (cc)
 start_only lines.Start is = refl
 start_only (lines.Connect system selector to called options octets) is = absurd (cc)
 start_only (lines.Accept end options octets) is = absurd (cc)
@@ -86,6 +90,8 @@ start_only lines.Tick is = absurd (cc)
 start_only lines.Settle is = absurd (cc)
 start_only (lines.Deliver number system) is = absurd (cc)
 start_only (lines.Inject lan system octets) is = absurd (cc)
+start_only (lines.Restart system) is = absurd (cc)
+start_only (lines.Send system selector to called octets) is = absurd (cc)
 
 pub starts_not : (started : Bool) (line : Line) → is_start line ≡ false → started_after started line ≡ started
 starts_not started lines.Nothing is = refl
@@ -98,6 +104,7 @@ starts_not started (lines.Port system lan snpa) is = refl
 starts_not started (lines.Route system prefix next lan) is = refl
 starts_not started (lines.Path name kind systems) is = refl
 starts_not started (lines.Tsap system selector) is = refl
+starts_not started (lines.Relay system selector to called) is = refl
 starts_not started lines.Start is = absurd (cc)
 starts_not started (lines.Connect system selector to called options octets) is = refl
 starts_not started (lines.Accept end options octets) is = refl
@@ -111,3 +118,5 @@ starts_not started lines.Tick is = refl
 starts_not started lines.Settle is = refl
 starts_not started (lines.Deliver number system) is = refl
 starts_not started (lines.Inject lan system octets) is = refl
+starts_not started (lines.Restart system) is = refl
+starts_not started (lines.Send system selector to called octets) is = refl

@@ -16,6 +16,8 @@ discard b a0 4
 report b a0 4
 alien b
 hellofull b
+restart b
+silent b
 redirect b 490a01 02000000000b
 ";
 
@@ -36,6 +38,7 @@ disconnect 3 08
 sent b 490b01 -
 unit b 490a01 00ff
 window 1 15
+joined 2 3
 held 1 dt 96
 held 1 ed 4294967296
 ";
@@ -60,9 +63,11 @@ no toolong
 no noexpedited
 no queuefull
 no refsspent
+no silent
 no noroute
 no full
 no idsspent
+no relayed
 ";
 
 /// Why units are dropped, the kinds of hellos, and why a hello cannot be read.
@@ -101,4 +106,19 @@ unknown a ed
 unknown a ak
 unknown a ea
 unknown a er
+";
+
+/// Datagrams that were sent and shown, and why others were not.
+pub const DATAGRAMS: &str = "send a aa 490b01 bbcc 68656c6c6f
+datagram b 490a01 aa bbcc 68656c6c6f
+send a aa 490b01 bbcc -
+datagram b 490a01 aa bbcc -
+badud b short 3
+badud b length 3
+badud b code 3
+badud b param 3
+badud b unknown 3
+badud b missing 3
+badud b checksum 3
+nouser b
 ";

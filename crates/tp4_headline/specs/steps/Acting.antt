@@ -25,6 +25,7 @@ pub record IsLike (now : ℕ) (entity other : Entity) : Type 0 where
   pub own : other.own ≡ entity.own
   pub timers : other.timers ≡ entity.timers
   pub ends : other.ends ≡ entity.ends
+  pub restarted : other.restarted ≡ entity.restarted
   pub clock : other.clock ≤ now
 
 -- a TPDU that comes to end k is an offer as it is read, where n is its number; nothing else is

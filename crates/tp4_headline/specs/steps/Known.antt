@@ -3,6 +3,7 @@
 use Rattle.std.specs.Prelude.{◌≡◌, ℕ, ◌+◌, ◌-◌, ◌<◌, ◌≤◌, true, false, if◌then◌else◌, List, [], ◌∷◌, ◌++◌, length, slice_get, Option, Some, None, Contains}
 use Rattle.nsap.specs.Address.{is_same_system}
 use Rattle.osi_journal.specs.declared.event.Event.{Event}
+use Rattle.osi_journal.specs.declared.event.Event.TheVariants as events
 use Rattle.tpdu.specs.Kinds.{has_number}
 use Rattle.tpdu.specs.Values.{TpduAndSum, destination_of, format_for}
 use Rattle.tpdu.specs.Writing.{IsAllowed, kind_for}
@@ -18,11 +19,11 @@ use Rattle.tp4_conn.specs.declared.call.UserCall.{UserCall}
 use Rattle.tp4_conn.specs.declared.timers.Timers.{Timers}
 use Rattle.tp4_entity.specs.Association.{met}
 use Rattle.tp4_entity.specs.Entity.{Acted, Entity, end_at}
-use Rattle.tp4_entity.specs.References.{least_free}
+use Rattle.tp4_entity.specs.References.{least_free, is_silent}
 use Rattle.tp4_entity.specs.Unit.{extended_of}
-use Rattle.tp4_entity.specs.Step.{call_of, calling, connecting, first_due, ticking, user_refusal}
+use Rattle.tp4_entity.specs.Step.{call_of, calling, connecting, first_due, ticking, user_refusal, restarted}
 use Rattle.tp4_history.specs.Ends.{Offer, Terms}
-use Rattle.tp4_history.specs.History.{History, IsCaller, IsFree, IsPartner, Note, Tick}
+use Rattle.tp4_history.specs.History.{History, IsCaller, IsFree, IsPartner, Note, Tick, Restart}
 use Rattle.tp4_history.specs.Journals.{IsAside, Written}
 use Rattle.tp4_history.specs.Tracks.{Nothing, Track, Whole, onward}
 use Rattle.tp4_moves.specs.Lines.{Stands}
@@ -92,10 +93,21 @@ pub record IsListed (h : History) (entities : List Placed) (k : ℕ) (end : EndA
   pub address : (h.end k).birth.address ≡ entity.own
   pub reference : (h.end k).birth.reference ≡ end.reference
 
+-- the entity began again since that tick, at the latest now
+pub record BeganBy (now : ℕ) (entity : Entity) (r : ℕ) : Type 0 where
+  pub tick : ℕ
+  pub began : entity.restarted ≡ Some tick
+  pub since : r ≤ tick
+  pub past : tick ≤ now
+
+-- of the restarts of addresses those of an entity's own are its own, or came before its last one
+abbrev pub AreBegan : ℕ → List (List ℕ × ℕ) → Entity → Type 0
+AreBegan now restarts entity = (r : ℕ) → Contains restarts (entity.own, r) → BeganBy now entity r
+
 -- a history with this journal explains these entities, and the ends that were made
 pub record Known (titles : List (List ℕ)) (timers : Timers) (w : Whole) (journal : List Event) (entities : List Placed) (ends : List EndAt) : Type 0 where
   pub written : Written (times_of timers) titles w journal
-  pub restarts : w.base.restarts ≡ []
+  pub restarts : (system : ℕ) (entity : Entity) → entity_at entities system ≡ Some entity → AreBegan w.base.clock w.base.restarts entity
   pub count : length ends ≡ w.base.count
   pub listed : (k : ℕ) (end : EndAt) → slice_get ends k ≡ Some end → IsListed w.base entities k end
   pub holds : (system : ℕ) (entity : Entity) → entity_at entities system ≡ Some entity → Holds timers w entity
@@ -154,10 +166,10 @@ pub record IsReadAs (entity : Entity) (sent : Sent) (tpdu : TpduAndSum) : Type 0
   pub allowed : IsAllowed (format_for (extended_of entity) (destination_of tpdu.0)) tpdu.0
 
 module _ (titles : List (List ℕ)) (timers : Timers) where
-  -- a user asks for a connection, and a reference is free
+  -- a user asks for a connection; the entity is not silent, and a reference is free
   abbrev pub AfterConnect : Type 0
   AfterConnect = (w : Whole) (journal : List Event) (entities : List Placed) (ends : List EndAt) (system : ℕ) (entity : Entity) (call : ConnectCall) (reference : ℕ)
-      → Known titles timers w journal entities ends → entity_at entities system ≡ Some entity → IsProperCall (call_of entity reference call)
+      → Known titles timers w journal entities ends → entity_at entities system ≡ Some entity → is_silent w.base.clock entity ≡ false → IsProperCall (call_of entity reference call)
       → least_free w.base.clock entity ≡ Some reference
       → Follows titles timers w journal entities (ends ++ record { system = system; reference = reference } ∷ []) system entity.own
       (connect_event (length ends + 1) system reference entity.own call ∷ []) (connecting w.base.clock entity reference call)
@@ -169,11 +181,11 @@ module _ (titles : List (List ℕ)) (timers : Timers) where
       → has_ended w.base.clock ends number end entity ≡ false → user_refusal entity end.reference call ≡ None → IsCall call
       → Follows titles timers w journal entities ends end.system entity.own (call_events number call) (calling whole w.base.clock entity end.reference call)
 
-  -- a TPDU comes that was offered, and is read in the format of the end there
+  -- a TPDU comes to an entity that is not silent: it was offered, and is read in the format of the end there
   abbrev pub AfterMeet : Type 0
   AfterMeet = (w : Whole) (journal : List Event) (entities : List Placed) (ends : List EndAt) (system : ℕ) (entity : Entity)
       (tick : ℕ) (from : List ℕ) (sent : Sent) (tpdu : TpduAndSum)
-      → Known titles timers w journal entities ends → IsTimed timers → entity_at entities system ≡ Some entity
+      → Known titles timers w journal entities ends → IsTimed timers → entity_at entities system ≡ Some entity → is_silent w.base.clock entity ≡ false
       → IsOffered w.base tick from sent → sent.to ≡ entity.own → w.base.clock ≤ tick + timers.life → IsReadAs entity sent tpdu
       → Follows titles timers w journal entities ends system entity.own [] (met whole w.base.clock entity from tpdu)
 
@@ -192,3 +204,10 @@ module _ (titles : List (List ℕ)) (timers : Timers) where
   abbrev pub AfterClock : Type 0
   AfterClock = (w : Whole) (journal made : List Event) (entities : List Placed) (ends : List EndAt) → Known titles timers w journal entities ends → AreIdle w.base.clock entities
       → IsAside made → Known titles timers (onward (times_of timers) w (record { step = Tick; doing = Nothing })) (journal ++ made) entities ends
+
+  -- an entity begins again
+  abbrev pub AfterRestart : Type 0
+  AfterRestart = (w : Whole) (journal : List Event) (entities : List Placed) (ends : List EndAt) (system : ℕ) (entity : Entity)
+      → Known titles timers w journal entities ends → entity_at entities system ≡ Some entity
+      → Known titles timers (onward (times_of timers) w (record { step = Restart entity.own; doing = Nothing })) (journal ++ events.Restart system ∷ [])
+      (with_entity entities system (restarted w.base.clock entity)) ends

@@ -25,13 +25,13 @@ use Rattle.tp4_conn.specs.declared.timers.Timers.{Timers}
 use Rattle.tp4_entity.specs.Association.{met}
 use Rattle.tp4_entity.specs.Entity.{Entity, at}
 use Rattle.tp4_entity.specs.References.{least_free}
-use Rattle.tp4_entity.specs.Step.{call_of, calling, connecting, first_due, ticking, user_refusal}
+use Rattle.tp4_entity.specs.Step.{call_of, calling, connecting, first_due, ticking, user_refusal, restarted}
 use Rattle.tp4_entity.specs.Unit.{EndsWith, Separates, extended_of}
 use Rattle.tp4_history.specs.History.{History}
 use Rattle.tp4_history.specs.Tracks.{Whole}
 use Rattle.tp4_world.specs.World.{World, entity_at}
 use Rattle.tp4_world.specs.declared.place.Placed.{Placed}
-use Rattle.tp4_headline.specs.steps.Known.{AfterAside, AfterCall, AfterClock, AfterConnect, AfterMeet, AfterTick, IsOffered, Known}
+use Rattle.tp4_headline.specs.steps.Known.{AfterAside, AfterCall, AfterClock, AfterConnect, AfterMeet, AfterTick, IsOffered, Known, AfterRestart}
 
 -- ---- what is asked of entities
 
@@ -40,6 +40,7 @@ use Rattle.tp4_headline.specs.steps.Known.{AfterAside, AfterCall, AfterClock, Af
 pub record Outcomes (Sound : Entity → Type 0) (InTime : ℕ → Entity → Type 0) : Type 0 where
   pub new : (now references : ℕ) (e : Entity) → e.ends ≡ replicate references None → IsTimed e.timers → 1 ≤ e.timers.inactive → Sound e × (first_due now e ≡ None)
   pub clock : (now : ℕ) (e : Entity) → Sound e → Sound (at now e)
+  pub restarting : (now : ℕ) (e : Entity) → Sound e → Sound (restarted now e) × (first_due now (restarted now e) ≡ None)
   pub connecting : (now reference : ℕ) (e : Entity) (call : ConnectCall) → Sound e → first_due now e ≡ None → least_free now e ≡ Some reference → IsProperCall (call_of e reference call)
       → Sound (connecting now e reference call).entity × (first_due now (connecting now e reference call).entity ≡ None)
   pub calling : (now reference : ℕ) (e : Entity) (call : UserCall) → Sound e → first_due now e ≡ None → user_refusal e reference call ≡ None → IsCall call
@@ -73,6 +74,7 @@ pub record Followed (titles : List (List ℕ)) (timers : Timers) : Type 0 where
   pub ticks : AfterTick titles timers
   pub aside : AfterAside titles timers
   pub clock : AfterClock titles timers
+  pub restarts : AfterRestart titles timers
 
 -- ---- what floats
 

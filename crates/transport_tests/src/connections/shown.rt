@@ -42,6 +42,7 @@ fn show_what(alloc: Global, what: &What) -> Result<String, Fail> {
         What::Gone(cause, octets) => gone(alloc, *cause, &text(alloc, octets)?),
         What::BadTpdu(cause, place) => Ok(format!(in alloc; "badtpdu {cause:?} {place}")?),
         What::Unknown(kind) => Ok(format!(in alloc; "unknown {kind:?}")?),
+        What::Silent => Ok(format!(in alloc; "silent")?),
     }
 }
 

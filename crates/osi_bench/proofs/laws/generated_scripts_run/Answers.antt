@@ -1,4 +1,4 @@
-use Rattle.osi_bench.proofs.Captured.{generated_run}
+use Rattle.osi_bench.proofs.Generated.{generated_run}
 use Rattle.osi_bench.proofs.laws.generated_scripts_run.Goals as goal
 
 pub returns : goal.returns

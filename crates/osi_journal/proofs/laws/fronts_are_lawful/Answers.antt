@@ -4,7 +4,7 @@ use Rattle.osi_journal.specs.declared.event.Event.TheVariants as events
 use Rattle.osi_journal.proofs.laws.fronts_are_lawful.Goals as goal
 
 pub returns-clause-lawful : goal.returns-clause-lawful
-returns-clause-lawful c = λ titles front back lawful first rest is.
+returns-clause-lawful c = λ frozen titles front back lawful first rest is.
     lawful first (rest ++ back) (ap (λ (journal : List Event). journal ++ back) is ∙ append_assoc first rest back)
 
 pub returns-clause-raw : goal.returns-clause-raw

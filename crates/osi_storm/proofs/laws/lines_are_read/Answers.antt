@@ -3,7 +3,7 @@ use Rattle.osi_storm.proofs.EachLine.{are_read}
 use Rattle.osi_storm.proofs.laws.lines_are_read.Goals as goal
 
 pub returns-clause-read : goal.returns-clause-read
-returns-clause-read c words runs = are_read words runs
+returns-clause-read c dialect runs = are_read dialect runs
 
 pub returns-clause-some : goal.returns-clause-some
 returns-clause-some c = (refl, (refl, (refl, (refl, (refl, (refl, (refl, (refl, (refl, (refl, (refl, (refl, (refl, (refl, (refl, (refl, tt))))))))))))))))

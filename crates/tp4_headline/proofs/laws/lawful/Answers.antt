@@ -12,6 +12,7 @@ use Rattle.tp4_headline.proofs.WorldQuiet.{after_clock}
 use Rattle.tp4_headline.proofs.WorldStarts.{Histories, receives}
 use Rattle.tp4_headline.proofs.WorldSteps.{after_call, after_tick}
 use Rattle.tp4_headline.proofs.laws.lawful.Goals as goal
+use Rattle.tp4_headline.proofs.WorldRestarts.{after_restart}
 
 pub returns : goal.returns
 returns g c =
@@ -24,6 +25,7 @@ returns g c =
       ticks = after_tick titles timers (acts flowing titles timers);
       aside = after_aside titles timers;
       clock = after_clock flow.later titles timers;
+      restarts = after_restart titles timers;
     } in
     let histories : Histories = record { fit = c.times.ensures.fit; begins = c.journals_are_lawful.ensures.begins; lawful = c.journals_are_lawful.ensures.lawful } in
-    receives g.C.Carrier.link g.C.Carrier.steps g.met.C.Carrier.keeps c.whole_run.ensures.run followed one_unit AreProper AreInTime outcomes histories
+    receives g.C.Carrier.link g.C.Carrier.steps g.met.C.Carrier.keeps c.whole_run.ensures.run followed one_unit AreProper AreInTime outcomes histories c.silent.ensures

@@ -1,7 +1,7 @@
-use Rattle.std.proofs.Common.{◌≡◌, ◌+◌, List, ℕ, ◌∙◌, ap, refl}
+use Rattle.std.proofs.Common.{◌+◌, ℕ, ◌∙◌, ap}
 use Rattle.osi_storm.specs.Line.{set_up_lines}
-use Rattle.osi_bench.specs.Bench.{Bench}
-use Rattle.osi_bench.proofs.Storming.{IsAt, all_left, fills_texts, first_stands, goes_all, goes_texts, is_at, journal_on, known_at, left_at, left_first, none_goes, ready_all}
+use Rattle.law_run.specs.Bench.{Bench}
+use Rattle.osi_bench.proofs.Storming.{IsAt, fills_texts, first_stands, goes_all, goes_texts, is_at, journal_on, known_at, left_at, left_first, none_goes, ready_all}
 use Rattle.osi_bench.proofs.storm.Rig.run_set_up.Goals as goal
 
 pub loop-line-init : goal.loop-line-init

@@ -1,4 +1,4 @@
-use Rattle.std.proofs.Common.{◌≡◌, ◌+◌, ◌++◌, ◌∷◌, [], List, ℕ, length, map, sym, ◌∙◌, ap, refl}
+use Rattle.std.proofs.Common.{◌≡◌, ◌+◌, ◌++◌, ◌∷◌, [], List, ℕ, length, map, sym, ◌∙◌, ap}
 use Rattle.osi_storm.specs.Line.{line_text}
 use Rattle.osi_storm.specs.Words.{generator_of, words}
 use Rattle.rand_pcg.specs.Pcg.{pcg32}

@@ -1,51 +1,10 @@
-use Rattle.std.proofs.Common.{ℕ, subst, sym, arith}
+use Rattle.std.proofs.Common.{◌∙◌, sym}
 use Rattle.std.proofs.lemmas.Result.{on_ok_weaker}
-use Rattle.tpdu.specs.Values.{seen}
-use Rattle.tp4_entity.specs.Dues.{AreFrom}
-use Rattle.tp4_entity.specs.Entity.{Entity}
-use Rattle.tp4_entity.specs.Unit.{extended_of}
-use Rattle.tp4_entity.specs.steps.Heard.{Heard}
-use Rattle.tp4_entity.specs.steps.Places.{Lasts}
-use Rattle.tpdu.proofs.Allowed.{first_is_allowed}
-use Rattle.tp4_entity.proofs.Dues.{lasts_then}
-use Rattle.tp4_entity.proofs.Units.{heard_all, heard_fault, heard_more, heard_none, none_left, shorter, some_left}
+use Rattle.tp4_entity.proofs.Hearings.{ignores}
 use Rattle.tp4_entity.proofs.entity.TpEntity.on_unit.Goals as goal
 
-pub loop-rest-init : goal.loop-rest-init
-loop-rest-init c = (
-  subst (λ (e : Entity). Heard c.args.now c.args.self.now c.args.from c.args.octets.now c.args.octets.now e c.args.out.now c.args.out.now) (sym c.wake.ensures)
-      (heard_none c.args.now c.args.self.now c.args.from c.args.octets.now c.args.out.now),
-  subst (λ (e : Entity). Lasts c.args.now c.args.self.now.ends e.ends) (sym c.wake.ensures) (c.requires.due, λ h. h),
-)
-
-pub returns-in-Err-clause-heard : goal.returns-in-Err-clause-heard
-returns-in-Err-clause-heard c =
-    on_ok_weaker c.tell.result
-    (λ told. heard_fault c.args.now c.args.self.now c.loop-rest.self c.args.from c.args.octets.now c.loop-rest.rest.now c.in-Err.fault c.args.out.now c.loop-rest.out c.tell.new.out c.loop-rest.invariant.0
-    (some_left c.loop-rest.rest.now c.loop-rest-test.ensures) c.in-Err.ensures.fault told)
-    c.tell.ensures
-
-pub meet-requires-clause-now : goal.meet-requires-clause-now
-meet-requires-clause-now c = let clock = c.loop-rest.invariant.0.clock in omega (arith, clock, c.requires.now)
-
-pub meet-requires-clause-allowed : goal.meet-requires-clause-allowed
-meet-requires-clause-allowed c = first_is_allowed (extended_of c.loop-rest.self) c.loop-rest.rest.now c.in-Ok.found.1.now (seen c.in-Ok.found.0) c.in-Ok.ensures.ok
-
-pub loop-rest-smaller : goal.loop-rest-smaller
-loop-rest-smaller c = shorter (extended_of c.loop-rest.self) c.loop-rest.rest.now c.in-Ok.found.1.now (seen c.in-Ok.found.0) c.in-Ok.ensures.ok
-
-pub loop-rest-preserved : goal.loop-rest-preserved
-loop-rest-preserved c = (
-  heard_more c.args.now c.args.self.now c.loop-rest.self c.meet.new.self c.args.from c.args.octets.now c.loop-rest.rest.now c.in-Ok.found.1.now (seen c.in-Ok.found.0) c.args.out.now c.loop-rest.out
-      c.meet.new.out c.loop-rest.invariant.0 (some_left c.loop-rest.rest.now c.loop-rest-test.ensures) c.in-Ok.ensures.ok c.in_ok-meet.ensures.step c.meet.ensures.clock,
-  lasts_then c.args.now c.args.self.now.ends c.loop-rest.self.ends c.meet.new.self.ends c.loop-rest.invariant.1
-      (subst (λ (n : ℕ). Lasts n c.loop-rest.self.ends c.meet.new.self.ends) c.loop-rest.invariant.0.clock c.in_ok-meet.ensures.lasts),
-)
-
-pub meet-requires-clause-due : goal.meet-requires-clause-due
-meet-requires-clause-due c = subst (λ (n : ℕ). AreFrom n c.loop-rest.self.ends) (sym c.loop-rest.invariant.0.clock) c.loop-rest.invariant.1.0
-
-pub returns-clause-heard : goal.returns-clause-heard
-returns-clause-heard c =
-    heard_all c.args.now c.args.self.now c.loop-rest.self c.args.from c.args.octets.now c.loop-rest.rest.now c.args.out.now c.loop-rest.out c.loop-rest.invariant.0
-    (none_left c.loop-rest.rest.now c.loop-rest-test.ensures)
+pub returns-then-is_silent-clause-takes : goal.returns-then-is_silent-clause-takes
+returns-then-is_silent-clause-takes c =
+    on_ok_weaker c.ignore.result
+    (λ told. ignores c.args.now c.args.self.now c.wake.new.self c.args.from c.args.octets.now c.args.out.now c.ignore.new.out (sym c.is_silent.ensures ∙ c.if-is_silent.true) c.wake.ensures told)
+    c.ignore.ensures

@@ -1,0 +1,16 @@
+pub mod Answer
+pub mod Arrivals
+pub mod Checks
+pub mod FaultOrder
+pub mod Hearings
+pub mod Journals
+pub mod OneRun
+pub mod Parts
+pub mod ReadLaws
+pub mod Runs
+pub mod Shown
+pub mod SomeRun
+pub mod Standing
+pub mod Taking
+pub mod Units
+pub mod Written

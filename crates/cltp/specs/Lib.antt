@@ -1,0 +1,12 @@
+pub mod Faults
+pub mod Hearing
+pub mod Lawful
+pub mod Laws
+pub mod Parameters
+pub mod Run
+pub mod Sending
+pub mod Systems
+pub mod Total
+pub mod Ud
+pub mod Writing
+pub mod steps

@@ -1,0 +1,3 @@
+mod Heard
+mod Ran
+mod Sent

@@ -1,0 +1,4 @@
+pub mod Claims
+pub mod Datagrams
+pub mod Users
+pub mod steps

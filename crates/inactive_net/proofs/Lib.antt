@@ -1,0 +1,4 @@
+mod Calls
+mod Longest
+mod Passed
+mod Strays

@@ -1,0 +1,2 @@
+-- What only carries the proof.
+pub mod Reading

@@ -1,0 +1,4 @@
+pub mod Found
+pub mod Kept
+pub mod Seen
+pub mod Young

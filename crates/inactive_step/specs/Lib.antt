@@ -1,0 +1,6 @@
+pub mod Frames
+pub mod Laws
+pub mod Network
+pub mod Rows
+pub mod Sound
+pub mod Step

@@ -1,0 +1,5 @@
+pub mod Bench
+pub mod Calm
+pub mod Transcript
+pub mod World
+pub mod steps

@@ -1,5 +1,0 @@
-use Rattle.osi_bench.proofs.Calm.{serves}
-use Rattle.osi_bench.proofs.laws.calm_scripts_are_served.Goals as goal
-
-pub returns : goal.returns
-returns c = serves c.whole_run.ensures.run c.whole_run.ensures.whole

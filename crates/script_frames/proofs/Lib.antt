@@ -1,0 +1,7 @@
+mod Captured
+mod Capturing
+mod Framing
+mod ToldFrames
+mod ToldLines
+mod ToldNet
+mod ToldSystems

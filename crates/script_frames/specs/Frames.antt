@@ -1,0 +1,177 @@
+-- The capture of a script: the frames that its lines make.
+use Rattle.std.specs.Prelude.{◌≡◌, ◌≢◌, ◌⊎◌, ℕ, ◌+◌, ◌≤◌, List, [], ◌∷◌, ◌++◌, Option, Some, None, length, drop, take, map, flat_map}
+use Rattle.std.specs.List.{AllByRecursion, count_by}
+use Rattle.osi_base.specs.declared.status.Status.{Status}
+use Rattle.osi_base.specs.declared.status.Status.TheVariants.{Done, RefusedLine, RefusedWords, ReadFault, WriteFault, NoMemory, RefusedCapture, TooMuch}
+use Rattle.lan_frame.specs.Frame.{whole_frame}
+use Rattle.lan_bag.specs.Bag.{Bag}
+use Rattle.lan_bag.specs.Frames.{Frame}
+use Rattle.frame_capture.specs.Written.{IsWritable, SentFrame, capture_of, record_of, records_octets}
+use Rattle.line_loop.specs.Course.{Runs, IsRead, IsWhole, IsTooMuch, IsTooMuchAtEnd, IsRefusedAt, IsRefusedAtEnd}
+use Rattle.line_loop.specs.Limits.{most_octets, most_read}
+use Rattle.line_loop.specs.Meaning.{Meaning}
+use Rattle.line_loop.specs.Writing.{IsPrefix}
+use Rattle.osi_capture.specs.Capture.{IsCapture}
+use Rattle.osi_capture.specs.Course.{Finishes}
+use Rattle.osi_capture.specs.Show.{Shows, done_line}
+use Rattle.osi_script.specs.declared.fault.LineFault.{LineFault}
+use Rattle.osi_script.specs.declared.fault.LineCause.TheVariants as causes
+use Rattle.osi_script.specs.Grammar.{fault}
+use Rattle.osi_journal.specs.RawLawful.{clock_after}
+use Rattle.osi_journal.specs.declared.event.Event.{Event}
+use Rattle.osi_journal.specs.declared.event.Event.TheVariants as events
+use Rattle.osi_storm.specs.Counted.{is_frame}
+use Rattle.law_run.specs.Bench.{Bench, RunsLine, RefusesLine, FillsJournal, bench_meaning, first_bench}
+use Rattle.law_run.specs.Transcript.{ShowsSent, ShowsSilence, ShowsWhatWasSubmitted}
+use Rattle.law_run.specs.World.{World}
+use Rattle.script_world.specs.declared.play.World.TheVariants.{SettingUp, Running}
+
+-- the LANs of a network that runs
+abbrev pub bag_of : World → Option Bag
+bag_of (SettingUp setup) = None
+bag_of (Running run) = Some run.ends.carrier.link
+
+-- the frames by their numbers, and nothing for one that is late
+abbrev pub slots_of : World → List (Option Frame)
+slots_of (SettingUp setup) = []
+slots_of (Running run) = run.ends.carrier.link.frames
+
+-- a frame as it stands on its LAN, and the tick at which it was sent
+abbrev pub sent_of : Option Frame → List SentFrame
+sent_of None = []
+sent_of (Some frame) = record { tick = frame.tick; octets = whole_frame frame.unit.to.snpa frame.unit.from.snpa frame.unit.octets } ∷ []
+
+abbrev pub sent_in : List (Option Frame) → List SentFrame
+sent_in slots = flat_map sent_of slots
+
+-- the frames that were numbered after those of the network before
+abbrev pub new_slots : World → World → List (Option Frame)
+new_slots old new = drop (length (slots_of old)) (slots_of new)
+
+-- the frames of a line: those that the network after it has, each of them short and early enough for a capture
+pub record AreMade (slots : List (Option Frame)) (frames : List SentFrame) : Type 0 where
+  pub are : frames ≡ sent_in slots
+  pub fit : AllByRecursion IsWritable frames
+
+-- a line is run, and makes these frames
+pub record MakesFrames (old : Bench) (octets : List ℕ) (frames : List SentFrame) (new : Bench) : Type 0 where
+  pub made : List Event
+  pub runs : RunsLine old octets made new
+  pub frames_are : AreMade (new_slots old.world new.world) frames
+
+-- the journal has no room for all events of a line: these are as many of its frames as were told
+pub record FillsWithFrames (old : Bench) (octets : List ℕ) (frames : List SentFrame) (new : Bench) : Type 0 where
+  pub made : List Event
+  pub fills : FillsJournal old octets made new
+  pub frames_are : AreMade (take (count_by is_frame made) (new_slots old.world new.world)) frames
+
+-- the bench, where lines are told by the frames that they make, and nothing closes what is told
+abbrev pub frames_meaning : Meaning Bench SentFrame LineFault
+frames_meaning = record {
+  step = MakesFrames;
+  refuses = RefusesLine;
+  fills = FillsWithFrames;
+  too_long = λ bench. fault causes.Long 40001;
+  text = λ bench frames. records_octets frames;
+  tells = λ bench frames. Unit {0};
+  lines = λ bench. bench.lines;
+  done = λ bench. [];
+  refused = λ bench line found. [];
+  too_much = λ bench. [];
+}
+
+-- the capture that octets ask for, by how the run ends: that of all frames of the lines that ran, with ReadFault of their whole lines
+-- alone. `end` says that the input ends after them
+abbrev pub AsksCapture : Type 0 → List ℕ → List ℕ → Status → Type 0
+AsksCapture end read capture Done = (frames : List SentFrame) × (last : Bench) × end × IsWhole frames_meaning first_bench read frames last
+    × (capture ≡ capture_of frames)
+AsksCapture end read capture RefusedLine = (line : ℕ) × (said : LineFault) × (frames : List SentFrame) × (last : Bench)
+    × (IsRefusedAt frames_meaning first_bench read line said frames last ⊎ (end × IsRefusedAtEnd frames_meaning first_bench read line said frames last))
+    × (capture ≡ capture_of frames)
+AsksCapture end read capture TooMuch = (frames : List SentFrame) × (last : Bench)
+    × (IsTooMuch frames_meaning first_bench read frames last ⊎ (end × IsTooMuchAtEnd frames_meaning first_bench read frames last))
+    × (capture ≡ capture_of frames)
+AsksCapture end read capture ReadFault = (frames : List SentFrame) × (last : Bench) × IsRead frames_meaning first_bench read frames last
+    × (capture ≡ capture_of frames)
+AsksCapture end read capture WriteFault = ⊥
+AsksCapture end read capture NoMemory = ⊥
+AsksCapture end read capture RefusedWords = ⊥
+AsksCapture end read capture RefusedCapture = ⊥
+
+-- all octets of an input ask for this capture and this status, which is no failure
+abbrev pub AsksForCapture : List ℕ → List ℕ → Status → Type 0
+AsksForCapture all capture status = (status ≢ ReadFault) × AsksCapture (Unit {0}) all capture status
+
+-- a front of the capture that a front of the octets asks for; the input ends there only where it is all of them
+pub record IsCutCapture (end : Type 0) (read written : List ℕ) : Type 0 where
+  pub front : List ℕ
+  pub capture : List ℕ
+  pub status : Status
+  pub begins : IsPrefix front read
+  pub asked : AsksCapture ((front ≡ read) × end) front capture status
+  pub cut : IsPrefix written capture
+
+-- what was written is the capture that the octets read ask for, or where a write or memory failed a front of one
+abbrev pub CaptureOutcome : Type 0 → List ℕ → List ℕ → Status → Type 0
+CaptureOutcome end read written Done = AsksCapture end read written Done
+CaptureOutcome end read written RefusedLine = AsksCapture end read written RefusedLine
+CaptureOutcome end read written TooMuch = AsksCapture end read written TooMuch
+CaptureOutcome end read written ReadFault = AsksCapture end read written ReadFault
+CaptureOutcome end read written WriteFault = IsCutCapture end read written
+CaptureOutcome end read written NoMemory = IsCutCapture end read written
+CaptureOutcome end read written RefusedWords = ⊥
+CaptureOutcome end read written RefusedCapture = ⊥
+
+-- of the octets read, what was written is told as the status says; whatever part of them was run, each raw unit that is shown was sent, and
+-- each end shows what its partner submitted, unless a frame was injected; a system that began again is silent; and no more was read than an input may have, and one read more
+pub record IsFramesRun (end : Type 0) (read written : List ℕ) (status : Status) : Type 0 where
+  pub outcome : CaptureOutcome end read written status
+  pub sent : ShowsSent read
+  pub lawful : ShowsWhatWasSubmitted read
+  pub silent : ShowsSilence read
+  pub within : length read ≤ most_octets + most_read
+
+-- a frame that a `frame` event tells: the tick at which the event stands, the number, the SNPA that it goes to, and its octets in all
+pub record ToldFrame : Type 0 where
+  pub tick : ℕ
+  pub number : ℕ
+  pub snpa : List ℕ
+  pub size : ℕ
+
+-- by an event at that tick
+abbrev pub told_by : ℕ → Event → List ToldFrame
+told_by now (events.Frame number lan system snpa size) = record { tick = now; number = number; snpa = snpa; size = size } ∷ []
+told_by now event = []
+
+-- the frames that events tell, in order, from a tick on
+abbrev pub told_from : ℕ → List Event → List ToldFrame
+told_from now [] = []
+told_from now (event ∷ journal) = told_by now event ++ told_from (clock_after now event) journal
+
+-- the frame was sent at that tick to that SNPA, and is whole; its PDU stands behind 17 octets
+pub record IsTold (number : ℕ) (told : ToldFrame) (frame : SentFrame) : Type 0 where
+  pub number_is : told.number ≡ number
+  pub tick : frame.tick ≡ told.tick
+  pub from : List ℕ
+  pub pdu : List ℕ
+  pub octets : frame.octets ≡ whole_frame told.snpa from pdu
+  pub size : told.size ≡ length pdu + 17
+
+-- the frames are those that were told, one for one and in order, numbered on from there
+abbrev pub AreTold : ℕ → List ToldFrame → List SentFrame → Type 0
+AreTold number [] [] = Unit {0}
+AreTold number [] (frame ∷ frames) = ⊥
+AreTold number (told ∷ others) [] = ⊥
+AreTold number (told ∷ others) (frame ∷ frames) = IsTold number told frame × AreTold (number + 1) others frames
+
+-- the frames of lines are those of one journal of these lines, one for each `frame` event, in order; and what is written of them is a capture, whose
+-- records they are, and of which `decode` shows them
+pub record IsFramesOf (texts : List (List ℕ)) (frames : List SentFrame) (last : Bench) : Type 0 where
+  pub journal : List Event
+  pub runs : Runs bench_meaning first_bench texts journal last
+  pub told : AreTold 1 (told_from 0 journal) frames
+  pub capture : IsCapture (capture_of frames) (map record_of frames)
+  pub decoded : (lines : List ℕ) → Shows (map record_of frames) lines → Finishes (capture_of frames) (lines ++ done_line)
+
+abbrev pub MakesCaptures : Type 0
+MakesCaptures = (texts : List (List ℕ)) (frames : List SentFrame) (last : Bench) → Runs frames_meaning first_bench texts frames last → IsFramesOf texts frames last

@@ -1,0 +1,4 @@
+pub mod Ends
+pub mod Headline
+pub mod Ran
+pub mod Went
