@@ -26,11 +26,11 @@ use Rattle.clnp_system.specs.Node.{Frame, Node, Reaction}
 use Rattle.clnp_system.specs.Tables.{Tables, rows_tables}
 use Rattle.clnp_system.specs.Ticking.{NodeTicks}
 use Rattle.clnp_system.proofs.Arriving.{stored_is}
-use Rattle.clnp_step.specs.Handling.{Changes, Handles, IsReceived, Nobody, OffersFrame, OffersFrames, Somebody, TicksAll, is_system, notes_of}
-use Rattle.clnp_step.specs.Network.{Network}
-use Rattle.clnp_step.specs.Sound.{IsTimely}
-use Rattle.clnp_step.specs.Step.{Arrives, Begins, IsDropped, IsNobodys, IsTaken, NetOffers, NetTicks, counted, is_source, strays_in}
-use Rattle.clnp_step.proofs.Lists.{all_back, all_both, all_front, all_weaker}
+use Rattle.law_clnp_step.specs.Handling.{Changes, Handles, IsReceived, Nobody, OffersFrame, OffersFrames, Somebody, TicksAll, is_system, notes_of}
+use Rattle.law_clnp_step.specs.Network.{Network}
+use Rattle.law_clnp_step.specs.Sound.{IsTimely}
+use Rattle.law_clnp_step.specs.Step.{Arrives, Begins, IsDropped, IsNobodys, IsTaken, NetOffers, NetTicks, counted, is_source, strays_in}
+use Rattle.law_clnp_step.proofs.Lists.{all_back, all_both, all_front, all_weaker}
 use Rattle.clnp_net.specs.steps.Telling.{AreBehind, DropsUnit, HandsOut, IsSourceAt, Passes, Reacts, ReceivesAt, SendsAt, SendsFrom, Tells, TicksAt}
 use Rattle.clnp_net.proofs.Places.{first_at, none_there, parts}
 

@@ -6,7 +6,7 @@ use Rattle.osi_base.specs.declared.unit.Up.TheVariants.{Unit as Came, Note as No
 use Rattle.osi_base.specs.Link.{Link}
 use Rattle.osi_base.specs.Calls.{Call, NextUp, TakesUp}
 use Rattle.osi_base.proofs.Gatherings.{Gathering, gathered, gathering_next}
-use Rattle.clnp_step.specs.Handling.{notes_of}
+use Rattle.law_clnp_step.specs.Handling.{notes_of}
 use Rattle.clnp_net.specs.steps.Telling.{Passes, note_in}
 
 -- so far these were taken up, and their notes told

@@ -10,7 +10,7 @@ use Rattle.osi_base.proofs.Standings.{stands_next, stands_on}
 use Rattle.esis_tables.specs.Rows.{Rows}
 use Rattle.clnp_system.specs.Node.{Node}
 use Rattle.clnp_system.specs.Tables.{rows_tables}
-use Rattle.clnp_step.specs.Handling.{Handles}
+use Rattle.law_clnp_step.specs.Handling.{Handles}
 use Rattle.clnp_net.specs.steps.Telling.{HandlesWaiting, Tells}
 use Rattle.clnp_net.proofs.Parts.{tells_none, tells_on}
 

@@ -2,7 +2,7 @@
 
 ghost use Rattle.std.specs.Prelude.{◌≡◌, ◌++◌, OnOk};
 ghost use Rattle.clnp_net.specs.steps.Telling.{Passes, Tells, note_in};
-ghost use Rattle.clnp_step.specs.Handling.{OffersFrame, OffersFrames, drop_note};
+ghost use Rattle.law_clnp_step.specs.Handling.{OffersFrame, OffersFrames, drop_note};
 
 use nsap::{Nsap, Port};
 use osi_base::{Carrier, NoMemory, Note, Offered, Unit, Up, Wish};

@@ -5,8 +5,8 @@ ghost use Rattle.osi_base.specs.declared.unit.Up.{Up};
 ghost use Rattle.osi_base.specs.declared.unit.Up.TheVariants.{Unit as Came};
 ghost use Rattle.clnp_system.specs.Node.{reaction_of};
 ghost use Rattle.clnp_system.specs.Tables.{rows_tables};
-ghost use Rattle.clnp_step.specs.Handling.{Handles, TicksAll};
-ghost use Rattle.clnp_step.specs.Step.{counted, strays_in};
+ghost use Rattle.law_clnp_step.specs.Handling.{Handles, TicksAll};
+ghost use Rattle.law_clnp_step.specs.Step.{counted, strays_in};
 ghost use Rattle.clnp_net.specs.steps.Telling.{AreBehind, HandlesWaiting, HandsOut, Reacts, Tells};
 
 use crate::afloat::Afloat;
@@ -47,8 +47,8 @@ pub struct ClnpNet<C: Carrier<Addr = Port> + Drop> {
 impl<C: Carrier<Addr = Port> + Drop> Model for ClnpNet<C> {
     ghost use Rattle.std.specs.Prelude.{◌≡◌, false};
     ghost use Rattle.esis_tables.specs.Rows.{Rows};
-    ghost use Rattle.clnp_step.specs.Network.{Network};
-    ghost use Rattle.clnp_step.specs.Sound.{IsSound};
+    ghost use Rattle.law_clnp_step.specs.Network.{Network};
+    ghost use Rattle.law_clnp_step.specs.Sound.{IsSound};
 
     ghost Value = { Network C Rows };
 
@@ -61,8 +61,8 @@ impl<C: Carrier<Addr = Port> + Drop> Model for ClnpNet<C> {
 impl<C: Carrier<Addr = Port> + Drop> ClnpNet<C> {
     ghost use Rattle.std.specs.List.{AllByRecursion};
     ghost use Rattle.osi_base.specs.Calls.{Offer, Choose, Inject, NextUp, Tick as OneTick};
-    ghost use Rattle.clnp_step.specs.Sound.{IsNew, IsPeopled, settings_of};
-    ghost use Rattle.clnp_step.specs.Step.{Begins, NetStep};
+    ghost use Rattle.law_clnp_step.specs.Sound.{IsNew, IsPeopled, settings_of};
+    ghost use Rattle.law_clnp_step.specs.Step.{Begins, NetStep};
 
     /// These systems over a carrier in which nothing floats or waits, at tick 0. Their first hellos are sent, and the notes wait.
     pub fn new(
@@ -215,9 +215,9 @@ impl<C: Carrier<Addr = Port> + Drop> Carrier for ClnpNet<C> {
     ghost use Rattle.std.specs.Prelude.{IfOk};
     ghost use Rattle.osi_base.specs.Calls.{Offers, Injects, Offer, Inject};
     ghost use Rattle.clnp_system.specs.Tables.{rows_tables};
-    ghost use Rattle.clnp_step.specs.Network.{net_link};
-    ghost use Rattle.clnp_step.specs.Step.{NetStep};
-    ghost use Rattle.clnp_step.proofs.Kept.{net_given, net_keeps};
+    ghost use Rattle.law_clnp_step.specs.Network.{net_link};
+    ghost use Rattle.law_clnp_step.specs.Step.{NetStep};
+    ghost use Rattle.law_clnp_step.proofs.Kept.{net_given, net_keeps};
 
     type Addr = Nsap;
 

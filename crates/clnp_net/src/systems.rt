@@ -4,8 +4,8 @@ ghost use Rattle.std.specs.Prelude.{◌≡◌, ◌<◌, ◌≤◌, IfOk, length}
 ghost use Rattle.std.specs.List.{position};
 ghost use Rattle.clnp_system.specs.Node.{reaction_of, sent_of};
 ghost use Rattle.clnp_system.specs.Tables.{rows_tables};
-ghost use Rattle.clnp_step.specs.Handling.{IsReceived, is_system};
-ghost use Rattle.clnp_step.specs.Step.{is_source};
+ghost use Rattle.law_clnp_step.specs.Handling.{IsReceived, is_system};
+ghost use Rattle.law_clnp_step.specs.Step.{is_source};
 ghost use Rattle.clnp_net.specs.steps.Telling.{AreBehind, IsSentBy, IsSourceAt, ReceivesAt, SendsAt, TicksAt};
 
 use clnp_entity::{Handled, NetEntity, NetSent};

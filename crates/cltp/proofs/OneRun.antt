@@ -11,7 +11,7 @@ use Rattle.osi_base.specs.Link.{Link, IsLeastFresh, is_fresh}
 use Rattle.osi_base.specs.Calls.{Call, Offer, Choose, Tick}
 use Rattle.osi_journal.specs.declared.cause.Settled.{Settled}
 use Rattle.osi_journal.specs.declared.cause.Settled.TheVariants as settled
-use Rattle.carrier_answers.specs.Answers.{OneStep, OneGathering, asked_of, Offering}
+use Rattle.law_carrier_answers.specs.Answers.{OneStep, OneGathering, asked_of, Offering}
 use Rattle.net_world.specs.Told.{told, picked_event}
 use Rattle.osi_journal.specs.declared.event.Event.{Event}
 use Rattle.osi_journal.specs.declared.event.Event.TheVariants as events

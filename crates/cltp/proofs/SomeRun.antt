@@ -17,8 +17,8 @@ use Rattle.osi_base.specs.Calls.{Call, Offer, Choose, Inject, Keeps, NextUp, Tic
 use Rattle.osi_journal.specs.declared.cause.Refused.TheVariants.{TooLong}
 use Rattle.osi_journal.specs.declared.cause.Settled.{Settled}
 use Rattle.osi_journal.specs.declared.cause.Settled.TheVariants as settled
-use Rattle.carrier_answers.specs.Answers.{AreOctets, CanBeAsked, Choosing, MayBeOffered, Offering, Ticking, asked_of}
-use Rattle.carrier_answers.proofs.Gatherings.{some_gathering}
+use Rattle.law_carrier_answers.specs.Answers.{AreOctets, CanBeAsked, Choosing, MayBeOffered, Offering, Ticking, asked_of}
+use Rattle.law_carrier_answers.proofs.Gatherings.{some_gathering}
 use Rattle.net_world.specs.Told.{told, picked_event}
 use Rattle.osi_journal.specs.declared.event.Event.{Event}
 use Rattle.osi_journal.specs.declared.event.Event.TheVariants as events

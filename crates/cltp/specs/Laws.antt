@@ -4,7 +4,7 @@ use Rattle.std.specs.List.{All}
 use Rattle.osi_base.specs.declared.unit.Arrival.{Arrival}
 use Rattle.osi_base.specs.Link.{Link, IsNote}
 use Rattle.osi_base.specs.Calls.{Call}
-use Rattle.carrier_answers.specs.Answers.{OneStep}
+use Rattle.law_carrier_answers.specs.Answers.{OneStep}
 use Rattle.osi_journal.specs.declared.event.Event.{Event}
 use Rattle.cltp.specs.declared.system.ClSystem.{ClSystem}
 use Rattle.cltp.specs.Hearing.{Hears}

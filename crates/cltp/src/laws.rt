@@ -47,14 +47,14 @@ pub fn shows_sent<C: Carrier<Addr = Nsap>>()
 pub fn one_run<C: Carrier<Addr = Nsap>>()
     ensures { OneRun C.link C.steps }
 {
-    carrier_answers::one_gathering::<C>();
+    law_carrier_answers::one_gathering::<C>();
 }
 
 /// So has the start.
 pub fn one_start<C: Carrier<Addr = Nsap>>()
     ensures { OneStart C.link C.steps }
 {
-    carrier_answers::one_gathering::<C>();
+    law_carrier_answers::one_gathering::<C>();
 }
 
 /// A call that may be asked has a list of events, where the carrier answers all that it may be asked and the least pair that can be taken

@@ -10,9 +10,9 @@ use Rattle.lan_bag.specs.Bag.{BagStep, link_of, new_bag}
 use Rattle.esis_tables.specs.Rows.{Rows}
 use Rattle.clnp_system.specs.Node.{Node}
 use Rattle.clnp_system.specs.Tables.{rows_tables}
-use Rattle.clnp_step.specs.Step.{Begins}
-use Rattle.clnp_calm.specs.Laws.{WaitsIn}
-use Rattle.clnp_calm.proofs.Carried.{begins_empty, is_fifo}
+use Rattle.law_clnp_step.specs.Step.{Begins}
+use Rattle.law_clnp_fifo.specs.Laws.{WaitsIn}
+use Rattle.law_clnp_fifo.proofs.Carried.{begins_empty, is_fifo}
 use Rattle.net_world.specs.Fifo.{IsFifo}
 use Rattle.net_world.specs.Told.{told}
 use Rattle.tp4_number.specs.Number.{whole, wire}
@@ -24,24 +24,24 @@ use Rattle.osi_script.specs.Grammar.{line_read}
 use Rattle.osi_script.specs.Known.{Declared}
 use Rattle.osi_script.specs.Script.{Says}
 use Rattle.osi_journal.specs.Lawful.{AreEnds}
-use Rattle.tp4_history.specs.Journals.{IsAside}
-use Rattle.tp4_calm.specs.Claim.{AllShown, IsUndropped}
-use Rattle.tp4_headline.proofs.WorldAsides.{AreQuiet, are_aside, told_quiet}
+use Rattle.law_tp4_history.specs.Journals.{IsAside}
+use Rattle.law_tp4_pair.specs.Claim.{AllShown, IsUndropped}
+use Rattle.law_tp4_lawful.proofs.WorldAsides.{AreQuiet, are_aside, told_quiet}
 use Rattle.tp4_entity.specs.Entity.{Entity}
-use Rattle.tp4_headline.specs.Headline.{IsProperLine}
+use Rattle.law_tp4_lawful.specs.Headline.{IsProperLine}
 use Rattle.tp4_world.specs.Laws.{WholeLine, WholeRun}
 use Rattle.tp4_world.specs.Run.{RunsLine, RunsLines}
 use Rattle.tp4_world.specs.World.{entity_at}
-use Rattle.calm_world.specs.Run.{HaveEntities, IsCalmRun, IsStart}
-use Rattle.calm_world.specs.Service.{end_at_number}
-use Rattle.calm_world.proofs.Indicating.{all_indicated}
-use Rattle.calm_world.proofs.Queueing.{all_parts, none_dropped}
-use Rattle.calm_pairs.proofs.Accepting.{all_confirmed}
-use Rattle.calm_pairs.proofs.Ending.{all_have_pairs}
-use Rattle.calm_pairs.specs.Pairs.{ShowAll}
-use Rattle.tp4_calm.proofs.ShownIn.{claims}
-use Rattle.calm_pairs.proofs.Wired.{indicated_on_wire}
-use Rattle.calm_pairs.proofs.WiredEnds.{confirmed_on_wire, shown_on_wire}
+use Rattle.law_calm_run.specs.Run.{HaveEntities, IsCalmRun, IsStart}
+use Rattle.law_calm_run.specs.Service.{end_at_number}
+use Rattle.law_calm_run.proofs.Indicating.{all_indicated}
+use Rattle.law_calm_run.proofs.Queueing.{all_parts, none_dropped}
+use Rattle.law_calm_service.proofs.Accepting.{all_confirmed}
+use Rattle.law_calm_service.proofs.Ending.{all_have_pairs}
+use Rattle.law_calm_service.specs.Pairs.{ShowAll}
+use Rattle.law_tp4_pair.proofs.ShownIn.{claims}
+use Rattle.law_calm_service.proofs.Wired.{indicated_on_wire}
+use Rattle.law_calm_service.proofs.WiredEnds.{confirmed_on_wire, shown_on_wire}
 use Rattle.osi_setup.specs.Fitting.{IsWell}
 use Rattle.osi_setup.specs.SetUp.{SetUp, entities_of, timers_of, titles_of as titles_said}
 use Rattle.osi_setup.proofs.Entities.{are_timed}

@@ -9,7 +9,7 @@ use Rattle.osi_script.specs.declared.settings.Key.{Key}
 use Rattle.osi_script.specs.declared.settings.Key.TheVariants as keys
 use Rattle.osi_script.specs.declared.line.Line.{Line}
 use Rattle.osi_script.specs.declared.line.Line.TheVariants as lines
-use Rattle.tp4_calm.specs.Calm.{end_systems, intermediate_systems, lans}
+use Rattle.law_tp4_pair.specs.Calm.{end_systems, intermediate_systems, lans}
 use Rattle.osi_setup.specs.SetUp.{System, SetUp, hop_to, routed, selected, set_up, titles_of, with_route, with_selector, with_time}
 use Rattle.osi_setup.specs.Fitting.{Fits}
 use Rattle.osi_setup.proofs.Elements.{push}

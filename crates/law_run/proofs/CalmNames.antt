@@ -10,7 +10,7 @@ use Rattle.osi_script.specs.Grammar.{Reading, declared_by, line_for, new_system,
 use Rattle.osi_script.specs.Known.{Declared, KnownSystem, changed, end_of as end_of_known, with_changed}
 use Rattle.osi_script.specs.Names.{AreIntermediateSystems, NamesDeclared}
 use Rattle.osi_script.specs.Table.{row_of}
-use Rattle.tp4_calm.specs.Calm.{intermediate_systems}
+use Rattle.law_tp4_pair.specs.Calm.{intermediate_systems}
 use Rattle.osi_setup.specs.Fitting.{Fits}
 use Rattle.osi_setup.specs.SetUp.{SetUp}
 use Rattle.osi_setup.proofs.Elements.{push, set_each}

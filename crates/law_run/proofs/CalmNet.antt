@@ -17,10 +17,10 @@ use Rattle.clnp_route.proofs.Prefixes.{next_found, one_hop}
 use Rattle.esis_tables.specs.Rows.{no_rows}
 use Rattle.clnp_system.specs.Node.{fresh_node}
 use Rattle.clnp_system.specs.Setting.{Setting, is_group}
-use Rattle.clnp_calm.specs.Calm.{AreBoth, IsCalmNet, end_row}
+use Rattle.law_clnp_fifo.specs.Calm.{AreBoth, IsCalmNet, end_row}
 use Rattle.osi_script.specs.declared.line.Line.{Line}
 use Rattle.osi_script.specs.declared.line.Line.TheVariants as lines
-use Rattle.tp4_calm.specs.Calm.{IsOneLan, IsRouted}
+use Rattle.law_tp4_pair.specs.Calm.{IsOneLan, IsRouted}
 use Rattle.osi_setup.specs.SetUp.{System, SetUp, end_at, nodes_from, nodes_of, nothing_said, ports_at, rows_at, setting_of, titles_of}
 use Rattle.osi_setup.specs.Fitting.{AreTitlesApart, IsWell}
 use Rattle.osi_setup.proofs.Elements.{each}

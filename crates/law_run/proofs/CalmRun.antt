@@ -10,8 +10,8 @@ use Rattle.osi_script.specs.Known.{Declared, nothing_declared}
 use Rattle.osi_script.specs.Names.{NamesDeclared}
 use Rattle.osi_script.specs.Script.{Says}
 use Rattle.osi_script.proofs.LineNames.{line_named}
-use Rattle.tp4_calm.specs.Calm.{IsCalmScript, IsSettled, intermediate_systems}
-use Rattle.calm_world.specs.Run.{IsUnrouted}
+use Rattle.law_tp4_pair.specs.Calm.{IsCalmScript, IsSettled, intermediate_systems}
+use Rattle.law_calm_run.specs.Run.{IsUnrouted}
 use Rattle.osi_setup.specs.Fitting.{IsWell}
 use Rattle.osi_setup.specs.SetUp.{SetUp, nothing_said, set_up}
 use Rattle.osi_setup.proofs.Wellness.{nothing_well, well_after}

@@ -3,7 +3,7 @@ use Rattle.std.proofs.Common.{◌≡◌, ℕ, List, ◌++◌, inl, inr, subst}
 use Rattle.line_loop.specs.Course.{Runs}
 use Rattle.line_loop.specs.Lines.{open_line, last_line}
 use Rattle.osi_journal.specs.declared.event.Event.{Event}
-use Rattle.tp4_calm.specs.Calm.{IsCalmScript}
+use Rattle.law_tp4_pair.specs.Calm.{IsCalmScript}
 use Rattle.law_run.specs.Bench.{Bench, bench_meaning, first_bench}
 use Rattle.law_run.specs.Calm.{Serves, ServesCalmScripts}
 use Rattle.law_run.specs.Transcript.{IsRun, RanWhole, ServesWhereCalm, lines_handled, lines_run, texts_in}

@@ -1,5 +1,5 @@
 -- What a calm script promises the users of its network (X.214, service primitives; queue model of the transport service). A script is calm where two end systems
--- are on one LAN, and each line that does something is followed by a `settle` (`IsCalmScript` of `tp4_calm`). As long as nothing was dropped and no settling
+-- are on one LAN, and each line that does something is followed by a `settle` (`IsCalmScript` of `law_tp4_pair`). As long as nothing was dropped and no settling
 -- stopped at its number, nothing is missing then.
 use Rattle.std.specs.Prelude.{◌≡◌, ℕ, List, [], ◌∷◌, ◌++◌, Ok, Some}
 use Rattle.std.specs.List.{AllByRecursion, Contains}
@@ -14,12 +14,12 @@ use Rattle.osi_script.specs.declared.line.Options.{Options}
 use Rattle.osi_script.specs.Grammar.{line_read}
 use Rattle.osi_script.specs.Known.{Declared, nothing_declared}
 use Rattle.osi_script.specs.Script.{Says}
-use Rattle.tp4_calm.specs.Calm.{IsCalmScript}
-use Rattle.tp4_calm.specs.Claim.{AllShown, IsUndropped}
+use Rattle.law_tp4_pair.specs.Calm.{IsCalmScript}
+use Rattle.law_tp4_pair.specs.Claim.{AllShown, IsUndropped}
 use Rattle.tp4_entity.specs.Entity.{Entity}
 use Rattle.tp4_world.specs.World.{entity_at}
-use Rattle.calm_world.specs.Service.{IsIndicationOf, MayIndicate, end_at_number}
-use Rattle.calm_pairs.specs.Confirms.{IsUnanswered}
+use Rattle.law_calm_run.specs.Service.{IsIndicationOf, MayIndicate, end_at_number}
+use Rattle.law_calm_service.specs.Confirms.{IsUnanswered}
 use Rattle.osi_script.specs.declared.form.Dialect.TheVariants as dialects
 use Rattle.law_run.specs.World.{Ends, World, WorldRun, WorldRuns, WorldStep, link_of_net, running}
 use Rattle.tp4_conn.specs.declared.timers.Timers.{Timers}

@@ -9,7 +9,7 @@ use Rattle.line_loop.specs.Limits.{most_octets, most_read}
 use Rattle.line_loop.specs.Outcome.{Outcome}
 use Rattle.osi_script.specs.Known.{nothing_declared}
 use Rattle.osi_script.specs.Script.{Says}
-use Rattle.tp4_calm.specs.Calm.{IsCalmScript}
+use Rattle.law_tp4_pair.specs.Calm.{IsCalmScript}
 use Rattle.script_bench.specs.Claims.{IsRun as IsRunOf, lines_handled as lines_handled_of, lines_run as lines_run_of}
 pub use Rattle.script_bench.specs.Claims.{texts_in}
 use Rattle.script_bench.specs.Told.{OutcomeRun as OutcomeRunOf, RanScript as RanScriptOf}

@@ -39,7 +39,7 @@ pub fn ends_are_lawful()
         → Says (nothing_declared dialects.Run) texts script names → WorldRun script journal last → HasNoInject script
         → Lawful (frozen_of last) (titles_of last) journal }
 {
-    tp4_headline::lawful::<RoutedNet>();
+    law_tp4_lawful::lawful::<RoutedNet>();
 }
 
 /// After a `restart` line of a system no line of an end that it had stands, and it makes none for as long as references are frozen; also
@@ -48,7 +48,7 @@ pub fn systems_are_silent()
     ensures { (texts : List (List ℕ)) (script : List Line) (names : Declared) (journal : List Event) (last : World)
         → Says (nothing_declared dialects.Run) texts script names → WorldRun script journal last → KeepsSilence (frozen_of last) journal }
 {
-    tp4_headline::silent::<RoutedNet>();
+    law_tp4_lawful::silent::<RoutedNet>();
 }
 
 /// What runs on the bench is a script, line by line, and the run of the network for its lines.

@@ -4,7 +4,7 @@ use Rattle.std.proofs.Common.{◌≡◌, ◌==◌, ℕ, ◌*◌, ◌≤◌, drop
 use Rattle.std.specs.Prelude.{◌||◌, ◌&&◌, if◌then◌else◌, nat_le}
 use Rattle.std.specs.List.{AllByRecursion, list_any}
 use Rattle.std.proofs.lemmas.Bool.Decides.{nat_tests}
-use Rattle.carrier_answers.specs.Answers.{AreOctets}
+use Rattle.law_carrier_answers.specs.Answers.{AreOctets}
 use Rattle.tp4_conn.specs.End.{IsSize, IsSizedBy}
 use Rattle.osi_script.specs.declared.fault.LineCause.{LineCause}
 use Rattle.osi_script.specs.declared.fault.LineCause.TheVariants as causes

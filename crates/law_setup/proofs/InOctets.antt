@@ -11,8 +11,8 @@ use Rattle.nsap.specs.Text.{hex_octets, octets_or_fault, text_fault}
 use Rattle.nsap.specs.declared.text.NsapFault.{NsapFault}
 use Rattle.nsap.specs.steps.Digits.{IsDigits}
 use Rattle.nsap.proofs.TextLemmas.{length-hex_octets, IsDigits-text_fault}
-use Rattle.carrier_answers.specs.Answers.{AreOctets}
-use Rattle.clnp_outcome.specs.Standing.{IsNsap, IsSnpa}
+use Rattle.law_carrier_answers.specs.Answers.{AreOctets}
+use Rattle.law_clnp_answers.specs.Standing.{IsNsap, IsSnpa}
 use Rattle.osi_script.specs.declared.fault.LineCause.TheVariants as causes
 use Rattle.osi_script.specs.Field.{as_octets, as_station, as_title, is_word, octets_of, station_of, title_of}
 

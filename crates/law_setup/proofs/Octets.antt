@@ -12,9 +12,9 @@ use Rattle.clnp_system.specs.declared.setup.Path.{Path}
 use Rattle.clnp_system.specs.Node.{Node}
 use Rattle.clnp_system.specs.Setting.{Setting}
 use Rattle.esis_tables.specs.Rows.{Rows}
-use Rattle.clnp_step.specs.Sound.{IsPeopled, settings_of}
-use Rattle.clnp_outcome.specs.Laws.{MayBegin, first_node}
-use Rattle.clnp_outcome.specs.Standing.{IsHop, IsNsap, IsSetUp, IsSnpa}
+use Rattle.law_clnp_step.specs.Sound.{IsPeopled, settings_of}
+use Rattle.law_clnp_answers.specs.Laws.{MayBegin, first_node}
+use Rattle.law_clnp_answers.specs.Standing.{IsHop, IsNsap, IsSetUp, IsSnpa}
 use Rattle.osi_script.specs.declared.form.Word.{Word}
 use Rattle.osi_script.specs.declared.form.Word.TheVariants as words
 use Rattle.osi_script.specs.declared.line.Line.{Line}

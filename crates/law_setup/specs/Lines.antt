@@ -2,8 +2,8 @@
 use Rattle.std.specs.Prelude.{ℕ, ◌<◌, ◌≤◌, List, length, IfSome}
 use Rattle.std.specs.List.{AllByRecursion}
 use Rattle.nsap.specs.declared.port.Hop.{Hop}
-use Rattle.carrier_answers.specs.Answers.{AreOctets}
-use Rattle.clnp_outcome.specs.Standing.{IsNsap, IsSnpa}
+use Rattle.law_carrier_answers.specs.Answers.{AreOctets}
+use Rattle.law_clnp_answers.specs.Standing.{IsNsap, IsSnpa}
 use Rattle.tp4_conn.specs.End.{IsSized}
 use Rattle.tp4_world.specs.Telling.{asked_options}
 use Rattle.osi_script.specs.declared.line.Line.{Line}

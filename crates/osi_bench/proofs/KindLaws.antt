@@ -15,7 +15,7 @@ use Rattle.script_world.specs.InactiveNets.{InactiveDoes, MakesInactive, link_of
 use Rattle.script_world.specs.Transports.{HasNoInject, frozen_of, titles_of}
 use Rattle.script_world.specs.steps.MadeInactive.{inactive_laws}
 use Rattle.script_world.proofs.Headline.{front_lawful, script_lawful}
-use Rattle.tp4_headline.specs.Headline.{ReceivesWhatWasSubmitted}
+use Rattle.law_tp4_lawful.specs.Headline.{ReceivesWhatWasSubmitted}
 use Rattle.tp4_world.specs.Laws.{IsNoInjection}
 use Rattle.osi_bench.specs.Kinds.{IsLawfulRun, inactive_acts, kind_named, kind_of}
 use Rattle.osi_bench.specs.Top.{IsStorm, is_decode, is_frames, is_run}

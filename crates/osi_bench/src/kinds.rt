@@ -105,7 +105,7 @@ pub fn run_kind<S: Source, K: Sink>(
             run_script::<DatagramWorld, S, K>(alloc, source, sink)
         }
         Kind::Inactive => {
-            tp4_headline::lawful::<SubsetNet>();
+            law_tp4_lawful::lawful::<SubsetNet>();
             run_script::<InactiveWorld, S, K>(alloc, source, sink)
         }
     }

@@ -15,9 +15,9 @@ use Rattle.clnp_route.specs.declared.table.RouteRow.{RouteRow}
 use Rattle.clnp_system.specs.Node.{Node, fresh_node}
 use Rattle.clnp_system.specs.Tables.{rows_tables}
 use Rattle.clnp_system.specs.Setting.{HasLan, IsSetting, Setting, is_group}
-use Rattle.clnp_step.specs.Sound.{AreApart, AreDistinct, IsBounded, IsNew, IsPeopled, settings_of}
-use Rattle.clnp_step.specs.Network.{Network}
-use Rattle.clnp_step.specs.Step.{Begins}
+use Rattle.law_clnp_step.specs.Sound.{AreApart, AreDistinct, IsBounded, IsNew, IsPeopled, settings_of}
+use Rattle.law_clnp_step.specs.Network.{Network}
+use Rattle.law_clnp_step.specs.Step.{Begins}
 use Rattle.osi_setup.specs.SetUp.{System, SetUp, end_of, rows_of, ports_at, port_on, titles_of, setting_of, nodes_from, nodes_of}
 use Rattle.osi_setup.specs.Fitting.{IsWell, IsTitle, AreTitlesApart}
 use Rattle.osi_setup.proofs.Elements.{each, at, find_all, find_passes, get_end}

@@ -50,7 +50,7 @@ impl Model for SetUp {
 impl SetUp {
     ghost use Rattle.esis_tables.specs.Rows.{no_rows};
     ghost use Rattle.lan_bag.specs.Bag.{BagStep, link_of};
-    ghost use Rattle.clnp_step.specs.Step.{Begins};
+    ghost use Rattle.law_clnp_step.specs.Step.{Begins};
     ghost use Rattle.inactive_step.specs.Network.{new_inactive};
     ghost use Rattle.osi_setup.specs.Inactive.{inactive_rows};
     ghost use Rattle.clnp_system.specs.Tables.{rows_tables};

@@ -26,9 +26,9 @@ use Rattle.lan_bag.specs.Reading.{up_in, ups_of}
 use Rattle.lan_bag.specs.Rows.{room_on, sender_of}
 use Rattle.clnp_system.specs.Node.{Node, Reaction}
 use Rattle.clnp_system.specs.Tables.{rows_tables}
-use Rattle.clnp_step.specs.Handling.{Handles, IsReceived, Nobody, OffersFrame, OffersFrames, Somebody, TicksAll, drop_note, notes_of}
+use Rattle.law_clnp_step.specs.Handling.{Handles, IsReceived, Nobody, OffersFrame, OffersFrames, Somebody, TicksAll, drop_note, notes_of}
 use Rattle.net_world.specs.Run.{Passes}
-use Rattle.clnp_step.specs.Step.{Arrives, IsDropped, IsFull, IsNobodys, IsTaken, NetOffers, NetTicks}
+use Rattle.law_clnp_step.specs.Step.{Arrives, IsDropped, IsFull, IsNobodys, IsTaken, NetOffers, NetTicks}
 use Rattle.script_frames.specs.Frames.{ToldFrame}
 use Rattle.law_run.specs.World.{Net, NetDoes, link_of_net}
 use Rattle.script_frames.proofs.ToldFrames.{AreEntries, Grows, NoFrames, core, grows_none, grows_on, marked_core, noted, noted-append, noted_by, up_noted}

@@ -17,7 +17,7 @@ use Rattle.osi_script.specs.declared.line.Line.{Line}
 use Rattle.osi_script.specs.Known.{Declared, nothing_declared}
 use Rattle.osi_script.specs.Script.{Says}
 use Rattle.osi_script.specs.declared.form.Dialect.{Dialect}
-use Rattle.tp4_headline.specs.Headline.{AreDistinct, IsUntouched, ReceivesWhatWasSubmitted, StaysSilent}
+use Rattle.law_tp4_lawful.specs.Headline.{AreDistinct, IsUntouched, ReceivesWhatWasSubmitted, StaysSilent}
 use Rattle.osi_setup.specs.Fitting.{AreTitlesApart, IsWell}
 use Rattle.osi_setup.specs.SetUp.{SetUp, entities_of, timers_of, titles_of as titles_said}
 use Rattle.osi_setup.proofs.Entities.{are_timed}

@@ -2,8 +2,8 @@
 use Rattle.std.specs.Prelude.{◌≡◌, ℕ, List}
 use Rattle.osi_base.specs.Link.{Link}
 use Rattle.osi_base.specs.Calls.{Call}
-use Rattle.carrier_answers.specs.Answers.{OneStep}
-use Rattle.clnp_outcome.specs.Standing.{is_nsap}
+use Rattle.law_carrier_answers.specs.Answers.{OneStep}
+use Rattle.law_clnp_answers.specs.Standing.{is_nsap}
 use Rattle.net_world.specs.Laws.{IsFirst}
 use Rattle.tp4_world.specs.Total.{ServesOn}
 use Rattle.osi_script.specs.Commands.{HasLine}

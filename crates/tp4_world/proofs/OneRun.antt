@@ -31,7 +31,7 @@ use Rattle.osi_journal.specs.declared.event.Event.{Event}
 use Rattle.osi_journal.specs.declared.event.Event.TheVariants as events
 use Rattle.osi_script.specs.declared.line.Line.{Line}
 use Rattle.osi_script.specs.declared.line.Line.TheVariants as lines
-use Rattle.carrier_answers.specs.Answers.{OneStep, OneGathering, Offering, asked_of}
+use Rattle.law_carrier_answers.specs.Answers.{OneStep, OneGathering, Offering, asked_of}
 use Rattle.net_world.specs.Told.{picked_event, told}
 use Rattle.net_world.proofs.OneRun.{Same, one_pass, one_unit}
 use Rattle.tp4_world.proofs.Places.{some_same}

@@ -2,7 +2,7 @@
 use Rattle.std.proofs.Common.{ℕ, Bool, List, [], ◌∷◌, refl, sym, subst}
 use Rattle.osi_base.specs.Link.{Link}
 use Rattle.osi_base.specs.Calls.{Call, Keeps}
-use Rattle.carrier_answers.specs.Answers.{GoesThrough}
+use Rattle.law_carrier_answers.specs.Answers.{GoesThrough}
 use Rattle.tp4_world.specs.Total.{Serves, ServesOn, SomeRun, SomeStart}
 use Rattle.tp4_world.proofs.SomeLines.{some_begin, some_line}
 

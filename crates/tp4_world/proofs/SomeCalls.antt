@@ -6,7 +6,7 @@ use Rattle.std.proofs.lemmas.Bool.{ltb-false}
 use Rattle.std.proofs.lemmas.Option.{none-some}
 use Rattle.osi_base.specs.Link.{Link}
 use Rattle.osi_base.specs.Calls.{Call, Keeps}
-use Rattle.carrier_answers.specs.Answers.{AreOctets}
+use Rattle.law_carrier_answers.specs.Answers.{AreOctets}
 use Rattle.osi_journal.specs.declared.event.Event.{Event}
 use Rattle.osi_journal.specs.declared.event.Event.TheVariants as events
 use Rattle.osi_journal.specs.declared.cause.Refused.{Refused}
@@ -26,10 +26,10 @@ use Rattle.tp4_entity.specs.Entity.{Entity}
 use Rattle.tp4_entity.specs.References.{is_silent, least_free}
 use Rattle.tp4_entity.specs.Step.{call_of, calling, connect_refusal, connecting, user_refusal}
 use Rattle.tp4_entity.proofs.Standings.{free_least}
-use Rattle.tp4_outcome.specs.Octets.{CallInOctets}
-use Rattle.tp4_outcome.proofs.Ends.{calling_rests, connecting_rests}
-use Rattle.tp4_outcome.proofs.OctetEnds.{calling_in, connecting_in}
-use Rattle.tp4_outcome.proofs.Octets.{all_both}
+use Rattle.law_tp4_proper.specs.Octets.{CallInOctets}
+use Rattle.law_tp4_proper.proofs.Ends.{calling_rests, connecting_rests}
+use Rattle.law_tp4_proper.proofs.OctetEnds.{calling_in, connecting_in}
+use Rattle.law_tp4_proper.proofs.Octets.{all_both}
 use Rattle.tp4_world.specs.Run.{BeginsAt, Calls, CallsAt, CallsBy, CallsEnd, ConnectsBy, IsRefused, has_ended, transport_address}
 use Rattle.tp4_world.specs.Telling.{asked_options, call_events, connect_event, told_refusal}
 use Rattle.tp4_world.specs.Total.{CanConnect, HasEntity, HasRun, IsReady, Serves}

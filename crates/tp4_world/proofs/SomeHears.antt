@@ -9,7 +9,7 @@ use Rattle.osi_base.specs.declared.unit.Picked.{Picked}
 use Rattle.osi_base.specs.declared.unit.Picked.TheVariants.{Taken as WasPicked}
 use Rattle.osi_base.specs.Link.{Link, IsLeastFresh}
 use Rattle.osi_base.specs.Calls.{Call, Choose, Inject, Keeps}
-use Rattle.carrier_answers.specs.Answers.{AreOctets, CanBeAsked, Choosing, Injecting, MayBeOffered, asked_of}
+use Rattle.law_carrier_answers.specs.Answers.{AreOctets, CanBeAsked, Choosing, Injecting, MayBeOffered, asked_of}
 use Rattle.osi_journal.specs.declared.event.Event.{Event}
 use Rattle.osi_journal.specs.declared.event.Event.TheVariants as events
 use Rattle.osi_journal.specs.declared.cause.Settled.TheVariants.{Settled, Stopped}
@@ -17,8 +17,8 @@ use Rattle.osi_script.specs.declared.line.Line.{Line}
 use Rattle.osi_script.specs.declared.line.Line.TheVariants as lines
 use Rattle.net_world.specs.Told.{picked_event, told}
 use Rattle.tp4_entity.specs.Entity.{Entity}
-use Rattle.tp4_outcome.proofs.Heards.{taken_in, taken_rests}
-use Rattle.tp4_outcome.proofs.Outcomes.{some_taking}
+use Rattle.law_tp4_proper.proofs.Heards.{taken_in, taken_rests}
+use Rattle.law_tp4_proper.proofs.Outcomes.{some_taking}
 use Rattle.tp4_world.specs.Run.{Arrives, Delivers, HearsAll, HearsIf, NoneLeft, OneMore, Settles, TooMany, is_for}
 use Rattle.tp4_world.specs.Telling.{inject_event}
 use Rattle.tp4_world.specs.Total.{HasRun, IsReady, IsReadyEntity, Serves, ComesInOctets}

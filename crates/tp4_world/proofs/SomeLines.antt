@@ -3,8 +3,8 @@ use Rattle.std.proofs.Common.{◌≡◌, ℕ, Bool, List, [], ◌∷◌, slice_g
 use Rattle.osi_base.specs.declared.unit.Wish.{Wish}
 use Rattle.osi_base.specs.Link.{Link}
 use Rattle.osi_base.specs.Calls.{Call, Keeps}
-use Rattle.carrier_answers.specs.Answers.{MayBeOffered}
-use Rattle.carrier_answers.proofs.Gatherings.{some_gathering}
+use Rattle.law_carrier_answers.specs.Answers.{MayBeOffered}
+use Rattle.law_carrier_answers.proofs.Gatherings.{some_gathering}
 use Rattle.osi_journal.specs.RawLawful.{raw_address}
 use Rattle.osi_journal.specs.declared.event.Event.{Event}
 use Rattle.osi_journal.specs.declared.event.Event.TheVariants as events
@@ -16,7 +16,7 @@ use Rattle.net_world.specs.Told.{sent_event, told}
 use Rattle.tp4_conn.specs.Calls.{IsCall}
 use Rattle.tp4_conn.specs.declared.call.UserCall.{UserCall}
 use Rattle.tp4_conn.specs.declared.call.UserCall.TheVariants as asks
-use Rattle.tp4_outcome.specs.Octets.{CallInOctets}
+use Rattle.law_tp4_proper.specs.Octets.{CallInOctets}
 use Rattle.tp4_world.specs.Run.{Calls, RunsLine}
 use Rattle.tp4_world.specs.Telling.{asked_options}
 use Rattle.tp4_world.specs.Total.{AreReady, CanRun, HasRun, HasStart, IsReady, IsReadyEntity, Serves}
@@ -28,8 +28,8 @@ use Rattle.tp4_world.proofs.SomeHears.{delivered, inject_runs, settles}
 use Rattle.tp4_world.proofs.SomeTicks.{tick_runs}
 use Rattle.tp4_entity.specs.Step.{restarted}
 use Rattle.tp4_entity.specs.Entity.{Entity}
-use Rattle.tp4_outcome.proofs.Ends.{new_rests}
-use Rattle.tp4_outcome.proofs.Heards.{restarting_in}
+use Rattle.law_tp4_proper.proofs.Ends.{new_rests}
+use Rattle.law_tp4_proper.proofs.Heards.{restarting_in}
 use Rattle.tp4_world.proofs.Having.{found, with_any}
 use Rattle.std.specs.Prelude.{is_some}
 

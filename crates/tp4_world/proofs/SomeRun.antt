@@ -11,8 +11,8 @@ use Rattle.osi_base.specs.declared.unit.Picked.{Picked}
 use Rattle.osi_base.specs.declared.unit.Injected.{Injected}
 use Rattle.osi_base.specs.Link.{Link}
 use Rattle.osi_base.specs.Calls.{Call, Choose, Inject, Keeps, NextUp, Offer, Tick}
-use Rattle.carrier_answers.specs.Answers.{CanBeAsked, Choosing, Injecting, MayBeOffered, Offering, Ticking, asked_of}
-use Rattle.carrier_answers.proofs.Gatherings.{some_gathering}
+use Rattle.law_carrier_answers.specs.Answers.{CanBeAsked, Choosing, Injecting, MayBeOffered, Offering, Ticking, asked_of}
+use Rattle.law_carrier_answers.proofs.Gatherings.{some_gathering}
 use Rattle.osi_journal.specs.declared.event.Event.{Event}
 use Rattle.net_world.specs.Run.{Passes}
 use Rattle.net_world.specs.Told.{told}
@@ -22,10 +22,10 @@ use Rattle.tp4_flow.specs.declared.step.What.{What}
 use Rattle.tp4_flow.specs.declared.step.What.TheVariants as whats
 use Rattle.tp4_conn.specs.Proper.{AreSendable, IsSendable}
 use Rattle.tp4_entity.specs.Entity.{Acted, Entity}
-use Rattle.tp4_outcome.specs.Octets.{AreAddressed, IsAddressed, StepInOctets}
-use Rattle.tp4_outcome.specs.Rest.{IsProperStep}
-use Rattle.tp4_outcome.proofs.Octets.{all_both}
-use Rattle.tp4_outcome.proofs.Writings.{some_writing}
+use Rattle.law_tp4_proper.specs.Octets.{AreAddressed, IsAddressed, StepInOctets}
+use Rattle.law_tp4_proper.specs.Rest.{IsProperStep}
+use Rattle.law_tp4_proper.proofs.Octets.{all_both}
+use Rattle.law_tp4_proper.proofs.Writings.{some_writing}
 use Rattle.tp4_world.specs.Run.{Acts, SendsTpdu, SendsTpdus, transport_wish}
 use Rattle.tp4_world.specs.Telling.{drop_events, ends_after, ends_with, events_after}
 use Rattle.tp4_world.specs.Total.{ComesInOctets, HasEntity, IsReady, IsReadyEntity, Serves}

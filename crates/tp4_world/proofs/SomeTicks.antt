@@ -5,7 +5,7 @@ use Rattle.std.specs.List.{AllByRecursion, find, list_any}
 use Rattle.std.proofs.lemmas.Bool.{eq-eqb, eqb-false, eqb-true, ne_eqb}
 use Rattle.osi_base.specs.Link.{Link}
 use Rattle.osi_base.specs.Calls.{Call, Keeps, Tick}
-use Rattle.carrier_answers.specs.Answers.{Ticking}
+use Rattle.law_carrier_answers.specs.Answers.{Ticking}
 use Rattle.osi_journal.specs.declared.event.Event.{Event}
 use Rattle.osi_journal.specs.declared.event.Event.TheVariants as events
 use Rattle.osi_script.specs.declared.line.Line.{Line}
@@ -14,11 +14,11 @@ use Rattle.net_world.specs.Told.{told}
 use Rattle.tp4_conn.proofs.Timely.{if_kept}
 use Rattle.tp4_entity.specs.Entity.{Entity, at}
 use Rattle.tp4_entity.specs.Step.{dues, first_due, ticking, ticking_at}
-use Rattle.tp4_outcome.specs.Octets.{EntityInOctets}
-use Rattle.tp4_outcome.specs.Rest.{AreInTime, AreProper}
-use Rattle.tp4_outcome.proofs.Ends.{ticking_proper, waits}
-use Rattle.tp4_outcome.proofs.Fewer.{ticking_fewer}
-use Rattle.tp4_outcome.proofs.OctetEnds.{ticking_in}
+use Rattle.law_tp4_proper.specs.Octets.{EntityInOctets}
+use Rattle.law_tp4_proper.specs.Rest.{AreInTime, AreProper}
+use Rattle.law_tp4_proper.proofs.Ends.{ticking_proper, waits}
+use Rattle.law_tp4_proper.proofs.Fewer.{ticking_fewer}
+use Rattle.law_tp4_proper.proofs.OctetEnds.{ticking_in}
 use Rattle.tp4_world.specs.Run.{NoneDue, OneDue, TicksAll, TicksEntity}
 use Rattle.tp4_world.specs.Total.{HasEntity, HasRun, IsReady, Serves}
 use Rattle.tp4_world.specs.World.{World, entity_at, is_of, with_entity}

@@ -8,7 +8,7 @@ use Rattle.osi_journal.specs.RawLawful.{RawLawful}
 use Rattle.osi_journal.specs.declared.event.Event.{Event}
 use Rattle.osi_script.specs.declared.line.Line.{Line}
 use Rattle.osi_script.specs.declared.line.Line.TheVariants as lines
-use Rattle.carrier_answers.specs.Answers.{OneStep}
+use Rattle.law_carrier_answers.specs.Answers.{OneStep}
 use Rattle.net_world.specs.Laws.{IsFirst as IsFirstCarrier}
 use Rattle.tp4_number.specs.Number.{whole, wire}
 use Rattle.tp4_entity.specs.Entity.{Entity}

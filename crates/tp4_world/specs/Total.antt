@@ -6,11 +6,11 @@ use Rattle.osi_base.specs.declared.unit.Up.{Up}
 use Rattle.osi_base.specs.declared.unit.Up.TheVariants.{Unit as Came, Note as Noted}
 use Rattle.osi_base.specs.Link.{Link, IsLeastFresh}
 use Rattle.osi_base.specs.Calls.{Call}
-use Rattle.carrier_answers.specs.Answers.{AlwaysAnswers, AreOctets, Asked, CanBeAsked, GoesThrough, IsAnswered, MayBeOffered}
+use Rattle.law_carrier_answers.specs.Answers.{AlwaysAnswers, AreOctets, Asked, CanBeAsked, GoesThrough, IsAnswered, MayBeOffered}
 use Rattle.tp4_conn.specs.End.{IsSized}
 use Rattle.tp4_entity.specs.Entity.{Entity}
-use Rattle.tp4_outcome.specs.Octets.{EntityInOctets}
-use Rattle.tp4_outcome.specs.Rest.{IsAtRest}
+use Rattle.law_tp4_proper.specs.Octets.{EntityInOctets}
+use Rattle.law_tp4_proper.specs.Rest.{IsAtRest}
 use Rattle.osi_journal.specs.declared.event.Event.{Event}
 use Rattle.osi_script.specs.declared.line.Line.{Line}
 use Rattle.osi_script.specs.declared.line.Options.{Options}

@@ -11,7 +11,7 @@ use osi_base::Carrier;
 pub fn one_run<C: Carrier<Addr = Nsap>>()
     ensures { OneRun C.link C.steps }
 {
-    carrier_answers::one_gathering::<C>();
+    law_carrier_answers::one_gathering::<C>();
     tpdu::one_writing();
     tp4_entity::one_hearing();
 }
@@ -20,7 +20,7 @@ pub fn one_run<C: Carrier<Addr = Nsap>>()
 pub fn one_start<C: Carrier<Addr = Nsap>>()
     ensures { OneStart C.link C.steps }
 {
-    carrier_answers::one_gathering::<C>();
+    law_carrier_answers::one_gathering::<C>();
     tpdu::one_writing();
 }
 

@@ -21,8 +21,8 @@ use Rattle.clnp_system.specs.Receiving.{Receives}
 use Rattle.clnp_system.specs.Sending.{Sends}
 use Rattle.clnp_system.specs.Tables.{rows_tables}
 use Rattle.clnp_system.specs.Ticking.{NodeTicks}
-use Rattle.clnp_step.specs.Handling.{Changes, Handles, OffersFrames, notes_of}
-use Rattle.clnp_step.specs.Step.{is_source}
+use Rattle.law_clnp_step.specs.Handling.{Changes, Handles, OffersFrames, notes_of}
+use Rattle.law_clnp_step.specs.Step.{is_source}
 
 -- these were added behind what waited
 pub record Tells (before after : List (Up (List ℕ))) (Told : List (Up (List ℕ)) → Type 0) : Type 0 where

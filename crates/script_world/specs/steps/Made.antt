@@ -9,7 +9,7 @@ use Rattle.osi_base.specs.declared.unit.Up.{Up}
 use Rattle.osi_base.specs.declared.unit.Up.TheVariants.{Unit as Came, Note as Noted}
 use Rattle.osi_base.specs.Link.{IsGiven, IsNote}
 use Rattle.osi_base.specs.Calls.{Call, Keeps}
-use Rattle.carrier_answers.specs.Answers.{OneStep}
+use Rattle.law_carrier_answers.specs.Answers.{OneStep}
 use Rattle.lan_bag.specs.Bag.{BagStep, link_of, new_bag}
 use Rattle.lan_bag.specs.declared.setup.Lan.{Lan}
 use Rattle.lan_bag.specs.declared.setup.PortRow.{PortRow}
@@ -17,17 +17,17 @@ use Rattle.lan_bag.specs.steps.Keeping.{bag_given, bag_keeps}
 use Rattle.clnp_system.specs.Node.{Node}
 use Rattle.clnp_system.specs.Setting.{Setting}
 use Rattle.clnp_system.specs.Tables.{rows_tables}
-use Rattle.clnp_step.specs.Network.{is_end_of}
-use Rattle.clnp_step.specs.Step.{Begins}
-use Rattle.clnp_step.proofs.Kept.{net_given as given_of, net_keeps}
-use Rattle.clnp_step.proofs.Passed.{all_ticked}
-use Rattle.clnp_step.proofs.Seen.{belongs_same}
-use Rattle.clnp_outcome.specs.Laws.{BeginsAs, MayBegin}
-use Rattle.clnp_outcome.specs.Serving.{StandsInOctets, ComesInOctets as NetComes}
-use Rattle.clnp_outcome.specs.Standing.{is_nsap}
-use Rattle.clnp_outcome.proofs.Always.{begins_serving, begins_standing, serves}
-use Rattle.clnp_outcome.proofs.Bags.{one_bag_answer}
-use Rattle.clnp_outcome.proofs.Steps.{one_answer, one_beginning}
+use Rattle.law_clnp_step.specs.Network.{is_end_of}
+use Rattle.law_clnp_step.specs.Step.{Begins}
+use Rattle.law_clnp_step.proofs.Kept.{net_given as given_of, net_keeps}
+use Rattle.law_clnp_step.proofs.Passed.{all_ticked}
+use Rattle.law_clnp_step.proofs.Seen.{belongs_same}
+use Rattle.law_clnp_answers.specs.Laws.{BeginsAs, MayBegin}
+use Rattle.law_clnp_answers.specs.Serving.{StandsInOctets, ComesInOctets as NetComes}
+use Rattle.law_clnp_answers.specs.Standing.{is_nsap}
+use Rattle.law_clnp_answers.proofs.Always.{begins_serving, begins_standing, serves}
+use Rattle.law_clnp_answers.proofs.Bags.{one_bag_answer}
+use Rattle.law_clnp_answers.proofs.Steps.{one_answer, one_beginning}
 use Rattle.esis_tables.specs.Rows.{Rows}
 use Rattle.net_world.specs.Laws.{IsFirst}
 use Rattle.tp4_world.specs.Total.{ComesInOctets, Serves, ServesOn}

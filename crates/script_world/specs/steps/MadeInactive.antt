@@ -20,10 +20,10 @@ use Rattle.inactive_step.specs.Network.{Inactive, new_inactive}
 use Rattle.inactive_step.specs.Rows.{bound_in, is_system_in, row_at}
 use Rattle.inactive_step.proofs.Found.{equal_numbers, found_address}
 use Rattle.inactive_step.proofs.Kept.{inactive_given, inactive_keeps}
-use Rattle.inactive_outcome.specs.Standing.{FitsRow, Stands}
-use Rattle.inactive_outcome.proofs.Always.{begins_serving, serves}
-use Rattle.inactive_outcome.proofs.Once.{one_net_answer}
-use Rattle.clnp_outcome.specs.Standing.{IsNsap, IsSnpa, is_nsap}
+use Rattle.law_inactive_answers.specs.Standing.{FitsRow, Stands}
+use Rattle.law_inactive_answers.proofs.Always.{begins_serving, serves}
+use Rattle.law_inactive_answers.proofs.Once.{one_net_answer}
+use Rattle.law_clnp_answers.specs.Standing.{IsNsap, IsSnpa, is_nsap}
 use Rattle.net_world.specs.Laws.{IsFirst}
 use Rattle.tp4_world.specs.Run.{transport_address}
 use Rattle.tp4_world.specs.Total.{Serves, ServesOn}

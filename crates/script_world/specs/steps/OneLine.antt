@@ -2,7 +2,7 @@
 use Rattle.std.proofs.Common.{ℕ, List}
 use Rattle.osi_base.specs.Link.{Link}
 use Rattle.osi_base.specs.Calls.{Call}
-use Rattle.carrier_answers.proofs.Gatherings.{one_gathering}
+use Rattle.law_carrier_answers.proofs.Gatherings.{one_gathering}
 use Rattle.tpdu.specs.Writing.{is_summed}
 use Rattle.tpdu.proofs.Spellings.{one_spelling}
 use Rattle.tp4_entity.proofs.Hearings.{one_taking}

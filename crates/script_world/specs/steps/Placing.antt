@@ -4,12 +4,12 @@ use Rattle.std.specs.Prelude.{◌-◌, find, if◌then◌else◌, option_map, re
 use Rattle.std.specs.List.{AllByRecursion}
 use Rattle.std.proofs.lemmas.Bool.Decides.{nat_tests}
 use Rattle.std.proofs.lemmas.Option.{none-some}
-use Rattle.clnp_outcome.specs.Standing.{IsNsap, is_nsap}
-use Rattle.clnp_outcome.proofs.answered.Carrying.{nsap_passes}
+use Rattle.law_clnp_answers.specs.Standing.{IsNsap, is_nsap}
+use Rattle.law_clnp_answers.proofs.answered.Carrying.{nsap_passes}
 use Rattle.tp4_conn.specs.End.{End}
 use Rattle.tp4_entity.specs.Entity.{Entity, there}
-use Rattle.tp4_outcome.specs.Octets.{EndInOctets}
-use Rattle.tp4_outcome.proofs.Ends.{new_rests}
+use Rattle.law_tp4_proper.specs.Octets.{EndInOctets}
+use Rattle.law_tp4_proper.proofs.Ends.{new_rests}
 use Rattle.tp4_world.specs.Run.{transport_address}
 use Rattle.tp4_world.specs.Total.{AreReady, IsReadyEntity}
 use Rattle.tp4_world.specs.World.{entity_at, is_of}

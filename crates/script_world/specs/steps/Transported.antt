@@ -8,8 +8,8 @@ use Rattle.std.proofs.lemmas.List.{length-map}
 use Rattle.nsap.specs.Address.{system_part}
 use Rattle.osi_base.specs.Link.{Link}
 use Rattle.osi_base.specs.Calls.{Call, Keeps}
-use Rattle.clnp_outcome.specs.Standing.{is_nsap}
-use Rattle.clnp_outcome.proofs.answered.Carrying.{nsap_passes}
+use Rattle.law_clnp_answers.specs.Standing.{is_nsap}
+use Rattle.law_clnp_answers.proofs.answered.Carrying.{nsap_passes}
 use Rattle.line_loop.specs.Lines.{most_lines}
 use Rattle.osi_script.specs.Commands.{HasLine as HasLineOf}
 use Rattle.osi_script.specs.declared.form.Dialect.{Dialect}

@@ -1,5 +1,5 @@
 use Rattle.std.proofs.Common.{◌≡◌, ◌++◌}
-use Rattle.clnp_step.specs.Handling.{OffersFrames}
+use Rattle.law_clnp_step.specs.Handling.{OffersFrames}
 use Rattle.clnp_net.specs.steps.Telling.{Tells}
 use Rattle.clnp_net.proofs.frames.offer_frames.Given as goal
 

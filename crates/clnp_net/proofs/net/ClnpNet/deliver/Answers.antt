@@ -1,7 +1,7 @@
 use Rattle.std.proofs.Common.{◌∙◌}
 use Rattle.osi_base.specs.Calls.{Choose}
 use Rattle.clnp_system.specs.Tables.{rows_tables}
-use Rattle.clnp_step.proofs.Kept.{stays_sound}
+use Rattle.law_clnp_step.proofs.Kept.{stays_sound}
 use Rattle.clnp_net.proofs.Parts.{arrived, network_of}
 use Rattle.clnp_net.proofs.net.ClnpNet.deliver.Goals as goal
 

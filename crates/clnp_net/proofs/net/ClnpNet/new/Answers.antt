@@ -1,5 +1,5 @@
 use Rattle.clnp_system.specs.Tables.{rows_tables}
-use Rattle.clnp_step.proofs.Kept.{begins_soundly}
+use Rattle.law_clnp_step.proofs.Kept.{begins_soundly}
 use Rattle.clnp_net.proofs.Parts.{begun, begun_all}
 use Rattle.clnp_net.proofs.net.ClnpNet.new.Goals as goal
 

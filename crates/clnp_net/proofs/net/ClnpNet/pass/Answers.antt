@@ -2,9 +2,9 @@ use Rattle.std.proofs.Common.{◌∙◌, ◌<◌, ℕ, sym, ap, subst}
 use Rattle.esis_tables.specs.Rows.{Rows}
 use Rattle.osi_base.specs.Floated.{is_young}
 use Rattle.std.specs.List.{filter}
-use Rattle.clnp_step.specs.Network.{Network}
+use Rattle.law_clnp_step.specs.Network.{Network}
 use Rattle.clnp_system.specs.Tables.{rows_tables}
-use Rattle.clnp_step.proofs.Passed.{tick_soundly}
+use Rattle.law_clnp_step.proofs.Passed.{tick_soundly}
 use Rattle.clnp_net.proofs.Parts.{network_of, ticked_whole}
 use Rattle.clnp_net.proofs.net.ClnpNet.pass.Goals as goal
 

@@ -3,9 +3,9 @@ use Rattle.esis_tables.specs.Rows.{Rows}
 use Rattle.osi_base.specs.Calls.{Inject}
 use Rattle.osi_base.specs.Floated.{Floated}
 use Rattle.clnp_system.specs.Tables.{rows_tables}
-use Rattle.clnp_step.specs.Sound.{IsSound}
-use Rattle.clnp_step.specs.Step.{NetStep}
-use Rattle.clnp_step.proofs.Kept.{stays_sound}
+use Rattle.law_clnp_step.specs.Sound.{IsSound}
+use Rattle.law_clnp_step.specs.Step.{NetStep}
+use Rattle.law_clnp_step.proofs.Kept.{stays_sound}
 use Rattle.clnp_net.proofs.Parts.{arrived, network_of}
 use Rattle.clnp_net.proofs.net.ClnpNet.receive.Goals as goal
 

@@ -1,7 +1,7 @@
 use Rattle.std.proofs.Common.{length}
 use Rattle.osi_base.specs.declared.unit.Offered.TheVariants.{Taken as WasTaken, Dropped}
 use Rattle.clnp_system.specs.Tables.{rows_tables}
-use Rattle.clnp_step.proofs.Offered.{offer_keeps}
+use Rattle.law_clnp_step.proofs.Offered.{offer_keeps}
 use Rattle.clnp_net.proofs.Parts.{handed, network_of, not_full, offer_dropped, offer_taken, past_all}
 use Rattle.clnp_net.proofs.net.ClnpNet.send.Goals as goal
 

@@ -1,7 +1,7 @@
 use Rattle.std.proofs.lemmas.Result.{IfOk-weaker}
 use Rattle.osi_base.specs.Calls.{Offer}
 use Rattle.clnp_system.specs.Tables.{rows_tables}
-use Rattle.clnp_step.proofs.Kept.{net_keeps}
+use Rattle.law_clnp_step.proofs.Kept.{net_keeps}
 use Rattle.clnp_net.proofs.net.ClnpNetCarrier.offer.Goals as goal
 
 pub returns-clause-link : goal.returns-clause-link

@@ -1,6 +1,6 @@
 use Rattle.std.proofs.Common.{◌∙◌, sym, subst}
 use Rattle.clnp_system.specs.Node.{Reaction, reaction_of}
-use Rattle.clnp_step.specs.Handling.{IsReceived, is_system}
+use Rattle.law_clnp_step.specs.Handling.{IsReceived, is_system}
 use Rattle.clnp_system.specs.Tables.{rows_tables}
 use Rattle.clnp_net.proofs.Parts.{nothing_is, received_at, received_behind, received_none, within_at}
 use Rattle.clnp_net.proofs.systems.Systems.receive.Goals as goal

@@ -1,7 +1,7 @@
 use Rattle.std.proofs.Common.{◌∙◌, sym, refl}
 use Rattle.clnp_system.specs.Node.{sent_of}
 use Rattle.clnp_net.proofs.Parts.{sent_at, sent_none, source_at, within_at}
-use Rattle.clnp_step.specs.Step.{is_source}
+use Rattle.law_clnp_step.specs.Step.{is_source}
 use Rattle.clnp_net.proofs.systems.Systems.send.Goals as goal
 
 pub returns-in_default : goal.returns-in_default

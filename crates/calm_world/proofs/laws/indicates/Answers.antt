@@ -1,6 +1,0 @@
-use Rattle.calm_world.specs.Service.{WaitsBy}
-use Rattle.calm_world.proofs.Indicating.{all_indicated}
-use Rattle.calm_world.proofs.laws.indicates.Goals as goal
-
-pub returns : goal.returns
-returns g c = λ titles queue_of fifo. all_indicated g.C.Carrier.link g.C.Carrier.steps g.met.C.Carrier.keeps titles (WaitsBy queue_of) fifo

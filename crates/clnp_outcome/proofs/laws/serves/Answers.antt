@@ -1,5 +1,0 @@
-use Rattle.clnp_outcome.proofs.Always.{serves}
-use Rattle.clnp_outcome.proofs.laws.serves.Goals as goal
-
-pub returns : goal.returns
-returns c = serves

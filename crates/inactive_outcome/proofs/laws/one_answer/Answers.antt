@@ -1,5 +1,0 @@
-use Rattle.inactive_outcome.proofs.Once.{one_answer}
-use Rattle.inactive_outcome.proofs.laws.one_answer.Goals as goal
-
-pub returns : goal.returns
-returns g c = one_answer g.C.Carrier.link g.C.Carrier.steps

@@ -1,0 +1,168 @@
+-- The clock goes on, where nothing waits; then each end ticks, or not, one after another; and where no end is due any more, each pair has gone on by its tick.
+use Rattle.std.proofs.Common.{◌≡◌, ◌≢◌, ℕ, ◌+◌, true, false, List, [], ◌++◌, slice_get, slice_set, Option, Some, None, sym, ◌∙◌, ap, subst}
+use Rattle.std.proofs.lemmas.List.{append-nil}
+use Rattle.std.proofs.lemmas.Option.{slice_get_within}
+use Rattle.osi_journal.specs.declared.event.Event.{Event as JournalEvent}
+use Rattle.tp4_number.specs.Number.{whole}
+use Rattle.tp4_flow.specs.declared.step.Sent.{Sent}
+use Rattle.tp4_conn.specs.End.{End, Moved, end_of}
+use Rattle.tp4_conn.specs.Table.{Called, Ticked, stepped}
+use Rattle.tp4_conn.specs.declared.call.UserCall.{UserCall}
+use Rattle.tp4_conn.specs.declared.call.UserCall.TheVariants as calls
+use Rattle.tp4_conn.specs.declared.stage.Requesting.{Requesting}
+use Rattle.tp4_conn.specs.declared.stage.Stage.TheVariants as stages
+use Rattle.tp4_entity.specs.Step.{is_due}
+use Rattle.law_tp4_history.specs.Journals.{MakesNone}
+use Rattle.law_tp4_moves.specs.Lines.{shown_in}
+use Rattle.tp4_world.specs.declared.place.EndAt.{EndAt}
+use Rattle.law_tp4_associations.specs.Association.{Association, Posted, post, waiting, with_party}
+use Rattle.law_tp4_associations.specs.Phase.{IsHeld}
+use Rattle.law_calm_service.specs.steps.Story.{AreOpening, HasNoUnits, IsClocking, IsRunning, IsYoung, Numbers, Tells}
+use Rattle.law_calm_service.proofs.Calling.{Answers, Nobodys, Partners, Users, answers}
+use Rattle.law_calm_service.proofs.Continuing.{some_same}
+use Rattle.law_calm_service.proofs.Pairing.{clocking_begins, clocking_ends, ticked_now, ticked_stays}
+use Rattle.law_calm_service.proofs.Passing.{all_stay, none_more}
+use Rattle.law_calm_service.proofs.Stepping.{two_sides, waiting_append, waiting_other, waiting_own, waiting_side}
+use Rattle.law_calm_service.proofs.Storying.{linked_on, tells_acted}
+use Rattle.law_calm_service.proofs.Telling.{ActsIn}
+use Rattle.law_calm_service.proofs.Young.{row_answers, row_from}
+
+-- the clock goes on, and no end has ticked yet
+pub tells_clock : (own : ℕ → List ℕ) (now : ℕ) (ends : List EndAt) (all : List Association) (number : Numbers) (journal made : List JournalEvent) → Tells IsRunning own now ends all [] number journal
+    → MakesNone made → ((n : ℕ) → HasNoUnits made n) → ((k : ℕ) (a : Association) (x y : End) → slice_get all k ≡ Some a → a.calling ≡ Some x → a.called ≡ Some y → IsYoung x.stage → IsHeld (now + 1) y)
+    → Tells IsClocking own (now + 1) ends all [] number (journal ++ made)
+tells_clock own now ends all number journal made t none no_units held = record {
+  numbered = t.numbered;
+  linked = linked_on own journal made all all number t.linked (all_stay all) none;
+  owns = t.owns;
+  young = λ k b by end n at end_is young n_is. none_more journal made n (t.young k b by end n at end_is young n_is) (no_units n);
+  pairs = λ k b x y c d at x_is y_is c_is d_is opening. clocking_begins journal made now c d x y (t.pairs k b x y c d at x_is y_is c_is d_is opening) (no_units c) (no_units d);
+  unused = λ n above. none_more journal made n (t.unused n above) (no_units n);
+  uncalled = t.uncalled;
+  held = held;
+  uncalling = t.uncalling;
+}
+
+-- no end is due any more
+pub tells_over : (own : ℕ → List ℕ) (now : ℕ) (ends : List EndAt) (all : List Association) (queue : List Posted) (number : Numbers) (journal : List JournalEvent) → Tells IsClocking own now ends all queue number journal
+    → Tells IsRunning own now ends all queue number journal
+tells_over own now ends all queue number journal t = record {
+  numbered = t.numbered;
+  linked = t.linked;
+  owns = t.owns;
+  young = t.young;
+  pairs = λ k b x y c d at x_is y_is c_is d_is opening. clocking_ends journal now c d x y (waiting k true queue) (waiting k false queue) (t.pairs k b x y c d at x_is y_is c_is d_is opening);
+  unused = t.unused;
+  uncalled = t.uncalled;
+  held = t.held;
+  uncalling = t.uncalling;
+}
+
+clocking_stays : (journal made : List JournalEvent) (now c d : ℕ) (x y : End) (forth back : List Sent) → IsClocking journal now c d x y forth back → HasNoUnits made c → HasNoUnits made d
+    → IsClocking (journal ++ made) now c d x y forth back
+clocking_stays journal made now c d x y forth back r one other = record {
+  earlier = r.earlier;
+  before = r.before;
+  calling = r.calling;
+  called = r.called;
+  told = r.told;
+  theirs = r.theirs;
+  run = r.run;
+  clock = r.clock;
+  calling_did = ticked_stays r.earlier journal made now c r.calling x r.told forth r.calling_did one;
+  called_did = ticked_stays r.earlier journal made now d r.called y r.theirs back r.called_did other;
+}
+
+differ : true ≡ false → ⊥
+differ e = cc e
+
+no_tick : (call : UserCall) → Ticked ≡ Called call → ⊥
+no_tick call e = cc e
+
+module _ (own : ℕ → List ℕ) (now : ℕ) (ends : List EndAt) (all : List Association) (queue : List Posted) (number : Numbers) (journal made : List JournalEvent) (k : ℕ) (a : Association) (end : End) (n : ℕ)
+    (is : slice_get all k ≡ Some a) (t : Tells IsClocking own now ends all queue number journal) (due : is_due now (Some end) ≡ true) (place : Option End) where
+  abbrev M : Moved
+  M = stepped whole now end Ticked
+
+  -- the calling end ticks
+  pub tells_calling_tick : a.calling ≡ Some end → number k true ≡ Some n → ((e : End) → place ≡ Some e → e ≡ end_of M) → is_due now (Some (end_of M)) ≡ false
+      → ActsIn n made [] (shown_in M.events) M.events → Tells IsClocking own now ends (slice_set all k (with_party a true place)) (queue ++ post k true M.tpdus) number (journal ++ made)
+  tells_calling_tick end_is n_is place_is over acts =
+      tells_acted IsClocking clocking_stays own now ends all queue number journal t k a true end n is end_is n_is Ticked tt place place_is (λ side. absurd (differ side)) made acts (queue ++ post k true M.tpdus)
+      (λ j side apart. waiting_append j side queue (post k true M.tpdus) ∙ ap (λ (l : List Sent). waiting j side queue ++ l) (waiting_other j k side true M.tpdus apart) ∙ append-nil (waiting j side queue)) pair
+    where
+      pair : (x y : End) (c d : ℕ) → place ≡ Some x → a.called ≡ Some y → number k true ≡ Some c → number k false ≡ Some d → AreOpening x y
+          → IsClocking (journal ++ made) now c d x y (waiting k true (queue ++ post k true M.tpdus)) (waiting k false (queue ++ post k true M.tpdus))
+      pair x y c d x_is y_is c_is d_is opening =
+          let x_same : end_of M ≡ x = sym (place_is x x_is) in
+          let open_there : AreOpening (end_of M) y = subst (λ (e : End). AreOpening e y) (sym x_same) opening in
+          let before : AreOpening end y = record { calling = row_from now end Ticked open_there.calling; called = opening.called; answered = opening.answered } in
+          let c_n : n ≡ c = some_same n c (sym n_is ∙ c_is) in
+          let apart : c ≢ d = two_sides ends all number k c d t.numbered (slice_get_within all k a is) c_is d_is in
+          let told : ActsIn c made [] (shown_in M.events) M.events = subst (λ (i : ℕ). ActsIn i made [] (shown_in M.events) M.events) c_n acts in
+          let was = t.pairs k a end y c d is end_is y_is c_is d_is before in
+          let goes : IsClocking (journal ++ made) now c d (end_of M) y (waiting k true queue ++ M.tpdus) (waiting k false queue) = record {
+            earlier = was.earlier;
+            before = was.before;
+            calling = was.calling;
+            called = was.called;
+            told = was.told;
+            theirs = was.theirs;
+            run = was.run;
+            clock = was.clock;
+            calling_did = ticked_now was.earlier journal made now c was.calling end was.told (waiting k true queue) was.calling_did due told over;
+            called_did = ticked_stays was.earlier journal made now d was.called y was.theirs (waiting k false queue) was.called_did
+                (record { gave = told.other_gave d (λ e. apart (sym e)); showed = told.other_showed d (λ e. apart (sym e)) });
+          } in
+          let forth_is : waiting k true queue ++ M.tpdus ≡ waiting k true (queue ++ post k true M.tpdus) =
+          sym (waiting_append k true queue (post k true M.tpdus) ∙ ap (λ (l : List Sent). waiting k true queue ++ l) (waiting_own k true M.tpdus)) in
+          let back_is : waiting k false queue ≡ waiting k false (queue ++ post k true M.tpdus) =
+          sym (waiting_append k false queue (post k true M.tpdus) ∙ ap (λ (l : List Sent). waiting k false queue ++ l) (waiting_side k true M.tpdus) ∙ append-nil (waiting k false queue)) in
+          subst (λ (e : End). IsClocking (journal ++ made) now c d e y (waiting k true (queue ++ post k true M.tpdus)) (waiting k false (queue ++ post k true M.tpdus))) x_same
+          (subst (λ (l : List Sent). IsClocking (journal ++ made) now c d (end_of M) y l (waiting k false (queue ++ post k true M.tpdus))) forth_is
+          (subst (λ (l : List Sent). IsClocking (journal ++ made) now c d (end_of M) y (waiting k true queue ++ M.tpdus) l) back_is goes))
+
+  -- the called end ticks
+  pub tells_called_tick : a.called ≡ Some end → number k false ≡ Some n → ((e : End) → place ≡ Some e → e ≡ end_of M) → is_due now (Some (end_of M)) ≡ false
+      → ((r : Requesting) → end.stage ≡ stages.CrWait r → ⊥) → (place ≡ None → IsHeld now (end_of M) → ⊥) → ActsIn n made [] (shown_in M.events) M.events
+      → Tells IsClocking own now ends (slice_set all k (with_party a false place)) (queue ++ post k false M.tpdus) number (journal ++ made)
+  tells_called_tick end_is n_is place_is over uncalling lost acts =
+      tells_acted IsClocking clocking_stays own now ends all queue number journal t k a false end n is end_is n_is Ticked tt place place_is (λ _. lost) made acts (queue ++ post k false M.tpdus)
+      (λ j side apart. waiting_append j side queue (post k false M.tpdus) ∙ ap (λ (l : List Sent). waiting j side queue ++ l) (waiting_other j k side false M.tpdus apart) ∙ append-nil (waiting j side queue)) pair
+    where
+      old : (x : End) → AreOpening x (end_of M) → Answers end.stage → IsYoung end.stage → ⊥
+      old x opening (Partners r at) young = uncalling r at
+      old x opening (Nobodys none) young = none young
+      old x opening (Users since at) young =
+          let answer = row_answers now end Ticked since at opening.answered opening.called in
+          no_tick (calls.Accept answer.0 answer.1) answer.2
+
+      pair : (x y : End) (c d : ℕ) → a.calling ≡ Some x → place ≡ Some y → number k true ≡ Some c → number k false ≡ Some d → AreOpening x y
+          → IsClocking (journal ++ made) now c d x y (waiting k true (queue ++ post k false M.tpdus)) (waiting k false (queue ++ post k false M.tpdus))
+      pair x y c d x_is y_is c_is d_is opening =
+          let y_same : end_of M ≡ y = sym (place_is y y_is) in
+          let open_there : AreOpening x (end_of M) = subst (AreOpening x) (sym y_same) opening in
+          let before : AreOpening x end = record { calling = opening.calling; called = row_from now end Ticked open_there.called; answered = old x open_there (answers end.stage) } in
+          let d_n : n ≡ d = some_same n d (sym n_is ∙ d_is) in
+          let apart : c ≢ d = two_sides ends all number k c d t.numbered (slice_get_within all k a is) c_is d_is in
+          let told : ActsIn d made [] (shown_in M.events) M.events = subst (λ (i : ℕ). ActsIn i made [] (shown_in M.events) M.events) d_n acts in
+          let was = t.pairs k a x end c d is x_is end_is c_is d_is before in
+          let goes : IsClocking (journal ++ made) now c d x (end_of M) (waiting k true queue) (waiting k false queue ++ M.tpdus) = record {
+            earlier = was.earlier;
+            before = was.before;
+            calling = was.calling;
+            called = was.called;
+            told = was.told;
+            theirs = was.theirs;
+            run = was.run;
+            clock = was.clock;
+            calling_did = ticked_stays was.earlier journal made now c was.calling x was.told (waiting k true queue) was.calling_did (record { gave = told.other_gave c apart; showed = told.other_showed c apart });
+            called_did = ticked_now was.earlier journal made now d was.called end was.theirs (waiting k false queue) was.called_did due told over;
+          } in
+          let forth_is : waiting k true queue ≡ waiting k true (queue ++ post k false M.tpdus) =
+          sym (waiting_append k true queue (post k false M.tpdus) ∙ ap (λ (l : List Sent). waiting k true queue ++ l) (waiting_side k false M.tpdus) ∙ append-nil (waiting k true queue)) in
+          let back_is : waiting k false queue ++ M.tpdus ≡ waiting k false (queue ++ post k false M.tpdus) =
+          sym (waiting_append k false queue (post k false M.tpdus) ∙ ap (λ (l : List Sent). waiting k false queue ++ l) (waiting_own k false M.tpdus)) in
+          subst (λ (e : End). IsClocking (journal ++ made) now c d x e (waiting k true (queue ++ post k false M.tpdus)) (waiting k false (queue ++ post k false M.tpdus))) y_same
+          (subst (λ (l : List Sent). IsClocking (journal ++ made) now c d x (end_of M) l (waiting k false (queue ++ post k false M.tpdus))) forth_is
+          (subst (λ (l : List Sent). IsClocking (journal ++ made) now c d x (end_of M) (waiting k true queue) l) back_is goes))

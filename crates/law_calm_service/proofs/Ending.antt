@@ -1,0 +1,24 @@
+-- After the lines of a calm run nothing waits, and the story of the associations stands beside the network: so there are pairs.
+use Rattle.std.proofs.Common.{◌≡◌, ℕ, List, [], ◌++◌, subst}
+use Rattle.osi_base.specs.Calls.{Call, Keeps}
+use Rattle.osi_base.specs.Link.{Link}
+use Rattle.osi_base.specs.declared.unit.Unit.{Unit as CarriedUnit}
+use Rattle.net_world.specs.Fifo.{IsFifo}
+use Rattle.tp4_number.specs.Number.{whole}
+use Rattle.law_calm_run.specs.steps.Hall.{Hall}
+use Rattle.law_calm_run.specs.steps.Posting.{AreUnitsOf}
+use Rattle.law_calm_run.proofs.Going.{HasSettled}
+use Rattle.law_calm_run.proofs.Starting.{first_hall, run_settles}
+use Rattle.law_calm_service.specs.Pairs.{HavePairs}
+use Rattle.law_calm_service.specs.steps.Story.{Story, address_of}
+use Rattle.law_calm_service.proofs.Keeping.{has_story}
+use Rattle.law_calm_service.proofs.Partnering.{story_has_pairs}
+
+pub all_have_pairs : {C : Type 0} (link : C → Link (List ℕ)) (steps : C → Call (List ℕ) → C → Type 0) (law : (old : C) (call : Call (List ℕ)) (new : C) → steps old call new → Keeps (link old) call (link new))
+    (titles : List (List ℕ)) (Waits : C → List (CarriedUnit (List ℕ)) → Type 0) → IsFifo link steps titles Waits → HavePairs link steps whole titles Waits
+all_have_pairs link steps law titles Waits fifo timers first last script begun journal start aside run =
+    let hall : Hall = first_hall titles timers Waits first start link steps law fifo in
+    let done : HasSettled link steps law titles Waits fifo hall journal last = run_settles titles timers Waits first start link steps law fifo script journal last run in
+    let story : Story timers (address_of titles) done.went.next (begun ++ journal) = has_story titles timers Waits first start (link first.carrier).clock begun journal done.went.next aside done.went.goes in
+    let idle : done.went.next.posts ≡ [] = subst (λ (q : List (CarriedUnit (List ℕ))). AreUnitsOf titles q done.went.next.posts) done.none done.went.shows.units in
+    story_has_pairs timers (address_of titles) done.went.next (begun ++ journal) last story idle done.went.shows.entities done.went.shows.ends

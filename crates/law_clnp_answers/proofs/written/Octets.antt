@@ -1,0 +1,64 @@
+-- Lists of octets, put together and taken apart.
+use Rattle.std.proofs.Common.{◌≡◌, ℕ, zero, suc, ◌<◌, List, [], ◌∷◌, ◌++◌, length, take, drop, Option, Some, None, refl, arith, All}
+use Rattle.std.specs.Prelude.{IsSome}
+use Rattle.std.specs.List.{AllByRecursion}
+use Rattle.std.proofs.lemmas.List.Elements.{All-cons, All-nil}
+use Rattle.pdu_parts.specs.Field.{field}
+use Rattle.pdu_parts.specs.Number.{two_octets}
+use Rattle.law_carrier_answers.specs.Answers.{AreOctets}
+
+-- ---- what holds of all members of a list
+
+pub all_both : {A : Type 0} (P : A → Type 0) (xs ys : List A) → AllByRecursion P xs → AllByRecursion P ys → AllByRecursion P (xs ++ ys)
+all_both P [] ys h k = k
+all_both P (x ∷ xs) ys h k = (h.0, all_both P xs ys h.1 k)
+
+pub all_front : {A : Type 0} (P : A → Type 0) (xs ys : List A) → AllByRecursion P (xs ++ ys) → AllByRecursion P xs
+all_front P [] ys h = tt
+all_front P (x ∷ xs) ys h = (h.0, all_front P xs ys h.1)
+
+pub all_back : {A : Type 0} (P : A → Type 0) (xs ys : List A) → AllByRecursion P (xs ++ ys) → AllByRecursion P ys
+all_back P [] ys h = h
+all_back P (x ∷ xs) ys h = all_back P xs ys h.1
+
+pub all_weaker : {A : Type 0} (P Q : A → Type 0) (xs : List A) → ((x : A) → P x → Q x) → AllByRecursion P xs → AllByRecursion Q xs
+all_weaker P Q [] f h = tt
+all_weaker P Q (x ∷ xs) f h = (f x h.0, all_weaker P Q xs f h.1)
+
+pub all_of : {A : Type 0} (P : A → Type 0) (xs : List A) → AllByRecursion P xs → All P xs
+all_of P [] h = All-nil P
+all_of P (x ∷ xs) h = All-cons P x xs h.0 (all_of P xs h.1)
+
+pub some_of : {A : Type 0} (found : Option A) → IsSome found → (x : A) × (found ≡ Some x)
+some_of None e = absurd cc
+some_of (Some x) e = (x, refl)
+
+-- ---- octets
+
+pub octets_both : (xs ys : List ℕ) → AreOctets xs → AreOctets ys → AreOctets (xs ++ ys)
+octets_both xs ys h k = all_both (λ octet. octet < 256) xs ys h k
+
+pub octets_front : (xs ys : List ℕ) → AreOctets (xs ++ ys) → AreOctets xs
+octets_front xs ys h = all_front (λ octet. octet < 256) xs ys h
+
+pub octets_back : (xs ys : List ℕ) → AreOctets (xs ++ ys) → AreOctets ys
+octets_back xs ys h = all_back (λ octet. octet < 256) xs ys h
+
+pub octets_take : (n : ℕ) (xs : List ℕ) → AreOctets xs → AreOctets (take n xs)
+octets_take zero xs h = tt
+octets_take (suc n) [] h = tt
+octets_take (suc n) (x ∷ xs) h = (h.0, octets_take n xs h.1)
+
+pub octets_drop : (n : ℕ) (xs : List ℕ) → AreOctets xs → AreOctets (drop n xs)
+octets_drop zero xs h = h
+octets_drop (suc n) [] h = tt
+octets_drop (suc n) (x ∷ xs) h = octets_drop n xs h.1
+
+pub octets_field : (xs : List ℕ) → length xs < 256 → AreOctets xs → AreOctets (field xs)
+octets_field xs short h = (short, h)
+
+pub two_are_octets : (n : ℕ) → n < 65536 → AreOctets (two_octets n)
+two_are_octets n h = (omega (arith, h), (omega arith, tt))
+
+pub two_fit : (n : ℕ) → AreOctets (two_octets n) → n < 65536
+two_fit n h = omega (arith, h.0)

@@ -1,0 +1,49 @@
+//! What holds of each call of the network.
+
+ghost use Rattle.std.specs.Prelude.{◌≡◌};
+ghost use Rattle.law_clnp_answers.specs.Laws.{AlwaysAnswered, AlwaysGathered, BeginsServing, BeginsStanding, LansAlwaysAnswered};
+ghost use Rattle.law_clnp_answers.specs.Laws.{NetServes, OneAnswer, OneBeginning, OneLanAnswer, OneNetAnswer, OneNetBeginning};
+
+use nsap::Port;
+use osi_base::Carrier;
+
+/// Over every carrier that answers in one way, each call of the network has one answer, and the network begins as one.
+pub fn one_answer<C: Carrier<Addr = Port>, N>()
+    ensures answer { OneAnswer C.link C.steps N }
+    ensures beginning { OneBeginning C.link C.steps N }
+{}
+
+/// Each call of the LANs has one answer.
+pub fn one_lan_answer()
+    ensures { OneLanAnswer }
+{}
+
+/// So each call of the network over the LANs has one answer, and it begins as one.
+pub fn one_network()
+    ensures answer { OneNetAnswer }
+    ensures beginning { OneNetBeginning }
+{}
+
+/// While the network over the LANs stands, each call that may be asked of it is answered, and what waits is taken up; then it
+/// still stands. So it is with the LANs while what they hold is in octets.
+pub fn always_answers()
+    ensures answers { AlwaysAnswered }
+    ensures gathers { AlwaysGathered }
+    ensures lans { LansAlwaysAnswered }
+{}
+
+/// Of set-ups that may be, a network begins over LANs without frames, and stands.
+pub fn begins_standing()
+    ensures { BeginsStanding }
+{}
+
+/// While the network over the LANs stands and what waits in it is in octets, between addresses of 1 to 20 octets, it serves: each call that
+/// may be asked is answered, then that is still so, and there is a least pair that can be taken and was not yet, or none.
+pub fn serves()
+    ensures { NetServes }
+{}
+
+/// Of set-ups that may be, a network that begins over LANs without frames is such.
+pub fn begins_serving()
+    ensures { BeginsServing }
+{}

@@ -1,0 +1,169 @@
+-- What an end sends may be offered, kind by kind: a CR, a CC, a DR with its reference or with source 0, the DC to a DR, and what the halves
+-- send.
+use Rattle.std.proofs.Common.{◌≡◌, ◌≢◌, inl, inr, ℕ, ◌+◌, ◌≤◌, Bool, true, false, List, [], ◌∷◌, ◌++◌, Some, Contains, if◌then◌else◌, refl, sym, ◌∙◌, ap, subst, arith}
+use Rattle.std.proofs.lemmas.List.Elements.{Contains-append_cases, Contains-push_cases}
+use Rattle.tpdu.specs.declared.tpdu.Format.{Format}
+use Rattle.tpdu.specs.declared.tpdu.Tpdu.TheVariants as wires
+use Rattle.tp4_flow.specs.declared.rules.Options.{Options}
+use Rattle.tp4_flow.specs.declared.step.Sent.{Sent}
+use Rattle.tp4_conn.specs.declared.base.Base.{Base}
+use Rattle.tp4_conn.specs.Agreeing.{options_in, is_extended, flow_rules, request, confirm}
+use Rattle.tp4_conn.specs.End.{IsSized, send, release}
+use Rattle.tp4_conn.proofs.Agreed.{options_back}
+use Rattle.tp4_conn.specs.UserWait.{refusing}
+use Rattle.law_tp4_history.specs.Ends.{Times, Dr, Terms, Tpdu, Offer, Sent as SentBy, End, Cause, Took, To_known, Back, IsOpen, IsOffered}
+use Rattle.law_tp4_moves.specs.Seen.{terms_of, seen, IsOfferOf, AreOffersOf}
+use Rattle.law_tp4_moves.proofs.Halves.{IsFlow, AreFlows}
+
+none : {A : Type 0} (x : A) → Contains [] x → ⊥
+none x c = let low = c.1 in absurd (omega (arith, low))
+
+-- what holds of each offer of what is sent
+abbrev pub Each : (Offer → Type 0) → ℕ → ℕ → List ℕ → List Sent → Type 0
+Each P now number own [] = Unit {0}
+Each P now number own (sent ∷ tpdus) = ((o : Offer) → IsOfferOf now number own sent o → P o) × Each P now number own tpdus
+
+pub each_offer : (P : Offer → Type 0) (now number : ℕ) (own : List ℕ) (tpdus : List Sent) (offered : List Offer) → AreOffersOf now number own tpdus offered → Each P now number own tpdus
+    → (o : Offer) → Contains offered o → P o
+each_offer P now number own [] offered e f o c = absurd (none o (subst (λ (xs : List Offer). Contains xs o) e c))
+each_offer P now number own (sent ∷ tpdus) [] e f o c = absurd e
+each_offer P now number own (sent ∷ tpdus) (x ∷ offered) e f o c = elim (Contains-append_cases (x ∷ []) offered o c) [
+  | inl here ↦ elim (Contains-push_cases [] x o here) [ inl nowhere ↦ absurd (none o nowhere) | inr is ↦ subst P is (f.0 x e.0) ]
+  | inr there ↦ each_offer P now number own tpdus offered e.1 f.1 o there
+]
+
+module _ (times : Times) (now : ℕ) (cause : Cause) (h new : End) where
+  -- it may be offered, whatever the number of the end and the number of the TPDU
+  abbrev pub IsOfferable : Sent → Type 0
+  IsOfferable sent = (number : ℕ) (o : Offer) → IsOfferOf now number h.birth.address sent o → IsOffered times now number cause h new o
+
+  abbrev pub AreOfferable : List Sent → Type 0
+  AreOfferable [] = Unit {0}
+  AreOfferable (sent ∷ tpdus) = IsOfferable sent × AreOfferable tpdus
+
+  pub offerable_appended : (xs ys : List Sent) → AreOfferable xs → AreOfferable ys → AreOfferable (xs ++ ys)
+  offerable_appended [] ys first second = second
+  offerable_appended (x ∷ xs) ys first second = (first.0, offerable_appended xs ys first.1 second)
+
+  each_of : (number : ℕ) (tpdus : List Sent) → AreOfferable tpdus → Each (λ (o : Offer). IsOffered times now number cause h new o) now number h.birth.address tpdus
+  each_of number [] f = tt
+  each_of number (sent ∷ tpdus) f = (f.0 number, each_of number tpdus f.1)
+
+  pub all_offered : (number : ℕ) (tpdus : List Sent) (offered : List Offer) → AreOffersOf now number h.birth.address tpdus offered → AreOfferable tpdus
+      → (o : Offer) → Contains offered o → IsOffered times now number cause h new o
+  all_offered number tpdus offered e f =
+      each_offer (λ (o : Offer). IsOffered times now number cause h new o) now number h.birth.address tpdus offered e (each_of number tpdus f)
+
+  -- the offer of a number
+  abbrev offer_of : ℕ → ℕ → Sent → Offer
+  offer_of number n sent = record { tick = now; from = h.birth.address; to = sent.to; tpdu = seen n sent.tpdu; is_extended = is_extended sent.format; origin = SentBy number }
+
+  at_offer : (sent : Sent) → ((number n : ℕ) → IsOffered times now number cause h new (offer_of number n sent)) → IsOfferable sent
+  at_offer sent f number o i = subst (λ (p : Offer). IsOffered times now number cause h new p) (sym i.is) (f number i.n)
+
+  pub cr_offerable : (b : Base) (octets : List ℕ) → h.birth.is_called ≡ false → h.birth.partner ≡ b.to → h.birth.reference ≡ b.own
+      → h.birth.words.calling ≡ b.calling → h.birth.words.called ≡ b.called → h.birth.words.octets ≡ octets → now ≤ h.birth.made + times.most → IsOfferable (request b octets)
+  cr_offerable b octets calls to own calling called is soon = at_offer (request b octets) (λ number n. record {
+    tick = refl;
+    origin = refl;
+    from = refl;
+    request = λ _. record { calls = calls; to = sym to; source = sym own; words = λ i. record { calling = sym calling i; called = sym called i; octets = sym is i }; soon = soon };
+    to = λ some. absurd (some refl);
+    goes = λ some. absurd (some refl);
+    confirm = λ e. absurd cc;
+    terms = λ e. absurd cc;
+    plain = λ _. refl;
+    flow = λ e. absurd cc;
+    opened = λ e. absurd cc;
+    parting = λ e. absurd cc;
+  })
+
+  pub cc_offerable : (c : Base) (o : Options) (octets : List ℕ) → h.birth.partner ≡ c.to → h.birth.reference ≡ c.own → new.known ≡ c.partner → c.partner ≢ 0
+      → IsSized o → new.agreed ≡ Some (terms_of o) → IsOfferable (confirm c o octets)
+  cc_offerable c o octets to own known some sized agreed = at_offer (confirm c o octets) (λ number n. record {
+    tick = refl;
+    origin = refl;
+    from = refl;
+    request = λ e. absurd cc;
+    to = λ _. sym to;
+    goes = λ _. To_known (λ e. absurd cc) (λ e. some (sym known ∙ e)) (sym known);
+    confirm = λ _. sym own;
+    terms = λ _. agreed ∙ ap (λ (t : Terms). Some t) (sym (ap terms_of (options_back o sized)));
+    plain = λ _. refl;
+    flow = λ e. absurd cc;
+    opened = λ e. absurd cc;
+    parting = λ e. absurd cc;
+  })
+
+  pub dr_offerable : (c : Base) (reason : ℕ) (octets : List ℕ) → h.birth.partner ≡ c.to → h.birth.reference ≡ c.own → new.known ≡ c.partner → c.partner ≢ 0
+      → new.is_parted ≡ true → IsOfferable (release c reason octets)
+  dr_offerable c reason octets to own known some parted = at_offer (release c reason octets) (λ number n. record {
+    tick = refl;
+    origin = refl;
+    from = refl;
+    request = λ e. absurd cc;
+    to = λ _. sym to;
+    goes = λ _. To_known (λ e. absurd cc) (λ e. some (sym known ∙ e)) (sym known);
+    confirm = λ e. absurd cc;
+    terms = λ e. absurd cc;
+    plain = λ _. refl;
+    flow = λ e. absurd cc;
+    opened = λ e. absurd cc;
+    parting = λ _ _. (sym own, parted);
+  })
+
+  pub refusal_offerable : (c : Base) (octets : List ℕ) → h.birth.partner ≡ c.to → new.known ≡ c.partner → c.partner ≢ 0 → IsOfferable (refusing c octets)
+  refusal_offerable c octets to known some = at_offer (refusing c octets) (λ number n. record {
+    tick = refl;
+    origin = refl;
+    from = refl;
+    request = λ e. absurd cc;
+    to = λ _. sym to;
+    goes = λ _. To_known (λ e. absurd cc) (λ e. some (sym known ∙ e)) (sym known);
+    confirm = λ e. absurd cc;
+    terms = λ e. absurd cc;
+    plain = λ _. refl;
+    flow = λ e. absurd cc;
+    opened = λ e. absurd cc;
+    parting = λ _ other. absurd (other refl);
+  })
+
+  pub dc_offerable : (c : Base) (source : ℕ) (dr : Tpdu) → h.birth.partner ≡ c.to → cause ≡ Took dr → dr.kind ≡ Dr → dr.source ≡ source → source ≢ 0
+      → IsOfferable (send c (wires.Dc source c.own))
+  dc_offerable c source dr to took kind is some = at_offer (send c (wires.Dc source c.own)) (λ number n. record {
+    tick = refl;
+    origin = refl;
+    from = refl;
+    request = λ e. absurd cc;
+    to = λ _. sym to;
+    goes = λ _. Back dr took kind (λ e. some (sym is ∙ e)) (sym is);
+    confirm = λ e. absurd cc;
+    terms = λ e. absurd cc;
+    plain = λ _. refl;
+    flow = λ e. absurd cc;
+    opened = λ e. absurd cc;
+    parting = λ e. absurd cc;
+  })
+
+  -- what the halves send, and when a called end has any
+  module _ (c : Base) (o : Options) (to : h.birth.partner ≡ c.to) (known : new.known ≡ c.partner) (some : c.partner ≢ 0) (agreed : new.agreed ≡ Some (terms_of o))
+      (is_open : h.birth.is_called ≡ true → IsOpen cause h) where
+    pub flow_offerable : (sent : Sent) → IsFlow (flow_rules c o) sent → IsOfferable sent
+    flow_offerable sent f = at_offer sent (λ number n. let kind = f.kind n in record {
+      tick = refl;
+      origin = refl;
+      from = refl;
+      request = λ e. absurd cc;
+      to = λ _. f.to ∙ sym to;
+      goes = λ _. To_known (λ e. absurd cc) (λ e. some (sym known ∙ e)) (f.target n ∙ sym known);
+      confirm = λ e. absurd cc;
+      terms = λ e. absurd cc;
+      plain = λ other. absurd (other kind);
+      flow = λ _. (terms_of o, agreed, ap (λ (g : Format). is_extended g) f.format);
+      opened = λ _ called. is_open called;
+      parting = λ e. absurd cc;
+    })
+
+    pub flows_offerable : (tpdus : List Sent) → AreFlows (flow_rules c o) tpdus → AreOfferable tpdus
+    flows_offerable [] f = tt
+    flows_offerable (sent ∷ tpdus) f = (flow_offerable sent f.0, flows_offerable tpdus f.1)

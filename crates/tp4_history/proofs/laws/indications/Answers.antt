@@ -1,5 +1,0 @@
-use Rattle.tp4_history.proofs.Listed.{each_indicates}
-use Rattle.tp4_history.proofs.laws.indications.Goals as goal
-
-pub returns : goal.returns
-returns c = each_indicates

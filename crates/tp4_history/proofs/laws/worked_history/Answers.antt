@@ -1,5 +1,0 @@
-use Rattle.tp4_history.proofs.WorkedSteps.{worked}
-use Rattle.tp4_history.proofs.laws.worked_history.Goals as goal
-
-pub returns : goal.returns
-returns c = worked
