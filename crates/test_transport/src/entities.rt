@@ -54,10 +54,7 @@ fn each_call_by_hand(rt: HostRuntime) -> Result<(), Fail> {
 
 fn play_line(rt: &impl Abort, play: &mut Play, line: &str) -> Result<(), Fail> {
     let (call, want) = line.split_once(" =").ok_or("a line has what comes of it")?;
-    let words: Vec<&str> = call.split(' ').collect(play.alloc)?;
-    play.out = Step::new(play.alloc);
-    let answer = play.act(&words)?;
-    let got = play.shown(&answer)?;
+    let got = play.run(call)?;
     assert_eq!(rt; got.as_str(), want.trim(), "{line}");
     Ok(())
 }
@@ -73,6 +70,14 @@ impl Play {
             out: Step::new(alloc),
             clock: 0,
         })
+    }
+
+    /// What comes of a call.
+    fn run(&mut self, call: &str) -> Result<String, Fail> {
+        let words: Vec<&str> = call.split(' ').collect(self.alloc)?;
+        self.out.clear();
+        let answer = self.act(&words)?;
+        self.shown(&answer)
     }
 
     /// What a line does, and its answer.
