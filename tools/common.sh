@@ -51,7 +51,7 @@ is_transcript() {
 
 # The word that runs $work/script: that of its first line `# osi WORD: ..`, else `run`.
 command_of() {
-    command=$(sed -n -e '1s/^# osi \(datagrams\):.*/\1/p' -e '1s/^# osi \(inactive\):.*/\1/p' "$work/script")
+    command=$(sed -n -e '1s/^# osi \(datagrams\):.*/\1/p' -e '1s/^# osi \(inactive\):.*/\1/p' -e '1s/^# osi \(relay\):.*/\1/p' "$work/script")
     command=${command:-run}
 }
 

@@ -44,6 +44,14 @@ pub struct Options {
     pub sum: bool,
 }
 
+/// What a relay hears of a line.
+pub enum Heard {
+    Incoming { end: u32, system: u8, called: Vec<u8>, options: Options, octets: Vec<u8> },
+    Confirm { end: u32, options: Options, octets: Vec<u8> },
+    Gone { end: u32 },
+    Unit { end: u32, is_expedited: bool, octets: Vec<u8> },
+}
+
 #[derive(Default)]
 pub struct Counts {
     pub ticks: u32,
@@ -59,6 +67,10 @@ pub struct Journal {
     pub out: Output,
     pub is_full: bool,
     pub counts: Counts,
+    /// Where there are relays, what they hear.
+    pub heard: Option<Vec<Heard>>,
+    /// Whether a line or a call was refused.
+    pub is_refused: bool,
     events: u32,
     systems: Vec<Vec<u8>>,
     lans: Vec<Vec<u8>>,
@@ -75,6 +87,8 @@ impl Journal {
             out,
             is_full: false,
             counts: Counts::default(),
+            heard: None,
+            is_refused: false,
             events: 0,
             systems: Vec::new(),
             lans: Vec::new(),
@@ -284,6 +298,21 @@ impl Journal {
         }
     }
 
+    /// Two ends that a relay joins.
+    pub fn joined(&mut self, inbound: u32, outbound: u32) {
+        if self.begin("joined") {
+            self.number(inbound);
+            self.number(outbound);
+            self.end();
+        }
+    }
+
+    fn hear(&mut self, event: impl FnOnce() -> Heard) {
+        if let Some(heard) = &mut self.heard {
+            heard.push(event());
+        }
+    }
+
     /// A word and a count.
     pub fn counted(&mut self, word: &str, count: u32) {
         if self.begin(word) {
@@ -293,6 +322,7 @@ impl Journal {
     }
 
     pub fn no(&mut self, cause: &str) {
+        self.is_refused = true;
         if self.begin("no") {
             self.word(cause);
             self.end();
@@ -300,6 +330,7 @@ impl Journal {
     }
 
     pub fn no_state(&mut self, state: &str) {
+        self.is_refused = true;
         if self.begin("no") {
             self.word("wrongstate");
             self.word(state);
@@ -346,6 +377,7 @@ impl Journal {
         options: &Options,
         octets: &[u8],
     ) {
+        self.hear(|| Heard::Incoming { end, system, called: called.1.to_vec(), options: *options, octets: octets.to_vec() });
         if self.begin("incoming") {
             self.number(end);
             self.system(system);
@@ -366,6 +398,9 @@ impl Journal {
 
     /// A connect response or confirm.
     pub fn agreed(&mut self, word: &str, end: u32, options: &Options, octets: &[u8]) {
+        if word == "confirm" {
+            self.hear(|| Heard::Confirm { end, options: *options, octets: octets.to_vec() });
+        }
         if self.begin(word) {
             self.number(end);
             self.options(options);
@@ -384,6 +419,7 @@ impl Journal {
     }
 
     pub fn got(&mut self, end: u32, octets: &[u8]) {
+        self.hear(|| Heard::Unit { end, is_expedited: false, octets: octets.to_vec() });
         self.of_end("got", end, octets);
         if !self.is_full {
             self.counts.got += 1;
@@ -391,6 +427,7 @@ impl Journal {
     }
 
     pub fn urgent(&mut self, end: u32, octets: &[u8]) {
+        self.hear(|| Heard::Unit { end, is_expedited: true, octets: octets.to_vec() });
         self.of_end("urgent", end, octets);
         if !self.is_full {
             self.counts.urgent += 1;
@@ -398,6 +435,7 @@ impl Journal {
     }
 
     pub fn gone(&mut self, end: u32, cause: &str, octets: &[u8]) {
+        self.hear(|| Heard::Gone { end });
         if self.begin("gone") {
             self.number(end);
             self.word(cause);

@@ -1,4 +1,4 @@
-//! What `osi run`, `osi frames`, `osi storm`, `osi datagrams` and `osi inactive` do, as a plain program: a yardstick for their speed.
+//! What `osi run`, `osi frames`, `osi storm`, `osi datagrams`, `osi inactive` and `osi relay` do, as a plain program: a yardstick for their speed.
 //! Nothing is proved of it.
 
 mod address;
@@ -12,6 +12,7 @@ mod lans;
 mod neighbours;
 mod network;
 mod reassembly;
+mod relay;
 mod script;
 mod storm;
 mod subset;
@@ -44,6 +45,7 @@ fn main() -> ExitCode {
         ["frames"] => run(Command::Run, Mode::Capture),
         ["datagrams"] => run(Command::Datagrams, Mode::Transcript),
         ["inactive"] => run(Command::Inactive, Mode::Transcript),
+        ["relay"] => run(Command::Relay, Mode::Transcript),
         ["storm", seed, count] => match (number(seed, 999_999_999), number(count, 20_000)) {
             (Some(seed), Some(count)) => storm::run(seed, count),
             _ => return usage(),
@@ -62,7 +64,7 @@ fn main() -> ExitCode {
 }
 
 fn usage() -> ExitCode {
-    println!("usage: osi run | frames | decode | storm SEED COUNT | datagrams | inactive");
+    println!("usage: osi run | frames | decode | storm SEED COUNT | datagrams | inactive | relay");
     ExitCode::from(2)
 }
 

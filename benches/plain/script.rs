@@ -2,6 +2,7 @@
 
 use crate::address::{Hop, Nsap, Port, Snpa, is_group, read_hex};
 use crate::journal::{Journal, Options};
+use crate::relay::Row;
 
 pub type Cause = &'static str;
 
@@ -11,6 +12,7 @@ pub enum Command {
     Run,
     Datagrams,
     Inactive,
+    Relay,
 }
 
 /// The first fault of a line, at a column from 1.
@@ -99,6 +101,7 @@ pub struct Setup {
     pub lans: Vec<Lan>,
     pub systems: Vec<SystemSetup>,
     pub paths: Vec<Path>,
+    pub relays: Vec<Row>,
     version: u32,
     /// Whether a line declared something.
     is_begun: bool,
@@ -119,6 +122,7 @@ fn form_of(word: &[u8]) -> Option<(bool, usize)> {
         b"route" => (true, 4),
         b"path" => (true, 3),
         b"tsap" => (true, 2),
+        b"relay" => (true, 4),
         b"start" => (true, 0),
         b"connect" => (false, 9),
         b"accept" => (false, 6),
@@ -140,7 +144,8 @@ impl Setup {
             lans: Vec::new(),
             systems: Vec::new(),
             paths: Vec::new(),
-            version: if command == Command::Inactive { 2 } else { 1 },
+            version: if matches!(command, Command::Inactive | Command::Relay) { 2 } else { 1 },
+            relays: Vec::new(),
             is_begun: false,
             is_started: false,
             lan_names: Vec::new(),
@@ -183,12 +188,14 @@ impl Setup {
     /// Whether a script of this command and version has lines of a word.
     fn has(&self, word: &[u8]) -> bool {
         match word {
-            b"version" | b"unit" | b"inject" => self.command == Command::Run,
+            b"version" | b"inject" => self.command == Command::Run,
+            b"unit" => matches!(self.command, Command::Run | Command::Relay),
+            b"relay" => self.command == Command::Relay,
             b"is" | b"route" | b"path" => self.command != Command::Inactive,
             b"connect" | b"accept" | b"refuse" | b"disconnect" | b"data" | b"expedite" | b"window" => {
                 self.command != Command::Datagrams
             }
-            b"restart" => self.version == 2,
+            b"restart" => self.version == 2 && self.command != Command::Relay,
             b"send" => self.command == Command::Datagrams,
             _ => true,
         }
@@ -306,6 +313,14 @@ impl Setup {
                 let selector = fields.read(|field| self.new_selector(system, field))?;
                 self.systems[usize::from(system)].selectors.push(selector);
             }
+            b"relay" => {
+                let system = fields.read(|field| self.end_system(field))?;
+                let taken = fields.read(|field| self.new_selector(system, field))?;
+                let to = fields.read(|field| self.other_end_system(system, field))?;
+                let called = fields.read(selector)?;
+                self.systems[usize::from(system)].selectors.push(taken.clone());
+                self.relays.push(Row { system, selector: taken, to, called });
+            }
             _ => {
                 let life = self.settings.get("life");
                 if self.lans.iter().any(|lan| life < lan.bound) {
@@ -326,6 +341,12 @@ impl Setup {
     fn end_system(&self, field: &[u8]) -> Result<u8, Cause> {
         let system = self.system(field)?;
         if self.systems[usize::from(system)].is_end { Ok(system) } else { Err("unknown") }
+    }
+
+    /// An end system that is not that one.
+    fn other_end_system(&self, system: u8, field: &[u8]) -> Result<u8, Cause> {
+        let other = self.end_system(field)?;
+        if other == system { Err("unknown") } else { Ok(other) }
     }
 
     fn lan(&self, field: &[u8]) -> Result<u8, Cause> {

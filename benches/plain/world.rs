@@ -6,6 +6,7 @@ use crate::entity::{Entity, Request};
 use crate::journal::Journal;
 use crate::lans::Lans;
 use crate::network::{Frame, Handled, System, Unit};
+use crate::relay::{MOST_WAITING, Phase, Reaction, Relay};
 use crate::script::{Command, Fault, Line, Setup, Wish};
 use crate::subset::Subset;
 use crate::ud::{self, Ud};
@@ -13,6 +14,7 @@ use std::collections::VecDeque;
 
 const MOST_AFLOAT: usize = 40_000;
 const MOST_DELIVERIES: u32 = 65_536;
+const MOST_TURNS: u32 = 64;
 const LONGEST_DATAGRAM: usize = 16_000;
 const TRANSPORT: u8 = 1;
 const RAW: u8 = 2;
@@ -42,6 +44,7 @@ struct Network {
     ends: Vec<EndAt>,
     /// Where datagrams are sent, the selectors of the users of each system.
     users: Option<Vec<Vec<Vec<u8>>>>,
+    relay: Option<Relay>,
     life: u32,
     /// The units that may still arrive, with the ticks at which they were taken.
     afloat: VecDeque<(u32, Unit)>,
@@ -95,6 +98,8 @@ impl Network {
                 .collect(),
             ends: Vec::new(),
             users: has_datagrams.then(|| setup.systems.iter().map(|system| system.selectors.clone()).collect()),
+            relay: (setup.command == Command::Relay)
+                .then(|| Relay::new(setup.relays.clone(), setup.settings.get("credit") as u16)),
             life: setup.settings.get("life"),
             afloat: VecDeque::new(),
             is_injected: false,
@@ -103,11 +108,128 @@ impl Network {
     }
 
     fn start(&mut self, journal: &mut Journal) {
+        if self.relay.is_some() {
+            journal.heard = Some(Vec::new());
+        }
         journal.tick(0);
         self.tick_systems(journal);
     }
 
+    /// Where there are relays, a pump follows; and a `settle` line has turns.
     fn run_line(&mut self, line: Line, journal: &mut Journal) {
+        let Some(relay) = &self.relay else {
+            return self.do_line(line, journal);
+        };
+        match line {
+            Line::Settle => self.settle_in_turns(journal),
+            line if is_relayed(relay, &line) => {
+                journal.no("relayed");
+                self.pump(journal);
+            }
+            line => {
+                self.do_line(line, journal);
+                self.pump(journal);
+            }
+        }
+    }
+
+    fn settle_in_turns(&mut self, journal: &mut Journal) {
+        for _ in 0..MOST_TURNS {
+            let is_settled = self.settle(journal);
+            if !self.pump(journal) || !is_settled {
+                return;
+            }
+        }
+    }
+
+    /// What the relays do about the events of a line, and for each open pair; whether one of their calls was done.
+    fn pump(&mut self, journal: &mut Journal) -> bool {
+        let Some(mut relay) = self.relay.take() else {
+            return false;
+        };
+        let heard = journal.heard.as_mut().map(std::mem::take).unwrap_or_default();
+        let mut is_done = false;
+        for event in heard {
+            match relay.hear(event) {
+                Reaction::Nothing => {}
+                Reaction::Begin { inbound, row, options, octets } => {
+                    let row = relay.rows[row].clone();
+                    let to = self.systems[usize::from(row.to)].title.with_selector(TRANSPORT);
+                    let request = Request { selector: row.selector, to, called: row.called, options, octets };
+                    journal.is_refused = false;
+                    self.connect(row.system, request, journal);
+                    if journal.is_refused {
+                        is_done |= self.ask(inbound, Call::Refuse(Vec::new()), journal);
+                    } else {
+                        let outbound = self.ends.len() as u32;
+                        journal.joined(inbound, outbound);
+                        relay.join(inbound, outbound);
+                        is_done = true;
+                    }
+                }
+                Reaction::Ask(end, call) => {
+                    let accepts = matches!(call, Call::Accept(..));
+                    if self.ask(end, call, journal) {
+                        is_done = true;
+                        if accepts {
+                            relay.accepted(end);
+                        }
+                    }
+                }
+            }
+        }
+        for at in relay.open_places() {
+            for way in 0..2 {
+                is_done |= self.serve(&mut relay, at, way, journal);
+            }
+        }
+        self.relay = Some(relay);
+        is_done
+    }
+
+    /// Calls an end; whether that was done.
+    fn ask(&mut self, end: u32, call: Call, journal: &mut Journal) -> bool {
+        journal.is_refused = false;
+        self.call(end, call, journal);
+        !journal.is_refused
+    }
+
+    /// One way of a pair, where it is open.
+    fn serve(&mut self, relay: &mut Relay, at: usize, way: usize, journal: &mut Journal) -> bool {
+        if relay.pairs[at].phase != Phase::Open {
+            return false;
+        }
+        let mut is_done = false;
+        let (near, far) = (relay.pairs[at].ways[way].near, relay.pairs[at].ways[way].far);
+        while let Some(unit) = relay.pairs[at].ways[way].waiting.front().cloned() {
+            let call = if unit.is_expedited { Call::Expedite(unit.octets) } else { Call::Data(unit.octets) };
+            if !self.ask(far, call, journal) {
+                break;
+            }
+            is_done = true;
+            relay.pairs[at].ways[way].waiting.pop_front();
+        }
+        let left = relay.pairs[at].ways[way].waiting.len();
+        let is_lowered = relay.pairs[at].ways[way].is_lowered;
+        if left > MOST_WAITING {
+            let (inbound, outbound) = (relay.pairs[at].inbound, relay.pairs[at].outbound);
+            let first = self.ask(inbound, Call::Disconnect(Vec::new()), journal);
+            let second = self.ask(outbound, Call::Disconnect(Vec::new()), journal);
+            if first || second {
+                relay.close(at);
+                is_done = true;
+            }
+        } else if (left > 0) != is_lowered {
+            let credit = if left > 0 { 0 } else { relay.credit };
+            if self.ask(near, Call::Window(credit), journal) {
+                relay.pairs[at].ways[way].is_lowered = !is_lowered;
+                is_done = true;
+            }
+        }
+        is_done
+    }
+
+    fn do_line(&mut self, line: Line, journal: &mut Journal) {
         match line {
             Line::Nothing | Line::Start => {}
             Line::Connect { system, selector, to, called, options, octets } => {
@@ -125,7 +247,9 @@ impl Network {
                 self.send_datagram(system, to, &Ud { from: &selector, to: &called, octets: &octets }, journal);
             }
             Line::Tick => self.tick(journal),
-            Line::Settle => self.settle(journal),
+            Line::Settle => {
+                self.settle(journal);
+            }
             Line::Deliver { frame, system } => self.deliver(frame, system, journal),
             Line::Restart { system } => self.restart(system, journal),
             Line::Inject { lan, system, octets } => self.inject(lan, system, &octets, journal),
@@ -256,15 +380,18 @@ impl Network {
             .any(|(_, other)| other.from == unit.from && other.to == unit.to && other.octets == unit.octets)
     }
 
-    fn settle(&mut self, journal: &mut Journal) {
+    /// Whether no delivery was left.
+    fn settle(&mut self, journal: &mut Journal) -> bool {
         for count in 0..MOST_DELIVERIES {
             let Some((number, system)) = self.lans.next_pair() else {
-                return journal.counted("settled", count);
+                journal.counted("settled", count);
+                return true;
             };
             self.deliver(number, system, journal);
         }
-        let word = if self.lans.next_pair().is_some() { "stopped" } else { "settled" };
-        journal.counted(word, MOST_DELIVERIES);
+        let is_settled = self.lans.next_pair().is_none();
+        journal.counted(if is_settled { "settled" } else { "stopped" }, MOST_DELIVERIES);
+        is_settled
     }
 
     fn tick(&mut self, journal: &mut Journal) {
@@ -341,6 +468,20 @@ impl Network {
                 Err(cause) => journal.of_system_word("drop", system, cause),
             }
         }
+    }
+}
+
+/// Whether a line is a user's about an end of a relay, or a request at a system with a relay.
+fn is_relayed(relay: &Relay, line: &Line) -> bool {
+    match line {
+        Line::Connect { system, .. } => relay.is_at(*system),
+        Line::Accept { end, .. }
+        | Line::Refuse { end, .. }
+        | Line::Disconnect { end, .. }
+        | Line::Data { end, .. }
+        | Line::Expedite { end, .. }
+        | Line::Window { end, .. } => relay.owns(*end),
+        _ => false,
     }
 }
 

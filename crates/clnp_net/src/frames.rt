@@ -59,6 +59,23 @@ pub fn offer_frames<C: Carrier<Addr = Port>>(
     Ok(())
 }
 
+/// The same, where mostly there is none.
+// Inlined: that there is none is seen by one look.
+#[inline(always)]
+pub fn offer_any<C: Carrier<Addr = Port>>(
+    link: &mut C,
+    system: u8,
+    frames: Vec<Unit<Port>>,
+    waiting: &mut Ups,
+) -> Result<(), NoMemory>
+    ensures { OnOk result (Tells waiting.old.items waiting.new.items (λ told. OffersFrames C.link C.steps link.old system frames.items link.new told)) }
+{
+    if frames.is_empty() {
+        return Ok(());
+    }
+    offer_frames(link, system, frames, waiting)
+}
+
 /// Offers a frame of a system, and tells where it is lost.
 fn offer_frame<C: Carrier<Addr = Port>>(
     link: &mut C,

@@ -10,7 +10,7 @@ ghost use Rattle.law_clnp_step.specs.Step.{counted, strays_in};
 ghost use Rattle.clnp_net.specs.steps.Telling.{AreBehind, HandlesWaiting, HandsOut, Reacts, Tells};
 
 use crate::afloat::Afloat;
-use crate::frames::{Ups, offer_frames, pass_notes};
+use crate::frames::{Ups, offer_any, offer_frames, pass_notes};
 use crate::systems::Systems;
 use clnp_entity::{Handled, NetEntity, NetSent};
 use nsap::{Nsap, Port};
@@ -411,7 +411,25 @@ fn react<C: Carrier<Addr = Port>>(
     for up in handled.ups {
         waiting.push_back(up)?;
     }
-    offer_frames(link, system, handled.frames, waiting)
+    offer_any(link, system, handled.frames, waiting)
+}
+
+/// The same, where mostly there is nothing.
+// Inlined: that there is nothing is seen by one look.
+#[inline(always)]
+fn react_if_any<C: Carrier<Addr = Port>>(
+    link: &mut C,
+    system: u8,
+    handled: Handled,
+    waiting: &mut Ups,
+) -> Result<(), NoMemory>
+    ensures { OnOk result (Tells waiting.old.items waiting.new.items
+        (λ told. Reacts C.link C.steps link.old system (reaction_of handled) link.new told)) }
+{
+    if handled.ups.is_empty() && handled.frames.is_empty() {
+        return Ok(());
+    }
+    react(link, system, handled, waiting)
 }
 
 /// Each system ticks, in order.
@@ -428,7 +446,7 @@ fn tick_all<C: Carrier<Addr = Port>>(
 {
     for place in 0..systems.count() {
         let (system, handled) = systems.tick(place, now)?;
-        react(link, system, handled, waiting)?;
+        react_if_any(link, system, handled, waiting)?;
     }
     Ok(())
 }

@@ -102,6 +102,8 @@ impl LanBag {
     }
 
     /// Offers the frame of a unit.
+    // Inlined, as `keep`: what is told of a frame is moved once less.
+    #[inline(always)]
     fn send(&mut self, unit: Unit<Port>, wish: Wish) -> Result<Offered, NoMemory>
         ensures { IfOk result (λ answer. BagStep self.old (Offer unit wish answer) self.new) }
     {
@@ -115,6 +117,7 @@ impl LanBag {
     }
 
     /// Keeps the frame of a unit of a system that is taken, and tells of it.
+    #[inline(always)]
     fn keep(&mut self, sender: Option<u8>, unit: Unit<Port>) -> Result<(), NoMemory>
         requires sender { sender ≡ sender_of self.old.rows unit.from }
         requires taken { WasTaken ≡ offered self.old.lans self.old.rows self.old.frames unit }
@@ -247,6 +250,8 @@ impl Carrier for LanBag {
 
     ghost steps = { BagStep };
 
+    // Inlined: what is told of a frame is moved once less.
+    #[inline(always)]
     fn offer(&mut self, unit: Unit<Port>, wish: Wish) -> Result<Offered, NoMemory>
         ensures link { IfOk result (λ answer. Offers (link_of self.old) unit answer (link_of self.new)) }
         ensures steps { IfOk result (λ answer. BagStep self.old (Offer unit wish answer) self.new) }

@@ -6,7 +6,8 @@ use Rattle.tp4_conn.specs.declared.stage.Stage.{Stage}
 use Rattle.tp4_conn.specs.declared.stage.Stage.TheVariants as stages
 use Rattle.tp4_conn.specs.End.{End, end_of}
 use Rattle.tp4_conn.specs.Table.{Event, stepped}
-use Rattle.law_tp4_lawful.proofs.ActsRows.{AreTold, IsRowOf, IsStageOf, row_of}
+use Rattle.law_tp4_lawful.proofs.ActsRows.{AreTold, IsRowOf, row_of}
+use Rattle.law_tp4_lawful.specs.Own.{IsStageOf}
 use Rattle.law_calm_service.specs.steps.Story.{AreOwn, AreOwnIn}
 
 -- so are the halves of an end by itself

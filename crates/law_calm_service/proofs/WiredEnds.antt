@@ -100,14 +100,14 @@ upper_waiting (Frozen when) r is = absurd cc
 
 -- ---- what is shown
 
-all_shown_on_wire : {C : Type 0} (journal : List Event) (world : World C) → AllShown journal (end_at_number world) → AllShown journal (end_at_number (world_on_wire world))
-all_shown_on_wire {C} journal world shown calling called x y o q are x_at y_at x_open y_open =
+all_shown_on_wire : {C : Type 0} (now : ℕ) (journal : List Event) (world : World C) → AllShown now journal (end_at_number world) → AllShown now journal (end_at_number (world_on_wire world))
+all_shown_on_wire {C} now journal world shown calling called x y o q are x_at y_at x_open y_open =
     let one = upper_end world calling x x_at in
     let other = upper_end world called y y_at in
     let first = upper_open one.end.stage o (sym (ap (λ (e : End). e.stage) one.is) ∙ x_open) in
     let second = upper_open other.end.stage q (sym (ap (λ (e : End). e.stage) other.is) ∙ y_open) in
     let both = shown calling called one.end other.end first.opened second.opened are one.stands other.stands first.stage_is second.stage_is in
-    let P : Open → Open → Type 0 = λ a b. HasShown journal calling called a.halves.sending b.halves.receiving × HasShown journal called calling b.halves.sending a.halves.receiving in
+    let P : Open → Open → Type 0 = λ a b. HasShown now journal calling called a.halves.sending b.halves.receiving × HasShown now journal called calling b.halves.sending a.halves.receiving in
     let on_wire : Open → Open = λ a. record a { halves = halves_on_wire a.halves } in
     subst (λ (a : Open). P a q) (sym first.is)
     (subst (λ (b : Open). P (on_wire first.opened) b) (sym second.is)
@@ -117,8 +117,8 @@ pub shown_on_wire : {C : Type 0} (link : C → Link (List ℕ)) (steps : C → C
     → WholeRun link steps → ShowAll link steps whole titles Waits → ShowAll link steps wire titles Waits
 shown_on_wire {C} link steps titles Waits whole_run shown timers first last script begun journal start aside run =
     let above = whole_run titles first script journal last (no_ends titles first.entities start.entities) run.runs in
-    subst (λ (world : World C). AllShown (begun ++ journal) (end_at_number world)) (sym above.2)
-    (all_shown_on_wire (begun ++ journal) above.0
+    subst (λ (world : World C). AllShown (link world.carrier).clock (begun ++ journal) (end_at_number world)) (sym above.2)
+    (all_shown_on_wire (link above.0.carrier).clock (begun ++ journal) above.0
     (shown timers first above.0 script begun journal start aside
     (record { settled = run.settled; proper = run.proper; unrouted = run.unrouted; undropped = run.undropped; runs = above.1 })))
 

@@ -18,8 +18,8 @@ HavePairs {C} link steps wrap titles Waits =
     (timers : Timers) (first last : World C) (script : List Line) (begun journal : List Event) → IsStart titles timers Waits first → IsAside begun
     → IsCalmRun link steps wrap titles first script journal last → ArePairs (begun ++ journal) (end_at_number last)
 
--- so each shows what the other submitted
+-- so each shows what the other submitted, but for want of credit or for what the number rule holds back at the tick of the carrier's clock
 abbrev pub ShowAll : {C : Type 0} → (C → Link (List ℕ)) → (C → Call (List ℕ) → C → Type 0) → (ℕ → ℕ → ℕ) → List (List ℕ) → (C → List (CarriedUnit (List ℕ)) → Type 0) → Type 0
 ShowAll {C} link steps wrap titles Waits =
     (timers : Timers) (first last : World C) (script : List Line) (begun journal : List Event) → IsStart titles timers Waits first → IsAside begun
-    → IsCalmRun link steps wrap titles first script journal last → AllShown (begun ++ journal) (end_at_number last)
+    → IsCalmRun link steps wrap titles first script journal last → AllShown (link last.carrier).clock (begun ++ journal) (end_at_number last)

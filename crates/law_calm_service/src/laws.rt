@@ -9,7 +9,7 @@ use nsap::Nsap;
 use osi_base::Carrier;
 
 /// Each two partner ends that are both open have a pair that went from its accept to them; so each shows what the other submitted, but for want of
-/// credit or by the number rule; over whole numbers.
+/// credit or for what the number rule holds back at the tick of the clock; over whole numbers.
 pub fn has_pairs<C: Carrier<Addr = Nsap>>()
     ensures pairs { OnFifo C.link C.steps (HavePairs C.link C.steps whole) }
     ensures shown { OnFifo C.link C.steps (ShowAll C.link C.steps whole) }

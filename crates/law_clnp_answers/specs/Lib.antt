@@ -1,3 +1,4 @@
+pub mod Hellos
 pub mod Laws
 pub mod Serving
 pub mod Standing

@@ -1,6 +1,7 @@
 //! What holds of each call of the network.
 
 ghost use Rattle.std.specs.Prelude.{◌≡◌};
+ghost use Rattle.law_clnp_answers.specs.Hellos.{BeginsByHellos, RouterIsTold, StepsByHellos};
 ghost use Rattle.law_clnp_answers.specs.Laws.{AlwaysAnswered, AlwaysGathered, BeginsServing, BeginsStanding, LansAlwaysAnswered};
 ghost use Rattle.law_clnp_answers.specs.Laws.{NetServes, OneAnswer, OneBeginning, OneLanAnswer, OneNetAnswer, OneNetBeginning};
 
@@ -46,4 +47,16 @@ pub fn serves()
 /// Of set-ups that may be, a network that begins over LANs without frames is such.
 pub fn begins_serving()
     ensures { BeginsServing }
+{}
+
+/// Over every carrier that keeps the link contract a network over rows is one over the lists of hellos that its systems heard: each step is
+/// one of the other, with the same calls below and the same units, frames and notes, and so it begins.
+pub fn steps_by_hellos<C: Carrier<Addr = Port>>()
+    ensures steps { StepsByHellos C.link C.steps }
+    ensures begins { BeginsByHellos C.link C.steps }
+{}
+
+/// The hellos tell the router that is taken there: the known intermediate system of least title, or none.
+pub fn router_is_told()
+    ensures { RouterIsTold }
 {}

@@ -5,5 +5,5 @@ mod laws;
 
 pub use laws::{
     always_answers, begins_serving, begins_standing, one_answer, one_lan_answer, one_network,
-    serves,
+    router_is_told, serves, steps_by_hellos,
 };

@@ -180,6 +180,7 @@ module _ {C N : Type 0} (link : C → Link Port) (steps : C → Call Port → C 
           steady = record {
             quiet = handled.below.quiet a.gathers.quiet;
             low = subst (λ (n : ℕ). n ≤ 4000000000) (sym below_clock) sound.steady.low;
+            limit = sound.steady.limit;
             peopled =
                 peopled_same (link old.link).bound (link a.below).bound old.life (settings_of a.nodes) (λ to. stands_below.same.bound to ∙ raised.same.bound to)
                 (subst (IsPeopled (link old.link).bound old.life) (sym handled.setups) sound.steady.peopled);

@@ -55,6 +55,7 @@ module _ {C N : Type 0} (link : C → Link Port) (steps : C → Call Port → C 
       steady = record {
         quiet = sound.steady.quiet;
         low = sound.steady.low;
+        limit = sound.steady.limit;
         peopled = sound.steady.peopled;
         timely = sound.steady.timely;
         past = sound.steady.past;
@@ -78,6 +79,7 @@ module _ {C N : Type 0} (link : C → Link Port) (steps : C → Call Port → C 
           steady = record {
             quiet = t.below.quiet quiet;
             low = omega (arith, at);
+            limit = refl;
             peopled = peopled_same (link first).bound (link b.below).bound life (settings_of b.after) t.below.stands.same.bound (subst (IsPeopled (link first).bound life) (sym t.setups) peopled);
             timely = subst (λ (n : ℕ). AllByRecursion (IsTimely n) b.after) (sym at) t.known;
             past = tt;

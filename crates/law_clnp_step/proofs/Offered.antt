@@ -207,6 +207,7 @@ module _ {C N : Type 0} (link : C → Link Port) (steps : C → Call Port → C 
         steady = record {
           quiet = sound.steady.quiet;
           low = sound.steady.low;
+          limit = sound.steady.limit;
           peopled = subst (Rattle.law_clnp_step.specs.Sound.IsPeopled (link old.link).bound old.life) (sym setups) sound.steady.peopled;
           timely = timely;
           past = sound.steady.past;
@@ -362,6 +363,7 @@ module _ {C N : Type 0} (link : C → Link Port) (steps : C → Call Port → C 
           steady = record {
             quiet = in_any.0.quiet sound.steady.quiet;
             low = subst (λ (n : ℕ). n ≤ 4000000000) (sym stands.clock) sound.steady.low;
+            limit = sound.steady.limit;
             peopled =
                 peopled_same (link old.link).bound (link below).bound old.life (settings_of nodes) stands.same.bound
                 (subst (Rattle.law_clnp_step.specs.Sound.IsPeopled (link old.link).bound old.life) (sym setups) sound.steady.peopled);

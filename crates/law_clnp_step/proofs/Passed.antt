@@ -151,6 +151,7 @@ module _ {C N : Type 0} (link : C → Link Port) (steps : C → Call Port → C 
         steady = record {
           quiet = ticked.below.quiet t.gathers.quiet;
           low = omega (arith, below_clock, low);
+          limit = sound.steady.limit;
           peopled =
               peopled_same (link old.link).bound (link t.below).bound old.life (settings_of t.nodes) (λ to. stands.same.bound to ∙ below_ticks.same.bound to)
               (subst (IsPeopled (link old.link).bound old.life) (sym ticked.setups) sound.steady.peopled);

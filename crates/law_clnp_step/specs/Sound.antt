@@ -130,10 +130,11 @@ pub record Knows {N : Type 0} (origins : List Origin) (life : ℕ) (node : Node 
 abbrev pub settings_of : {N : Type 0} → List (Node N) → List Setting
 settings_of nodes = map (λ node. node.setup) nodes
 
--- also after octets were injected
+-- also after octets were injected; at most 40,000 units are afloat
 pub record IsSteady {C N : Type 0} (link : C → Link Port) (net : Network C N) : Type 0 where
   pub quiet : (link net.link).waiting ≡ []
   pub low : (link net.link).clock ≤ 4000000000
+  pub limit : net.floating.limit ≡ 40000
   pub peopled : IsPeopled (link net.link).bound net.life (settings_of net.nodes)
   pub timely : AllByRecursion (IsTimely (link net.link).clock) net.nodes
   pub past : AllByRecursion (λ entry. entry.0 ≤ (link net.link).clock) net.floating.entries

@@ -37,7 +37,7 @@ use Rattle.law_calm_run.specs.Service.{end_at_number}
 use Rattle.law_calm_run.proofs.Indicating.{all_indicated}
 use Rattle.law_calm_run.proofs.Queueing.{all_parts, none_dropped}
 use Rattle.law_calm_service.proofs.Accepting.{all_confirmed}
-use Rattle.law_calm_service.proofs.Ending.{all_have_pairs}
+use Rattle.law_calm_service.proofs.Ending.{all_have_pairs, none_due}
 use Rattle.law_calm_service.specs.Pairs.{ShowAll}
 use Rattle.law_tp4_pair.proofs.ShownIn.{claims}
 use Rattle.law_calm_service.proofs.Wired.{indicated_on_wire}
@@ -230,7 +230,8 @@ has_acted texts script names new before titles others old between r same text li
 -- over whole numbers, each two partner ends are a pair, and so have shown all
 all_shown : (titles : List (List ℕ)) (Waits : Net → List (CarriedUnit (List ℕ)) → Type 0) → IsFifo link_of_net NetDoes titles Waits → ShowAll link_of_net NetDoes whole titles Waits
 all_shown titles Waits fifo_is timers first last script begun journal start aside run =
-    claims (begun ++ journal) (end_at_number last) (all_have_pairs link_of_net NetDoes net_law titles Waits fifo_is timers first last script begun journal start aside run)
+    claims (link_of_net last.carrier).clock (begun ++ journal) (end_at_number last) (all_have_pairs link_of_net NetDoes net_law titles Waits fifo_is timers first last script begun journal start aside run)
+    (none_due link_of_net NetDoes net_law titles Waits fifo_is timers first last script journal start run)
 
 module _ (whole_run : WholeRun link_of_net NetDoes) (whole_line : WholeLine link_of_net NetDoes) where
   connects_indicated : (texts : List (List ℕ)) (script : List Line) (names : Declared) (before : List Event) (titles : List (List ℕ)) (old : Ends) → RunsCalmly texts script names before titles old
@@ -254,10 +255,10 @@ module _ (whole_run : WholeRun link_of_net NetDoes) (whole_line : WholeLine link
       })
 
   ends_shown : (texts : List (List ℕ)) (script : List Line) (names : Declared) (journal : List Event) (titles : List (List ℕ)) (last : Ends) → RunsCalmly texts script names journal titles last
-      → AllByRecursion IsUndropped journal → AllShown journal (end_at_number last)
+      → AllByRecursion IsUndropped journal → AllShown (link_of_net last.carrier).clock journal (end_at_number last)
   ends_shown texts script names journal titles last r none =
       let c = calmly texts script names journal titles last r none in
-      subst (λ (j : List Event). AllShown j (end_at_number last)) (sym c.journal_is)
+      subst (λ (j : List Event). AllShown (link_of_net last.carrier).clock j (end_at_number last)) (sym c.journal_is)
       (shown_on_wire link_of_net NetDoes (titles_said c.setup) (queue_of c.setup c.calm) whole_run
       (all_shown (titles_said c.setup) (queue_of c.setup c.calm) (fifo c.setup c.calm))
       (timers_of c.setup.life c.setup.limits) c.first last c.script c.begun c.rest c.start c.aside c.run)

@@ -58,10 +58,10 @@ AcceptsAreConfirmed names before titles old = (new : Declared) (between : Ends) 
     → Contains settled (events.Confirm calling agreed octets)
 
 -- The network serves its users after these lines. As long as nothing was dropped: each two partner ends that are both Opened have shown all that the other submitted,
--- of expedited and of normal units, but for a number that the number rule holds back, which has its `held` line, or, of normal units, for want of
+-- of expedited and of normal units, but for a number that the number rule holds back at that tick, which has its `held` line, or, of normal units, for want of
 -- credit; and the next line, where it is a connect or an accept, has its indication, its confirm
 pub record Serves (names : Declared) (journal : List Event) (titles : List (List ℕ)) (last : Ends) : Type 0 where
-  pub shown : AllByRecursion IsUndropped journal → AllShown journal (end_at_number last)
+  pub shown : AllByRecursion IsUndropped journal → AllShown (link_of_net last.carrier).clock journal (end_at_number last)
   pub indicated : ConnectsAreIndicated names journal titles last
   pub confirmed : AcceptsAreConfirmed names journal titles last
 

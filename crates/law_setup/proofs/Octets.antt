@@ -31,7 +31,7 @@ use Rattle.osi_setup.specs.Fitting.{Fits, IsWell}
 use Rattle.osi_setup.proofs.Elements.{each, find_all, get_end, push, there}
 use Rattle.osi_setup.proofs.Ports.{at_one}
 use Rattle.osi_setup.proofs.Starting.{is_peopled, is_setting}
-use Rattle.law_setup.specs.Lines.{HopInOctets, IsInOctets, LineInOctets}
+use Rattle.law_setup.specs.Lines.{HopInOctets, IsInOctets, LineInOctets, RelayInOctets}
 use Rattle.law_setup.proofs.Fields.{all_fine}
 use Rattle.law_setup.proofs.Values.{port_values, title_values}
 use Rattle.osi_setup.proofs.Wellness.{made_hop, rows_more, rows_there, set_rows, set_titles, with_one, with_row}
@@ -88,6 +88,7 @@ system_in setup end title o is = record {
   ports = o.ports;
   rows = λ n. subst (AllByRecursion (λ (row : RouteRow). HopInOctets row.hop)) (sym (rows_more setup.systems end title n)) (o.rows n);
   paths = o.paths;
+  relays = o.relays;
 }
 
 title_in : (systems : List System) (n : ℕ) → n < length systems → AllByRecursion IsNsap (map (λ (s : System). s.title) systems) → IsNsap (title_at systems n)
@@ -123,6 +124,7 @@ changed_in setup i system new o is same hops = record {
   ports = o.ports;
   rows = set_rows (λ (n : ℕ). λ (r : RouteRow). HopInOctets r.hop) setup.systems i system new is o.rows hops;
   paths = o.paths;
+  relays = o.relays;
 }
 
 rows_in : (setup : SetUp) (i : ℕ) (system : System) → IsInOctets setup → slice_get setup.systems i ≡ Some system → AllByRecursion (λ (row : RouteRow). HopInOctets row.hop) system.rows
@@ -155,31 +157,32 @@ titles_in : (setup : SetUp) (hops : List ℕ) → IsInOctets setup → AllByRecu
 titles_in setup [] o known = tt
 titles_in setup (hop ∷ hops) o known = (title_in setup.systems hop known.0 o.titles, titles_in setup hops o known.1)
 
-same_in : (setup new : SetUp) → IsInOctets setup → new.systems ≡ setup.systems → new.ports ≡ setup.ports → new.paths ≡ setup.paths → IsInOctets new
-same_in setup new o systems ports paths = record {
+same_in : (setup new : SetUp) → IsInOctets setup → new.systems ≡ setup.systems → new.ports ≡ setup.ports → new.paths ≡ setup.paths → new.relays ≡ setup.relays → IsInOctets new
+same_in setup new o systems ports paths relays = record {
   titles = subst (λ (s : List System). AllByRecursion IsNsap (map (λ (t : System). t.title) s)) (sym systems) o.titles;
   ports = subst (AllByRecursion (λ (row : PortRow). IsSnpa row.port.snpa)) (sym ports) o.ports;
   rows = λ n. subst (λ (s : List System). AllByRecursion (λ (row : RouteRow). HopInOctets row.hop) (rows_at s n)) (sym systems) (o.rows n);
   paths = subst (AllByRecursion (λ (path : Path). AllByRecursion IsNsap path.titles)) (sym paths) o.paths;
+  relays = subst (AllByRecursion RelayInOctets) (sym relays) o.relays;
 }
 
 time_in : (setup : SetUp) (key : Key) (value : ℕ) → IsInOctets setup → IsInOctets (with_time setup key value)
-time_in setup keys.Life value o = same_in setup _ o refl refl refl
-time_in setup keys.Ct value o = same_in setup _ o refl refl refl
-time_in setup keys.Hold value o = same_in setup _ o refl refl refl
-time_in setup keys.T1 value o = same_in setup _ o refl refl refl
-time_in setup keys.W value o = same_in setup _ o refl refl refl
-time_in setup keys.I value o = same_in setup _ o refl refl refl
-time_in setup keys.N value o = same_in setup _ o refl refl refl
-time_in setup keys.Refs value o = same_in setup _ o refl refl refl
-time_in setup keys.Credit value o = same_in setup _ o refl refl refl
+time_in setup keys.Life value o = same_in setup _ o refl refl refl refl
+time_in setup keys.Ct value o = same_in setup _ o refl refl refl refl
+time_in setup keys.Hold value o = same_in setup _ o refl refl refl refl
+time_in setup keys.T1 value o = same_in setup _ o refl refl refl refl
+time_in setup keys.W value o = same_in setup _ o refl refl refl refl
+time_in setup keys.I value o = same_in setup _ o refl refl refl refl
+time_in setup keys.N value o = same_in setup _ o refl refl refl refl
+time_in setup keys.Refs value o = same_in setup _ o refl refl refl refl
+time_in setup keys.Credit value o = same_in setup _ o refl refl refl refl
 
 pub octets_after : (setup : SetUp) (line : Line) → IsInOctets setup → Fits setup line → LineInOctets line → IsInOctets (set_up setup line)
 octets_after setup lines.Nothing o f is = o
 octets_after setup lines.Start o f is = o
 octets_after setup (lines.Version version) o f is = o
 octets_after setup (lines.Set key value) o f is = time_in setup key value o
-octets_after setup (lines.Lan name bound room) o f is = same_in setup _ o refl refl refl
+octets_after setup (lines.Lan name bound room) o f is = same_in setup _ o refl refl refl refl
 octets_after setup (lines.Es name title) o f is = system_in setup true title o is
 octets_after setup (lines.Is name title) o f is = system_in setup false title o is
 octets_after setup (lines.Port system lan snpa) o f is = record {
@@ -187,6 +190,7 @@ octets_after setup (lines.Port system lan snpa) o f is = record {
   ports = push (λ (row : PortRow). IsSnpa row.port.snpa) setup.ports (record { system = system; end = end_at setup.systems system; port = record { lan = lan; snpa = snpa } }) o.ports is;
   rows = o.rows;
   paths = o.paths;
+  relays = o.relays;
 }
 octets_after setup (lines.Route system prefix next lan) o f is = route_in setup system prefix next lan o
 octets_after setup (lines.Path name kind systems) o f is = record {
@@ -194,10 +198,18 @@ octets_after setup (lines.Path name kind systems) o f is = record {
   ports = o.ports;
   rows = o.rows;
   paths = push (λ (path : Path). AllByRecursion IsNsap path.titles) setup.paths _ o.paths (titles_in setup systems o f.known);
+  relays = o.relays;
 }
 octets_after setup (lines.Tsap system selector) o f is = selector_in setup system selector o
 octets_after setup (lines.Relay system selector to called) o f is =
-    same_in (record setup { systems = with_selector setup.systems system selector }) _ (selector_in setup system selector o) refl refl refl
+    let with_one : IsInOctets (record setup { systems = with_selector setup.systems system selector }) = selector_in setup system selector o in
+    record {
+      titles = with_one.titles;
+      ports = with_one.ports;
+      rows = with_one.rows;
+      paths = with_one.paths;
+      relays = push RelayInOctets setup.relays (record { system = system; selector = selector; to = to; called = called }) o.relays (record { selector = is.0.octets; called = is.1.octets });
+    }
 octets_after setup (lines.Connect system selector to called options octets) o f is = absurd f
 octets_after setup (lines.Accept end options octets) o f is = absurd f
 octets_after setup (lines.Refuse end octets) o f is = absurd f

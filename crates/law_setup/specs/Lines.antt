@@ -9,6 +9,7 @@ use Rattle.tp4_world.specs.Telling.{asked_options}
 use Rattle.osi_script.specs.declared.line.Line.{Line}
 use Rattle.osi_script.specs.declared.line.Line.TheVariants as lines
 use Rattle.osi_script.specs.Known.{Declared}
+use Rattle.osi_setup.specs.declared.relay.RelayLine.{RelayLine}
 use Rattle.osi_setup.specs.Fitting.{Fits, IsSelector}
 use Rattle.osi_setup.specs.SetUp.{SetUp, rows_at, set_up, titles_of}
 use Rattle.law_setup.specs.Agreeing.{AreOne}
@@ -64,8 +65,14 @@ LineInOctets line = Unit {0}
 abbrev pub HopInOctets : Hop → Type 0
 HopInOctets hop = IsSnpa hop.port.snpa × IfSome hop.title IsNsap
 
+-- the selectors of a relay stand in octets
+pub record RelayInOctets (relay : RelayLine) : Type 0 where
+  pub selector : AreOctets relay.selector
+  pub called : AreOctets relay.called
+
 pub record IsInOctets (setup : SetUp) : Type 0 where
   pub titles : AllByRecursion IsNsap (titles_of setup)
   pub ports : AllByRecursion (λ row. IsSnpa row.port.snpa) setup.ports
   pub rows : (number : ℕ) → AllByRecursion (λ row. HopInOctets row.hop) (rows_at setup.systems number)
   pub paths : AllByRecursion (λ path. AllByRecursion IsNsap path.titles) setup.paths
+  pub relays : AllByRecursion RelayInOctets setup.relays

@@ -10,10 +10,10 @@ use Rattle.tp4_conn.specs.Dues.{IsBefore}
 use Rattle.tp4_conn.specs.End.{End}
 use Rattle.tp4_conn.specs.Proper.{IsProper}
 use Rattle.tp4_conn.specs.Table.{Ticked, at as now_at, due, stepped}
-use Rattle.tp4_conn.proofs.Dues.{proper_due}
 use Rattle.tp4_entity.specs.Entity.{Entity, end_at, there}
 use Rattle.tp4_entity.specs.Step.{first_due, is_due, is_due_by, kept_end}
 use Rattle.tp4_entity.proofs.PlaceLaws.{end_at_of}
+use Rattle.law_tp4_proper.proofs.Rows.{proper_due}
 use Rattle.law_tp4_associations.specs.Ticking.{ticked_end}
 use Rattle.law_tp4_associations.proofs.Handed.{within_list}
 use Rattle.law_tp4_associations.proofs.Meeting.{stands_among}

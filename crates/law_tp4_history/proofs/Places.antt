@@ -3,7 +3,7 @@
 use Rattle.std.proofs.Common.{◌≡◌, ◌⊎◌, inl, inr, ℕ, zero, suc, ◌+◌, ◌-◌, ◌<◌, ◌==◌, true, false, if◌then◌else◌, List, [], ◌∷◌, ◌++◌, length, slice_get, Some, refl, sym, ◌∙◌, ap, subst, arith}
 use Rattle.std.proofs.lemmas.Option.{slice_get_within, get_or_from_slice_get}
 use Rattle.std.proofs.lemmas.Bool.{cases_lt, cases_order, cases_Bool, eqb-true, eqb-false}
-use Rattle.osi_journal.specs.Lawful.{IsLatest, Partner, AreEnds, HasPartner}
+use Rattle.osi_journal.specs.Lawful.{IsLatest, Partner, AreEnds, HasPartner, Makes}
 use Rattle.osi_journal.specs.declared.event.Event.{Event}
 use Rattle.osi_journal.specs.declared.event.Event.TheVariants as events
 use Rattle.osi_journal.specs.declared.event.Indication.{Indication}
@@ -214,6 +214,19 @@ module _ (times : Times) (titles : List (List ℕ)) (h : History) (s : Sound tim
             let same : i.asked ≡ asked = cc (i.is, is, k.2) in
             record { k = k.0; low = k.1; at = k.2; asks = subst (Asks k.0 (h.end k.0)) same i.asks })
       ]
+
+  -- the event at p made the end of that number
+  numbered : (p end : ℕ) (event : Event) → slice_get journal p ≡ Some event → Makes end event → (k : ℕ) × (f.at k ≡ p) × (k + 1 ≡ end)
+  numbered p end (events.Connect asked) is makes = let k = asking p asked is in (k.k, k.at, sym k.asks.end ∙ makes)
+  numbered p end (events.Incoming heard) is makes = let i = incoming p heard is in (i.b, i.at, sym i.hears.end ∙ makes)
+  numbered p end event is makes = absurd makes
+
+  -- one event makes an end
+  pub one_making : (p again end : ℕ) (event other : Event) → slice_get journal p ≡ Some event → slice_get journal again ≡ Some other → Makes end event → Makes end other → p ≡ again
+  one_making p again end event other is was makes remakes =
+      let i = numbered p end event is makes in
+      let j = numbered again end other was remakes in
+      sym i.1 ∙ ap f.at (omega (arith, i.2, j.2)) ∙ j.1
 
   order_back : (i j : ℕ) → i < h.count → j < h.count → f.at i < f.at j → i < j
   order_back i j ilow jlow up = elim (cases_order i j) [

@@ -20,7 +20,7 @@ use Rattle.law_tp4_history.proofs.Later.{IsLater, partner_on}
 use Rattle.law_tp4_history.proofs.Lines.{lawful_front}
 use Rattle.law_tp4_history.proofs.Listed.{Listed, listed_step, listed_start}
 use Rattle.law_tp4_history.proofs.Meets.{swap}
-use Rattle.law_tp4_history.proofs.Places.{Placed, placed_aside, placed_on, placed_new, one_incoming, has_partner, are_called, are_ends}
+use Rattle.law_tp4_history.proofs.Places.{Placed, placed_aside, placed_on, placed_new, one_incoming, one_making, has_partner, are_called, are_ends}
 use Rattle.law_tp4_history.proofs.Queued.{queue_none, queue_more}
 use Rattle.law_tp4_history.proofs.Sound.{Sound, one_partner}
 use Rattle.law_tp4_history.proofs.Steps.{sound_step, step_later, sound_start}
@@ -75,6 +75,7 @@ module _ (times : Times) (titles : List (List ℕ)) (h : History) (s : Sound tim
     (zero : shown 0 journal ≡ []) where
   lawful_by : AreQueues titles journal
   lawful_by = record {
+    made = one_making times titles h s ends journal f;
     one = one_incoming times titles h s ends journal f;
     some = has_partner times titles h s ends journal f;
     there = λ calling called e.

@@ -43,7 +43,8 @@ use Rattle.law_tp4_lawful.specs.steps.Acting.{Acts, Comes, IsLike, first_of}
 use Rattle.law_tp4_lawful.specs.steps.Known.{AreOffered, AreTerms, Follows, HaveBegun, IsKnown, Known}
 use Rattle.law_tp4_lawful.proofs.ActsLines.{Did, Flowing, Says, acted, did}
 use Rattle.law_tp4_lawful.proofs.ActsSame.{step_leaves}
-use Rattle.law_tp4_lawful.proofs.ActsRows.{AreTold, IsStageOf, row_of}
+use Rattle.law_tp4_lawful.proofs.ActsRows.{AreTold, row_of}
+use Rattle.law_tp4_lawful.specs.Own.{IsStageOf}
 use Rattle.law_tp4_lawful.proofs.ActsTold.{ends_stay}
 use Rattle.law_tp4_lawful.proofs.ActsUnits.{given_other, given_own, made_none, shown_other, shown_own, tells_none}
 use Rattle.law_tp4_lawful.proofs.Frames.{owners_with}

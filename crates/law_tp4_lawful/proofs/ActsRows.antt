@@ -41,17 +41,9 @@ use Rattle.tp4_conn.specs.Opened.{dt_as, hearing, is_expedited, opened_as, opene
 use Rattle.tp4_conn.specs.Table.{Called, Event, Ticked, Took, at as at_tick, on_call, on_tick, on_tpdu, stepped}
 use Rattle.tp4_conn.specs.UserWait.{user_wait_accept, user_wait_refuse, user_wait_tick}
 use Rattle.tp4_conn.specs.WaitBeforeClose.{wait_before_close_tick, wait_before_close_tpdu}
+use Rattle.law_tp4_lawful.specs.Own.{AreHalvesOf, IsEndOf, IsStageOf}
 
--- ---- the reference of an end
-
--- the halves are of that reference
-abbrev pub AreHalvesOf : ℕ → Halves → Type 0
-AreHalvesOf own h = (h.sending.rules.own ≡ own) × (h.receiving.rules.own ≡ own)
-
-abbrev pub IsStageOf : ℕ → Stage → Type 0
-IsStageOf own (stages.AkWait w) = AreHalvesOf own w.halves
-IsStageOf own (stages.Opened o) = AreHalvesOf own o.halves
-IsStageOf own stage = Prim.Unit {0}
+-- ---- what is told
 
 -- what is told of an end is of that reference; a fault of a TPDU is of none, and an indication is not told by an end that stands
 abbrev pub IsTold : ℕ → ℕ → What → Type 0
@@ -296,10 +288,6 @@ module _ (own : ℕ) where
     call_of (stages.Opened o) (calls.Window credit) halves = window_of o credit halves
     call_of (stages.Opened o) (calls.Disconnect octets) halves = record { base = is; stage = tt; told = tt }
     call_of stage call halves = record { base = is; stage = halves; told = tt }
-
--- the end is of that reference, and so are its halves
-abbrev pub IsEndOf : ℕ → End → Type 0
-IsEndOf own e = (e.base.own ≡ own) × IsStageOf own e.stage
 
 -- each step of an end
 pub row_of : (wrap : ℕ → ℕ → ℕ) (now own : ℕ) (e : End) (event : Event) → IsEndOf own e → IsRowOf own (stepped wrap now e event)

@@ -32,7 +32,8 @@ use Rattle.tp4_world.specs.declared.place.EndAt.{EndAt}
 use Rattle.tp4_world.specs.declared.place.Placed.{Placed}
 use Rattle.tp4_world.proofs.Having.{with_any}
 use Rattle.law_tp4_lawful.specs.steps.Silence.{BeginsEnd, Goes, IsLongAgo, IsStanding, Kind, Makes, Making, Noting, Of, Other, Quietly, Runs, Seen, Stays, Step, Stops, Telling, kind_of, kinds_of, last_restart, told_by}
-use Rattle.law_tp4_lawful.proofs.ActsRows.{AreTold, IsEndOf, IsRowOf, IsTold, row_of}
+use Rattle.law_tp4_lawful.proofs.ActsRows.{AreTold, IsRowOf, IsTold, row_of}
+use Rattle.law_tp4_lawful.specs.Own.{IsEndOf}
 use Rattle.law_tp4_lawful.proofs.ActsTold.{ends_stay}
 use Rattle.law_tp4_lawful.proofs.Frames.{entity_other, entity_set}
 use Rattle.law_tp4_lawful.proofs.MakesPlaces.{latest_last}

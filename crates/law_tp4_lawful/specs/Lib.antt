@@ -1,4 +1,5 @@
 pub mod Headline
 pub mod Numbers
+pub mod Own
 pub mod References
 pub mod steps

@@ -14,6 +14,7 @@ mod FlowOut
 mod FlowReceiving
 mod FlowResends
 mod FlowRows
+mod FlowRule
 mod FlowSending
 mod FlowSends
 pub mod FlowUnits

@@ -1,12 +1,14 @@
 //! What the rows of an end's state table do to both lines of its connection (X.224, class 4 state tables;
 //! X.214, queue model).
 
-ghost use Rattle.std.specs.Prelude.{◌≡◌, ◌≢◌, ◌+◌, ℕ, Bool, true, false, List, Option, Some, Contains};
+ghost use Rattle.std.specs.Prelude.{◌≡◌, ◌≢◌, ◌↔◌, ◌+◌, ℕ, Bool, true, false, List, Option, Some, Contains};
 ghost use Rattle.tpdu.specs.declared.tpdu.Format.TheVariants.{Normal};
 ghost use Rattle.tpdu.specs.declared.tpdu.Tpdu.{Tpdu};
 ghost use Rattle.tpdu.specs.Writing.{IsAllowed};
 ghost use Rattle.tp4_number.specs.Formats.{block_of};
-ghost use Rattle.tp4_number.specs.Number.{whole};
+ghost use Rattle.tp4_number.specs.Number.{whole, MaySend};
+ghost use Rattle.tp4_number.specs.Sender.{may_send};
+ghost use Rattle.tp4_sending.specs.FlowSender.{FlowSender, block_in};
 ghost use Rattle.tp4_flow.specs.declared.step.Sent.{Sent};
 ghost use Rattle.tp4_conn.specs.declared.base.Base.{Base};
 ghost use Rattle.tp4_conn.specs.declared.call.ConnectCall.{ConnectCall};
@@ -16,11 +18,11 @@ ghost use Rattle.tp4_conn.specs.End.{End, Moved, agreed_format};
 ghost use Rattle.tp4_conn.specs.Making.{connected, on_cr};
 ghost use Rattle.tp4_conn.specs.Proper.{IsProper, IsProperEvent};
 ghost use Rattle.tp4_conn.specs.Table.{Event, Took, stepped};
-ghost use Rattle.law_tp4_history.specs.Ends.{Times, Terms, Body, Plain, Cc, Flow, Offer, Sent as SentBy};
+ghost use Rattle.law_tp4_history.specs.Ends.{Times, IsFit, Terms, Body, Plain, Cc, Flow, Offer, Sent as SentBy};
 ghost use Rattle.law_tp4_history.specs.History.{History, IsPartner};
-ghost use Rattle.law_tp4_history.specs.Tracks.{Track, Whole, IsTold, CanOut, CanIn, GoesOn, Go, done, Noted, clocked};
+ghost use Rattle.law_tp4_history.specs.Tracks.{Track, Whole, IsTold, ReachedAll, CanOut, CanIn, GoesOn, Go, done, Noted, clocked};
 ghost use Rattle.law_tp4_moves.specs.Seen.{seen, IsNumbered};
-ghost use Rattle.law_tp4_moves.specs.Lines.{Stands, IsTimely, IsKnownEvent, Flowed, IsIn, AreSentIn, ArePlain, AreOffered};
+ghost use Rattle.law_tp4_moves.specs.Lines.{IsSendingAt, Stands, IsTimely, IsKnownEvent, Flowed, IsIn, AreSentIn, ArePlain, AreOffered};
 
 /// Where the halves of an end stand in the lines of its connection, each row leaves both lines, begins them or goes
 /// on with them, and the halves stand there after it; so do those of its partner. What is sent can be offered, and
@@ -45,4 +47,12 @@ pub fn flowed()
     ensures plain { (now number : ℕ) (address : List ℕ) (tpdus : List Sent) → ArePlain tpdus → AreOffered now number address tpdus (λ body. body ≡ Plain) }
     ensures noted { (h : History) (track : ℕ → Track) (y z : ℕ) (own theirs : Track) (now : ℕ) (body : Body) → IsPartner h y z → y ≢ z
         → IsIn own theirs now body → Noted h (done track y (Go z own theirs)) y now body }
+{}
+
+/// What `Sending::may_send` tells of the next DT, and what the half asks before it sends one, is the number rule over all DTs that it ever sent:
+/// a number that opens a block goes exactly where the third block before it was last sent more than `limit` ticks ago.
+pub fn number_rule()
+    ensures { (times : Times) (w : Whole) (x : ℕ) (s : FlowSender) → IsFit times → ReachedAll times w → IsSendingAt s (w.track x)
+        → (may_send (block_in s) s.rules.limit s.numbers.blocks s.numbers.next w.base.clock ≡ true)
+        ↔ MaySend (block_in s) s.rules.limit (w.track x).line.world.sends s.numbers.next w.base.clock }
 {}

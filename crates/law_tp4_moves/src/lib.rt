@@ -5,5 +5,5 @@
 mod flow_laws;
 mod laws;
 
-pub use flow_laws::flowed;
+pub use flow_laws::{flowed, number_rule};
 pub use laws::{begins, due_by_latest, indicates, moved, sourced, times};

@@ -46,21 +46,23 @@ expedited_left : (s : FlowSender) (units : List (List ℕ)) → (not (is_some s.
 expedited_left s [] h e = inl refl
 expedited_left s (unit ∷ units) h e = inr (h (ap (λ (o : Option Tries). not (is_some o || length (unit ∷ units) == 0)) e ∙ ap not (some_units (length units))))
 
-normal_left : (s : FlowSender) (h : Half) → IsSettled s → s.urgent.units ≡ [] → s.numbers.base + s.numbers.credit ≡ h.receiver.expected + h.receiver.inbox.credit → s.numbers.next ≡ h.receiver.expected → HasTaken s h
-normal_left s h settled none edge at = by (nat_lt s.numbers.next (s.numbers.base + s.numbers.credit)) (nat_lt s.numbers.next (end_of s.rules.piece s.queue)) refl refl
+normal_left : (s : FlowSender) (h : Half) → s.is_open ≡ true → IsSettled s → s.urgent.units ≡ [] → s.numbers.base + s.numbers.credit ≡ h.receiver.expected + h.receiver.inbox.credit → s.numbers.next ≡ h.receiver.expected
+    → HasTaken s h
+normal_left s h is_open settled none edge at = by (nat_lt s.numbers.next (s.numbers.base + s.numbers.credit)) (nat_lt s.numbers.next (end_of s.rules.piece s.queue)) refl refl
   where
     quiet : (u v : Bool) → nat_lt s.numbers.next (s.numbers.base + s.numbers.credit) ≡ u → nat_lt s.numbers.next (end_of s.rules.piece s.queue) ≡ v → waits_normal s ≡ not (not (u && v))
     quiet u v e f = (λ i. not (not (length (none i) == 0) || not (e i && f i)))
 
     by : (u v : Bool) → nat_lt s.numbers.next (s.numbers.base + s.numbers.credit) ≡ u → nat_lt s.numbers.next (end_of s.rules.piece s.queue) ≡ v → HasTaken s h
-    by true true e f = By_dt (settled.normal (quiet true true e f))
+    by true true e f = let waits = quiet true true e f in By_dt (record { is_open = is_open; waits = waits; held = settled.normal waits })
     by false v e f = By_credit (omega (arith, ltb-false _ _ e, edge, at))
     by true false e f = All (omega (arith, ltb-false _ _ f, at))
 
 pub rests : (s : FlowSender) (h : Half) → IsCalm s h [] [] [] [] → IsAtRest s h
 rests s h c =
     let r = at_rest s h c in
-    let expedited = expedited_left s s.urgent.units c.settled.urgent r.out in
+    let is_open : s.is_open ≡ true = c.flows.ordered.is_open in
+    let expedited = expedited_left s s.urgent.units (λ waits. record { is_open = is_open; waits = waits; held = c.settled.urgent waits }) r.out in
     record {
       base = r.base;
       next = r.next;
@@ -69,7 +71,7 @@ rests s h c =
       urgent = sym r.urgent;
       expedited = expedited;
       normal = elim expedited [
-        | inl none ↦ normal_left s h c.settled none (omega (arith, r.base, r.credit)) r.next
+        | inl none ↦ normal_left s h is_open c.settled none (omega (arith, r.base, r.credit)) r.next
         | inr held ↦ By_ed held
       ];
     }

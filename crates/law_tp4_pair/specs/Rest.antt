@@ -1,20 +1,24 @@
 -- What is left where nothing waits: nothing, but for want of credit or by the number rule (X.224, class 4: explicit flow control; frozen
 -- references and numbers).
-use Rattle.std.specs.Prelude.{◌≡◌, ◌⊎◌, ◌≤◌, [], None}
+use Rattle.std.specs.Prelude.{◌≡◌, ◌⊎◌, ◌≤◌, true, [], None}
 use Rattle.osi_journal.specs.Lawful.{expediteds, normals}
 use Rattle.tp4_flow.specs.Half.{Half}
 use Rattle.tp4_sending.specs.FlowSender.{FlowSender, block_in}
 use Rattle.tp4_sending.specs.Pieces.{end_of}
-use Rattle.tp4_sending.specs.Settled.{IsHeld}
+use Rattle.tp4_sending.specs.Settled.{IsHeld, waits_normal, waits_urgent}
 use Rattle.tp4_conn.specs.declared.stage.Open.{Open}
 use Rattle.law_tp4_pair.specs.Pair.{Account, Pair, back_units, forth_units}
 
--- the number rule holds the next ED, the next DT back, and that was told
-abbrev pub HoldsEd : FlowSender → Type 0
-HoldsEd s = IsHeld (block_in s) s.rules.limit s.urgent.blocks s.urgent.next s.urgent.noted
+-- an ED, a DT is next, the number rule holds it back up to some tick, and that was told
+pub record HoldsEd (s : FlowSender) : Type 0 where
+  pub is_open : s.is_open ≡ true
+  pub waits : waits_urgent s ≡ true
+  pub held : IsHeld (block_in s) s.rules.limit s.urgent.blocks s.urgent.next s.urgent.noted
 
-abbrev pub HoldsDt : FlowSender → Type 0
-HoldsDt s = IsHeld (block_in s) s.rules.limit s.numbers.blocks s.numbers.next s.noted
+pub record HoldsDt (s : FlowSender) : Type 0 where
+  pub is_open : s.is_open ≡ true
+  pub waits : waits_normal s ≡ true
+  pub held : IsHeld (block_in s) s.rules.limit s.numbers.blocks s.numbers.next s.noted
 
 -- why a DT of what was submitted is not taken: the number rule, or no credit; else all are
 pub data HasTaken (s : FlowSender) (h : Half) : Type 0 where

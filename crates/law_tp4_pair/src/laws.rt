@@ -30,7 +30,7 @@ ghost use Rattle.tp4_entity.specs.Entity.{Entity, moved};
 ghost use Rattle.tp4_entity.specs.References.{least_free};
 ghost use Rattle.law_tp4_pair.specs.steps.Flowing.{IsCalm, IsCalmOn};
 ghost use Rattle.osi_journal.specs.declared.event.Event.{Event as JournalEvent};
-ghost use Rattle.law_tp4_pair.specs.Claim.{AllShown, ArePairs};
+ghost use Rattle.law_tp4_pair.specs.Claim.{AllShown, AreLater, ArePairs};
 ghost use Rattle.law_tp4_pair.specs.Meeting.{IsMet};
 ghost use Rattle.law_tp4_pair.specs.Pair.{Accepts, AreOpened, Asks_called, Comes_back, Comes_forth, Happening, IsIdle, Leads, May, Pair, next};
 ghost use Rattle.law_tp4_pair.specs.Rest.{AreAtRest, IsAtRest};
@@ -106,7 +106,8 @@ pub fn meets()
         → IsMet p.clock p.calling p.called sent }
 {}
 
-/// Where each two partner ends that are both Opened are such a pair, and nothing waits there, each has shown all that the other submitted.
+/// Where each two partner ends that are both Opened are such a pair, nothing waits there, and no end is due at this tick, each has shown all
+/// that the other submitted, but for want of credit or for a number that the number rule holds back at this tick.
 pub fn claims()
-    ensures { (journal : List JournalEvent) (end_of : ℕ → Option End) → ArePairs journal end_of → AllShown journal end_of }
+    ensures { (now : ℕ) (journal : List JournalEvent) (end_of : ℕ → Option End) → ArePairs journal end_of → AreLater now end_of → AllShown now journal end_of }
 {}

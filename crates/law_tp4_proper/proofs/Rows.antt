@@ -13,7 +13,7 @@ use Rattle.tp4_conn.specs.declared.call.UserCall.{UserCall}
 use Rattle.tp4_conn.specs.declared.stage.Stage.{Stage}
 use Rattle.tp4_conn.specs.declared.stage.Stage.TheVariants.{CrWait, WaitBeforeClose, UserWait, AkWait, Opened, Closing, Frozen}
 use Rattle.tp4_conn.specs.declared.timers.Timers.{Timers}
-use Rattle.tp4_conn.specs.Dues.{IsBefore}
+use Rattle.tp4_conn.specs.Dues.{IsBefore, IsDue, IsRunning}
 use Rattle.tp4_conn.specs.End.{End, IsTimed, Moved, end_of}
 use Rattle.tp4_conn.specs.Living.{IsInTime}
 use Rattle.tp4_conn.specs.Making.{connected, on_cr}
@@ -21,11 +21,24 @@ use Rattle.tp4_conn.specs.Matching.{wants_sum}
 use Rattle.tp4_conn.specs.Proper.{AreSendable, IsProper, IsProperCall, IsProperEvent, IsProperRow, IsProperStage}
 use Rattle.tp4_conn.specs.Table.{Called, Took, Ticked, due, stepped}
 use Rattle.tp4_conn.specs.Table.{at as base_at}
-use Rattle.tp4_conn.proofs.Dues.{proper_due}
+use Rattle.tp4_conn.proofs.Dues.{running_due}
 use Rattle.tp4_conn.proofs.Propers.{called_row, connected_row, step_row}
 use Rattle.tp4_conn.proofs.Rests.{Lasts, MaySend, before_not, before_of, call_late, in_time_at, tick_keeps, tpdu_late}
 use Rattle.tp4_conn.proofs.Timely.{if_kept}
 use Rattle.law_tp4_proper.specs.Rest.{IsProperEnd}
+
+-- a proper end is due when it is said to be
+proper_runs : (agreed : Option Options) (stage : Stage) → IsProperStage agreed stage → IsRunning stage
+proper_runs agreed (CrWait w) proper = tt
+proper_runs agreed (WaitBeforeClose w) proper = tt
+proper_runs agreed (UserWait since) proper = tt
+proper_runs agreed (AkWait w) proper = tt
+proper_runs agreed (Opened o) proper = (proper.is_open, proper.halves.t1)
+proper_runs agreed (Closing c) proper = tt
+proper_runs agreed (Frozen when) proper = tt
+
+pub proper_due : (b : Base) (stage : Stage) → IsProper b stage → IsDue b stage
+proper_due b stage p = running_due b stage p.timers (proper_runs b.agreed stage p.state)
 
 -- it is proper, and not due
 pub record Rests (t : Timers) (now : ℕ) (e : End) : Type 0 where

@@ -40,6 +40,9 @@ pub fn drive<T: Intake + Drop, S: Source, K: Sink>(
     // A failed read ends the run: no other status comes after it, and no further read.
     ensures no_read_fault { result ≢ Status.ReadFault → S.faults source.new ≡ S.faults source.old }
     ensures one_read_fault { S.faults source.new ≤ S.faults source.old + 1 }
+    // So does a failed write: no other status comes after it, and no further write.
+    ensures no_write_fault { result ≢ Status.WriteFault → K.faults sink.new ≡ K.faults sink.old }
+    ensures one_write_fault { K.faults sink.new ≤ K.faults sink.old + 1 }
     // A fault comes only where its count rose in this call, or stands at its last value.
     ensures read_fault { result ≡ Status.ReadFault → HasRisen (S.faults source.old) (S.faults source.new) }
     ensures write_fault { result ≡ Status.WriteFault → HasRisen (K.faults sink.old) (K.faults sink.new) }
@@ -74,6 +77,8 @@ fn pass_on<T: Intake, K: Sink>(
     ensures octets { result ≡ Status.Done → T.progress.octets intake.new ≡ T.progress.octets intake.old + length octets.now }
     ensures within { result ≡ Status.Done → T.progress.octets intake.new ≤ most_octets }
     ensures faults_stay { K.faults sink.old ≤ K.faults sink.new }
+    ensures no_write_fault { result ≢ Status.WriteFault → K.faults sink.new ≡ K.faults sink.old }
+    ensures one_write_fault { K.faults sink.new ≤ K.faults sink.old + 1 }
     ensures write_fault { result ≡ Status.WriteFault → HasRisen (K.faults sink.old) (K.faults sink.new) }
 {
     out.clear();
@@ -102,6 +107,8 @@ fn overfill<T: Intake, K: Sink>(
     ensures passes { Passes T.course T.progress K.held octets.now intake.old sink.old intake.new sink.new result }
     ensures stopped { result ≢ Status.Done }
     ensures faults_stay { K.faults sink.old ≤ K.faults sink.new }
+    ensures no_write_fault { result ≢ Status.WriteFault → K.faults sink.new ≡ K.faults sink.old }
+    ensures one_write_fault { K.faults sink.new ≤ K.faults sink.old + 1 }
     ensures write_fault { result ≡ Status.WriteFault → HasRisen (K.faults sink.old) (K.faults sink.new) }
 {
     match intake.take(&octets[..room], out) {
@@ -114,6 +121,8 @@ fn overfill<T: Intake, K: Sink>(
 fn overflow<T: Intake, K: Sink>(intake: &T, out: &mut Vec<u8>, sink: &mut K) -> Status
     ensures written { IsOverWritten T.course T.progress K.held intake.now out.old.items sink.old sink.new result }
     ensures faults_stay { K.faults sink.old ≤ K.faults sink.new }
+    ensures no_write_fault { result ≢ Status.WriteFault → K.faults sink.new ≡ K.faults sink.old }
+    ensures one_write_fault { K.faults sink.new ≤ K.faults sink.old + 1 }
     ensures write_fault { result ≡ Status.WriteFault → HasRisen (K.faults sink.old) (K.faults sink.new) }
 {
     let Ok(()) = intake.push_too_much(out) else {
@@ -127,6 +136,8 @@ fn close<T: Intake, K: Sink>(intake: &mut T, out: &mut Vec<u8>, sink: &mut K) ->
     requires { T.progress.ready intake.old }
     ensures closes { Closes T.course T.progress K.held intake.old sink.old sink.new result }
     ensures faults_stay { K.faults sink.old ≤ K.faults sink.new }
+    ensures no_write_fault { result ≢ Status.WriteFault → K.faults sink.new ≡ K.faults sink.old }
+    ensures one_write_fault { K.faults sink.new ≤ K.faults sink.old + 1 }
     ensures write_fault { result ≡ Status.WriteFault → HasRisen (K.faults sink.old) (K.faults sink.new) }
 {
     out.clear();
@@ -138,6 +149,8 @@ fn close<T: Intake, K: Sink>(intake: &mut T, out: &mut Vec<u8>, sink: &mut K) ->
 fn write_closed<K: Sink>(text: &[u8], end: Status, sink: &mut K) -> Status
     ensures written { IsClosed K.held sink.old text.now end sink.new result }
     ensures faults_stay { K.faults sink.old ≤ K.faults sink.new }
+    ensures no_write_fault { result ≢ Status.WriteFault → K.faults sink.new ≡ K.faults sink.old }
+    ensures one_write_fault { K.faults sink.new ≤ K.faults sink.old + 1 }
     ensures write_fault { result ≡ Status.WriteFault → HasRisen (K.faults sink.old) (K.faults sink.new) ⊎ (end ≡ Status.WriteFault) }
 {
     match end {

@@ -1,6 +1,6 @@
 //! A text is written to its end.
 
-ghost use Rattle.std.specs.Prelude.{◌≡◌, ◌≤◌, ◌⊎◌};
+ghost use Rattle.std.specs.Prelude.{◌≡◌, ◌≢◌, ◌+◌, ◌≤◌, ◌⊎◌};
 ghost use Rattle.osi_base.specs.Ends.{HasRisen};
 ghost use Rattle.octet_loop.specs.Writing.{IsWritten};
 
@@ -10,6 +10,9 @@ use osi_base::{Sink, Status, WriteRefusal};
 pub fn write_all<K: Sink>(sink: &mut K, text: &[u8]) -> Status
     ensures written { IsWritten K.held sink.old text.now Status.Done sink.new result }
     ensures faults_stay { K.faults sink.old ≤ K.faults sink.new }
+    // A failed write ends the text: no other status comes after it, and no further write.
+    ensures no_write_fault { result ≢ Status.WriteFault → K.faults sink.new ≡ K.faults sink.old }
+    ensures one_write_fault { K.faults sink.new ≤ K.faults sink.old + 1 }
     ensures write_fault { result ≡ Status.WriteFault → HasRisen (K.faults sink.old) (K.faults sink.new) }
 {
     let mut at = 0;
@@ -32,6 +35,9 @@ pub fn write_all<K: Sink>(sink: &mut K, text: &[u8]) -> Status
 pub fn write_last<K: Sink>(sink: &mut K, text: &[u8], end: Status) -> Status
     ensures written { IsWritten K.held sink.old text.now end sink.new result }
     ensures faults_stay { K.faults sink.old ≤ K.faults sink.new }
+    // A failed write ends the text: no other status comes after it, and no further write.
+    ensures no_write_fault { result ≢ Status.WriteFault → K.faults sink.new ≡ K.faults sink.old }
+    ensures one_write_fault { K.faults sink.new ≤ K.faults sink.old + 1 }
     ensures write_fault { result ≡ Status.WriteFault → HasRisen (K.faults sink.old) (K.faults sink.new) ⊎ (end ≡ Status.WriteFault) }
 {
     match write_all(sink, text) {

@@ -1,7 +1,7 @@
 //! Sources and sinks in memory. `MemSource` and `MemSink` can be told to fail; `PlainSource` and
 //! `PlainSink` never do.
 
-ghost use Rattle.std.specs.Prelude.{◌≡◌, ◌+◌, ◌<◌, ◌≤◌, ℕ, List, [], length, take, min, max, slice_get, IfOk, OnOk, OnErr, IsErrOf};
+ghost use Rattle.std.specs.Prelude.{◌≡◌, ◌⊎◌, ◌+◌, ◌<◌, ◌≤◌, ℕ, List, [], length, take, min, max, slice_get, IfOk, OnOk, OnErr, IsErrOf};
 ghost use Rattle.osi_base.specs.Ends.{HasRisen, Took, Put, IsAtEnd};
 ghost use Rattle.osi_base.specs.Memory.{share, is_failing};
 
@@ -235,7 +235,7 @@ impl MemSink {
 impl Sink for MemSink {
     ghost use Rattle.std.specs.Prelude.{Some};
     ghost use Rattle.osi_base.specs.Memory.{Writes};
-    ghost use Rattle.osi_base.specs.declared.refusal.WriteRefusal.TheVariants.{Failed as WriteFailed};
+    ghost use Rattle.osi_base.specs.declared.refusal.WriteRefusal.TheVariants.{Failed as WriteFailed, NoMemory as WriteNoMemory};
 
     ghost held = { λ s. Some s.held };
 
@@ -247,6 +247,9 @@ impl Sink for MemSink {
         ensures stuck { IfOk result (λ n. n ≡ 0 → 0 < length piece.now → HasRisen self.old.faults self.new.faults) }
         ensures failed { IsErrOf result WriteFailed → HasRisen self.old.faults self.new.faults }
         ensures kept { OnErr result (Some self.new.held ≡ Some self.old.held) }
+        ensures faultless { IfOk result (λ n. (0 < n) ⊎ (length piece.now ≡ 0) → self.new.faults ≡ self.old.faults) }
+        ensures memory { IsErrOf result WriteNoMemory → self.new.faults ≡ self.old.faults }
+        ensures one_fault { self.new.faults ≤ self.old.faults + 1 }
         ensures faults_stay { self.old.faults ≤ self.new.faults }
         ensures exact { Writes self.old piece.now result self.new }
     {
@@ -302,7 +305,7 @@ impl PlainSink {
 
 impl Sink for PlainSink {
     ghost use Rattle.std.specs.Prelude.{Some};
-    ghost use Rattle.osi_base.specs.declared.refusal.WriteRefusal.TheVariants.{Failed as WriteFailed};
+    ghost use Rattle.osi_base.specs.declared.refusal.WriteRefusal.TheVariants.{Failed as WriteFailed, NoMemory as WriteNoMemory};
 
     ghost held = { λ s. Some s };
 
@@ -314,6 +317,9 @@ impl Sink for PlainSink {
         ensures stuck { IfOk result (λ n. n ≡ 0 → 0 < length piece.now → HasRisen 0 0) }
         ensures failed { IsErrOf result WriteFailed → HasRisen 0 0 }
         ensures kept { OnErr result (Some self.new ≡ Some self.old) }
+        ensures faultless { IfOk result (λ n. (0 < n) ⊎ (length piece.now ≡ 0) → ◌≡◌ {A = ℕ} 0 0) }
+        ensures memory { IsErrOf result WriteNoMemory → ◌≡◌ {A = ℕ} 0 0 }
+        ensures one_fault { 0 ≤ 0 + 1 }
         ensures faults_stay { 0 ≤ 0 }
         ensures whole { IfOk result (λ n. n ≡ length piece.now) }
     {

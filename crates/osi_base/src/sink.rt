@@ -1,8 +1,8 @@
 //! Where a program's octets go.
 
-ghost use Rattle.std.specs.Prelude.{◌≡◌, ◌<◌, ◌≤◌, List, ℕ, Option, length, take, IfOk, OnErr, IsErrOf};
+ghost use Rattle.std.specs.Prelude.{◌≡◌, ◌⊎◌, ◌+◌, ◌<◌, ◌≤◌, List, ℕ, Option, length, take, IfOk, OnErr, IsErrOf};
 ghost use Rattle.osi_base.specs.Ends.{HasRisen, Put};
-ghost use Rattle.osi_base.specs.declared.refusal.WriteRefusal.TheVariants.{Failed};
+ghost use Rattle.osi_base.specs.declared.refusal.WriteRefusal.TheVariants.{Failed, NoMemory};
 
 use crate::WriteRefusal;
 
@@ -24,5 +24,8 @@ pub trait Sink {
         ensures stuck { IfOk result (λ n. n ≡ 0 → 0 < length piece.now → HasRisen (faults self.old) (faults self.new)) }
         ensures failed { IsErrOf result Failed → HasRisen (faults self.old) (faults self.new) }
         ensures kept { OnErr result (held self.new ≡ held self.old) }
+        ensures faultless { IfOk result (λ n. (0 < n) ⊎ (length piece.now ≡ 0) → faults self.new ≡ faults self.old) }
+        ensures memory { IsErrOf result NoMemory → faults self.new ≡ faults self.old }
+        ensures one_fault { faults self.new ≤ faults self.old + 1 }
         ensures faults_stay { faults self.old ≤ faults self.new };
 }

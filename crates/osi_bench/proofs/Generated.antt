@@ -29,13 +29,13 @@ use Rattle.law_run.proofs.ScriptRuns.{filled_run, script_run}
 use Rattle.osi_bench.specs.Storm.{IsLawfulRun, IsLawfulStorm, StormRuns, as_it_stands, line_after, storm_lines}
 use Rattle.osi_bench.proofs.Storming.{few_frames, read_by}
 
-abbrev Lines : Type 0
+abbrev pub Lines : Type 0
 Lines = List (List Event → List ℕ)
 
 -- ---- the lines inject nothing
 
 -- each line is read by the names of those before it and injects nothing, whatever journal stands before it
-abbrev AreClear : Lines → Declared → Type 0
+abbrev pub AreClear : Lines → Declared → Type 0
 AreClear [] names = Unit {0}
 AreClear (line ∷ lines) names =
     (before : List Event) → length before ≤ most_events
@@ -63,7 +63,7 @@ set_up_clear (text ∷ texts) [] names last rest says none clear = absurd says
 set_up_clear (text ∷ texts) (line ∷ script) names last rest says none clear = λ before few.
     (record { line = line; names = says.0 }, says.1, none.0, set_up_clear texts script says.0 last rest says.2 none.1 clear)
 
-storm_clear : (storm : Storm) → AreClear (storm_lines storm) (nothing_declared dialects.Run)
+pub storm_clear : (storm : Storm) → AreClear (storm_lines storm) (nothing_declared dialects.Run)
 storm_clear storm =
     let h = are_read dialects.Run read_by in
     set_up_clear set_up_lines h.said (nothing_declared dialects.Run) h.names (map line_after (words storm.seed storm.count)) h.set_up h.none_injects

@@ -1,3 +1,4 @@
+pub mod Courses
 pub mod Generated
 pub mod KindLaws
 pub mod StormWords

@@ -9,7 +9,7 @@ use Rattle.osi_storm.specs.Counted.{counts_of}
 use Rattle.osi_storm.specs.declared.request.Storm.{Storm}
 use Rattle.osi_storm.specs.Summary.{summary_line}
 use Rattle.law_run.specs.Bench.{Bench, first_bench}
-use Rattle.osi_bench.specs.Storm.{AsksSummary, StormFills, StormRuns, SummaryOutcome, storm_lines}
+use Rattle.osi_bench.specs.Storm.{AsksOneSummary, AsksSummary, StormFills, StormRuns, SummaryOutcome, storm_lines}
 use Rattle.osi_bench.specs.Text.{done_line}
 use Rattle.law_run.specs.steps.WorldLaws.{bench_laws}
 
@@ -57,6 +57,16 @@ too_much_of storm text other WriteFault a h = absurd h
 too_much_of storm text other NoMemory a h = absurd h
 too_much_of storm text other RefusedWords a h = absurd h
 too_much_of storm text other RefusedCapture a h = absurd h
+
+pub one_summary : AsksOneSummary
+one_summary storm text other Done next h k = let one = summary_of storm text h.0 h.1 other next h.2 h.3 k in (sym one.0, one.1)
+one_summary storm text other TooMuch next h k = let one = too_much_of storm text other next h k in (sym one.0, one.1)
+one_summary storm text other RefusedLine next h k = absurd h
+one_summary storm text other ReadFault next h k = absurd h
+one_summary storm text other WriteFault next h k = absurd h
+one_summary storm text other NoMemory next h k = absurd h
+one_summary storm text other RefusedWords next h k = absurd h
+one_summary storm text other RefusedCapture next h k = absurd h
 
 -- ---- what comes
 

@@ -53,6 +53,15 @@ AsksSummary storm text NoMemory = ⊥
 AsksSummary storm text RefusedWords = ⊥
 AsksSummary storm text RefusedCapture = ⊥
 
+-- a generated script asks for a text and a status, and not for two
+pub record AsksSomeSummary (storm : Storm) : Type 0 where
+  pub text : List ℕ
+  pub status : Status
+  pub asks : AsksSummary storm text status
+
+abbrev pub AsksOneSummary : Type 0
+AsksOneSummary = (storm : Storm) (text other : List ℕ) (status next : Status) → AsksSummary storm text status → AsksSummary storm other next → (status ≡ next) × (text ≡ other)
+
 -- a front of what a generated script asks for
 pub record IsCutSummary (storm : Storm) (written : List ℕ) : Type 0 where
   pub text : List ℕ

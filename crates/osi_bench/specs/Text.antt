@@ -4,4 +4,4 @@ pub use Rattle.script_bench.specs.Text.{done_line, toomuch_line}
 
 -- the line for wrong words
 abbrev pub usage_line : List ℕ
-usage_line = codes "usage: osi run | frames | decode | storm SEED COUNT | datagrams | inactive" ++ 10 ∷ []
+usage_line = codes "usage: osi run | frames | decode | storm SEED COUNT | datagrams | inactive | relay" ++ 10 ∷ []

@@ -9,6 +9,7 @@ ghost use Rattle.osi_bench.specs.declared.kinds.Kind.{Kind as Command};
 
 use datagram_play::ClPlay;
 use osi_base::{Sink, Source, Status};
+use relay_play::RelayPlay;
 use script_bench::run_script;
 use script_world::{RoutedNet, SubsetNet, TpPlay, World};
 use std::alloc::Global;
@@ -19,6 +20,9 @@ type InactiveWorld = World<TpPlay<SubsetNet>>;
 /// The network of `datagrams`: systems over LANs, with users of datagrams.
 type DatagramWorld = World<ClPlay<RoutedNet>>;
 
+/// The network of `relay`: systems over LANs, with transport entities and relays.
+type RelayWorld = World<RelayPlay<RoutedNet>>;
+
 /// A command that reads a script, beside `run`.
 #[derive(Clone, Copy)]
 pub enum Kind {
@@ -26,6 +30,8 @@ pub enum Kind {
     Datagrams,
     /// `inactive`: transport entities over the inactive subset (X.233, Inactive Network Layer Protocol subset).
     Inactive,
+    /// `relay`: transport entities, and relays that join their connections (X.214, model of the transport service).
+    Relay,
 }
 
 /// Whether the words are the one word that is the name of a command.
@@ -65,6 +71,9 @@ fn kind_named(word: &str) -> Option<Kind>
     }
     if word == "inactive" {
         return Some(Kind::Inactive);
+    }
+    if word == "relay" {
+        return Some(Kind::Relay);
     }
     None
 }
@@ -108,6 +117,10 @@ pub fn run_kind<S: Source, K: Sink>(
             law_tp4_lawful::lawful::<SubsetNet>();
             run_script::<InactiveWorld, S, K>(alloc, source, sink)
         }
+        Kind::Relay => {
+            relay_play::relays_lawfully::<RoutedNet>();
+            run_script::<RelayWorld, S, K>(alloc, source, sink)
+        }
     }
 }
 
@@ -118,6 +131,8 @@ pub fn kinds_have_one_outcome()
 {
     script_bench::some_outcome::<DatagramWorld>();
     script_bench::some_outcome::<InactiveWorld>();
+    script_bench::some_outcome::<RelayWorld>();
     script_bench::one_outcome::<DatagramWorld>();
     script_bench::one_outcome::<InactiveWorld>();
+    script_bench::one_outcome::<RelayWorld>();
 }

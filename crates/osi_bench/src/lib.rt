@@ -10,5 +10,5 @@ mod storm;
 mod top;
 
 pub use kinds::kinds_have_one_outcome;
-pub use laws::{generated_scripts_are_lawful, generated_scripts_run};
+pub use laws::{generated_scripts_are_lawful, generated_scripts_run, one_summary, some_summary};
 pub use top::{Transcript, osi, run_in_memory};

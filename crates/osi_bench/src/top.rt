@@ -35,7 +35,7 @@ use std::alloc::Global;
 ///
 /// `run` reads a script from the source and writes its transcript to the sink; `frames` writes the capture of its frames;
 /// `decode` reads a capture and writes the lines of its records; `storm SEED COUNT` reads nothing, runs a generated script
-/// and writes its summary; `datagrams` and `inactive` read a script as `run` does, over another network. Other words write the usage line.
+/// and writes its summary; `datagrams`, `inactive` and `relay` read a script as `run` does, over another network. Other words write the usage line.
 pub fn osi<S: Source, K: Sink>(
     alloc: Global,
     words: &[String],
@@ -269,5 +269,5 @@ pub fn run_in_memory(alloc: Global, words: &[String], input: &[u8]) -> Result<Tr
 fn usage() -> &'static [u8]
     ensures { result.now ≡ usage_line }
 {
-    b"usage: osi run | frames | decode | storm SEED COUNT | datagrams | inactive\n"
+    b"usage: osi run | frames | decode | storm SEED COUNT | datagrams | inactive | relay\n"
 }

@@ -1,5 +1,6 @@
 pub mod CellKinds
 pub mod Cutting
 pub mod OneText
+pub mod Partners
 pub mod Tails
 pub mod ToldBack

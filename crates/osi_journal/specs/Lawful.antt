@@ -1,5 +1,5 @@
 -- What a journal may tell (X.214, model of the transport service: two queues for each connection; X.224, frozen references).
-use Rattle.std.specs.Prelude.{◌≡◌, ℕ, ◌+◌, ◌<◌, ◌≤◌, ◌==◌, true, if◌then◌else◌, List, [], ◌∷◌, ◌++◌, length, get_or, slice_get, Some}
+use Rattle.std.specs.Prelude.{◌≡◌, ◌⊎◌, ℕ, ◌+◌, ◌<◌, ◌≤◌, ◌==◌, true, if◌then◌else◌, List, [], ◌∷◌, ◌++◌, length, get_or, slice_get, Some}
 use Rattle.nsap.specs.Address.{is_same_system}
 use Rattle.osi_journal.specs.declared.event.Event.{Event}
 use Rattle.osi_journal.specs.declared.event.Event.TheVariants as events
@@ -31,6 +31,16 @@ pub record AreEnds (journal : List Event) (calling called : ℕ) : Type 0 where
   pub partner : Partner journal p q heard asked
   pub calling_is : asked.end ≡ calling
   pub called_is : heard.end ≡ called
+
+-- the two are the ends of one connection
+abbrev pub ArePartners : List Event → ℕ → ℕ → Type 0
+ArePartners journal end other = AreEnds journal end other ⊎ AreEnds journal other end
+
+-- the event makes an end: it gives it its number
+abbrev pub Makes : ℕ → Event → Type 0
+Makes end (events.Connect asked) = asked.end ≡ end
+Makes end (events.Incoming heard) = heard.end ≡ end
+Makes end event = ⊥
 
 -- ---- units
 
@@ -100,6 +110,8 @@ pub record HasPartner (titles : List (List ℕ)) (journal : List Event) (p : ℕ
 
 -- each connection is two queues
 pub record AreQueues (titles : List (List ℕ)) (journal : List Event) : Type 0 where
+  -- each end has its number from one event
+  pub made : (p again end : ℕ) (event other : Event) → slice_get journal p ≡ Some event → slice_get journal again ≡ Some other → Makes end event → Makes end other → p ≡ again
   -- no request is the partner of two indications
   pub one : (p other q : ℕ) (heard again : Indication) (asked : Request) → Partner journal p q heard asked → Partner journal other q again asked → p ≡ other
   -- each indication has a partner

@@ -4,7 +4,7 @@ ghost use Rattle.std.specs.Prelude.{◌≡◌, ◌++◌, ℕ, List};
 ghost use Rattle.osi_script.specs.Tags.{Tags, AreNames};
 ghost use Rattle.osi_journal.specs.Told.{journal_text};
 ghost use Rattle.osi_journal.specs.Injective.{EachTold};
-ghost use Rattle.osi_journal.specs.Lawful.{Lawful};
+ghost use Rattle.osi_journal.specs.Lawful.{ArePartners, Lawful};
 ghost use Rattle.osi_journal.specs.RawLawful.{RawLawful};
 ghost use Rattle.osi_journal.specs.declared.event.Event.{Event};
 
@@ -18,4 +18,10 @@ pub fn text_is_injective()
 pub fn fronts_are_lawful()
     ensures lawful { (frozen : ℕ) (titles : List (List ℕ)) (front back : List Event) → Lawful frozen titles (front ++ back) → Lawful frozen titles front }
     ensures raw { (life : ℕ) (titles : List (List ℕ)) (front back : List Event) → RawLawful life titles (front ++ back) → RawLawful life titles front }
+{}
+
+/// In a lawful journal an end has one partner end at most.
+pub fn one_partner()
+    ensures { (frozen : ℕ) (titles : List (List ℕ)) (journal : List Event) (end one other : ℕ) → Lawful frozen titles journal → ArePartners journal end one → ArePartners journal end other
+        → one ≡ other }
 {}

@@ -19,5 +19,5 @@ pub use boxed::Boxed;
 pub use cause::{GoneCause, Refused, Settled, Standing, TpduCause, TpduKind, UdCause};
 pub use event::{Event, Indication, Request};
 pub use journal::{Journal, JournalRefusal};
-pub use laws::{fronts_are_lawful, text_is_injective};
+pub use laws::{fronts_are_lawful, one_partner, text_is_injective};
 pub use text::write_event;

@@ -8,6 +8,7 @@ ghost use Rattle.lan_bag.specs.Bag.{new_bag};
 ghost use Rattle.lan_bag.specs.Rows.{IsLan};
 ghost use Rattle.osi_setup.specs.Fitting.{IsWell};
 ghost use Rattle.osi_setup.specs.SetUp.{is_complete, nodes_from};
+ghost use Rattle.osi_setup.specs.declared.relay.RelayLine.{RelayLine as Said};
 
 use crate::inactive::inactive_rows;
 use crate::relay::RelayLine;
@@ -196,7 +197,8 @@ impl SetUp {
 
     /// The relays, in the order of their lines.
     pub fn relays(&self) -> &[RelayLine]
-        ensures { result.now ≡ self.now.relays }
+        ensures relays { result.now ≡ self.now.relays }
+        ensures known { AllByRecursion (λ (relay : Said). (relay.system < length self.now.systems) × (relay.to < length self.now.systems)) result.now }
     {
         self.shared.relays()
     }

@@ -9,47 +9,25 @@ use Rattle.line_loop.specs.Exact.{IsAccepted, IsFailure}
 use Rattle.line_loop.specs.Outcome.{Asks, IsCut, Outcome}
 use Rattle.line_loop.specs.Writing.{IsPrefix, IsBroken, IsWritten}
 use Rattle.line_loop.proofs.Driving.{Ran}
-use Rattle.line_loop.proofs.Exclusion.{ran_accepted, ran_exact}
+use Rattle.line_loop.proofs.Exclusion.{asks_once, ran_accepted, ran_exact}
 use Rattle.line_loop.proofs.Reading.{read_none}
-use Rattle.frame_capture.specs.Written.{SentFrame, capture_of, header_octets, records_octets}
+use Rattle.frame_capture.specs.Written.{SentFrame, header_octets}
 use Rattle.law_run.specs.Bench.{Bench, first_bench}
-use Rattle.script_frames.specs.Frames.{AsksCapture, AsksForCapture, CaptureOutcome, IsCutCapture, IsFramesRun, frames_meaning}
+use Rattle.script_frames.specs.Frames.{AsksCapture, AsksForCapture, AsksOneCapture, CaptureOutcome, IsCutCapture, IsFramesRun, frames_meaning}
 use Rattle.script_frames.specs.steps.FrameLaws.{frames_laws}
 use Rattle.law_run.specs.Transcript.{ShowsSilence, ShowsWhatWasSubmitted}
 use Rattle.law_run.proofs.ScriptRuns.{shows_sent}
 
 -- ---- what octets ask for
 
-whole : (frames : List SentFrame) (text : List ℕ) → text ≡ records_octets frames ++ [] → header_octets ++ text ≡ capture_of frames
-whole frames text is = ap (λ (octets : List ℕ). header_octets ++ octets) (is ∙ append-nil (records_octets frames))
-
-told : (frames : List SentFrame) (text : List ℕ) → text ≡ records_octets frames → header_octets ++ text ≡ capture_of frames
-told frames text is = ap (λ (octets : List ℕ). header_octets ++ octets) is
-
 capture_asked : (end : Type 0) (read text : List ℕ) (status : Status) → Asks frames_meaning end first_bench read text status → AsksCapture end read (header_octets ++ text) status
-capture_asked end read text Done h = (h.0, h.1, h.2, h.3, whole h.0 text h.4)
-capture_asked end read text RefusedLine h = (h.0, h.1, h.2, h.3, h.4, whole h.2 text h.5)
-capture_asked end read text TooMuch h = (h.0, h.1, h.2, whole h.0 text h.3)
-capture_asked end read text ReadFault h = (h.0, h.1, h.2, told h.0 text h.3)
-capture_asked end read text WriteFault h = h
-capture_asked end read text NoMemory h = h
-capture_asked end read text RefusedWords h = h
-capture_asked end read text RefusedCapture h = h
+capture_asked end read text status asks = record { records = text; asks = asks; capture_is = refl }
 
-record Text (end : Type 0) (read capture : List ℕ) (status : Status) : Type 0 where
-  text : List ℕ
-  is : capture ≡ header_octets ++ text
-  asks : Asks frames_meaning end first_bench read text status
-
-text_of : (end : Type 0) (read capture : List ℕ) (status : Status) → AsksCapture end read capture status → Text end read capture status
-text_of end read capture Done h = record { text = records_octets h.0; is = h.4; asks = (h.0, h.1, h.2, h.3, sym (append-nil (records_octets h.0))) }
-text_of end read capture RefusedLine h = record { text = records_octets h.2; is = h.5; asks = (h.0, h.1, h.2, h.3, h.4, sym (append-nil (records_octets h.2))) }
-text_of end read capture TooMuch h = record { text = records_octets h.0; is = h.3; asks = (h.0, h.1, h.2, sym (append-nil (records_octets h.0))) }
-text_of end read capture ReadFault h = record { text = records_octets h.0; is = h.3; asks = (h.0, h.1, h.2, refl) }
-text_of end read capture WriteFault h = absurd h
-text_of end read capture NoMemory h = absurd h
-text_of end read capture RefusedWords h = absurd h
-text_of end read capture RefusedCapture h = absurd h
+-- octets do not ask for two captures
+pub one_capture : AsksOneCapture
+one_capture all capture other status next h k =
+    let one = asks_once frames_meaning frames_laws first_bench all h.1.records k.1.records status next (h.0, h.1.asks) (k.0, k.1.asks) in
+    (one.0, h.1.capture_is ∙ ap (λ (records : List ℕ). header_octets ++ records) one.1 ∙ sym k.1.capture_is)
 
 -- ---- what was written
 
@@ -74,8 +52,8 @@ capture_outcome end read written TooMuch h = capture_asked end read written TooM
 capture_outcome end read written ReadFault h = capture_asked end read written ReadFault h
 capture_outcome end read written WriteFault h = capture_cut end read written h
 capture_outcome end read written NoMemory h = capture_cut end read written h
-capture_outcome end read written RefusedWords h = h
-capture_outcome end read written RefusedCapture h = h
+capture_outcome end read written RefusedWords h = absurd h
+capture_outcome end read written RefusedCapture h = absurd h
 
 -- nothing was read, and a front of the header was written
 header_cut : (end : Type 0) (front : List ℕ) → IsPrefix front header_octets → IsCutCapture end [] front
@@ -84,7 +62,7 @@ header_cut end front begins = record {
   capture = header_octets;
   status = ReadFault;
   begins = ([], refl);
-  asked = ([], first_bench, read_none frames_meaning first_bench, sym (append-nil header_octets));
+  asked = record { records = []; asks = ([], first_bench, read_none frames_meaning first_bench, refl); capture_is = sym (append-nil header_octets) };
   cut = begins;
 }
 
@@ -141,9 +119,9 @@ module _ {S K : Type 0} (left : S → Option (List ℕ)) (held : K → Option (L
       → (all capture : List ℕ) (asked : Status) → left source ≡ Some all → AsksForCapture all capture asked → ((status ≡ asked) × Put (held sink) capture (held now_sink)) ⊎ IsFailure status
   framed_exact source sink mid first now_source now_sink status fresh put h all capture asked tells asks =
       let r = subst (λ (b : Bench). Ran frames_meaning left held source mid b now_source now_sink status) fresh h in
-      let t = text_of (Unit {0}) all capture asked asks.1 in
-      elim (ran_exact frames_meaning frames_laws left held source mid first_bench now_source now_sink status r all t.text asked tells (asks.0, t.asks)) [
-        | inl here ↦ inl (here.0, subst (λ (c : List ℕ). Put (held sink) c (held now_sink)) (sym t.is) (put_on (held sink) header_octets (held mid) t.text (held now_sink) put here.1))
+      let t : AsksCapture (Unit {0}) all capture asked = asks.1 in
+      elim (ran_exact frames_meaning frames_laws left held source mid first_bench now_source now_sink status r all t.records asked tells (asks.0, t.asks)) [
+        | inl here ↦ inl (here.0, subst (λ (c : List ℕ). Put (held sink) c (held now_sink)) (sym t.capture_is) (put_on (held sink) header_octets (held mid) t.records (held now_sink) put here.1))
         | inr fails ↦ inr fails
       ]
 

@@ -1,6 +1,7 @@
 mod Captured
 mod Capturing
 mod Framing
+mod Short
 mod ToldFrames
 mod ToldLines
 mod ToldNet

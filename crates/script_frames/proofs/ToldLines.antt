@@ -1,6 +1,6 @@
 -- Each line of a script tells of the frames that the LANs number in it: what users and ends do tells none, and what comes up from the network tells
 -- those that it numbered.
-use Rattle.std.proofs.Common.{◌≡◌, ℕ, ◌+◌, Bool, true, false, List, [], ◌∷◌, ◌++◌, length, drop, Option, None, Some, refl, sym, ◌∙◌, ap, subst}
+use Rattle.std.proofs.Common.{◌≡◌, ℕ, ◌+◌, Bool, true, false, List, [], ◌∷◌, ◌++◌, length, take, drop, Option, None, Some, refl, sym, ◌∙◌, ap, subst}
 use Rattle.std.specs.Prelude.{if◌then◌else◌, ◌==◌}
 use Rattle.std.proofs.lemmas.List.{length-map}
 use Rattle.nsap.specs.Address.{selector_of}
@@ -19,6 +19,7 @@ use Rattle.osi_base.specs.declared.unit.Wish.{Wish}
 use Rattle.osi_base.specs.Calls.{Call}
 use Rattle.lan_bag.specs.Bag.{Bag, new_bag}
 use Rattle.lan_bag.specs.Frames.{kept_at}
+use Rattle.lan_bag.specs.declared.setup.PortRow.{PortRow}
 use Rattle.osi_journal.specs.RawLawful.{clock_after, clock_from, raw_address}
 use Rattle.osi_journal.specs.declared.cause.Refused.{Refused}
 use Rattle.osi_journal.specs.declared.cause.Refused.TheVariants as refusals
@@ -53,7 +54,7 @@ use Rattle.law_run.specs.World.{Ends, Net, NetDoes, SetsUp, StartsUp, WorldStep,
 use Rattle.law_run.specs.steps.WorldLaws.{ran_line, started}
 use Rattle.law_run.specs.World.{World}
 use Rattle.script_world.specs.declared.play.World.TheVariants.{SettingUp, Running}
-use Rattle.script_frames.proofs.ToldFrames.{ArePlain, Grows, IsPlain, clock_from-append, counted, entries_length, grows_none, grows_on, new_told, noted, noted_by, plain_clock, plain_none, told_from-append, told_length}
+use Rattle.script_frames.proofs.ToldFrames.{ArePlain, Grows, IsPlain, clock_from-append, counted, entries_length, first_told, grows_none, grows_on, new_told, noted, noted_by, plain_clock, plain_none, told_from-append, told_length}
 use Rattle.script_frames.proofs.ToldNet.{ChoosesFrame, InjectsOctets, IsNoTick, IsQuiet, OffersUnit, Passed, gathered, later, passed, tick_passed, ticks_grow}
 use Rattle.tp4_conn.specs.declared.timers.Timers.{Timers}
 
@@ -151,7 +152,7 @@ pub record Tells (old new : Net) (made : List Event) : Type 0 where
 
 tells_plain : (net : Net) (made : List Event) → IsQuiet net → ArePlain made → Tells net net made
 tells_plain net made quiet plain = record {
-  grows = subst (λ (fs : List ToldFrame). Grows net.link net.link fs) (sym (plain_none net.link.clock made plain)) (grows_none net.link net.link refl refl quiet.below);
+  grows = subst (λ (fs : List ToldFrame). Grows net.link net.link fs) (sym (plain_none net.link.clock made plain)) (grows_none net.link net.link refl refl refl quiet.below);
   still = plain_clock net.link.clock made plain;
   quiet = quiet;
 }
@@ -298,6 +299,7 @@ pub record LineTells (old new : Net) (made : List Event) : Type 0 where
   pub are : told_from old.link.clock made ≡ frames
   pub before : Bag
   pub same : length before.frames ≡ length old.link.frames
+  pub ports : before.rows ≡ old.link.rows
   pub grows : Grows before new.link frames
   pub clock : clock_from old.link.clock made ≡ new.link.clock
   pub quiet : IsQuiet new
@@ -308,6 +310,7 @@ at_once old new made t = record {
   are = refl;
   before = old.link;
   same = refl;
+  ports = refl;
   grows = t.grows;
   clock = t.still ∙ sym t.grows.clock;
   quiet = t.quiet;
@@ -326,6 +329,7 @@ ticks_tell old new made quiet h =
           ∙ ap (λ (n : ℕ). told_from now (told h.ups) ++ told_from n h.later) (ups.1 ∙ sym at) ∙ ap (λ (fs : List ToldFrame). fs ++ told_from h.below.link.clock h.later) ups.0;
       before = later old.carrier.link;
       same = length-map old.carrier.link.frames (kept_at now old.carrier.link.lans);
+      ports = refl;
       grows = grows_on (later old.carrier.link) h.below.link new.carrier.link (noted now h.ups) (told_from h.below.link.clock h.later) p.grows rest.grows;
       clock = ap (clock_from old.carrier.link.clock) h.made_is ∙ clock_from-append now (told h.ups) h.later ∙ ap (λ (n : ℕ). clock_from n h.later) (ups.1 ∙ sym at)
           ∙ rest.still ∙ sym rest.grows.clock;
@@ -389,9 +393,17 @@ abbrev pub clock_in : World → ℕ
 clock_in (SettingUp setup) = 0
 clock_in (Running run) = run.ends.carrier.link.clock
 
--- the frames of a line are those that its events tell
+-- these are the ports, once there are LANs
+abbrev pub HasPorts : List PortRow → World → Type 0
+HasPorts ports (SettingUp setup) = Unit {0}
+HasPorts ports (Running run) = run.ends.carrier.link.rows ≡ ports
+
+-- the frames of a line are those that its events tell, and the first of them are those that its first events tell
 pub record WorldTells (old new : World) (made : List Event) : Type 0 where
-  pub told : AreTold (length (slots_of old) + 1) (told_from (clock_in old) made) (sent_in (new_slots old new))
+  pub ports : (rows : List PortRow) → HasPorts rows new → HasPorts rows old
+  pub told : (rows : List PortRow) → HasPorts rows new → AreTold rows (length (slots_of old) + 1) (told_from (clock_in old) made) (sent_in (new_slots old new))
+  pub first : (rows : List PortRow) → HasPorts rows new → (front more : List ToldFrame) → told_from (clock_in old) made ≡ front ++ more
+      → AreTold rows (length (slots_of old) + 1) front (sent_in (take (length front) (new_slots old new)))
   pub count : length (slots_of new) ≡ length (slots_of old) + length (sent_in (new_slots old new))
   pub clock : clock_from (clock_in old) made ≡ clock_in new
   pub quiet : IsQuietWorld new
@@ -399,13 +411,20 @@ pub record WorldTells (old new : World) (made : List Event) : Type 0 where
 grown_count : (old new : Bag) (told : List ToldFrame) (before : ℕ) → before ≡ length old.frames → Grows old new told → length new.frames ≡ before + length (sent_in (drop before new.frames))
 grown_count old new told before is g =
     counted old new told g ∙ ap (λ (n : ℕ). n + length g.entries) (sym is)
-    ∙ ap (λ (n : ℕ). before + n) (sym (entries_length (length old.frames + 1) told g.entries g.are) ∙ told_length (before + 1) told (sent_in (drop before new.frames)) (new_told old new told before is g))
+    ∙ ap (λ (n : ℕ). before + n) (sym (entries_length old.rows (length old.frames + 1) told g.entries g.are) ∙ told_length old.rows (before + 1) told (sent_in (drop before new.frames)) (new_told old new told before is g))
 
 from_line : (titles : List (List ℕ)) (timers : Timers) (old new : Ends) (made : List Event) → LineTells old.carrier new.carrier made → WorldTells (running titles timers old) (running titles timers new) made
 from_line titles timers old new made l =
     let place : ℕ = length old.carrier.link.frames in
     record {
-      told = subst (λ (fs : List ToldFrame). AreTold (place + 1) fs (sent_in (drop place new.carrier.link.frames))) (sym l.are) (new_told l.before new.carrier.link l.frames place (sym l.same) l.grows);
+      ports = λ rows has. sym l.ports ∙ sym l.grows.ports ∙ has;
+      told = λ rows has.
+          subst (λ (fs : List ToldFrame). AreTold rows (place + 1) fs (sent_in (drop place new.carrier.link.frames))) (sym l.are)
+          (subst (λ (r : List PortRow). AreTold r (place + 1) l.frames (sent_in (drop place new.carrier.link.frames))) (sym l.grows.ports ∙ has)
+          (new_told l.before new.carrier.link l.frames place (sym l.same) l.grows));
+      first = λ rows has front more is.
+          subst (λ (r : List PortRow). AreTold r (place + 1) front (sent_in (take (length front) (drop place new.carrier.link.frames)))) (sym l.grows.ports ∙ has)
+          (first_told l.before new.carrier.link front more place (sym l.same) (subst (λ (fs : List ToldFrame). Grows l.before new.carrier.link fs) (sym l.are ∙ is) l.grows));
       count = grown_count l.before new.carrier.link l.frames place (sym l.same) l.grows;
       clock = l.clock;
       quiet = l.quiet;
@@ -423,18 +442,30 @@ starts_tell setup new made starts =
     let ups = ups_told s.ups 0 in
     let are : told_from 0 made ≡ noted 0 s.ups = ap (told_from 0) s.made_is ∙ ups.0 in
     let all : WorldTells (SettingUp setup) (running (titles_said setup) (timers_of setup.life setup.limits) (record { carrier = s.below; entities = entities_of setup; ends = [] })) made = record {
-      told = subst (λ (fs : List ToldFrame). AreTold 1 fs (sent_in (drop 0 s.below.link.frames))) (sym are) (new_told bag s.below.link (noted 0 s.ups) 0 refl p.grows);
+      ports = λ rows has. tt;
+      told = λ rows has.
+          subst (λ (fs : List ToldFrame). AreTold rows 1 fs (sent_in (drop 0 s.below.link.frames))) (sym are)
+          (subst (λ (r : List PortRow). AreTold r 1 (noted 0 s.ups) (sent_in (drop 0 s.below.link.frames))) (sym p.grows.ports ∙ has) (new_told bag s.below.link (noted 0 s.ups) 0 refl p.grows));
+      first = λ rows has front more is.
+          subst (λ (r : List PortRow). AreTold r 1 front (sent_in (take (length front) (drop 0 s.below.link.frames)))) (sym p.grows.ports ∙ has)
+          (first_told bag s.below.link front more 0 refl (subst (λ (fs : List ToldFrame). Grows bag s.below.link fs) (sym are ∙ is) p.grows));
       count = grown_count bag s.below.link (noted 0 s.ups) 0 refl p.grows;
       clock = ap (clock_from 0) s.made_is ∙ ups.1 ∙ sym p.grows.clock;
       quiet = p.quiet;
     } in
     subst (λ (w : World). WorldTells (SettingUp setup) w made) (sym (h.4 ∙ ap (λ (ends : Ends). running (titles_said setup) (timers_of setup.life setup.limits) ends) s.becomes)) all
 
+-- a front of nothing
+none_first : (rows : List PortRow) (front more : List ToldFrame) → [] ≡ front ++ more → AreTold rows 1 front (sent_in (take (length front) []))
+none_first rows [] more is = tt
+none_first rows (told ∷ front) more is = absurd (cc is)
+
 set_up_tells : (start : Bool) (setup : SetUp) (line : Line) (new : World) (made : List Event) → SetsUp start setup line made new → WorldTells (SettingUp setup) new made
 set_up_tells true setup line new made h = starts_tell setup new made h
 set_up_tells false setup line new made h =
     subst (λ (w : World). WorldTells (SettingUp setup) w made) (sym h.1)
-    (subst (λ (m : List Event). WorldTells (SettingUp setup) (SettingUp (set_up setup line)) m) (sym h.0) (record { told = tt; count = refl; clock = refl; quiet = tt }))
+    (subst (λ (m : List Event). WorldTells (SettingUp setup) (SettingUp (set_up setup line)) m) (sym h.0)
+    (record { ports = λ rows has. tt; told = λ rows has. tt; first = λ rows has front more is. none_first rows front more is; count = refl; clock = refl; quiet = tt }))
 
 pub world_tells : (old : World) (line : Line) (made : List Event) (new : World) → IsQuietWorld old → WorldStep old line made new → WorldTells old new made
 world_tells (SettingUp setup) line made new quiet h = set_up_tells (is_start line) setup line new made h.1

@@ -1,7 +1,8 @@
 -- Each call of the network tells of the frames that the LANs number in it, in order, and of no others: a frame is told as it is offered and taken.
-use Rattle.std.proofs.Common.{◌≡◌, ℕ, ◌+◌, Bool, List, [], ◌∷◌, ◌++◌, length, map, Option, None, Some, refl, sym, ◌∙◌, ap, subst, append-nil}
+use Rattle.std.proofs.Common.{◌≡◌, ℕ, ◌+◌, Bool, true, false, List, [], ◌∷◌, ◌++◌, length, map, Option, None, Some, refl, sym, ◌∙◌, ap, subst, append-nil}
 use Rattle.std.specs.Prelude.{if◌then◌else◌, not, ◌||◌, ◌==◌, nat_lt, nat_le, is_some}
 use Rattle.std.specs.List.{AllByRecursion}
+use Rattle.std.proofs.lemmas.Bool.{eqb-true}
 use Rattle.std.proofs.lemmas.List.{length-map, map-append}
 use Rattle.nsap.specs.declared.port.Port.{Port}
 use Rattle.esis_tables.specs.Rows.{Rows}
@@ -24,6 +25,7 @@ use Rattle.lan_bag.specs.Bag.{Bag, BagStep, after_choose, after_inject, after_of
 use Rattle.lan_bag.specs.Frames.{Frame as SentOne, frame_of, kept_at, live_count, offered}
 use Rattle.lan_bag.specs.Reading.{up_in, ups_of}
 use Rattle.lan_bag.specs.Rows.{room_on, sender_of}
+use Rattle.lan_bag.specs.declared.setup.PortRow.{PortRow}
 use Rattle.clnp_system.specs.Node.{Node, Reaction}
 use Rattle.clnp_system.specs.Tables.{rows_tables}
 use Rattle.law_clnp_step.specs.Handling.{Handles, IsReceived, Nobody, OffersFrame, OffersFrames, Somebody, TicksAll, drop_note, notes_of}
@@ -37,28 +39,57 @@ use Rattle.script_frames.proofs.ToldSystems.{received_plain, ticked_plain}
 -- ---- the LANs
 
 -- what is taken up leaves the frames
-taken_up : (ups : List (Up Port)) (old new : Bag) → Chain BagStep old (takings ups ++ NextUp None ∷ []) new → (new.frames ≡ old.frames) × (new.clock ≡ old.clock)
+record IsUp (old new : Bag) : Type 0 where
+  frames : new.frames ≡ old.frames
+  clock : new.clock ≡ old.clock
+  ports : new.rows ≡ old.rows
+
+taken_up : (ups : List (Up Port)) (old new : Bag) → Chain BagStep old (takings ups ++ NextUp None ∷ []) new → IsUp old new
 taken_up [] old new h =
     let step = h.1 in
-    (ap (λ (b : Bag). b.frames) h.2 ∙ ap (λ (b : Bag). b.frames) step.2, ap (λ (b : Bag). b.clock) h.2 ∙ ap (λ (b : Bag). b.clock) step.2)
+    record {
+      frames = ap (λ (b : Bag). b.frames) h.2 ∙ ap (λ (b : Bag). b.frames) step.2;
+      clock = ap (λ (b : Bag). b.clock) h.2 ∙ ap (λ (b : Bag). b.clock) step.2;
+      ports = ap (λ (b : Bag). b.rows) h.2 ∙ ap (λ (b : Bag). b.rows) step.2;
+    }
 taken_up (up ∷ ups) old new h =
     let step = h.1 in
     let rest = taken_up ups h.0 new h.2 in
-    (rest.0 ∙ ap (λ (b : Bag). b.frames) step.2, rest.1 ∙ ap (λ (b : Bag). b.clock) step.2)
+    record {
+      frames = rest.frames ∙ ap (λ (b : Bag). b.frames) step.2;
+      clock = rest.clock ∙ ap (λ (b : Bag). b.clock) step.2;
+      ports = rest.ports ∙ ap (λ (b : Bag). b.rows) step.2;
+    }
 
 pub record Rises (old : Bag) (ups : List (Up Port)) (new : Bag) : Type 0 where
   pub waited : old.waiting ≡ ups
   pub frames : new.frames ≡ old.frames
   pub clock : new.clock ≡ old.clock
+  pub ports : new.rows ≡ old.rows
   pub quiet : new.waiting ≡ []
 
 risen : (old : Bag) (ups : List (Up Port)) (new : Bag) → Gathers link_of BagStep old ups new → Rises old ups new
-risen old ups new h = let up = taken_up ups old new h.chain in record { waited = h.waited; frames = up.0; clock = up.1; quiet = h.quiet }
+risen old ups new h = let up = taken_up ups old new h.chain in record { waited = h.waited; frames = up.frames; clock = up.clock; ports = up.ports; quiet = h.quiet }
 
--- a frame that is taken has a sender
-taken_sender : (found : Option ℕ) (apart : Bool) (rest : Offered) → WasTaken ≡ (if not (is_some found) || apart then Dropped NoRoute else rest) → (system : ℕ) × (found ≡ Some system)
+-- a frame that is taken has a sender, on its LAN
+taken_sender : (found : Option ℕ) (apart : Bool) (rest : Offered) → WasTaken ≡ (if not (is_some found) || apart then Dropped NoRoute else rest) → (system : ℕ) × (found ≡ Some system) × (apart ≡ false)
 taken_sender None apart rest is = absurd (cc is)
-taken_sender (Some system) apart rest is = (system, refl)
+taken_sender (Some system) true rest is = absurd (cc is)
+taken_sender (Some system) false rest is = (system, refl, refl)
+
+same_lan : (one other : ℕ) → not (one == other) ≡ false → one ≡ other
+same_lan one other is = by (one == other) refl is
+  where
+    by : (same : Bool) → (one == other) ≡ same → not same ≡ false → one ≡ other
+    by true e f = eqb-true one other e
+    by false e f = absurd (cc f)
+
+-- the port, on that LAN
+abbrev on_lan : ℕ → Port → Port
+on_lan lan from = record { lan = lan; snpa = from.snpa }
+
+port_is : (from : Port) (lan : ℕ) → from.lan ≡ lan → on_lan lan from ≡ from
+port_is from lan is = λ i. record { lan = sym is i; snpa = from.snpa }
 
 -- an offer is told where it is taken
 offered_grows : (old : Bag) (unit : CarriedUnit Port) (system : ℕ) (answer : Offered) (to new : Bag) (notes : List (Up Port)) → old.waiting ≡ []
@@ -75,15 +106,25 @@ offered_grows old unit system WasTaken to new notes quiet is becomes r =
     let all : Grows old new (noted old.clock (notes_of told ++ [])) = record {
       entries = (old.clock, unit) ∷ [];
       frames = ap (map core) (r.frames ∙ ap (λ (b : Bag). b.frames) becomes) ∙ map-append core old.frames (Some (record { tick = old.clock; unit = unit; taken = [] }) ∷ []);
-      are = (record { number_is = refl; tick = refl; snpa = refl; size = refl }, tt);
+      are = (
+        record {
+          number_is = refl;
+          tick = refl;
+          sender = ap (sender_of old.rows) (port_is unit.from unit.to.lan (same_lan unit.from.lan unit.to.lan sender.2)) ∙ sender.1;
+          snpa = refl;
+          size = refl;
+        },
+        tt,
+      );
       clock = r.clock ∙ ap (λ (b : Bag). b.clock) becomes;
+      ports = r.ports ∙ ap (λ (b : Bag). b.rows) becomes;
       quiet = r.quiet;
     } in
     subst (λ (ups : List (Up Port)). Grows old new (noted old.clock (notes_of ups ++ []))) (sym notes_are) all
 offered_grows old unit system (Dropped cause) to new notes quiet is becomes r =
     let none : notes ≡ [] = sym r.waited ∙ ap (λ (b : Bag). b.waiting) becomes ∙ quiet in
     subst (λ (ups : List (Up Port)). Grows old new (noted old.clock (notes_of ups ++ drop_note system (Dropped cause)))) (sym none)
-    (grows_none old new (ap (map core) (r.frames ∙ ap (λ (b : Bag). b.frames) becomes)) (r.clock ∙ ap (λ (b : Bag). b.clock) becomes) r.quiet)
+    (grows_none old new (ap (map core) (r.frames ∙ ap (λ (b : Bag). b.frames) becomes)) (r.clock ∙ ap (λ (b : Bag). b.clock) becomes) (r.ports ∙ ap (λ (b : Bag). b.rows) becomes) r.quiet)
 
 offer_grows : (old : Bag) (system : ℕ) (frame : CarriedUnit Port) (new : Bag) (told : List (Up (List ℕ))) → old.waiting ≡ [] → OffersFrame link_of BagStep old system frame new told
     → Grows old new (noted old.clock told)
@@ -100,7 +141,7 @@ then_grows a b c now xs ys at g h =
 no_more : (old new : Bag) (now : ℕ) (told : List (Up (List ℕ))) → new ≡ old → told ≡ [] → old.waiting ≡ [] → Grows old new (noted now told)
 no_more old new now told same none quiet =
     subst (λ (ups : List (Up (List ℕ))). Grows old new (noted now ups)) (sym none)
-    (grows_none old new (ap (λ (b : Bag). map core b.frames) same) (ap (λ (b : Bag). b.clock) same) (ap (λ (b : Bag). b.waiting) same ∙ quiet))
+    (grows_none old new (ap (λ (b : Bag). map core b.frames) same) (ap (λ (b : Bag). b.clock) same) (ap (λ (b : Bag). b.rows) same) (ap (λ (b : Bag). b.waiting) same ∙ quiet))
 
 offers_grow : (frames : List (CarriedUnit Port)) (old : Bag) (system : ℕ) (new : Bag) (told : List (Up (List ℕ))) → old.waiting ≡ [] → OffersFrames link_of BagStep old system frames new told
     → Grows old new (noted old.clock told)
@@ -149,17 +190,18 @@ ticks_grow (node ∷ nodes) now old new after told quiet h =
 pub record IsIdle (old new : Bag) : Type 0 where
   pub frames : map core new.frames ≡ map core old.frames
   pub clock : new.clock ≡ old.clock
+  pub ports : new.rows ≡ old.rows
   pub ups : List (Up Port)
   pub plain : ArePlainUps ups
   pub waiting : new.waiting ≡ old.waiting ++ ups
 
 same_idle : (old : Bag) → IsIdle old old
-same_idle old = record { frames = refl; clock = refl; ups = []; plain = tt; waiting = sym (append-nil old.waiting) }
+same_idle old = record { frames = refl; clock = refl; ports = refl; ups = []; plain = tt; waiting = sym (append-nil old.waiting) }
 
 picked_idle : (old : Bag) (pick system : ℕ) (found : Option SentOne) → IsIdle old (after_pick old pick system found)
 picked_idle old pick system None = same_idle old
 picked_idle old pick system (Some frame) =
-    record { frames = marked_core old.frames pick system; clock = refl; ups = Came (record { system = system; unit = frame.unit }) ∷ []; plain = (λ now. refl, tt); waiting = refl }
+    record { frames = marked_core old.frames pick system; clock = refl; ports = refl; ups = Came (record { system = system; unit = frame.unit }) ∷ []; plain = (λ now. refl, tt); waiting = refl }
 
 chosen_idle : (old : Bag) (pick system : ℕ) (answer : Picked) → IsIdle old (after_choose old pick system answer)
 chosen_idle old pick system WasPicked = picked_idle old pick system (frame_of old.frames pick)
@@ -175,7 +217,7 @@ read_plain lan system (Some frame) now = refl
 injected_idle : (old : Bag) (lan system : ℕ) (octets : List ℕ) (answer : Injected) → IsIdle old (after_inject old lan system octets answer)
 injected_idle old lan system octets InjectedNowhere = same_idle old
 injected_idle old lan system octets WasInjected =
-    record { frames = refl; clock = refl; ups = ups_of lan system octets ∷ []; plain = (read_plain lan system (frame_in octets), tt); waiting = refl }
+    record { frames = refl; clock = refl; ports = refl; ups = ups_of lan system octets ∷ []; plain = (read_plain lan system (frame_in octets), tt); waiting = refl }
 
 -- ---- calls of the network
 
@@ -197,7 +239,7 @@ these_wait old called below told quiet link_is waits g =
 
 unchanged : (old called : Net) → IsQuiet old → called.link ≡ old.link → called.waiting ≡ old.waiting → Tells old called
 unchanged old called quiet link_is waits =
-    these_wait old called old.link [] quiet link_is (waits ∙ sym (append-nil old.waiting)) (grows_none old.link old.link refl refl quiet.below)
+    these_wait old called old.link [] quiet link_is (waits ∙ sym (append-nil old.waiting)) (grows_none old.link old.link refl refl refl quiet.below)
 
 net_offered : (old : Net) (unit : CarriedUnit (List ℕ)) (wish : Wish) (answer : Offered) (called : Net) → IsQuiet old → NetOffers link_of BagStep rows_tables old unit wish answer called → Tells old called
 net_offered old unit wish answer called quiet (IsFull full is same) = unchanged old called quiet (ap (λ (n : Net). n.link) same) (ap (λ (n : Net). n.waiting) same)
@@ -210,8 +252,10 @@ idle_grows : (a b c : Bag) (told : List ToldFrame) → IsIdle a b → Grows b c 
 idle_grows a b c told idle g = record {
   entries = g.entries;
   frames = g.frames ∙ ap (λ (fs : List (Option (ℕ × CarriedUnit Port))). fs ++ map Some g.entries) idle.frames;
-  are = subst (λ (n : ℕ). AreEntries (n + 1) told g.entries) (sym (length-map b.frames core) ∙ ap length idle.frames ∙ length-map a.frames core) g.are;
+  are = subst (λ (ports : List PortRow). AreEntries ports (length a.frames + 1) told g.entries) idle.ports
+      (subst (λ (n : ℕ). AreEntries b.rows (n + 1) told g.entries) (sym (length-map b.frames core) ∙ ap length idle.frames ∙ length-map a.frames core) g.are);
   clock = g.clock ∙ idle.clock;
+  ports = g.ports ∙ idle.ports;
   quiet = g.quiet;
 }
 
@@ -221,7 +265,7 @@ net_arrived old call called quiet idle h =
     let r = risen h.called h.ups h.risen h.gathers in
     let ups_are : i.ups ≡ h.ups = sym (i.waiting ∙ ap (λ (ups : List (Up Port)). ups ++ i.ups) quiet.below) ∙ r.waited in
     let on : IsIdle old.link h.risen =
-    record { frames = ap (map core) r.frames ∙ i.frames; clock = r.clock ∙ i.clock; ups = []; plain = tt; waiting = r.quiet ∙ sym (ap (λ (ups : List (Up Port)). ups ++ []) quiet.below) } in
+    record { frames = ap (map core) r.frames ∙ i.frames; clock = r.clock ∙ i.clock; ports = r.ports ∙ i.ports; ups = []; plain = tt; waiting = r.quiet ∙ sym (ap (λ (ups : List (Up Port)). ups ++ []) quiet.below) } in
     let g = handled_grows h.ups old.link.clock h.risen old.nodes h.below h.nodes h.told (subst (λ (ups : List (Up Port)). ArePlainUps ups) ups_are i.plain) r.quiet h.handles in
     these_wait old called h.below h.told quiet (ap (λ (n : Net). n.link) h.becomes) (ap (λ (n : Net). n.waiting) h.becomes)
     (subst (λ (n : ℕ). Grows old.link h.below (noted n h.told)) on.clock (idle_grows old.link h.risen h.below (noted h.risen.clock h.told) on g))
@@ -238,6 +282,7 @@ net_ticked old called quiet h =
     let on : IsIdle (later old.link) h.risen = record {
       frames = ap (map core) (r.frames ∙ ap (λ (b : Bag). b.frames) h.ticks);
       clock = clock;
+      ports = r.ports ∙ ap (λ (b : Bag). b.rows) h.ticks;
       ups = [];
       plain = tt;
       waiting = r.quiet ∙ sym (ap (λ (ups : List (Up Port)). ups ++ []) quiet.below);

@@ -6,10 +6,13 @@ use Rattle.osi_base.specs.declared.status.Status.TheVariants.{Done, RefusedLine,
 use Rattle.lan_frame.specs.Frame.{whole_frame}
 use Rattle.lan_bag.specs.Bag.{Bag}
 use Rattle.lan_bag.specs.Frames.{Frame}
-use Rattle.frame_capture.specs.Written.{IsWritable, SentFrame, capture_of, record_of, records_octets}
-use Rattle.line_loop.specs.Course.{Runs, IsRead, IsWhole, IsTooMuch, IsTooMuchAtEnd, IsRefusedAt, IsRefusedAtEnd}
+use Rattle.lan_bag.specs.Rows.{sender_of}
+use Rattle.lan_bag.specs.declared.setup.PortRow.{PortRow}
+use Rattle.frame_capture.specs.Written.{IsWritable, SentFrame, capture_of, header_octets, record_of, records_octets}
+use Rattle.line_loop.specs.Course.{Runs, IsTooMuch, IsTooMuchAtEnd}
 use Rattle.line_loop.specs.Limits.{most_octets, most_read}
 use Rattle.line_loop.specs.Meaning.{Meaning}
+use Rattle.line_loop.specs.Outcome.{Asks}
 use Rattle.line_loop.specs.Writing.{IsPrefix}
 use Rattle.osi_capture.specs.Capture.{IsCapture}
 use Rattle.osi_capture.specs.Course.{Finishes}
@@ -80,23 +83,12 @@ frames_meaning = record {
   too_much = λ bench. [];
 }
 
--- the capture that octets ask for, by how the run ends: that of all frames of the lines that ran, with ReadFault of their whole lines
--- alone. `end` says that the input ends after them
-abbrev pub AsksCapture : Type 0 → List ℕ → List ℕ → Status → Type 0
-AsksCapture end read capture Done = (frames : List SentFrame) × (last : Bench) × end × IsWhole frames_meaning first_bench read frames last
-    × (capture ≡ capture_of frames)
-AsksCapture end read capture RefusedLine = (line : ℕ) × (said : LineFault) × (frames : List SentFrame) × (last : Bench)
-    × (IsRefusedAt frames_meaning first_bench read line said frames last ⊎ (end × IsRefusedAtEnd frames_meaning first_bench read line said frames last))
-    × (capture ≡ capture_of frames)
-AsksCapture end read capture TooMuch = (frames : List SentFrame) × (last : Bench)
-    × (IsTooMuch frames_meaning first_bench read frames last ⊎ (end × IsTooMuchAtEnd frames_meaning first_bench read frames last))
-    × (capture ≡ capture_of frames)
-AsksCapture end read capture ReadFault = (frames : List SentFrame) × (last : Bench) × IsRead frames_meaning first_bench read frames last
-    × (capture ≡ capture_of frames)
-AsksCapture end read capture WriteFault = ⊥
-AsksCapture end read capture NoMemory = ⊥
-AsksCapture end read capture RefusedWords = ⊥
-AsksCapture end read capture RefusedCapture = ⊥
+-- the capture that octets ask for, by how the run ends: the header, and the records of all frames of the lines that ran, with ReadFault of
+-- their whole lines alone. `end` says that the input ends after them
+pub record AsksCapture (end : Type 0) (read capture : List ℕ) (status : Status) : Type 0 where
+  pub records : List ℕ
+  pub asks : Asks frames_meaning end first_bench read records status
+  pub capture_is : capture ≡ header_octets ++ records
 
 -- all octets of an input ask for this capture and this status, which is no failure
 abbrev pub AsksForCapture : List ℕ → List ℕ → Status → Type 0
@@ -122,6 +114,15 @@ CaptureOutcome end read written NoMemory = IsCutCapture end read written
 CaptureOutcome end read written RefusedWords = ⊥
 CaptureOutcome end read written RefusedCapture = ⊥
 
+-- all octets of an input ask for a capture and a status, and not for two
+pub record AsksSomeCapture (all : List ℕ) : Type 0 where
+  pub capture : List ℕ
+  pub status : Status
+  pub asks : AsksForCapture all capture status
+
+abbrev pub AsksOneCapture : Type 0
+AsksOneCapture = (all capture other : List ℕ) (status next : Status) → AsksForCapture all capture status → AsksForCapture all other next → (status ≡ next) × (capture ≡ other)
+
 -- of the octets read, what was written is told as the status says; whatever part of them was run, each raw unit that is shown was sent, and
 -- each end shows what its partner submitted, unless a frame was injected; a system that began again is silent; and no more was read than an input may have, and one read more
 pub record IsFramesRun (end : Type 0) (read written : List ℕ) (status : Status) : Type 0 where
@@ -131,16 +132,24 @@ pub record IsFramesRun (end : Type 0) (read written : List ℕ) (status : Status
   pub silent : ShowsSilence read
   pub within : length read ≤ most_octets + most_read
 
--- a frame that a `frame` event tells: the tick at which the event stands, the number, the SNPA that it goes to, and its octets in all
+-- the ports of the systems on the LANs
+abbrev pub ports_of : World → List PortRow
+ports_of (SettingUp setup) = setup.ports
+ports_of (Running run) = run.ends.carrier.link.rows
+
+-- a frame that a `frame` event tells: the tick at which the event stands, the number, the LAN, the system that sent it, the SNPA that it goes to, and its octets
+-- in all
 pub record ToldFrame : Type 0 where
   pub tick : ℕ
   pub number : ℕ
+  pub lan : ℕ
+  pub system : ℕ
   pub snpa : List ℕ
   pub size : ℕ
 
 -- by an event at that tick
 abbrev pub told_by : ℕ → Event → List ToldFrame
-told_by now (events.Frame number lan system snpa size) = record { tick = now; number = number; snpa = snpa; size = size } ∷ []
+told_by now (events.Frame number lan system snpa size) = record { tick = now; number = number; lan = lan; system = system; snpa = snpa; size = size } ∷ []
 told_by now event = []
 
 -- the frames that events tell, in order, from a tick on
@@ -148,30 +157,42 @@ abbrev pub told_from : ℕ → List Event → List ToldFrame
 told_from now [] = []
 told_from now (event ∷ journal) = told_by now event ++ told_from (clock_after now event) journal
 
--- the frame was sent at that tick to that SNPA, and is whole; its PDU stands behind 17 octets
-pub record IsTold (number : ℕ) (told : ToldFrame) (frame : SentFrame) : Type 0 where
+-- the frame was sent at that tick, from the port of that system on that LAN to that SNPA, and is whole; its PDU stands behind 17 octets
+pub record IsTold (ports : List PortRow) (number : ℕ) (told : ToldFrame) (frame : SentFrame) : Type 0 where
   pub number_is : told.number ≡ number
   pub tick : frame.tick ≡ told.tick
   pub from : List ℕ
+  pub sender : sender_of ports (record { lan = told.lan; snpa = from }) ≡ Some told.system
   pub pdu : List ℕ
   pub octets : frame.octets ≡ whole_frame told.snpa from pdu
   pub size : told.size ≡ length pdu + 17
 
 -- the frames are those that were told, one for one and in order, numbered on from there
-abbrev pub AreTold : ℕ → List ToldFrame → List SentFrame → Type 0
-AreTold number [] [] = Unit {0}
-AreTold number [] (frame ∷ frames) = ⊥
-AreTold number (told ∷ others) [] = ⊥
-AreTold number (told ∷ others) (frame ∷ frames) = IsTold number told frame × AreTold (number + 1) others frames
+abbrev pub AreTold : List PortRow → ℕ → List ToldFrame → List SentFrame → Type 0
+AreTold ports number [] [] = Unit {0}
+AreTold ports number [] (frame ∷ frames) = ⊥
+AreTold ports number (told ∷ others) [] = ⊥
+AreTold ports number (told ∷ others) (frame ∷ frames) = IsTold ports number told frame × AreTold ports (number + 1) others frames
 
--- the frames of lines are those of one journal of these lines, one for each `frame` event, in order; and what is written of them is a capture, whose
--- records they are, and of which `decode` shows them
-pub record IsFramesOf (texts : List (List ℕ)) (frames : List SentFrame) (last : Bench) : Type 0 where
-  pub journal : List Event
-  pub runs : Runs bench_meaning first_bench texts journal last
-  pub told : AreTold 1 (told_from 0 journal) frames
+-- the frames are those of the journal, one for each `frame` event, in order; and what is written of them is a capture, whose records they are, and of which
+-- `decode` shows them
+pub record IsCaptureOf (journal : List Event) (frames : List SentFrame) (last : Bench) : Type 0 where
+  pub told : AreTold (ports_of last.world) 1 (told_from 0 journal) frames
   pub capture : IsCapture (capture_of frames) (map record_of frames)
   pub decoded : (lines : List ℕ) → Shows (map record_of frames) lines → Finishes (capture_of frames) (lines ++ done_line)
 
+-- the frames of lines are those of one journal of these lines
+pub record IsFramesOf (texts : List (List ℕ)) (frames : List SentFrame) (last : Bench) : Type 0 where
+  pub journal : List Event
+  pub runs : Runs bench_meaning first_bench texts journal last
+  pub is_capture : IsCaptureOf journal frames last
+
 abbrev pub MakesCaptures : Type 0
 MakesCaptures = (texts : List (List ℕ)) (frames : List SentFrame) (last : Bench) → Runs frames_meaning first_bench texts frames last → IsFramesOf texts frames last
+
+-- where octets pass a limit, or a line of theirs fills the journal, the frames are those of the events that stand in the journal then
+pub record CapturesTooMuch : Type 0 where
+  pub here : (read : List ℕ) (frames : List SentFrame) (last : Bench) → IsTooMuch frames_meaning first_bench read frames last
+      → (journal : List Event) × IsTooMuch bench_meaning first_bench read journal last × IsCaptureOf journal frames last
+  pub at_end : (read : List ℕ) (frames : List SentFrame) (last : Bench) → IsTooMuchAtEnd frames_meaning first_bench read frames last
+      → (journal : List Event) × IsTooMuchAtEnd bench_meaning first_bench read journal last × IsCaptureOf journal frames last

@@ -5,4 +5,4 @@ mod frames;
 mod laws;
 
 pub use frames::{Capture, Frame, write_capture};
-pub use laws::frames_make_captures;
+pub use laws::{frames_make_captures, full_journals_make_captures, one_outcome, some_outcome};

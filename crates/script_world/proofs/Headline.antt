@@ -51,6 +51,7 @@ nothing_silent frozen = record {
 nothing_lawful : (frozen : ℕ) (titles : List (List ℕ)) → IsLawful frozen titles []
 nothing_lawful frozen titles = record {
   queues = record {
+    made = λ p again end event other is was makes remakes. absurd (nowhere p is);
     one = λ p other q heard again asked first second. absurd (nowhere p first.is);
     some = λ p heard is. absurd (nowhere p is);
     there = λ calling called ends. absurd (nowhere ends.p ends.partner.is);
@@ -63,7 +64,7 @@ nothing_lawful frozen titles = record {
     nowhere : {A : Type 0} {x : A} (p : ℕ) → slice_get [] p ≡ Some x → ⊥
     nowhere p is = cc
 
-none_lawful : (frozen : ℕ) (titles : List (List ℕ)) (journal : List Event) → journal ≡ [] → Lawful frozen titles journal
+pub none_lawful : (frozen : ℕ) (titles : List (List ℕ)) (journal : List Event) → journal ≡ [] → Lawful frozen titles journal
 none_lawful frozen titles journal none = λ front back is. subst (IsLawful frozen titles) (sym (none_left front back (sym none ∙ is))) (nothing_lawful frozen titles)
 
 -- ---- what was set up

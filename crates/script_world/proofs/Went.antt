@@ -1,6 +1,7 @@
 -- A script that was run is still set up and told nothing; or it was set up, what was set up started, and its other lines ran.
 use Rattle.std.proofs.Common.{◌≡◌, ◌⊎◌, ℕ, Bool, true, false, List, [], ◌∷◌, ◌++◌, inl, inr, refl, sym, ◌∙◌, ap, subst, append_assoc}
 use Rattle.osi_journal.specs.declared.event.Event.{Event}
+use Rattle.osi_script.proofs.CommandLines.{line_stays}
 use Rattle.osi_script.specs.declared.line.Line.{Line}
 use Rattle.osi_script.specs.declared.line.Line.TheVariants as lines
 use Rattle.osi_script.specs.Known.{Declared, nothing_declared}
@@ -43,6 +44,7 @@ module _ {P : Type 0} (play : Playing P) where
     pub within : Fits setup lines.Start
     pub one : AreOne declared setup
     pub begun : declared.started ≡ true
+    pub reads : declared.dialect ≡ play.dialect
     pub says : Says declared texts after names
     pub starts : play.starts setup made first
     pub runs : PlayRuns first after rest end
@@ -92,6 +94,7 @@ module _ {P : Type 0} (play : Playing P) where
     within = s.within;
     one = s.one;
     begun = s.begun;
+    reads = s.reads;
     says = s.says;
     starts = s.starts;
     runs = s.runs;
@@ -101,13 +104,13 @@ module _ {P : Type 0} (play : Playing P) where
 
   abbrev FromHere : List (List ℕ) → List Line → Type 0
   FromHere texts script = (names last_names : Declared) (setup : SetUp) (journal : List Event) (last : World P) → AreOne names setup → IsWell setup → IsInOctets setup → names.started ≡ false
-      → Says names texts script last_names → RunsScript (world_acts play) (SettingUp setup) script journal last → Went script last_names journal last
+      → names.dialect ≡ play.dialect → Says names texts script last_names → RunsScript (world_acts play) (SettingUp setup) script journal last → Went script last_names journal last
 
   by_line : (start : Bool) (setup : SetUp) (line : Line) (names new last_names : Declared) (text : List ℕ) (texts : List (List ℕ)) (script : List Line) (made rest journal : List Event) (mid last : World P)
       → is_start line ≡ start → new.started ≡ started_after names.started line → names.started ≡ false → IsWell setup → IsInOctets setup → Kept setup line new → IsInOctets (set_up setup line)
-      → Says new texts script last_names → SetsUp play start setup line made mid → RunsScript (world_acts play) mid script rest last → journal ≡ made ++ rest → FromHere texts script
+      → new.dialect ≡ play.dialect → Says new texts script last_names → SetsUp play start setup line made mid → RunsScript (world_acts play) mid script rest last → journal ≡ made ++ rest → FromHere texts script
       → Went (line ∷ script) last_names journal last
-  by_line true setup line names new last_names text texts script made rest journal mid last start moves begun w o kept next says h runs is others =
+  by_line true setup line names new last_names text texts script made rest journal mid last start moves begun w o kept next reads says h runs is others =
       let same : line ≡ lines.Start = start_only line start in
       let on = play_runs script h.0 rest last (subst (λ (w : World P). RunsScript (world_acts play) w script rest last) h.2 runs) in
       inr (record {
@@ -126,30 +129,32 @@ module _ {P : Type 0} (play : Playing P) where
         within = subst (λ (l : Line). Fits setup l) same kept.fits;
         one = subst (λ (l : Line). AreOne new (set_up setup l)) same kept.one;
         begun = moves ∙ ap (λ (l : Line). started_after names.started l) same;
+        reads = reads;
         says = says;
         starts = h.1;
         runs = on.runs;
         journal_is = is;
         last_is = on.is;
       })
-  by_line false setup line names new last_names text texts script made rest journal mid last start moves begun w o kept next says h runs is others =
+  by_line false setup line names new last_names text texts script made rest journal mid last start moves begun w o kept next reads says h runs is others =
       let same : rest ≡ journal = sym (is ∙ ap (λ (m : List Event). m ++ rest) h.0) in
       one_more line script last_names rest journal last same
-      (others new last_names (set_up setup line) rest last kept.one (well_after setup line w kept.fits) next (moves ∙ starts_not names.started line start ∙ begun) says
+      (others new last_names (set_up setup line) rest last kept.one (well_after setup line w kept.fits) next (moves ∙ starts_not names.started line start ∙ begun) reads says
       (subst (λ (w : World P). RunsScript (world_acts play) w script rest last) h.1 runs))
 
   went_on : (texts : List (List ℕ)) (script : List Line) → FromHere texts script
-  went_on [] [] names last_names setup journal last one w o begun says h = inl (record { setup = setup; journal_is = h.0; last_is = h.1 })
-  went_on [] (line ∷ script) names last_names setup journal last one w o begun says h = absurd says
-  went_on (text ∷ texts) [] names last_names setup journal last one w o begun says h = absurd says
-  went_on (text ∷ texts) (line ∷ script) names last_names setup journal last one w o begun says h =
+  went_on [] [] names last_names setup journal last one w o begun reads says h = inl (record { setup = setup; journal_is = h.0; last_is = h.1 })
+  went_on [] (line ∷ script) names last_names setup journal last one w o begun reads says h = absurd says
+  went_on (text ∷ texts) [] names last_names setup journal last one w o begun reads says h = absurd says
+  went_on (text ∷ texts) (line ∷ script) names last_names setup journal last one w o begun reads says h =
       let kept = line_kept names setup text line says.0 one w begun says.1 in
       by_line (is_start line) setup line names says.0 last_names text texts script h.1 h.2 journal h.0 last refl (line_moves names text line says.0 says.1).started begun w o kept
-      (octets_after setup line o kept.fits (line_octets names text line says.0 says.1)) says.2 h.3.1 h.5 h.4 (went_on texts script)
+      (octets_after setup line o kept.fits (line_octets names text line says.0 says.1))
+      (line_stays names text (record { line = line; names = says.0 }) says.1 ∙ reads) says.2 h.3.1 h.5 h.4 (went_on texts script)
 
   -- from nothing said
   pub went : (texts : List (List ℕ)) (script : List Line) (names : Declared) (journal : List Event) (last : World P) → Says (nothing_declared play.dialect) texts script names
       → RunsScript (world_acts play) first_world script journal last → Went script names journal last
   went texts script names journal last says run =
       went_on texts script (nothing_declared play.dialect) names nothing_said journal last
-      (record { lans = refl; bounds = refl; life = refl; systems = refl; ports = λ n. refl; selectors = λ n s. refl }) nothing_well (record { titles = tt; ports = tt; rows = λ n. tt; paths = tt }) refl says run
+      (record { lans = refl; bounds = refl; life = refl; systems = refl; ports = λ n. refl; selectors = λ n s. refl }) nothing_well (record { titles = tt; ports = tt; rows = λ n. tt; paths = tt; relays = tt }) refl refl says run

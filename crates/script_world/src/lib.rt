@@ -15,4 +15,4 @@ pub use inactive::SubsetNet;
 pub use network::Network;
 pub use play::{Play, World};
 pub use routed::RoutedNet;
-pub use transport::TpPlay;
+pub use transport::{TpPlay, run_line};

@@ -65,8 +65,10 @@ impl Carrier for RoutedNet {
         self.net.inject(lan, system, octets)
     }
 
+    // By `?`: where nothing waits, no empty value is moved.
     fn next_up(&mut self) -> Option<Up<Nsap>> {
-        self.net.next_up()
+        let up = self.net.next_up()?;
+        Some(up)
     }
 
     fn tick(&mut self) -> Result<(), NoMemory> {

@@ -93,7 +93,7 @@ fn strays_in<N: Network>(net: &N) -> Option<u32>
 }
 
 /// A line of a running network.
-fn run_line<N: Network + Drop>(
+pub fn run_line<N: Network + Drop>(
     ends: &mut TpWorld<N>,
     titles: &[Nsap],
     line: Line,

@@ -15,6 +15,7 @@ mod inactive;
 mod injected;
 mod network;
 mod refused;
+mod relays;
 mod restarts;
 mod settled;
 mod sizes;
@@ -450,7 +451,7 @@ fn other_words_are_refused(rt: HostRuntime) -> Result<(), Fail> {
         );
         assert_eq!(rt;
             sink.written(),
-            b"usage: osi run | frames | decode | storm SEED COUNT | datagrams | inactive\n".as_slice()
+            b"usage: osi run | frames | decode | storm SEED COUNT | datagrams | inactive | relay\n".as_slice()
         );
         assert_eq!(rt; source.read(&mut [0; 8]), Ok(6));
     }

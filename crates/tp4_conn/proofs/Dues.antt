@@ -3,16 +3,14 @@
 use Rattle.std.proofs.Common.{◌≡◌, ◌≢◌, ◌≤◌, ◌<◌, ℕ, ◌+◌, ◌*◌, ◌∙◌, min, Bool, true, false, nat_lt, nat_le, List, [], ◌∷◌, ◌++◌, length, Option, Some, None, refl, sym, subst, ap, arith, inl, inr, if◌then◌else◌}
 use Rattle.std.proofs.Math.Nat.{mul-le-mul_right}
 use Rattle.std.proofs.lemmas.Bool.{cases_lt, ltb-true, ltb-false, leb-false, lt-leb, lt-ltb}
-use Rattle.std.proofs.lemmas.Option.{none-some, same_Some}
 use Rattle.tp4_flow.specs.declared.rules.Life.{Life as Ends}
 use Rattle.tp4_flow.specs.declared.rules.Life.TheVariants.{Goes, Exhausted}
-use Rattle.tp4_flow.specs.declared.rules.Options.{Options}
 use Rattle.tp4_flow.specs.declared.step.EndEvent.{EndEvent}
 use Rattle.tp4_flow.specs.declared.step.Sent.{Sent}
 use Rattle.tp4_flow.specs.Told.{Told}
 use Rattle.tp4_sending.specs.FlowSender.{FlowSender, Sendings, at, nothing, life_of, ticked, due_of}
 use Rattle.tp4_sending.specs.Pieces.{again, sooner}
-use Rattle.tp4_sending.specs.Settled.{IsSettled, IsDue}
+use Rattle.tp4_sending.specs.Settled.{IsDue}
 use Rattle.tp4_sending.proofs.Dues.{before_due, least}
 use Rattle.tp4_sending.proofs.Laters.{tick_later}
 use Rattle.tp4_conn.specs.declared.base.Base.{Base}
@@ -24,23 +22,22 @@ use Rattle.tp4_conn.specs.declared.timers.Timers.{Timers}
 use Rattle.tp4_conn.specs.AkWait.{ak_wait_tick}
 use Rattle.tp4_conn.specs.Closing.{closing_tick}
 use Rattle.tp4_conn.specs.CrWait.{cr_wait_tick}
-use Rattle.tp4_conn.specs.Dues.{IsBefore, clocked}
+use Rattle.tp4_conn.specs.Dues.{IsBefore, IsRunning, clocked}
 use Rattle.tp4_conn.specs.Dues.{IsDue as TickDue}
 use Rattle.tp4_conn.specs.End.{Does, End, Moved, IsTimed, end_of, stays, frozen, span, frozen_for}
 use Rattle.tp4_conn.specs.Frozen.{frozen_due}
 use Rattle.tp4_conn.specs.Opened.{opened_tick, opened_as, opened_goes, sending}
-use Rattle.tp4_conn.specs.Proper.{IsProper, IsProperStage}
 use Rattle.tp4_conn.specs.Table.{at as now_at, on_tick, due}
 use Rattle.tp4_conn.specs.UserWait.{user_wait_tick}
 use Rattle.tp4_conn.specs.steps.Kept.{IsEnd, IsSound}
 use Rattle.tp4_conn.specs.WaitBeforeClose.{wait_before_close_tick}
 use Rattle.tp4_conn.proofs.Timely.{if_kept}
 
--- the same of a sending half: before it is due its tick changes its clock alone, and when it is due more; where it goes on, it is due later
+-- the same of a sending half: before it is due its tick changes its clock alone, and from then on more; where it goes on, it is due later
 record IsPunctual (s : FlowSender) (now : ℕ) : Type 0 where
   goes : IsBefore (due_of s) now → life_of (at now s) ≡ Goes
   before : IsBefore (due_of s) now → ticked (at now s) ≡ nothing (at now s)
-  there : due_of s ≡ Some now → life_of (at now s) ≡ Goes → ticked (at now s) ≢ nothing (at now s)
+  there : IsDue (due_of s) now → life_of (at now s) ≡ Goes → ticked (at now s) ≢ nothing (at now s)
   after : life_of (at now s) ≡ Goes → IsBefore (due_of (ticked (at now s)).sender) now
 
 abbrev ArePunctual : Stage → ℕ → Type 0
@@ -64,12 +61,12 @@ not_before (Some tick) now h k = absurd (omega (arith, h, k))
 later : (s : FlowSender) (now : ℕ) → s.is_open ≡ true → 1 ≤ s.rules.t1 → life_of (at now s) ≡ Goes → IsBefore (due_of (ticked (at now s)).sender) now
 later s now o some life = before_is (due_of (ticked (at now s)).sender) now (tick_later (at now s) o some life)
 
--- a settled half is punctual
-punctual : (s : FlowSender) (now : ℕ) → s.is_open ≡ true → 1 ≤ s.rules.t1 → IsSettled s → IsPunctual s now
-punctual s now o some h = record {
-  goes = λ b. (before_due s now o h (not_before (due_of s) now b)).0;
-  before = λ b. (before_due s now o h (not_before (due_of s) now b)).1;
-  there = λ e life same. elim ((least s now o h).1 (subst (λ (d : Option ℕ). IsDue d now) (sym e) (omega arith))) [
+-- and punctual
+punctual : (s : FlowSender) (now : ℕ) → s.is_open ≡ true → 1 ≤ s.rules.t1 → IsPunctual s now
+punctual s now o some = record {
+  goes = λ b. (before_due s now o (not_before (due_of s) now b)).0;
+  before = λ b. (before_due s now o (not_before (due_of s) now b)).1;
+  there = λ e life same. elim ((least s now o).1 e) [
     | inl gone ↦ goes-exhausted (sym life ∙ gone)
     | inr acts ↦ acts same
   ];
@@ -83,14 +80,14 @@ punctual s now o some h = record {
     goes-exhausted : Goes ≡ Exhausted → ⊥
     goes-exhausted e = subst (λ (l : Ends). IsGoing l) e tt
 
-stage_punctual : (agreed : Option Options) (stage : Stage) (now : ℕ) → IsProperStage agreed stage → ArePunctual stage now
-stage_punctual agreed (Opened o) now p = punctual o.halves.sending now p.is_open p.halves.t1 p.settled
-stage_punctual agreed (CrWait w) now p = tt
-stage_punctual agreed (WaitBeforeClose w) now p = tt
-stage_punctual agreed (UserWait since) now p = tt
-stage_punctual agreed (AkWait w) now p = tt
-stage_punctual agreed (Closing c) now p = tt
-stage_punctual agreed (Frozen when) now p = tt
+stage_punctual : (stage : Stage) (now : ℕ) → IsRunning stage → ArePunctual stage now
+stage_punctual (Opened o) now p = punctual o.halves.sending now p.0 p.1
+stage_punctual (CrWait w) now p = tt
+stage_punctual (WaitBeforeClose w) now p = tt
+stage_punctual (UserWait since) now p = tt
+stage_punctual (AkWait w) now p = tt
+stage_punctual (Closing c) now p = tt
+stage_punctual (Frozen when) now p = tt
 
 punctual_prompt : (stage : Stage) (now : ℕ) → ArePunctual stage now → ArePrompt stage now
 punctual_prompt (Opened o) now s = s.after
@@ -223,9 +220,9 @@ unfolding count_of
 sends_again b w tpdus e = let more : w.tries.count + 1 ≡ w.tries.count = ap (λ (m : Moved). count_of m.stage) e in absurd (omega (arith, more))
 
 -- a sending half that is due, where nothing else is
-third : (x y now : ℕ) (z : Option ℕ) → sooner (sooner (Some x) (Some y)) z ≡ Some now → now < x → now < y → z ≡ Some now
-third x y now None e first second = let least : min x y ≡ now = same_Some _ _ e in absurd (omega arith)
-third x y now (Some z) e first second = let least : min (min x y) z ≡ now = same_Some _ _ e in let is : z ≡ now = omega arith in ap (λ (n : ℕ). Some n) is
+third : (x y now : ℕ) (z : Option ℕ) → IsDue (sooner (sooner (Some x) (Some y)) z) now → now < x → now < y → IsDue z now
+third x y now None e first second = absurd (omega (arith, e, first, second))
+third x y now (Some z) e first second = omega (arith, e, first, second)
 
 sender_in : FlowSender → Stage → FlowSender
 sender_in none (Opened o) = o.halves.sending
@@ -246,38 +243,38 @@ led_some b old stage events (first ∷ tpdus) sent e =
     let none : length (first ∷ (tpdus ++ sent ∷ [])) ≡ 0 = ap (λ (m : Moved). length m.tpdus) e in absurd (omega (arith, none))
 
 opened_moves : (life : Ends) (b : Base) (o : Open) → life_of (at b.clock o.halves.sending) ≡ life → IsPunctual o.halves.sending b.clock
-    → due b (Opened o) ≡ Some b.clock → b.clock < o.took + b.timers.inactive → Moves b (clocked b.clock (Opened o)) (opened_as life b o)
+    → IsDue (due b (Opened o)) b.clock → b.clock < o.took + b.timers.inactive → Moves b (clocked b.clock (Opened o)) (opened_as life b o)
 opened_moves Exhausted b o life settled e early = sends_some b _ _ _ _ []
 opened_moves Goes b o life settled e early =
     if_kept (Moves b (clocked b.clock (Opened o))) (nat_le (o.acked + b.timers.window) b.clock) _ _
     (λ _. led_some b _ _ _ (ticked (at b.clock o.halves.sending)).tpdus _)
-    (λ f. sending_moves b o _ (settled.there (third _ (o.acked + b.timers.window) _ (due_of o.halves.sending) e early (leb-false _ _ f)) life))
+    (λ f. sending_moves b o _ (settled.there (third (o.took + b.timers.inactive) (o.acked + b.timers.window) b.clock (due_of o.halves.sending) e early (leb-false _ _ f)) life))
 
-frozen_past : (b : Base) (when : ℕ) → frozen_due b when ≡ Some b.clock → ⊥
+frozen_past : (b : Base) (when : ℕ) → IsDue (frozen_due b when) b.clock → ⊥
 frozen_past b when =
-    if_kept (λ (d : Option ℕ). d ≡ Some b.clock → ⊥) (nat_lt (when + frozen_for b.timers) b.clock) _ _
-    (λ _ e. none-some _ e)
-    (λ f e. let low : b.clock ≤ when + frozen_for b.timers = ltb-false _ _ f in let is : when + frozen_for b.timers + 1 ≡ b.clock = same_Some _ _ e in absurd (omega arith))
+    if_kept (λ (d : Option ℕ). IsDue d b.clock → ⊥) (nat_lt (when + frozen_for b.timers) b.clock) _ _
+    (λ _ e. e)
+    (λ f e. let low : b.clock ≤ when + frozen_for b.timers = ltb-false _ _ f in absurd (omega (arith, low, e)))
 
-tick_there : (b : Base) (stage : Stage) → ArePunctual stage b.clock → due b stage ≡ Some b.clock → Moves b (clocked b.clock stage) (on_tick b stage)
+tick_there : (b : Base) (stage : Stage) → ArePunctual stage b.clock → IsDue (due b stage) b.clock → Moves b (clocked b.clock stage) (on_tick b stage)
 unfolding cr_wait_tick wait_before_close_tick user_wait_tick ak_wait_tick opened_tick closing_tick is_frozen
 tick_there b (CrWait w) s e =
-    let now : w.tries.last + b.timers.t1 ≡ b.clock = same_Some _ _ e in
+    let now : w.tries.last + b.timers.t1 ≤ b.clock = e in
     if_kept (Moves b (CrWait w)) (nat_lt b.clock (w.tries.last + b.timers.t1)) _ _
     (λ t. let low : b.clock < w.tries.last + b.timers.t1 = ltb-true _ _ t in absurd (omega arith))
     (λ _. if_kept (Moves b (CrWait w)) (nat_lt w.tries.count b.timers.sendings) _ _ (λ _. sends_some b _ _ _ _ []) (λ _. freezes b _ _ _ refl))
 tick_there b (WaitBeforeClose w) s e =
-    let now : w.request.tries.last + b.timers.t1 ≡ b.clock = same_Some _ _ e in
+    let now : w.request.tries.last + b.timers.t1 ≤ b.clock = e in
     if_kept (Moves b (WaitBeforeClose w)) (nat_lt b.clock (w.request.tries.last + b.timers.t1)) _ _
     (λ t. let low : b.clock < w.request.tries.last + b.timers.t1 = ltb-true _ _ t in absurd (omega arith))
     (λ _. if_kept (Moves b (WaitBeforeClose w)) (nat_lt w.request.tries.count b.timers.sendings) _ _ (λ _. sends_some b _ _ _ _ []) (λ _. freezes b _ _ _ refl))
 tick_there b (UserWait since) s e =
-    let now : since + b.timers.inactive ≡ b.clock = same_Some _ _ e in
+    let now : since + b.timers.inactive ≤ b.clock = e in
     if_kept (Moves b (UserWait since)) (nat_lt b.clock (since + b.timers.inactive)) _ _
     (λ t. let low : b.clock < since + b.timers.inactive = ltb-true _ _ t in absurd (omega arith))
     (λ _. freezes b _ _ _ refl)
 tick_there b (AkWait w) s e =
-    let now : w.tries.last + b.timers.t1 ≡ b.clock = same_Some _ _ e in
+    let now : w.tries.last + b.timers.t1 ≤ b.clock = e in
     if_kept (Moves b (AkWait w)) (nat_lt b.clock (w.tries.last + b.timers.t1)) _ _
     (λ t. let low : b.clock < w.tries.last + b.timers.t1 = ltb-true _ _ t in absurd (omega arith))
     (λ _. if_kept (Moves b (AkWait w)) (nat_lt w.tries.count b.timers.sendings) _ _ (λ _. sends_again b w _) (λ _. freezes b _ _ _ refl))
@@ -286,7 +283,7 @@ tick_there b (Opened o) s e =
     (λ _. sends_some b _ _ _ _ [])
     (λ f. opened_moves _ b o refl s e (leb-false _ _ f))
 tick_there b (Closing c) s e =
-    let least : min (c.from + span b.timers) (c.last + b.timers.t1) ≡ b.clock = same_Some _ _ e in
+    let least : min (c.from + span b.timers) (c.last + b.timers.t1) ≤ b.clock = e in
     if_kept (Moves b (Closing c)) (nat_le (c.from + span b.timers) b.clock) _ _
     (λ _. freezes b _ _ _ refl)
     (λ f. let low : b.clock < c.from + span b.timers = leb-false _ _ f in
@@ -295,10 +292,10 @@ tick_there b (Closing c) s e =
     (λ _. sends_some b _ _ _ _ []))
 tick_there b (Frozen when) s e = absurd (frozen_past b when e)
 
-pub proper_due : (b : Base) (stage : Stage) → IsProper b stage → TickDue b stage
-proper_due b stage p =
-    let s = stage_punctual b.agreed stage b.clock p.state in
-    record { before = tick_before b stage s; there = tick_there b stage s; after = tick_after b stage p.timers (punctual_prompt stage b.clock s) }
+pub running_due : (b : Base) (stage : Stage) → IsTimed b.timers → IsRunning stage → TickDue b stage
+running_due b stage timed runs =
+    let s = stage_punctual stage b.clock runs in
+    record { before = tick_before b stage s; there = tick_there b stage s; after = tick_after b stage timed (punctual_prompt stage b.clock s) }
 
 -- what holds of each end between calls is enough for that
 sound_prompt : (b : Base) (stage : Stage) (now : ℕ) → IsSound b stage → ArePrompt stage now
@@ -309,6 +306,18 @@ sound_prompt b (UserWait since) now sound = tt
 sound_prompt b (AkWait w) now sound = tt
 sound_prompt b (Closing c) now sound = tt
 sound_prompt b (Frozen when) now sound = tt
+
+sound_runs : (b : Base) (stage : Stage) → IsSound b stage → IsRunning stage
+sound_runs b (Opened o) sound = (sound.3, sound.2.t1)
+sound_runs b (CrWait w) sound = tt
+sound_runs b (WaitBeforeClose w) sound = tt
+sound_runs b (UserWait since) sound = tt
+sound_runs b (AkWait w) sound = tt
+sound_runs b (Closing c) sound = tt
+sound_runs b (Frozen when) sound = tt
+
+pub end_due : (b : Base) (stage : Stage) (now : ℕ) → IsEnd b stage → TickDue (now_at now b) stage
+end_due b stage now is = running_due (now_at now b) stage is.timers (sound_runs b stage is.sound)
 
 -- an end that ticked is due later
 pub ticked_later : (b : Base) (stage : Stage) (now : ℕ) → IsEnd b stage → Later now (on_tick (now_at now b) stage)

@@ -13,7 +13,7 @@ use Rattle.tp4_conn.specs.Agreeing.{confirms_again}
 use Rattle.tp4_conn.specs.End.{Moved, stays, led_by, gone, confirms, closing, frozen}
 use Rattle.tp4_conn.specs.Opened.{opened_tpdu}
 
--- Opened, with the new sends of what is queued; then the TPDU as there
+-- Opened, with the new sends of what is queued; then the TPDU as there: where that leads to Closing, its time counts from now
 abbrev pub opening_with : (ℕ → ℕ → ℕ) → Base → Halves → Sendings → Tpdu → Moved
 opening_with wrap b h s tpdu =
     led_by s.events s.tpdus (opened_tpdu wrap b (record { took = b.clock; acked = b.clock; halves = record h { sending = s.sender } }) tpdu)

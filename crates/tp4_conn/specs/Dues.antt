@@ -1,6 +1,7 @@
--- When an end is due: before that tick a tick changes its clock alone, and at it more; after one it is due later, or no more.
-use Rattle.std.specs.Prelude.{◌≡◌, ◌≢◌, ◌<◌, ℕ, Option, Some, None}
+-- When an end is due: before that tick a tick changes its clock alone, and from it on more; after one it is due later, or no more.
+use Rattle.std.specs.Prelude.{◌≡◌, ◌≢◌, ◌<◌, ◌≤◌, ℕ, true, Option, Some, None}
 use Rattle.tp4_sending.specs.FlowSender.{at}
+use Rattle.tp4_sending.specs.Settled.{IsDue as HasCome}
 use Rattle.tp4_conn.specs.declared.base.Base.{Base}
 use Rattle.tp4_conn.specs.declared.stage.Stage.{Stage}
 use Rattle.tp4_conn.specs.declared.stage.Stage.TheVariants.{Opened}
@@ -17,7 +18,12 @@ abbrev pub clocked : ℕ → Stage → Stage
 clocked now (Opened o) = Opened (record o { halves = record o.halves { sending = at now o.halves.sending } })
 clocked now stage = stage
 
+-- an end that is Opened has an open sending half, and T1 passes
+abbrev pub IsRunning : Stage → Type 0
+IsRunning (Opened o) = (o.halves.sending.is_open ≡ true) × (1 ≤ o.halves.sending.rules.t1)
+IsRunning stage = Unit {0}
+
 pub record IsDue (b : Base) (stage : Stage) : Type 0 where
   pub before : IsBefore (due b stage) b.clock → on_tick b stage ≡ stays b (clocked b.clock stage)
-  pub there : due b stage ≡ Some b.clock → on_tick b stage ≢ stays b (clocked b.clock stage)
+  pub there : HasCome (due b stage) b.clock → on_tick b stage ≢ stays b (clocked b.clock stage)
   pub after : IsBefore (due (on_tick b stage).base (on_tick b stage).stage) b.clock

@@ -80,8 +80,11 @@ abbrev pub called : End
 called = end_of (indicated (called_end 0 1 (0x49 ∷ 0x0A ∷ 1 ∷ []) timers 8 1 (0xAA ∷ []) (0xBB ∷ []) (proposed_by options)) [])
 
 -- the TPDUs of the partner, whose reference is 7 or 1
+abbrev pub cc_from : ℕ → Format → ℕ → ℕ → ℕ → Event
+cc_from source width credit size extra = Took (tpdus.Cc credit 1 source width (0xAA ∷ []) (0xBB ∷ []) (Some size) None extra None None None []) true
+
 abbrev pub cc_for : Format → ℕ → ℕ → ℕ → Event
-cc_for width credit size extra = Took (tpdus.Cc credit 1 7 width (0xAA ∷ []) (0xBB ∷ []) (Some size) None extra None None None []) true
+cc_for width credit size extra = cc_from 7 width credit size extra
 
 abbrev pub cc : ℕ → Event
 cc credit = cc_for Plain credit 1024 1
@@ -187,3 +190,26 @@ Wide = run (calling_for wide) ((0, cc_for Extended 8 8192 2) ∷ (0, Took (tpdus
 abbrev pub Dropped : Type 0
 Dropped = run calling ((0, cc 8) ∷ (3, dr 7 128) ∷ []) ≡
     shown states.Opened 20 (tells.Confirm options [] ∷ []) (kinds.Ak ∷ []) ∷ shown states.Frozen 160 (tells.Gone (causes.Reason 128) [] ∷ []) (kinds.Dc ∷ []) ∷ []
+
+-- a DR of source 0 in Opened, whose CC had the source 0: gone with its reason, and no DC
+abbrev pub Dropped_unanswered : Type 0
+Dropped_unanswered = run calling ((0, cc_from 0 Plain 8 1024 1) ∷ (3, dr 0 128) ∷ []) ≡
+    shown states.Opened 20 (tells.Confirm options [] ∷ []) (kinds.Ak ∷ []) ∷ shown states.Frozen 160 (tells.Gone (causes.Reason 128) [] ∷ []) [] ∷ []
+
+-- without expedited data
+abbrev pub plain : Options
+plain = record options { expedited = false }
+
+-- an ED in AkWait that was not agreed opens the end first: the time of Closing counts from then
+abbrev pub Opened_and_parted : Type 0
+Opened_and_parted = run called ((0, Called (Accept plain [])) ∷ (5, ed 0 (0xEE ∷ [])) ∷ (13, Ticked) ∷ (21, Ticked) ∷ (29, Ticked) ∷ (36, Ticked) ∷ (37, Ticked) ∷ []) ≡
+    shown states.AkWait 8 (tells.Accept plain [] ∷ []) (kinds.Cc ∷ []) ∷ shown states.Closing 13 (tells.Gone causes.Protocol [] ∷ []) (kinds.Dr ∷ [])
+    ∷ shown states.Closing 21 [] (kinds.Dr ∷ []) ∷ shown states.Closing 29 [] (kinds.Dr ∷ []) ∷ shown states.Closing 37 [] (kinds.Dr ∷ []) ∷ shown states.Closing 37 [] []
+    ∷ shown states.Frozen 194 [] [] ∷ []
+
+-- an ER there does not: it counts from the first CC
+abbrev pub Refused_in_wait : Type 0
+Refused_in_wait = run called ((0, Called (Accept plain [])) ∷ (5, er) ∷ (13, Ticked) ∷ (21, Ticked) ∷ (29, Ticked) ∷ (32, Ticked) ∷ []) ≡
+    shown states.AkWait 8 (tells.Accept plain [] ∷ []) (kinds.Cc ∷ []) ∷ shown states.Closing 13 (tells.Gone causes.Protocol [] ∷ []) (kinds.Dr ∷ [])
+    ∷ shown states.Closing 21 [] (kinds.Dr ∷ []) ∷ shown states.Closing 29 [] (kinds.Dr ∷ []) ∷ shown states.Closing 32 [] (kinds.Dr ∷ [])
+    ∷ shown states.Frozen 189 [] [] ∷ []

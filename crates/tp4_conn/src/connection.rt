@@ -1,6 +1,6 @@
 //! One end of a connection (X.224, class 4 procedures and state tables).
 
-ghost use Rattle.std.specs.Prelude.{◌≡◌, ◌≢◌, ◌≤◌, ◌+◌, Some, None, Err, IfOk, IfErr, OnOk};
+ghost use Rattle.std.specs.Prelude.{◌≡◌, ◌≢◌, ◌≤◌, ◌+◌, ℕ, Some, None, Err, IfOk, IfErr, OnOk};
 ghost use Rattle.tpdu.specs.declared.tpdu.Format.TheVariants.{Normal};
 ghost use Rattle.tpdu.specs.Values.{tpdu_of, sum_of};
 ghost use Rattle.tpdu.specs.declared.kind.Kind.TheVariants.{Cr};
@@ -10,12 +10,12 @@ ghost use Rattle.tp4_sending.specs.Pieces.{sooner};
 ghost use Rattle.tp4_conn.specs.declared.call.CallRefusal.{CallRefusal};
 ghost use Rattle.tp4_conn.specs.declared.call.CallRefusal.TheVariants.{NoMemory as OutOfMemory};
 ghost use Rattle.tp4_conn.specs.Calls.{IsCall, call_refusal, state_of};
-ghost use Rattle.tp4_conn.specs.Dues.{IsBefore};
+ghost use Rattle.tp4_conn.specs.Dues.{IsBefore, IsDue};
 ghost use Rattle.tp4_conn.specs.End.{Does, IsSame, IsSized, IsTimed, Moved, agreed_format};
 ghost use Rattle.tp4_conn.specs.Making.{connected, on_cr};
 ghost use Rattle.tp4_conn.specs.Living.{IsInTime};
 ghost use Rattle.tp4_conn.specs.Matching.{is_called_by, is_match};
-ghost use Rattle.tp4_conn.specs.Table.{Called, Took, Ticked, stepped, due};
+ghost use Rattle.tp4_conn.specs.Table.{Called, Took, Ticked, at, stepped, due};
 
 use crate::base::{Base, copied};
 use crate::matching::{fits, has_sum, wants_sum};
@@ -172,6 +172,7 @@ impl Connection {
     /// The least tick at which `tick` changes more than the clock, or sends something.
     pub fn next_due<L: Ledger>(&self, steps: &mut Steps<L>) -> Option<Tick>
         ensures value { result ≡ due self.now.base self.now.stage }
+        ensures least { (now : ℕ) → IsDue (at now self.now.base) self.now.stage }
         ensures step { steps.new ≡ steps.old + 1 }
     {
         steps.add();

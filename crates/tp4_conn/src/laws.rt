@@ -15,14 +15,14 @@ ghost use Rattle.tp4_conn.specs.declared.stage.Stage.TheVariants.{Frozen};
 ghost use Rattle.tp4_conn.specs.declared.timers.Timers.{Timers};
 ghost use Rattle.tp4_conn.specs.declared.proposed.Proposed.{Proposed};
 ghost use Rattle.tp4_conn.specs.Agreeing.{agreed_by, confirmed_size, extra_of, is_confirmed, listed_of, number_of, options_in, proposed_by, proposed_in};
-ghost use Rattle.tp4_conn.specs.Dues.{IsDue};
+ghost use Rattle.tp4_conn.specs.Dues.{IsDue, IsRunning};
 ghost use Rattle.tp4_conn.specs.End.{End, IsProposal, IsSized, IsTimed, Moved, end_of, span};
 ghost use Rattle.tp4_conn.specs.Living.{Life, Leads, IsOverBy, sent_by};
 ghost use Rattle.tp4_conn.specs.Making.{connected, indicated, on_cr};
 ghost use Rattle.tp4_conn.specs.Proper.{AreProper, AreSendable, IsProper, IsProperCall, IsProperEvent, IsProperRow};
 ghost use Rattle.tp4_conn.specs.Table.{Event, EndStep, stepped};
 ghost use Rattle.tp4_conn.specs.Wire.{end_on_wire};
-ghost use Rattle.tp4_conn.specs.Worked.{Refused, Unanswered, Beyond, Waited, Late_user, Parted, Answered, Reduced, Expedited_first, Quiet, Wide, Dropped};
+ghost use Rattle.tp4_conn.specs.Worked.{Refused, Unanswered, Beyond, Waited, Late_user, Parted, Answered, Reduced, Expedited_first, Quiet, Wide, Dropped, Dropped_unanswered, Opened_and_parted, Refused_in_wait};
 
 /// A frozen end stays as it is and sends nothing. An end that was made, or took its last matching TPDU, at u at the
 /// latest is Frozen at most I and N times T1 later: it is, or it is due by then.
@@ -38,9 +38,9 @@ pub fn over_lives()
         → last.took ≤ u → IsOverBy last.end (u + base.timers.inactive + span base.timers) }
 {}
 
-/// Before its due tick a tick changes the clock alone, and at it more; after a tick an end is due later, or no more.
+/// Before its due tick a tick changes the clock alone, and from it on more; after a tick an end is due later, or no more.
 pub fn over_dues()
-    ensures { (base : Base) (stage : Stage) → IsProper base stage → IsDue base stage }
+    ensures { (base : Base) (stage : Stage) → IsTimed base.timers → IsRunning stage → IsDue base stage }
 {}
 
 /// An end that a proper call or a CR made is proper, and stays so through each proper event; and each TPDU that it sends
@@ -87,4 +87,7 @@ pub fn worked_rows()
     ensures quiet { Quiet }
     ensures wide { Wide }
     ensures dropped { Dropped }
+    ensures dropped_unanswered { Dropped_unanswered }
+    ensures opened_and_parted { Opened_and_parted }
+    ensures refused_in_wait { Refused_in_wait }
 {}

@@ -1,5 +1,6 @@
 pub mod Answered
 pub mod Beginning
+pub mod Bundles
 pub mod Clearing
 pub mod Dues
 pub mod Formats

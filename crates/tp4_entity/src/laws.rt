@@ -1,18 +1,20 @@
 //! Laws of the ends of a system (X.224, frozen references; association of TPDUs with connections; concatenation and separation).
 
-ghost use Rattle.std.specs.Prelude.{◌≡◌, ◌≤◌, ◌<◌, ℕ, ◌+◌, nat_le, Bool, true, false, List, [], length, Option, Some, None};
+ghost use Rattle.std.specs.Prelude.{◌≡◌, ◌≤◌, ◌<◌, ℕ, ◌+◌, nat_le, Bool, true, false, List, [], length, map, Option, Some, None};
+ghost use Rattle.tpdu.specs.Grammar.{IsBundle};
 ghost use Rattle.tpdu.specs.Values.{TpduAndSum};
+ghost use Rattle.tpdu.specs.declared.tpdu.Tpdu.{Tpdu};
 ghost use Rattle.tpdu.specs.declared.tpdu.Tpdu.TheVariants.{Dr};
 ghost use Rattle.tp4_number.specs.Number.{whole, wire};
 ghost use Rattle.tp4_conn.specs.declared.call.ConnectCall.{ConnectCall};
 ghost use Rattle.tp4_conn.specs.declared.call.UserCall.{UserCall};
 ghost use Rattle.tp4_conn.specs.End.{frozen_for};
 ghost use Rattle.tp4_entity.specs.Association.{met};
-ghost use Rattle.tp4_entity.specs.Entity.{Acted, Entity, end_at};
+ghost use Rattle.tp4_entity.specs.Entity.{Acted, Entity, at, end_at};
 ghost use Rattle.tp4_entity.specs.References.{is_free, is_silent, least_free};
 ghost use Rattle.tp4_entity.specs.Standing.{IsFreeAt, KeepsEnds, Meets};
 ghost use Rattle.tp4_entity.specs.Step.{calling, connecting, restarted, ticking};
-ghost use Rattle.tp4_entity.specs.Unit.{TakesUnit};
+ghost use Rattle.tp4_entity.specs.Unit.{HearsUnit, Separates, TakesUnit, all_met, extended_of};
 ghost use Rattle.tp4_entity.specs.Wire.{acted_on_wire, entity_on_wire};
 
 /// A reference is free exactly where the entity is not silent, it is one of the entity's, and no end stands there, or one that entered
@@ -41,6 +43,16 @@ pub fn over_restarts()
 pub fn one_hearing()
     ensures { (wrap : ℕ → ℕ → ℕ) (now : ℕ) (old : Entity) (from octets : List ℕ) (one other : Acted)
         → TakesUnit wrap now old from octets one → TakesUnit wrap now old from octets other → one ≡ other }
+{}
+
+/// A unit that is separated with no rest is a bundle of the grammar, of these TPDUs; and a bundle is separated so. What an entity does with a
+/// bundle is what its TPDUs do, one after another, and none of it is told as bad.
+pub fn separates_bundles()
+    ensures bundle { (extended octets : List ℕ) (tpdus : List TpduAndSum) → Separates extended octets tpdus [] → IsBundle extended octets (map (λ (t : TpduAndSum). t.0) tpdus) }
+    ensures separates { (extended octets : List ℕ) (bundle : List Tpdu) → IsBundle extended octets bundle
+        → (tpdus : List TpduAndSum) × (map (λ (t : TpduAndSum). t.0) tpdus ≡ bundle) × Separates extended octets tpdus [] }
+    ensures hears { (wrap : ℕ → ℕ → ℕ) (now : ℕ) (old : Entity) (from octets : List ℕ) (new : Acted) (bundle : List Tpdu) → IsBundle (extended_of old) octets bundle
+        → HearsUnit wrap now old from octets new → (tpdus : List TpduAndSum) × (map (λ (t : TpduAndSum). t.0) tpdus ≡ bundle) × (new ≡ all_met wrap now (at now old) from tpdus) }
 {}
 
 /// What is sent for a TPDU is sent by the end that it matches, or it is one answer of the entity: a DR with source 0 to a CR or a CC, or a

@@ -11,5 +11,5 @@ mod steps;
 mod unit;
 
 pub use entity::TpEntity;
-pub use laws::{one_answer, one_hearing, over_references, over_wires};
+pub use laws::{one_answer, one_hearing, over_references, over_wires, separates_bundles};
 pub use refusal::{ConnectRefusal, EntityRefusal, TsapRefusal};

@@ -6,9 +6,10 @@ use Rattle.std.proofs.lemmas.List.Elements.{Contains-push_cases, Contains-append
 use Rattle.tp4_number.specs.Number.{wire, near}
 use Rattle.tp4_number.specs.Sender.{marked}
 use Rattle.tp4_number.specs.Traffic.{Rules, IsFit}
-use Rattle.tp4_number.specs.Expedited.{Urgent, UrgentEvent, Ticks, Sends_ed, Resends_ed, Ed_comes, Ea_comes, MayUrgent, urgently, LeadsUrgently, quiet, IsAlone}
+use Rattle.tp4_number.specs.Expedited.{Urgent, UrgentEvent, Ticks, Sends_ed, Resends_ed, Ed_comes, Ea_comes, MayUrgent, urgently, LeadsUrgently, quiet, IsAlone, ObeysRule}
 use Rattle.tp4_number.proofs.Numbers.{near_is}
 use Rattle.tp4_number.proofs.Past.{if_kept}
+use Rattle.tp4_number.proofs.Rule.{below_end, rule}
 use Rattle.tp4_number.proofs.Accounts.{Accounts, accounts_start, accounts_tick, accounts_send, marked_high, opens, none}
 
 -- two numbers less than one turn apart that stand alike on the wire are one
@@ -51,6 +52,13 @@ module _ (rules : Rules) (u : Urgent) (fit : IsFit rules) (s : Calm rules u) whe
         let a = s.said n tick c in
         let k = s.account.marks n a.sent.0 a.sent.1 in
         same_wire rules.block n u.base fit.some (omega (arith, a.low, s.one, s.expected_low)) (omega (arith, k.in_use, a.sent.2, fit.long, s.account.blocks.to, s.next_to, fit.some)) e;
+  }
+
+  obeys : ObeysRule rules u
+  obeys = record {
+    rule = rule rules u.clock u.blocks u.sends fit s.account u.next s.next_to;
+    again = λ n low. below_end rules u.clock u.blocks u.sends fit s.account n (omega (arith, s.account.blocks.to));
+    sent = λ n tick c. (s.account.marks n tick c).below;
   }
 
   ticked : Calm rules (urgently rules u Ticks)
@@ -146,3 +154,6 @@ calm_leads rules fit old new (event ∷ events) h s = calm_leads rules fit (urge
 
 pub all_alone : (rules : Rules) (tick : ℕ) (events : List UrgentEvent) (u : Urgent) → IsFit rules → LeadsUrgently rules (quiet tick) events u → IsAlone rules u
 all_alone rules tick events u fit h = alone rules u fit (calm_leads rules fit (quiet tick) u events h (calm_quiet rules tick))
+
+pub all_obey : (rules : Rules) (tick : ℕ) (events : List UrgentEvent) (u : Urgent) → IsFit rules → LeadsUrgently rules (quiet tick) events u → ObeysRule rules u
+all_obey rules tick events u fit h = obeys rules u fit (calm_leads rules fit (quiet tick) u events h (calm_quiet rules tick))

@@ -1,6 +1,6 @@
 -- One sender of EDs and one receiver, with all that was ever sent between them. One ED at most is outstanding.
-use Rattle.std.specs.Prelude.{◌≡◌, ℕ, ◌+◌, ◌<◌, ◌≤◌, if◌then◌else◌, ◌&&◌, ◌==◌, nat_lt, true, List, [], ◌∷◌, ◌++◌, Contains}
-use Rattle.tp4_number.specs.Number.{wire}
+use Rattle.std.specs.Prelude.{◌≡◌, ◌↔◌, ℕ, ◌+◌, ◌<◌, ◌≤◌, if◌then◌else◌, ◌&&◌, ◌==◌, nat_lt, true, List, [], ◌∷◌, ◌++◌, Contains}
+use Rattle.tp4_number.specs.Number.{wire, MaySend}
 use Rattle.tp4_number.specs.Sender.{no_blocks, may_send, marked}
 use Rattle.tp4_number.specs.declared.blocks.Blocks.{Blocks}
 use Rattle.tp4_number.specs.Traffic.{Rules}
@@ -71,3 +71,10 @@ pub record IsAlone (rules : Rules) (u : Urgent) : Type 0 where
   pub before : (n tick : ℕ) → Contains u.sends (n, tick) → u.clock ≤ tick + rules.life → wire rules.block (n + 1) ≡ wire rules.block u.expected → n + 1 ≡ u.expected
   pub ea : (n tick : ℕ) → Contains u.answers (n, tick) → u.clock ≤ tick + rules.life → u.base < u.next → wire rules.block n ≡ wire rules.block u.base
       → n ≡ u.base
+
+-- the blocks that the sender keeps obey the number rule over all EDs that were ever sent: the next one goes exactly where the rule lets it go, and what was
+-- sent once may be sent again
+pub record ObeysRule (rules : Rules) (u : Urgent) : Type 0 where
+  pub rule : (may_send rules.block rules.limit u.blocks u.next u.clock ≡ true) ↔ MaySend rules.block rules.limit u.sends u.next u.clock
+  pub again : (n : ℕ) → n < u.blocks.high → MaySend rules.block rules.limit u.sends n u.clock
+  pub sent : (n tick : ℕ) → Contains u.sends (n, tick) → n < u.blocks.high

@@ -3,7 +3,7 @@
 
 ghost use Rattle.std.specs.Prelude.{◌≡◌, ◌↔◌, ◌<◌, ◌≤◌, ◌*◌, ℕ, List, [], ◌∷◌, ◌++◌, true, IsTrue};
 ghost use Rattle.tp4_number.specs.declared.blocks.Blocks.{Blocks};
-ghost use Rattle.tp4_number.specs.Expedited.{Urgent, UrgentEvent, LeadsUrgently, quiet, IsAlone};
+ghost use Rattle.tp4_number.specs.Expedited.{Urgent, UrgentEvent, LeadsUrgently, quiet, IsAlone, ObeysRule};
 ghost use Rattle.tp4_number.specs.Number.{near, IsNear};
 ghost use Rattle.tp4_number.specs.Sender.{may_send, opens_at, IsPast, sent_all, gone};
 ghost use Rattle.tp4_number.specs.Traffic.{Rules, IsFit, World, Event, May, after, Leads, start, IsRead, IsKept};
@@ -31,7 +31,9 @@ pub fn rule_opens()
     ensures { (block limit : ℕ) (b : Blocks) (n now : ℕ) → (may_send block limit b n now ≡ true) ↔ IsPast (opens_at block limit b n) now }
 {}
 
-/// After any events no ED and no EA afloat with another number has the wire number of the one expected.
+/// After any events no ED and no EA afloat with another number has the wire number of the one expected, and the sender's words on its
+/// blocks say what the number rule says of all EDs that were ever sent.
 pub fn over_urgent_events()
-    ensures { (rules : Rules) (tick : ℕ) (events : List UrgentEvent) (u : Urgent) → IsFit rules → LeadsUrgently rules (quiet tick) events u → IsAlone rules u }
+    ensures alone { (rules : Rules) (tick : ℕ) (events : List UrgentEvent) (u : Urgent) → IsFit rules → LeadsUrgently rules (quiet tick) events u → IsAlone rules u }
+    ensures kept { (rules : Rules) (tick : ℕ) (events : List UrgentEvent) (u : Urgent) → IsFit rules → LeadsUrgently rules (quiet tick) events u → ObeysRule rules u }
 {}

@@ -2,17 +2,18 @@
 -- against the number rule. So it is after new sends, by a tick that is not after now, where nothing that was sent was due by it.
 use Rattle.std.proofs.Common.{◌≡◌, ℕ, zero, suc, ◌+◌, ◌-◌, ◌<◌, ◌≤◌, Bool, true, false, ◌||◌, ◌==◌, nat_lt, nat_le, if◌then◌else◌, List, [], ◌∷◌, ◌++◌, length, Option, Some, None, refl, sym, ◌∙◌, ap, subst, arith, inl, inr}
 use Rattle.std.specs.Prelude.{not, is_some}
-use Rattle.std.proofs.lemmas.Bool.{or_parts, and_parts, and_right, le-ltb, lt-ltb, leb-false, ltb-true, true≢false}
+use Rattle.std.proofs.lemmas.Bool.{or_parts, and_parts, and_right, le-ltb, lt-ltb, leb-false, ltb-true, true≢false, false≢true}
 use Rattle.tp4_flow.specs.declared.rules.Life.{Life}
 use Rattle.tp4_flow.specs.declared.rules.Life.TheVariants.{Goes}
 use Rattle.tp4_flow.specs.declared.step.HeldKind.TheVariants.{Dt, Ed}
 use Rattle.tp4_number.specs.declared.blocks.Blocks.{Blocks}
 use Rattle.tp4_number.specs.Sender.{opens_at}
 use Rattle.tp4_sending.specs.declared.tries.Tries.{Tries}
-use Rattle.tp4_sending.specs.FlowSender.{FlowSender, nothing, before, then_sends, block_in, rule_allows, is_noted, holds, is_urgent, has_next, eds, dts_of, sent_normal, normals, all_normals, normals_where, sent_urgent, one_urgent, resends, resends_urgent, resends_urgent_as, retried_urgent, new_sends, ticked, ticked_as, life_of, urgent_last, urgent_opens, normal_opens, due_of}
+use Rattle.tp4_sending.specs.FlowSender.{FlowSender, nothing, before, then_sends, block_in, rule_allows, is_noted, holds, is_urgent, has_next, eds, dts_of, sent_normal, normals, all_normals, normals_where, sent_urgent, one_urgent, resends, resends_urgent, resends_urgent_as, retried_urgent, new_sends, ticked, ticked_as, life_of, urgent_last, urgent_opens, normal_opens, urgent_tried, normal_tried, tried_at, due_of}
 use Rattle.tp4_sending.specs.Pieces.{end_of, once, again, is_due, resent, least_due, sooner}
 use Rattle.tp4_sending.specs.Settled.{IsDue}
 use Rattle.tp4_sending.proofs.Dues.{either_due, first_due, second_due, due_is, urgent_part}
+use Rattle.tp4_sending.proofs.Settles.{itself, rule_waits}
 
 -- what is sent now is due later
 resent_late : (t1 now : ℕ) (window : List Tries) → 0 < t1 → IsDue (least_due t1 (resent t1 now window)) now → ⊥
@@ -84,47 +85,60 @@ rule_late s blocks n now e r = by (nat_lt n (blocks.first + block_in s) || nat_l
     by true f k = k
     by false f k = absurd (true≢false (sym (lt-ltb (blocks.third + s.rules.limit) s.clock (omega (arith, k, e))) ∙ f))
 
+-- so a number that was told is not tried now
+tried_late : (told : Bool) (opens : Option ℕ) (now : ℕ) → told ≡ true → is_some opens ≡ true → (IsDue opens now → ⊥) → tried_at told opens ≤ now → ⊥
+tried_late false opens now t some late k = absurd (false≢true t)
+tried_late true None now t some late k = absurd (false≢true some)
+tried_late true (Some tick) now t some late k = late k
+
+told_late : (s : FlowSender) (blocks : Blocks) (n now : ℕ) (told : Bool) → s.clock ≡ now → rule_allows s blocks n ≡ false → told ≡ true
+    → tried_at told (opens_at (block_in s) s.rules.limit blocks n) ≤ now → ⊥
+told_late s blocks n now told e r t = tried_late told (opens_at (block_in s) s.rules.limit blocks n) now t (rule_waits s blocks n r) (rule_late s blocks n now e r)
+
 unless_due : (b : Bool) (next : Option ℕ) (now : ℕ) → (b ≡ false → IsDue next now → ⊥) → IsDue (if b then None else next) now → ⊥
 unless_due true next now h k = k
 unless_due false next now h k = h refl k
 
 urgent_waits : (b now : ℕ) (s : FlowSender) → Late b now s → Waits b now (one_urgent s).sender
-urgent_waits b now s h = by (is_some s.urgent.out || length s.urgent.units == 0) refl (rule_allows s s.urgent.blocks s.urgent.next) refl (is_noted s.urgent.noted s.urgent.next)
+urgent_waits b now s h =
+    by (is_some s.urgent.out || length s.urgent.units == 0) refl (rule_allows s s.urgent.blocks s.urgent.next) refl (is_noted s.urgent.noted s.urgent.next) refl
   where
-    held : rule_allows s s.urgent.blocks s.urgent.next ≡ false → IsDue (urgent_opens s) now → ⊥
-    held r = unless_due (is_some s.urgent.out || length s.urgent.units == 0) (opens_at (block_in s) s.rules.limit s.urgent.blocks s.urgent.next) now
-        (λ _. rule_late s s.urgent.blocks s.urgent.next now h.early.clock r)
+    held : (told : Bool) → rule_allows s s.urgent.blocks s.urgent.next ≡ false → told ≡ true
+        → IsDue (if is_some s.urgent.out || length s.urgent.units == 0 then None else Some (tried_at told (opens_at (block_in s) s.rules.limit s.urgent.blocks s.urgent.next))) now → ⊥
+    held told r t = unless_due (is_some s.urgent.out || length s.urgent.units == 0) (Some (tried_at told (opens_at (block_in s) s.rules.limit s.urgent.blocks s.urgent.next))) now
+        (λ _. told_late s s.urgent.blocks s.urgent.next now told h.early.clock r t)
 
-    by : (busy : Bool) → (is_some s.urgent.out || length s.urgent.units == 0) ≡ busy → (allowed : Bool) → rule_allows s s.urgent.blocks s.urgent.next ≡ allowed → (noted : Bool)
+    by : (busy : Bool) → (is_some s.urgent.out || length s.urgent.units == 0) ≡ busy → (allowed : Bool) → rule_allows s s.urgent.blocks s.urgent.next ≡ allowed
+        → (noted : Bool) → is_noted s.urgent.noted s.urgent.next ≡ noted
         → Waits b now (if busy then nothing s
         else if allowed then record { sender = sent_urgent s; events = []; tpdus = eds s s.urgent.next s.urgent.units }
         else if noted then nothing s
         else record { sender = record s { urgent = record s.urgent { noted = Some s.urgent.next } }; events = holds s Ed s.urgent.next ∷ []; tpdus = [] }).sender
-    by true e allowed r noted = record {
+    by true e allowed r noted n = record {
       late = h;
-      opens = unless_due (is_some s.urgent.out || length s.urgent.units == 0) (opens_at (block_in s) s.rules.limit s.urgent.blocks s.urgent.next) now
-          (λ f. absurd (true≢false (sym e ∙ f)));
+      opens = unless_due (is_some s.urgent.out || length s.urgent.units == 0) (Some (urgent_tried s)) now (λ f. absurd (true≢false (sym e ∙ f)));
     }
-    by false e true r noted = record {
+    by false e true r noted n = record {
       late = record {
         early = record { is_open = h.early.is_open; clock = h.early.clock; some = h.early.some; bound = h.early.bound; window = h.early.window };
         last = λ k. absurd (omega (arith, h.early.clock, h.early.some, h.early.bound, k));
       };
       opens = λ k. k;
     }
-    by false e false r true = record { late = h; opens = held r }
-    by false e false r false = record {
+    by false e false r true n = record { late = h; opens = held (is_noted s.urgent.noted s.urgent.next) r n }
+    by false e false r false n = record {
       late = record { early = record { is_open = h.early.is_open; clock = h.early.clock; some = h.early.some; bound = h.early.bound; window = h.early.window }; last = h.last };
-      opens = held r;
+      opens = held (s.urgent.next == s.urgent.next) r (itself s.urgent.next);
     }
 
 no_more : (now : ℕ) (s : FlowSender) → has_next s ≡ false → IsDue (normal_opens s) now → ⊥
-no_more now s e = unless_due (is_urgent s || not (has_next s)) (opens_at (block_in s) s.rules.limit s.numbers.blocks s.numbers.next) now
+no_more now s e = unless_due (is_urgent s || not (has_next s)) (Some (normal_tried s)) now
     (λ f. absurd (true≢false (ap not (sym e) ∙ (or_parts (is_urgent s) (not (has_next s)) f).1)))
 
-held_back : (now : ℕ) (s : FlowSender) → s.clock ≡ now → rule_allows s s.numbers.blocks s.numbers.next ≡ false → IsDue (normal_opens s) now → ⊥
-held_back now s c r = unless_due (is_urgent s || not (has_next s)) (opens_at (block_in s) s.rules.limit s.numbers.blocks s.numbers.next) now
-    (λ _. rule_late s s.numbers.blocks s.numbers.next now c r)
+held_back : (now : ℕ) (s : FlowSender) (told : Bool) → s.clock ≡ now → rule_allows s s.numbers.blocks s.numbers.next ≡ false → told ≡ true
+    → IsDue (if is_urgent s || not (has_next s) then None else Some (tried_at told (opens_at (block_in s) s.rules.limit s.numbers.blocks s.numbers.next))) now → ⊥
+held_back now s told c r t = unless_due (is_urgent s || not (has_next s)) (Some (tried_at told (opens_at (block_in s) s.rules.limit s.numbers.blocks s.numbers.next))) now
+    (λ _. told_late s s.numbers.blocks s.numbers.next now told c r t)
 
 sent_waits : (b now : ℕ) (s : FlowSender) → Waits b now s → Waits b now (sent_normal s)
 sent_waits b now s h = record {
@@ -146,19 +160,19 @@ normals_rest zero b now s h f =
     let out : nat_lt s.numbers.next (end_of s.rules.piece s.queue) ≡ false = le-ltb _ _ (omega (arith, f)) in
     record { waits = h; opens = no_more now s (and_right _ _ out) }
 normals_rest (suc fuel) b now s h f =
-    by (has_next s) refl (rule_allows s s.numbers.blocks s.numbers.next) refl (is_noted s.noted s.numbers.next)
+    by (has_next s) refl (rule_allows s s.numbers.blocks s.numbers.next) refl (is_noted s.noted s.numbers.next) refl
     (λ (more : has_next s ≡ true). normals_rest fuel b now (sent_normal s) (sent_waits b now s h) (let below : s.numbers.next < end_of s.rules.piece s.queue = ltb-true s.numbers.next (end_of s.rules.piece s.queue) (and_parts (nat_lt s.numbers.next (s.numbers.base + s.numbers.credit)) (nat_lt s.numbers.next (end_of s.rules.piece s.queue)) more).1 in omega (arith, below, f)))
   where
-    by : (more : Bool) → has_next s ≡ more → (allowed : Bool) → rule_allows s s.numbers.blocks s.numbers.next ≡ allowed → (noted : Bool)
+    by : (more : Bool) → has_next s ≡ more → (allowed : Bool) → rule_allows s s.numbers.blocks s.numbers.next ≡ allowed → (noted : Bool) → is_noted s.noted s.numbers.next ≡ noted
         → (has_next s ≡ true → Rests b now (normals fuel (sent_normal s)).sender)
         → Rests b now (if not more then nothing s
         else if allowed then before (dts_of s s.numbers.next) (normals fuel (sent_normal s))
         else if noted then nothing s
         else record { sender = record s { noted = Some s.numbers.next }; events = holds s Dt s.numbers.next ∷ []; tpdus = [] }).sender
-    by false e allowed r noted rest = record { waits = h; opens = no_more now s e }
-    by true e true r noted rest = rest e
-    by true e false r true rest = record { waits = h; opens = held_back now s h.late.early.clock r }
-    by true e false r false rest = record {
+    by false e allowed r noted n rest = record { waits = h; opens = no_more now s e }
+    by true e true r noted n rest = rest e
+    by true e false r true n rest = record { waits = h; opens = held_back now s (is_noted s.noted s.numbers.next) h.late.early.clock r n }
+    by true e false r false n rest = record {
       waits = record {
         late = record {
           early = record { is_open = h.late.early.is_open; clock = h.late.early.clock; some = h.late.early.some; bound = h.late.early.bound; window = h.late.early.window };
@@ -166,7 +180,7 @@ normals_rest (suc fuel) b now s h f =
         };
         opens = h.opens;
       };
-      opens = held_back now s h.late.early.clock r;
+      opens = held_back now s (s.numbers.next == s.numbers.next) h.late.early.clock r (itself s.numbers.next);
     }
 
 where_rests : (b now : ℕ) (s : FlowSender) → Waits b now s → Rests b now (normals_where s).sender
@@ -175,7 +189,7 @@ where_rests b now s h = by (is_urgent s) refl
     by : (t : Bool) → is_urgent s ≡ t → Rests b now (if t then nothing s else all_normals s).sender
     by true e = record {
       waits = h;
-      opens = unless_due (is_urgent s || not (has_next s)) (opens_at (block_in s) s.rules.limit s.numbers.blocks s.numbers.next) now
+      opens = unless_due (is_urgent s || not (has_next s)) (Some (normal_tried s)) now
           (λ f. absurd (true≢false (sym e ∙ (or_parts (is_urgent s) (not (has_next s)) f).0)));
     }
     by false e = normals_rest (end_of s.rules.piece s.queue - s.numbers.next) b now s h (omega arith)

@@ -23,11 +23,11 @@ pub settled_by : (s : FlowSender) → UrgentHeld s → NormalHeld s → IsSettle
 settled_by s u n = record { urgent = u; normal = n }
 
 -- what the rule holds back now it holds back up to some tick
-rule_waits : (s : FlowSender) (blocks : Blocks) (n : ℕ) → rule_allows s blocks n ≡ false → is_some (opens_at (block_in s) s.rules.limit blocks n) ≡ true
+pub rule_waits : (s : FlowSender) (blocks : Blocks) (n : ℕ) → rule_allows s blocks n ≡ false → is_some (opens_at (block_in s) s.rules.limit blocks n) ≡ true
 rule_waits s blocks n e =
     ap (λ (b : Bool). is_some (if b then None else Some (blocks.third + s.rules.limit + 1))) (or_parts (nat_lt n (blocks.first + block_in s) || nat_le blocks.first (block_in s)) _ e).0
 
-itself : (n : ℕ) → (n == n) ≡ true
+pub itself : (n : ℕ) → (n == n) ≡ true
 itself n = eq-eqb n n refl
 
 not_now : (b : Bool) → b ≡ false → b ≡ true → ⊥

@@ -100,6 +100,18 @@ one_urgent_more s = by (is_some s.urgent.out) refl (length s.urgent.units == 0) 
     by false e false false r true = (omega arith, λ w a. absurd (cc a))
     by false e false false r false = (omega arith, λ w a. absurd (cc a))
 
+-- its number is told as held
+pub one_urgent_told : (s : FlowSender) → waits_urgent s ≡ true → rule_allows s s.urgent.blocks s.urgent.next ≡ false → is_noted s.urgent.noted s.urgent.next ≡ false
+    → 0 < length (one_urgent s).events
+one_urgent_told s waits rule told = by (is_some s.urgent.out) (length s.urgent.units == 0) (rule_allows s s.urgent.blocks s.urgent.next) (is_noted s.urgent.noted s.urgent.next) waits rule told
+  where
+    by : (out empty allowed noted : Bool) → not (out || empty) ≡ true → allowed ≡ false → noted ≡ false → 0 < length (after s out empty allowed noted).events
+    by true empty allowed noted w a n = absurd (cc w)
+    by false true allowed noted w a n = absurd (cc w)
+    by false false true noted w a n = absurd (cc a)
+    by false false false true w a n = absurd (cc n)
+    by false false false false w a n = omega arith
+
 -- the next DTs go
 abbrev pub by_tests : ℕ → FlowSender → Bool → Bool → Bool → Sendings
 by_tests fuel s more allowed noted =
@@ -143,3 +155,18 @@ where_goes s calm more rule =
     let less = sent_more s in
     let whole : weight s < weight (normals left (sent_normal s)).sender = omega (arith, rest, less) in
     subst (λ (x : Sendings). weight s < weight x.sender) (sym same) whole
+
+-- the number of the next DT is told as held
+pub where_told : (s : FlowSender) → is_urgent s ≡ false → has_next s ≡ true → rule_allows s s.numbers.blocks s.numbers.next ≡ false → is_noted s.noted s.numbers.next ≡ false
+    → 0 < length (normals_where s).events
+where_told s calm more rule told =
+    let left : ℕ = end_of s.rules.piece s.queue - (s.numbers.next + 1) in
+    let below : s.numbers.next < end_of s.rules.piece s.queue = ltb-true s.numbers.next (end_of s.rules.piece s.queue) (and_parts (nat_lt s.numbers.next (s.numbers.base + s.numbers.credit)) (nat_lt s.numbers.next (end_of s.rules.piece s.queue)) more).1 in
+    let fuel : end_of s.rules.piece s.queue - s.numbers.next ≡ suc left = omega (arith, below) in
+    let same : normals_where s ≡ by_tests left s true false false =
+    ap (λ (b : Bool). if b then nothing s else all_normals s) calm
+    ∙ ap (λ (k : ℕ). normals k s) fuel
+    ∙ ap (λ (b : Bool). by_tests left s b (rule_allows s s.numbers.blocks s.numbers.next) (is_noted s.noted s.numbers.next)) more
+    ∙ ap (λ (b : Bool). by_tests left s true b (is_noted s.noted s.numbers.next)) rule
+    ∙ ap (λ (b : Bool). by_tests left s true false b) told in
+    subst (λ (x : Sendings). 0 < length x.events) (sym same) (omega arith)

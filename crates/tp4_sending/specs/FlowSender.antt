@@ -1,7 +1,7 @@
 -- A sending half: numbers, what was sent and is not acknowledged, units, expedited units (X.224, class 4: flow control,
 -- retention until acknowledgement, retransmission on time-out, expedited data). Each call is a function of the half, whose
 -- clock is the tick of the call.
-use Rattle.std.specs.Prelude.{◌≡◌, ◌≤◌, ℕ, zero, suc, ◌+◌, ◌-◌, Bool, true, false, ◌&&◌, ◌||◌, ◌==◌, not, nat_lt, nat_le, List, [], ◌∷◌, ◌++◌, length, take, drop, Option, Some, None, is_some, if◌then◌else◌}
+use Rattle.std.specs.Prelude.{◌≡◌, ◌≤◌, ℕ, zero, suc, ◌+◌, ◌-◌, Bool, true, false, ◌&&◌, ◌||◌, ◌==◌, not, nat_lt, nat_le, List, [], ◌∷◌, ◌++◌, length, take, drop, Option, Some, None, is_some, unwrap_or, if◌then◌else◌}
 use Rattle.std.specs.List.{list_any, sum_by}
 use Rattle.tpdu.specs.declared.tpdu.Tpdu.TheVariants as tpdus
 use Rattle.tp4_flow.specs.declared.rules.FlowRules.{FlowRules}
@@ -297,11 +297,21 @@ abbrev pub urgent_last : FlowSender → Option Tries → Option ℕ
 urgent_last s None = None
 urgent_last s (Some tries) = Some (tries.last + s.rules.t1)
 
+-- a number that is next goes, or is told as held, at once; once it was told it goes when the number rule lets it
+abbrev pub tried_at : Bool → Option ℕ → ℕ
+tried_at told opens = if told then unwrap_or opens 0 else 0
+
+abbrev pub urgent_tried : FlowSender → ℕ
+urgent_tried s = tried_at (is_noted s.urgent.noted s.urgent.next) (opens_at (block_in s) s.rules.limit s.urgent.blocks s.urgent.next)
+
+abbrev pub normal_tried : FlowSender → ℕ
+normal_tried s = tried_at (is_noted s.noted s.numbers.next) (opens_at (block_in s) s.rules.limit s.numbers.blocks s.numbers.next)
+
 abbrev pub urgent_opens : FlowSender → Option ℕ
-urgent_opens s = if is_some s.urgent.out || length s.urgent.units == 0 then None else opens_at (block_in s) s.rules.limit s.urgent.blocks s.urgent.next
+urgent_opens s = if is_some s.urgent.out || length s.urgent.units == 0 then None else Some (urgent_tried s)
 
 abbrev pub normal_opens : FlowSender → Option ℕ
-normal_opens s = if is_urgent s || not (has_next s) then None else opens_at (block_in s) s.rules.limit s.numbers.blocks s.numbers.next
+normal_opens s = if is_urgent s || not (has_next s) then None else Some (normal_tried s)
 
 abbrev pub due_of : FlowSender → Option ℕ
 due_of s =

@@ -3,7 +3,7 @@
 ghost use Rattle.std.specs.Prelude.{◌≡◌, ◌+◌, nat_le};
 ghost use Rattle.std.specs.List.{All};
 ghost use Rattle.tp4_sending.specs.Kept.{IsTried};
-ghost use Rattle.tp4_sending.specs.FlowSender.{urgent_opens, normal_opens, urgent_last};
+ghost use Rattle.tp4_sending.specs.FlowSender.{urgent_opens, normal_opens, urgent_last, tried_at};
 ghost use Rattle.tp4_sending.specs.Pieces.{sooner, least_due};
 
 use crate::sending::Sending;
@@ -42,28 +42,39 @@ impl Sending {
         Some(tries.last + self.rules.t1)
     }
 
-    /// The tick at which the number rule lets the next ED go, where it alone is in the way.
+    /// The tick at which the next ED goes or is told as held, where nothing else is in the way.
     pub(crate) fn urgent_opens(&self) -> Option<Tick>
         ensures { result ≡ urgent_opens self.now }
     {
         if self.urgent.out.is_some() || self.urgent.units.is_empty() {
             return None;
         }
-        self.urgent
+        let n = self.urgent.next;
+        let opens = self
+            .urgent
             .blocks
-            .opens_at(self.rules.format, self.rules.limit, self.urgent.next)
+            .opens_at(self.rules.format, self.rules.limit, n);
+        Some(tried_at(self.urgent.noted == Some(n), opens))
     }
 
-    /// The tick at which the number rule lets the next DT go, where it alone is in the way.
+    /// The tick at which the next DT goes or is told as held, where nothing else is in the way.
     pub(crate) fn normal_opens(&self) -> Option<Tick>
         ensures { result ≡ normal_opens self.now }
     {
         if !self.urgent.units.is_empty() || !self.has_next() {
             return None;
         }
-        self.blocks
-            .opens_at(self.rules.format, self.rules.limit, self.next)
+        let n = self.next;
+        let opens = self.blocks.opens_at(self.rules.format, self.rules.limit, n);
+        Some(tried_at(self.noted == Some(n), opens))
     }
+}
+
+/// When a number that is next goes or is told as held: at once; once it was told, when the number rule lets it go.
+fn tried_at(told: bool, opens: Option<Tick>) -> Tick
+    ensures { result ≡ tried_at told opens }
+{
+    if told { opens.unwrap_or(0) } else { 0 }
 }
 
 /// The earlier of two ticks that may be there.

@@ -13,12 +13,12 @@ ghost use Rattle.tp4_sending.specs.Settled.{IsSettled, IsDue, Acts};
 
 /// A tick does more than move the clock on exactly from the one on that `next_due` tells.
 pub fn due_is_least()
-    ensures { (s : FlowSender) (now : ℕ) → s.is_open ≡ true → IsSettled s → Acts (at now s) ↔ IsDue (due_of s) now }
+    ensures { (s : FlowSender) (now : ℕ) → s.is_open ≡ true → Acts (at now s) ↔ IsDue (due_of s) now }
 {}
 
 /// Before it is due a tick goes on and does nothing. After a tick that goes on a half is due later, or no more.
 pub fn waits_until_due()
-    ensures before { (s : FlowSender) (now : ℕ) → s.is_open ≡ true → IsSettled s → (IsDue (due_of s) now → ⊥)
+    ensures before { (s : FlowSender) (now : ℕ) → s.is_open ≡ true → (IsDue (due_of s) now → ⊥)
         → (life_of (at now s) ≡ Goes) × (ticked (at now s) ≡ nothing (at now s)) }
     ensures after { (s : FlowSender) → s.is_open ≡ true → 0 < s.rules.t1 → life_of s ≡ Goes → IsDue (due_of (ticked s).sender) s.clock → ⊥ }
 {}

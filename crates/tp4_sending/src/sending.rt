@@ -1,7 +1,7 @@
 //! The sending half of an end: its calls (X.224, class 4: flow control, retention until acknowledgement,
 //! retransmission on time-out, expedited data).
 
-ghost use Rattle.std.specs.Prelude.{◌≡◌, ◌≢◌, ◌<◌, ◌≤◌, ◌*◌, [], ◌∷◌, ◌++◌, ℕ, true, false, Some, None, IfOk, IfErr, OnOk, Err, length};
+ghost use Rattle.std.specs.Prelude.{◌≡◌, ◌≢◌, ◌↔◌, ◌<◌, ◌≤◌, ◌*◌, [], ◌∷◌, ◌++◌, ℕ, true, false, Some, None, IfOk, IfErr, OnOk, Err, length};
 ghost use Rattle.tp4_number.specs.Formats.{block_of};
 ghost use Rattle.tp4_number.specs.Number.{near};
 ghost use Rattle.tp4_number.specs.Sender.{may_send};
@@ -9,6 +9,7 @@ ghost use Rattle.tp4_flow.specs.declared.rules.SubmitRefusal.{SubmitRefusal};
 ghost use Rattle.tp4_flow.specs.declared.rules.SubmitRefusal.TheVariants.{NoMemory as OutOfMemory};
 ghost use Rattle.tp4_sending.specs.FlowSender.{fresh, at, opened, submitted, urged, is_taken, acknowledged, is_outstanding, urgent_done, life_of, ticked, due_of, refusal, urgent_refusal, Sends, Keeps, Stays};
 ghost use Rattle.tp4_sending.specs.Kept.{IsRules, most_granted};
+ghost use Rattle.tp4_sending.specs.Settled.{Acts, IsDue};
 
 use crate::cutting::count_in;
 use crate::due::sooner;
@@ -249,7 +250,8 @@ impl Sending {
 
     /// The least tick at which `tick` changes more than the clock, sends something or answers Exhausted.
     pub fn next_due(&self) -> Option<Tick>
-        ensures { result ≡ due_of self.now }
+        ensures value { result ≡ due_of self.now }
+        ensures least { (now : ℕ) → self.now.is_open ≡ true → Acts (at now self.now) ↔ IsDue (due_of self.now) now }
     {
         if !self.is_open {
             return None;

@@ -7,6 +7,7 @@ pub mod Going
 pub mod Having
 pub mod Heard
 pub mod Later
+pub mod Lined
 pub mod Latest
 pub mod Leaving
 pub mod Lowered

@@ -1,12 +1,14 @@
--- What stands between the lines of a network stands after each line by which nothing is injected, and at its start.
+-- What stands between the lines of a network stands after each line after which its carrier is honest, and at its start.
 use Rattle.std.proofs.Common.{◌≡◌, ℕ, ◌+◌, Bool, true, false, List, [], ◌∷◌, ◌++◌, length, Option, Some, None, refl, sym, ◌∙◌, ap, subst, arith, append_assoc, replicate, suc, zero}
-use Rattle.std.specs.Prelude.{◌==◌, ◌&&◌, nat_eq}
+use Rattle.std.specs.Prelude.{◌≢◌, ◌==◌, ◌&&◌, nat_eq}
 use Rattle.std.specs.Cmp.Lexicographic.{pointwise}
 use Rattle.std.specs.List.{AllByRecursion, Contains}
 use Rattle.std.proofs.lemmas.List.{append-nil}
 use Rattle.nsap.specs.Address.{selector_of, system_part}
 use Rattle.nsap.proofs.AddressLemmas.{selector_of-append}
 use Rattle.osi_base.specs.declared.unit.Arrival.{Arrival}
+use Rattle.osi_base.specs.declared.unit.Injected.{Injected}
+use Rattle.osi_base.specs.declared.unit.Injected.TheVariants.{Taken as WasInjected}
 use Rattle.osi_base.specs.declared.unit.Picked.{Picked}
 use Rattle.osi_base.specs.declared.unit.Picked.TheVariants.{Taken as WasPicked}
 use Rattle.osi_base.specs.declared.unit.Unit.{Unit as CarriedUnit}
@@ -34,10 +36,11 @@ use Rattle.tp4_entity.specs.Entity.{Entity}
 use Rattle.tp4_entity.specs.References.{least_free}
 use Rattle.tp4_entity.specs.Step.{calling, connect_refusal, connecting, ticking, user_refusal, restarted}
 use Rattle.tp4_world.proofs.Destinations.{EndFine, EndsFine, calling_fine, connecting_fine, taking_fine, ticking_fine}
-use Rattle.tp4_world.proofs.Standing.{AreApart, AreFine, AreStill, IsApart, IsFine, IsFromApart, Stands, act_stands, apart_on, changed_stands, delivery_carries, entity_fine, raw_carries, tick_carries, told_stands, with_fine}
-use Rattle.tp4_world.specs.Laws.{IsFirst, IsNew, IsNoInjection, ShowsSent}
-use Rattle.tp4_world.specs.Run.{BeginsAt, Calls, CallsAt, CallsBy, CallsEnd, Connects, ConnectsBy, Delivers, HearsAll, HearsIf, IsRefused, NoneDue, NoneLeft, OneDue, OneMore, RunsLine, RunsLines, Settles, Starts, Ticks, TicksAll, TicksEntity, TooMany, clock_of, has_ended, is_for, transport_address}
-use Rattle.tp4_world.specs.Telling.{call_events, connect_event}
+use Rattle.tp4_world.proofs.Lined.{injected, lines_alike, lines_back, not_taken}
+use Rattle.tp4_world.proofs.Standing.{AreApart, AreFine, AreStill, IsApart, IsFine, IsFromApart, Stands, act_stands, apart_on, changed_stands, delivery_carries, entity_fine, injection_carries, raw_carries, tick_carries, told_stands, with_fine}
+use Rattle.tp4_world.specs.Laws.{IsFirst, IsNew, ShowsSent, ShowsSentWhereHonest}
+use Rattle.tp4_world.specs.Run.{BeginsAt, Calls, CallsAt, CallsBy, CallsEnd, Connects, ConnectsBy, Delivers, HearsAll, HearsIf, Injects, IsRefused, NoneDue, NoneLeft, OneDue, OneMore, RunsLine, RunsLines, Settles, Starts, Ticks, TicksAll, TicksEntity, TooMany, clock_of, has_ended, is_for, transport_address}
+use Rattle.tp4_world.specs.Telling.{call_events, connect_event, inject_event}
 use Rattle.tp4_world.specs.World.{World, end_numbered, entity_at}
 use Rattle.tp4_world.specs.declared.place.EndAt.{EndAt}
 use Rattle.tp4_world.specs.declared.place.Placed.{Placed}
@@ -172,6 +175,15 @@ module _ (life : ℕ) (titles : List (List ℕ)) {C : Type 0} (link : C → Link
         behind new journal made front step.later
         (heard_all step.ups (record old { carrier = step.below }) new (journal ++ front) step.later (record { carries = d.carries; fine = h.fine }) d.ups_apart step.hears) step.made_is
 
+    -- octets that were given to no system
+    injected_holds : (old new : World C) (journal made : List Event) (lan system : ℕ) (octets : List ℕ) (answer : Injected) → answer ≢ WasInjected → Holds old journal
+        → Injects link steps wrap old lan system octets answer made new → Holds new (journal ++ made)
+    injected_holds old new journal made lan system octets answer refused h step =
+        let front : List Event = inject_event system answer ∷ told step.ups in
+        let d = injection_carries life titles link steps law old.carrier step.below journal lan system octets answer step.ups refused h.carries step.passes in
+        behind new journal made front step.later
+        (heard_all step.ups (record old { carrier = step.below }) new (journal ++ front) step.later (record { carries = d.carries; fine = h.fine }) d.ups_apart step.hears) step.made_is
+
     -- ---- ticks
 
     entity_ticked : (system : ℕ) (old : World C) (made : List Event) (new : World C) → TicksEntity link steps wrap system old made new → (journal : List Event) → Holds old journal → Holds new (journal ++ made)
@@ -210,51 +222,52 @@ module _ (life : ℕ) (titles : List (List ℕ)) {C : Type 0} (link : C → Link
 
     -- ---- the lines
 
-    line_holds : (line : Line) (old new : World C) (journal made : List Event) → IsNoInjection line → Holds old journal → RunsLine link steps wrap titles old line made new → Holds new (journal ++ made)
-    line_holds lines.Nothing old new journal made none h step = same_holds old new journal made h step.0 step.1
-    line_holds (lines.Connect system selector to called_selector options octets) old new journal made none h step =
+    line_holds : (line : Line) (old new : World C) (journal made : List Event) → (link new.carrier).honest ≡ true → Holds old journal → RunsLine link steps wrap titles old line made new → Holds new (journal ++ made)
+    line_holds lines.Nothing old new journal made honest h step = same_holds old new journal made h step.0 step.1
+    line_holds (lines.Connect system selector to called_selector options octets) old new journal made honest h step =
         let asks = step.4 in
         connected old new journal made system step.1 h (subst IsApart (sym asks.1) (transport_apart step.0)) asks.4
-    line_holds (lines.Accept end options octets) old new journal made none h step = called old new journal made end _ h step
-    line_holds (lines.Refuse end octets) old new journal made none h step = called old new journal made end (asks.Refuse octets) h step
-    line_holds (lines.Disconnect end octets) old new journal made none h step = called old new journal made end (asks.Disconnect octets) h step
-    line_holds (lines.Data end octets) old new journal made none h step = called old new journal made end (asks.Normal octets) h step
-    line_holds (lines.Expedite end octets) old new journal made none h step = called old new journal made end (asks.Urgent octets) h step
-    line_holds (lines.Window end credit) old new journal made none h step = called old new journal made end (asks.Window credit) h step
-    line_holds (lines.Unit system to wish octets) old new journal made none h step =
+    line_holds (lines.Accept end options octets) old new journal made honest h step = called old new journal made end _ h step
+    line_holds (lines.Refuse end octets) old new journal made honest h step = called old new journal made end (asks.Refuse octets) h step
+    line_holds (lines.Disconnect end octets) old new journal made honest h step = called old new journal made end (asks.Disconnect octets) h step
+    line_holds (lines.Data end octets) old new journal made honest h step = called old new journal made end (asks.Normal octets) h step
+    line_holds (lines.Expedite end octets) old new journal made honest h step = called old new journal made end (asks.Urgent octets) h step
+    line_holds (lines.Window end credit) old new journal made honest h step = called old new journal made end (asks.Window credit) h step
+    line_holds (lines.Unit system to wish octets) old new journal made honest h step =
         let raw = step.4 in
         let carries = raw_carries life titles link steps law old.carrier raw.0 journal made system step.0 step.1 wish octets h.carries step.2 raw.1 in
         subst (λ (w : World C). Holds w (journal ++ made)) (sym raw.2) (record { carries = carries; fine = h.fine })
-    line_holds lines.Tick old new journal made none h step = ticked old new journal made h step
-    line_holds (lines.Deliver number system) old new journal made none h step = delivered old new journal made number system step.0 h step.1
-    line_holds lines.Settle old new journal made none h step = settled 0 old made new step journal h
-    line_holds (lines.Inject lan system octets) old new journal made none h step = absurd none
-    line_holds (lines.Restart system) old new journal made none h step =
+    line_holds lines.Tick old new journal made honest h step = ticked old new journal made h step
+    line_holds (lines.Deliver number system) old new journal made honest h step = delivered old new journal made number system step.0 h step.1
+    line_holds lines.Settle old new journal made honest h step = settled 0 old made new step journal h
+    line_holds (lines.Inject lan system octets) old new journal made honest h step =
+        injected_holds old new journal made lan system octets step.0 (not_taken link steps law old new step.0 made (injected link steps law wrap old new lan system octets step.0 made step.1) honest) h step.1
+    line_holds (lines.Restart system) old new journal made honest h step =
         let told : Holds old (journal ++ made) = told_holds old old journal made (events.Restart system ∷ []) h (record { other = tt; clock = λ now. refl }, tt) step.2 refl in
         let fine = entity_fine life titles link steps law old.entities system step.0 h.fine step.1 in
         subst (λ (w : World C). Holds w (journal ++ made)) (sym step.3) (record {
           carries = told.carries;
           fine = with_fine life titles link steps law old.entities system (restarted (clock_of link steps old) step.0) h.fine (fine.0, new_ends _ (nothing_stands (length step.0.ends)));
         })
-    line_holds (lines.Send system selector to called octets) old new journal made none h step = absurd step
-    line_holds (lines.Version version) old new journal made none h step = absurd step
-    line_holds (lines.Set key value) old new journal made none h step = absurd step
-    line_holds (lines.Lan name bound room) old new journal made none h step = absurd step
-    line_holds (lines.Es name title) old new journal made none h step = absurd step
-    line_holds (lines.Is name title) old new journal made none h step = absurd step
-    line_holds (lines.Port system lan snpa) old new journal made none h step = absurd step
-    line_holds (lines.Route system prefix hop lan) old new journal made none h step = absurd step
-    line_holds (lines.Path name kind systems) old new journal made none h step = absurd step
-    line_holds (lines.Tsap system selector) old new journal made none h step = absurd step
-    line_holds (lines.Relay system selector to called) old new journal made none h step = absurd step
-    line_holds lines.Start old new journal made none h step = absurd step
+    line_holds (lines.Send system selector to called octets) old new journal made honest h step = absurd step
+    line_holds (lines.Version version) old new journal made honest h step = absurd step
+    line_holds (lines.Set key value) old new journal made honest h step = absurd step
+    line_holds (lines.Lan name bound room) old new journal made honest h step = absurd step
+    line_holds (lines.Es name title) old new journal made honest h step = absurd step
+    line_holds (lines.Is name title) old new journal made honest h step = absurd step
+    line_holds (lines.Port system lan snpa) old new journal made honest h step = absurd step
+    line_holds (lines.Route system prefix hop lan) old new journal made honest h step = absurd step
+    line_holds (lines.Path name kind systems) old new journal made honest h step = absurd step
+    line_holds (lines.Tsap system selector) old new journal made honest h step = absurd step
+    line_holds (lines.Relay system selector to called) old new journal made honest h step = absurd step
+    line_holds lines.Start old new journal made honest h step = absurd step
 
-    lines_hold : (script : List Line) (first last : World C) (journal rest : List Event) → AllByRecursion IsNoInjection script → Holds first journal
+    lines_hold : (script : List Line) (first last : World C) (journal rest : List Event) → (link last.carrier).honest ≡ true → Holds first journal
         → RunsLines link steps wrap titles first script rest last → Holds last (journal ++ rest)
-    lines_hold [] first last journal rest none h run = same_holds first last journal rest h run.0 run.1
-    lines_hold (line ∷ script) first last journal rest none h run =
-        let here : Holds run.0 (journal ++ run.1) = line_holds line first run.0 journal run.1 none.0 h run.3 in
-        behind last journal rest run.1 run.2 (lines_hold script run.0 last (journal ++ run.1) run.2 none.1 here run.5) run.4
+    lines_hold [] first last journal rest honest h run = same_holds first last journal rest h run.0 run.1
+    lines_hold (line ∷ script) first last journal rest honest h run =
+        let here : Holds run.0 (journal ++ run.1) = line_holds line first run.0 journal run.1 (lines_back link steps law wrap titles script run.0 last run.2 run.5 honest) h run.3 in
+        behind last journal rest run.1 run.2 (lines_hold script run.0 last (journal ++ run.1) run.2 honest here run.5) run.4
 
   -- ---- the start
 
@@ -281,7 +294,19 @@ module _ (life : ℕ) (titles : List (List ℕ)) {C : Type 0} (link : C → Link
       })
 
 -- each raw unit that is shown was sent
+pub sent_where_honest : {C : Type 0} (link : C → Link (List ℕ)) (steps : C → Call (List ℕ) → C → Type 0) → ((old : C) (call : Call (List ℕ)) (new : C) → steps old call new → Keeps (link old) call (link new))
+    → ShowsSentWhereHonest link steps
+sent_where_honest link steps law wrap life titles made placed begun journal script first last is start run honest =
+    (lines_hold life titles link steps law wrap script first last begun journal honest (first_holds life titles link steps law made placed begun first is start) run).carries.rests.stands.lawful
+
+-- as it starts the carrier is honest
+pub first_honest : {C : Type 0} (link : C → Link (List ℕ)) (steps : C → Call (List ℕ) → C → Type 0) (life : ℕ) (titles : List (List ℕ)) (made : C) (placed : List Placed) (begun : List Event) (first : World C)
+    → IsFirst life titles (link made) placed → Starts link steps made placed begun first → (link first.carrier).honest ≡ true
+first_honest {C} link steps life titles made placed begun first is start =
+    ap (λ (w : World C). (link w.carrier).honest) start.becomes ∙ start.gathers.stands.honest ∙ is.carrier_is.honest
+
 pub shows_sent : {C : Type 0} (link : C → Link (List ℕ)) (steps : C → Call (List ℕ) → C → Type 0) → ((old : C) (call : Call (List ℕ)) (new : C) → steps old call new → Keeps (link old) call (link new))
     → ShowsSent link steps
 shows_sent link steps law wrap life titles made placed begun journal script first last is start none run =
-    (lines_hold life titles link steps law wrap script first last begun journal none (first_holds life titles link steps law made placed begun first is start) run).carries.rests.stands.lawful
+    sent_where_honest link steps law wrap life titles made placed begun journal script first last is start run
+    (lines_alike link steps law wrap titles script first last journal none run ∙ first_honest link steps life titles made placed begun first is start)

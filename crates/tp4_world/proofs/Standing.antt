@@ -2,7 +2,7 @@
 -- every network of raw units; and besides, no unit but a raw one comes from an address for raw units, as no entity has such an address and
 -- none writes to one. So what entities send floats as no raw unit, and each raw unit that floats has its `sent` event.
 use Rattle.std.proofs.Common.{◌≡◌, ℕ, ◌+◌, ◌⊎◌, Bool, true, false, List, [], ◌∷◌, ◌++◌, Some, refl, sym, ◌∙◌, ap, subst, inl, inr, append_assoc}
-use Rattle.std.specs.Prelude.{◌==◌, cond, option_map, slice_get}
+use Rattle.std.specs.Prelude.{◌≢◌, ◌==◌, cond, option_map, slice_get}
 use Rattle.std.specs.List.{All, AllByRecursion, Contains, find}
 use Rattle.std.proofs.lemmas.List.Elements.{All-head, All-tail}
 use Rattle.std.proofs.lemmas.List.{append-nil}
@@ -10,13 +10,15 @@ use Rattle.nsap.specs.Address.{selector_of, system_part}
 use Rattle.nsap.proofs.AddressLemmas.{selector_of-append}
 use Rattle.osi_base.specs.declared.unit.Offered.{Offered}
 use Rattle.osi_base.specs.declared.unit.Offered.TheVariants.{Taken as WasTaken, Dropped}
+use Rattle.osi_base.specs.declared.unit.Injected.{Injected}
+use Rattle.osi_base.specs.declared.unit.Injected.TheVariants.{Taken as WasInjected, NotThere}
 use Rattle.osi_base.specs.declared.unit.Picked.{Picked}
 use Rattle.osi_base.specs.declared.unit.Unit.{Unit as CarriedUnit}
 use Rattle.osi_base.specs.declared.unit.Up.{Up}
 use Rattle.osi_base.specs.declared.unit.Up.TheVariants.{Unit as Came, Note as Noted}
 use Rattle.osi_base.specs.declared.unit.Wish.{Wish}
 use Rattle.osi_base.specs.Link.{Link, IsLawful, IsNote}
-use Rattle.osi_base.specs.Calls.{Call, Choose, IsSameLink, Keeps, NothingNew, Offer, Tick}
+use Rattle.osi_base.specs.Calls.{Call, Choose, Inject, IsSameLink, Keeps, NothingNew, Offer, Tick}
 use Rattle.osi_base.proofs.Chains.{same_on}
 use Rattle.osi_journal.specs.RawLawful.{clock_from, raw_address}
 use Rattle.osi_journal.specs.declared.event.Event.{Event}
@@ -37,7 +39,7 @@ use Rattle.tp4_world.proofs.Addressees.{all_append, either}
 use Rattle.tp4_world.proofs.Destinations.{ActsFine, EndsFine, SentFine}
 use Rattle.tp4_world.proofs.Places.{some_same}
 use Rattle.tp4_world.specs.Run.{Acts, SendsTpdu, SendsTpdus, transport_wish}
-use Rattle.tp4_world.specs.Telling.{drop_events, ends_with, event_for, events_after}
+use Rattle.tp4_world.specs.Telling.{drop_events, ends_with, event_for, events_after, inject_event}
 use Rattle.tp4_world.specs.World.{World, entity_at, is_of, latest, with_entity}
 use Rattle.tp4_world.specs.declared.place.EndAt.{EndAt}
 use Rattle.tp4_world.specs.declared.place.Placed.{Placed}
@@ -63,6 +65,10 @@ notes_still : (ups : List (Up (List ℕ))) → All IsNote ups → AreStill (told
 notes_still [] all = tt
 notes_still (Noted note ∷ ups) all = (note_still note, notes_still ups (All-tail IsNote (Noted note) ups all))
 notes_still (Came arrival ∷ ups) all = absurd (All-head IsNote (Came arrival) ups all)
+
+pub inject_still : (system : ℕ) (answer : Injected) → IsStill (inject_event system answer)
+inject_still system WasInjected = record { other = tt; clock = λ now. refl }
+inject_still system NotThere = record { other = tt; clock = λ now. refl }
 
 drop_still : (system : ℕ) (answer : Offered) → AreStill (drop_events system answer)
 drop_still system WasTaken = tt
@@ -217,6 +223,33 @@ module _ (life : ℕ) (titles : List (List ℕ)) where
             apart = apart_on (link old) (link new) (λ entry there. chooses.grows entry (pass.gathers.grows entry there)) h.apart;
           };
           ups_apart = lawful_apart (link old) ups h.apart lawful;
+        }
+
+    -- notes come from nowhere
+    notes_apart : (ups : List (Up (List ℕ))) → All IsNote ups → AllByRecursion IsFromApart ups
+    notes_apart [] all = tt
+    notes_apart (Noted note ∷ ups) all = (tt, notes_apart ups (All-tail IsNote (Noted note) ups all))
+    notes_apart (Came arrival ∷ ups) all = absurd (All-head IsNote (Came arrival) ups all)
+
+    -- an injection that is not taken
+    pub injection_carries : (old new : C) (journal : List Event) (lan system : ℕ) (octets : List ℕ) (answer : Injected) (ups : List (Up (List ℕ))) → answer ≢ WasInjected → Carries old journal
+        → Passes link steps old (Inject lan system octets answer) ups new → Delivered new (journal ++ inject_event system answer ∷ told ups) ups
+    injection_carries old new journal lan system octets answer ups refused h pass =
+        let injects = law old (Inject lan system octets answer) pass.called pass.steps_to in
+        let waited = these_waited (link old) injects.ups ups (link pass.called).waiting h.rests.quiet injects.adds.waiting pass.gathers.waited in
+        let notes : All IsNote ups = subst (λ (n : List (Up (List ℕ))). All IsNote n) waited (injects.refused refused) in
+        let grows : NothingNew (link old) (link new) = λ entry there. injects.grows entry (pass.gathers.grows entry there) in
+        record {
+          carries = record {
+            rests = record {
+              stands = goes_on (link old) (link new) journal (inject_event system answer ∷ told ups) h.rests.stands (inject_still system answer, notes_still ups notes)
+                  (same_on (link old) (link pass.called) (link new) injects.same pass.gathers.stands.same) (pass.gathers.stands.honest ∙ injects.honest refused)
+                  (pass.gathers.stands.clock ∙ injects.clock) (sent_later titles (link old) (link new) journal (inject_event system answer ∷ told ups) h.rests.stands.sent grows);
+              quiet = pass.gathers.quiet;
+            };
+            apart = apart_on (link old) (link new) grows h.apart;
+          };
+          ups_apart = notes_apart ups notes;
         }
 
     pub tick_carries : (old new : C) (journal : List Event) (ups : List (Up (List ℕ))) → Carries old journal → Passes link steps old Tick ups new

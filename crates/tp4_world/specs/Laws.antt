@@ -1,6 +1,6 @@
 -- What holds of every run of a network with its transport entities. `wrap` is what a receiving half keeps of a number, by its block: in
 -- each law but the last it is whatever one likes.
-use Rattle.std.specs.Prelude.{◌≡◌, ℕ, ◌++◌, List, map, slice_get, Some, None}
+use Rattle.std.specs.Prelude.{◌≡◌, ℕ, true, ◌++◌, List, map, slice_get, Some, None}
 use Rattle.std.specs.List.{AllByRecursion}
 use Rattle.osi_base.specs.Link.{Link}
 use Rattle.osi_base.specs.Calls.{Call}
@@ -53,7 +53,21 @@ abbrev pub IsNoInjection : Line → Type 0
 IsNoInjection (lines.Inject lan system octets) = ⊥
 IsNoInjection line = Prim.Unit {0}
 
--- where nothing is injected, each raw unit that is shown was sent to that system, from that address, with those octets, at most the
+-- while the carrier is honest, each raw unit that is shown was sent to that system, from that address, with those octets, at most the lifetime
+-- before: no injection was taken
+abbrev pub ShowsSentWhereHonest : {C : Type 0} → (C → Link (List ℕ)) → (C → Call (List ℕ) → C → Type 0) → Type 0
+ShowsSentWhereHonest {C} link steps = (wrap : ℕ → ℕ → ℕ) (life : ℕ) (titles : List (List ℕ)) (made : C) (placed : List Placed) (begun journal : List Event) (script : List Line) (first last : World C)
+    → IsFirst life titles (link made) placed → Starts link steps made placed begun first → RunsLines link steps wrap titles first script journal last
+    → (link last.carrier).honest ≡ true → RawLawful life titles (begun ++ journal)
+
+-- a carrier that is honest after lines was so before them; and where no line is an `inject` line it is as honest as it was
+pub record StaysHonest {C : Type 0} (link : C → Link (List ℕ)) (steps : C → Call (List ℕ) → C → Type 0) : Type 0 where
+  pub before : (wrap : ℕ → ℕ → ℕ) (titles : List (List ℕ)) (script : List Line) (first last : World C) (journal : List Event) → RunsLines link steps wrap titles first script journal last
+      → (link last.carrier).honest ≡ true → (link first.carrier).honest ≡ true
+  pub alike : (wrap : ℕ → ℕ → ℕ) (titles : List (List ℕ)) (script : List Line) (first last : World C) (journal : List Event) → AllByRecursion IsNoInjection script
+      → RunsLines link steps wrap titles first script journal last → (link last.carrier).honest ≡ (link first.carrier).honest
+
+-- so where nothing is injected, each raw unit that is shown was sent to that system, from that address, with those octets, at most the
 -- lifetime before
 abbrev pub ShowsSent : {C : Type 0} → (C → Link (List ℕ)) → (C → Call (List ℕ) → C → Type 0) → Type 0
 ShowsSent {C} link steps = (wrap : ℕ → ℕ → ℕ) (life : ℕ) (titles : List (List ℕ)) (made : C) (placed : List Placed) (begun journal : List Event) (script : List Line) (first last : World C)

@@ -56,6 +56,8 @@ fn take_units<C: Carrier<Addr = Nsap>>(
 }
 
 /// Tells what came up, or puts it with the units for transport.
+// Inlined: what came up is a large value, which is moved once less.
+#[inline(always)]
 fn sort(
     up: Up<Nsap>,
     events: &mut Vec<Event>,
@@ -150,6 +152,8 @@ fn hear<C: Carrier<Addr = Nsap>>(
 }
 
 /// Whether a unit to an address is for the users of an entity.
+// Inlined: at each unit that comes up it is a look at a few octets.
+#[inline(always)]
 fn is_for(own: &Nsap, to: &Nsap) -> bool
     ensures { result ≡ (selector_of to.now == 1 && pointwise nat_eq own.now to.now) }
 {

@@ -1,7 +1,8 @@
 //! What holds of every run of a network with its transport entities.
 
 ghost use Rattle.std.specs.Prelude.{List, ℕ};
-ghost use Rattle.tp4_world.specs.Laws.{OneRun, OneStart, ShowsSent, WholeLine, WholeRun, WireLine};
+ghost use Rattle.tp4_world.specs.Asked.{TellsAsked};
+ghost use Rattle.tp4_world.specs.Laws.{OneRun, OneStart, ShowsSent, ShowsSentWhereHonest, StaysHonest, WholeLine, WholeRun, WireLine};
 ghost use Rattle.tp4_world.specs.Total.{SomeRun, SomeStart};
 
 use nsap::Nsap;
@@ -23,6 +24,23 @@ pub fn one_start<C: Carrier<Addr = Nsap>>()
     law_carrier_answers::one_gathering::<C>();
     tpdu::one_writing();
 }
+
+/// While the carrier is honest, each raw unit that is shown was sent to that system, from that address, with those octets, at most the
+/// lifetime before; also where octets were given to no system.
+pub fn shows_sent_where_honest<C: Carrier<Addr = Nsap>>()
+    ensures { ShowsSentWhereHonest C.link C.steps }
+{}
+
+/// A carrier that is honest after lines was so before them; and where no line is an `inject` line it is as honest as it was.
+pub fn stays_honest<C: Carrier<Addr = Nsap>>()
+    ensures { StaysHonest C.link C.steps }
+{}
+
+/// The events by which users ask for connections and hand over units are those of the lines that ask for it, in order: each such line has its
+/// own event, which says what the line says, or is refused.
+pub fn tells_asked<C: Carrier<Addr = Nsap>>()
+    ensures { TellsAsked C.link C.steps }
+{}
 
 /// Where nothing is injected, each raw unit that is shown was sent to that system, from that address, with those octets, at most the
 /// lifetime before.

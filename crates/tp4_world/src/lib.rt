@@ -14,7 +14,10 @@ mod transport;
 mod words;
 mod world;
 
-pub use laws::{one_run, one_start, shows_sent, some_run, some_start, whole_run};
+pub use laws::{
+    one_run, one_start, shows_sent, shows_sent_where_honest, some_run, some_start, stays_honest,
+    tells_asked, whole_run,
+};
 pub use place::{EndAt, Placed};
 pub use words::asked_options;
 pub use world::TpWorld;

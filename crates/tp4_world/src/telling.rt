@@ -18,6 +18,8 @@ use tp4_conn::{ConnectCall, UserCall};
 use tp4_flow::{EndEvent, What};
 
 /// Tells what ends of a system told, in order. An indication makes an end.
+// Inlined: at most steps nothing was told, which is seen by one look.
+#[inline(always)]
 pub fn tell_all(
     alloc: Global,
     ends: &mut Ends,
@@ -36,6 +38,8 @@ pub fn tell_all(
 }
 
 /// Tells what one end told.
+// Not inlined: where nothing was told, there is no room for its values to clear.
+#[inline(never)]
 fn tell(
     alloc: Global,
     ends: &mut Ends,

@@ -100,14 +100,14 @@ fn tick_one<C: Carrier<Addr = Nsap>>(
     let Some(place) = place_of(&transport.entities, system) else {
         return Err(NoMemory);
     };
-    let Some(own) = own_at(&transport.entities, place) else {
-        return Err(NoMemory);
-    };
     transport.out.clear();
     let was_due = tick_at(&mut transport.entities, place, now, &mut transport.out)?;
     if !was_due {
         return Ok(false);
     }
+    let Some(own) = own_at(&transport.entities, place) else {
+        return Err(NoMemory);
+    };
     follow(
         alloc,
         carrier,

@@ -125,7 +125,7 @@ module _ {N : Type 0} (link : N → Link (List ℕ)) (steps : N → Call (List �
       let s = acts_stay with_end system entity.own (connecting (clock_of link steps old) entity reference call) h.0 new h.1 in
       record { clock = s.clock; systems = s.systems }
 
-  connect_stays : (old : World N) (system : ℕ) (entity : Entity) (call : ConnectCall) (why : Option ConnectRefusal) (made : List Event) (new : World N) → ConnectsBy link steps old system entity call why made new
+  pub connect_stays : (old : World N) (system : ℕ) (entity : Entity) (call : ConnectCall) (why : Option ConnectRefusal) (made : List Event) (new : World N) → ConnectsBy link steps old system entity call why made new
       → Stays old new
   connect_stays old system entity call (Some why) made new h = refused_stays old _ made new h
   connect_stays old system entity call None made new h = begun_stays old system entity call (least_free (clock_of link steps old) entity) made new h
@@ -145,7 +145,7 @@ module _ {N : Type 0} (link : N → Link (List ℕ)) (steps : N → Call (List �
   call_at_stays old number call (Some end) made new h =
       call_end_stays old number end h.0 call (has_ended (clock_of link steps old) old.ends number end h.0) made new h.2
 
-  call_stays : (old : World N) (number : ℕ) (call : UserCall) (made : List Event) (new : World N) → Calls link steps wire old number call made new → Stays old new
+  pub call_stays : (old : World N) (number : ℕ) (call : UserCall) (made : List Event) (new : World N) → Calls link steps wire old number call made new → Stays old new
   call_stays old number call made new h = call_at_stays old number call (end_numbered old.ends number) made new h
 
   -- ---- what comes up
@@ -197,7 +197,7 @@ module _ {N : Type 0} (link : N → Link (List ℕ)) (steps : N → Call (List �
 
   -- ---- settling
 
-  settled_stays : (count : ℕ) (old : World N) (made : List Event) (new : World N) → Settles link steps wire count old made new → Stays old new
+  pub settled_stays : (count : ℕ) (old : World N) (made : List Event) (new : World N) → Settles link steps wire count old made new → Stays old new
   settled_stays count old made new (NoneLeft n o m l fresh made_is is) = same old new is
   settled_stays count old made new (TooMany n o m l pair fresh most made_is is) = same old new is
   settled_stays count old made new (OneMore n o m l pair mid here rest fresh low delivers settles made_is) =

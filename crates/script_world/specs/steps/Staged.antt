@@ -148,7 +148,7 @@ module _ {P : Type 0} (play : Playing P) (going : Going P) (laws : PlayLaws play
     refl,
     record { lans = refl; bounds = refl; life = refl; systems = refl; ports = λ n. refl; selectors = λ n selector. refl },
     nothing_well,
-    record { titles = tt; ports = tt; rows = λ n. tt; paths = tt },
+    record { titles = tt; ports = tt; rows = λ n. tt; paths = tt; relays = tt },
     refl,
   )
 

@@ -18,4 +18,6 @@ returns-in_default-pass_on g c = record {
   asked = search rules;
   no_read_fault = λ other. search rules;
   one_read_fault = search rules;
+  no_write_fault = λ other. search rules;
+  one_write_fault = search rules;
 }

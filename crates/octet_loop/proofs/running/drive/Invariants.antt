@@ -10,7 +10,7 @@ invariant-loop-count g l = record {
   within : g.T.Intake.progress.octets l.intake ≤ most_octets;
   no_read_fault : g.S.Source.faults l.source ≡ g.S.Source.faults l.initial.source;
   asked : g.S.Source.asked l.source ≤ max (g.S.Source.asked l.initial.source) most_read;
-  writes_stay : g.K.Sink.faults l.initial.sink ≤ g.K.Sink.faults l.sink;
+  no_write_fault : g.K.Sink.faults l.sink ≡ g.K.Sink.faults l.initial.sink;
 }
 
 abbrev pub decreases-loop-count : goal.decreases-loop-count

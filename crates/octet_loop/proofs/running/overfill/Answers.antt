@@ -22,5 +22,7 @@ returns-in-Err g c =
           (sym (take-append-drop c.args.room c.args.octets.now)) room c.requires.empty c.deref.ensures.value stopped c.write_closed.ensures.written;
       stopped = piece_not_done g.T.Intake.course g.T.Intake.progress g.K.Sink.held (take c.args.room c.args.octets.now) c.args.intake.now c.args.out.now.items c.take.new.out.items c.deref.result.now c.args.sink.now c.write_closed.new.sink c.in-Err.status c.write_closed.result stopped c.write_closed.ensures.written;
       faults_stay = c.write_closed.ensures.faults_stay;
+      no_write_fault = c.write_closed.ensures.no_write_fault;
+      one_write_fault = c.write_closed.ensures.one_write_fault;
       write_fault = λ is. risen_of (c.write_closed.ensures.write_fault is) (piece_write_fault g.T.Intake.course g.T.Intake.progress (take c.args.room c.args.octets.now) c.args.intake.now c.args.out.now.items c.take.new.out.items c.in-Err.status stopped);
     }

@@ -19,5 +19,7 @@ returns-in-Err g c =
       octets = λ is. absurd (never is);
       within = λ is. absurd (never is);
       faults_stay = c.write_closed.ensures.faults_stay;
+      no_write_fault = c.write_closed.ensures.no_write_fault;
+      one_write_fault = c.write_closed.ensures.one_write_fault;
       write_fault = λ is. risen_of (c.write_closed.ensures.write_fault is) (piece_write_fault g.T.Intake.course g.T.Intake.progress c.args.octets.now c.args.intake.now c.clear.new.self.items c.take.new.out.items c.in-Err.status stopped);
     }

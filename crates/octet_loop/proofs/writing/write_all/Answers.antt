@@ -1,4 +1,4 @@
-use Rattle.std.proofs.Common.{rules, arith}
+use Rattle.std.proofs.Common.{rules, arith, inl, ◌∙◌}
 use Rattle.osi_base.specs.declared.status.Status.TheVariants.{Done}
 use Rattle.octet_loop.proofs.Written.{more_written, broken, nothing_taken, more_within}
 use Rattle.octet_loop.proofs.writing.write_all.Goals as goal
@@ -16,5 +16,5 @@ pub loop-at-preserved : goal.loop-at-preserved
 loop-at-preserved g c = record {
   within = more_within c.args.text.now c.loop-at.at c.in-Ok.count c.loop-at.invariant.within c.in-Ok.ensures.count;
   put = more_written g.K.Sink.held c.args.text.now c.loop-at.at c.in-Ok.count c.args.sink.now c.loop-at.sink c.write.new.self c.loop-at.invariant.put c.in-Ok.ensures.moved;
-  faults_stay = omega (arith, c.loop-at.invariant.faults_stay, c.in-Ok.ensures.faults_stay);
+  no_fault = c.in-Ok.ensures.faultless (inl (omega (arith, c.if-count-eq0.false))) ∙ c.loop-at.invariant.no_fault;
 }

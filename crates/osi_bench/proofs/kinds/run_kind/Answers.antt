@@ -4,7 +4,8 @@ use Rattle.osi_base.specs.Ends.{HasRisen, IsAtEnd, Put}
 use Rattle.osi_base.specs.declared.status.Status.TheVariants.{Done, NoMemory}
 use Rattle.script_bench.proofs.Telling.{told}
 use Rattle.datagram_play.specs.Claims.{ShownWasSent}
-use Rattle.osi_bench.specs.Kinds.{AsksOf, IsAcceptedBy, IsLawfulRun, IsToldBy, datagram_acts, inactive_acts}
+use Rattle.relay_play.specs.Claims.{RelaysLawfully}
+use Rattle.osi_bench.specs.Kinds.{AsksOf, IsAcceptedBy, IsLawfulRun, IsToldBy, datagram_acts, inactive_acts, relay_acts}
 use Rattle.osi_bench.specs.declared.kinds.Kind.{Kind}
 use Rattle.osi_bench.proofs.KindLaws.{inactive_law}
 use Rattle.osi_bench.proofs.kinds.run_kind.Goals as goal
@@ -44,3 +45,21 @@ returns-in-Inactive-clause-complete g c =
     → ¬ HasRisen (g.S.Source.faults c.args.source.now) (g.S.Source.faults c.run_script-in-Inactive.new.source) → ¬ HasRisen (g.K.Sink.faults c.args.sink.now) (g.K.Sink.faults c.run_script-in-Inactive.new.sink)
     → ((c.run_script-in-Inactive.result ≡ Done) × (text : List ℕ) × AsksOf k all text Done × Put (g.K.Sink.held c.args.sink.now) text (g.K.Sink.held c.run_script-in-Inactive.new.sink)) ⊎ (c.run_script-in-Inactive.result ≡ NoMemory))
     (sym c.in-Inactive.is) c.run_script-in-Inactive.ensures.complete
+
+pub returns-in-Relay-clause-told : goal.returns-in-Relay-clause-told
+returns-in-Relay-clause-told g c =
+    let w =
+    told relay_acts RelaysLawfully c.relays_lawfully.ensures g.S.Source.left g.K.Sink.held c.args.source.now c.args.sink.now c.run_script-in-Relay.new.source c.run_script-in-Relay.new.sink c.run_script-in-Relay.result
+    c.run_script-in-Relay.ensures.outcome in
+    (w.0, w.1, w.2, w.3, subst (λ (k : Kind). IsToldBy k (IsAtEnd (g.S.Source.left c.run_script-in-Relay.new.source)) w.0 w.1 c.run_script-in-Relay.result) (sym c.in-Relay.is) w.4)
+
+pub returns-in-Relay-clause-exact : goal.returns-in-Relay-clause-exact
+returns-in-Relay-clause-exact g c all text asked tells asks =
+    c.run_script-in-Relay.ensures.exact all text asked tells (subst (λ (k : Kind). AsksOf k all text asked) c.in-Relay.is asks)
+
+pub returns-in-Relay-clause-complete : goal.returns-in-Relay-clause-complete
+returns-in-Relay-clause-complete g c =
+    subst (λ (k : Kind). (all : List ℕ) → g.S.Source.left c.args.source.now ≡ Some all → IsAcceptedBy k all
+    → ¬ HasRisen (g.S.Source.faults c.args.source.now) (g.S.Source.faults c.run_script-in-Relay.new.source) → ¬ HasRisen (g.K.Sink.faults c.args.sink.now) (g.K.Sink.faults c.run_script-in-Relay.new.sink)
+    → ((c.run_script-in-Relay.result ≡ Done) × (text : List ℕ) × AsksOf k all text Done × Put (g.K.Sink.held c.args.sink.now) text (g.K.Sink.held c.run_script-in-Relay.new.sink)) ⊎ (c.run_script-in-Relay.result ≡ NoMemory))
+    (sym c.in-Relay.is) c.run_script-in-Relay.ensures.complete

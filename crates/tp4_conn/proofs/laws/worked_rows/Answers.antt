@@ -55,3 +55,15 @@ returns-clause-wide c = refl
 pub returns-clause-dropped : goal.returns-clause-dropped
 unfolding cr_wait_tpdu opened_tpdu
 returns-clause-dropped c = refl
+
+pub returns-clause-dropped_unanswered : goal.returns-clause-dropped_unanswered
+unfolding cr_wait_tpdu opened_tpdu
+returns-clause-dropped_unanswered c = refl
+
+pub returns-clause-opened_and_parted : goal.returns-clause-opened_and_parted
+unfolding user_wait_accept ak_wait_tpdu opened_tpdu closing_tick
+returns-clause-opened_and_parted c = refl
+
+pub returns-clause-refused_in_wait : goal.returns-clause-refused_in_wait
+unfolding user_wait_accept ak_wait_tpdu closing_tick
+returns-clause-refused_in_wait c = refl

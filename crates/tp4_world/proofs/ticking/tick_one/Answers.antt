@@ -5,7 +5,7 @@ use Rattle.tp4_number.specs.Number.{wire}
 use Rattle.tp4_world.specs.World.{is_of}
 use Rattle.tp4_world.specs.declared.place.Placed.{Placed}
 use Rattle.tp4_world.proofs.Later.{from_changed, from_place, kept_changed, rest_changed}
-use Rattle.tp4_world.proofs.Ticked.{changed_systems, fewer_due, once_due, once_none}
+use Rattle.tp4_world.proofs.Ticked.{changed_systems, fewer_due, once_due, once_none, own_before}
 use Rattle.tp4_world.proofs.ticking.tick_one.Goals as goal
 
 pub returns-then-not-was_due-clause-ticks : goal.returns-then-not-was_due-clause-ticks
@@ -25,7 +25,8 @@ returns-clause-ticks g c =
     once_due g.C.Carrier.link g.C.Carrier.steps wire c.args.carrier.now c.follow.new.carrier c.args.transport.now.entities.items c.tick_at.new.entities.items c.args.transport.now.ends c.follow.new.ends
     c.args.system c.in-Some.place c.args.now c.in-Some-own_at.own c.in_ok-was_due.was_due c.clear.new.self c.tick_at.new.out c.args.events.now.items c.follow.new.events.items
     (ap (position (is_of c.args.system)) (sym c.deref.ensures.value) ∙ sym c.place_of.ensures ∙ c.in-Some.is)
-    (λ one at. sym c.in-Some-own_at.is ∙ c.own_at.ensures one (ap (λ (ps : List Placed). slice_get ps c.in-Some.place) c.deref-2.ensures.value ∙ at))
+    (own_before wire c.args.now c.in-Some.place c.args.transport.now.entities.items c.tick_at.new.entities.items c.in-Some-own_at.own c.in_ok-was_due.was_due c.clear.new.self c.tick_at.new.out
+    c.in_ok-was_due.ensures.changed (λ one at. sym c.in-Some-own_at.is ∙ c.own_at.ensures one (ap (λ (ps : List Placed). slice_get ps c.in-Some.place) c.deref-2.ensures.value ∙ at)))
     c.requires.clock c.if-not-was_due.false c.clear.ensures c.in_ok-was_due.ensures.changed c.in_ok-follow.ensures.follows
 
 pub returns-clause-systems : goal.returns-clause-systems

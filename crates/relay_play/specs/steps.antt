@@ -1,0 +1,24 @@
+-- What only carries the proofs: that ends of a relay wait as they have to, that the transport entities are a service, and the laws of what runs.
+pub mod Allowing
+pub mod Answering
+pub mod Begun
+pub mod CallRows
+pub mod Going
+pub mod Joining
+pub mod Leading
+pub mod Linking
+pub mod OnePump
+pub mod OctetSteps
+pub mod OneRun
+pub mod Ordering
+pub mod Played
+pub mod Playing
+pub mod Pumping
+pub mod Quieting
+pub mod Running
+pub mod Serving
+pub mod StageRows
+pub mod TextRows
+pub mod TextWalks
+pub mod Waits
+pub mod Walks

@@ -1,0 +1,11 @@
+use Rattle.std.proofs.Common.{set, ◌∙◌, ap}
+use Rattle.tp4_relay.specs.Pairs.{Accepts}
+use Rattle.tp4_relay.proofs.Placed.{missed_inbound, set_inbound}
+use Rattle.tp4_relay.proofs.places.accept_at.Goals as goal
+
+pub returns-in-Some : goal.returns-in-Some
+returns-in-Some c =
+    ap (set c.args.pairs.now c.in-Some.place) c.accept.ensures ∙ set_inbound c.args.pairs.now c.args.end c.in-Some.place Accepts c.requires c.in-Some.ensures.some c.index-pairs-place.result
+
+pub returns-in_default : goal.returns-in_default
+returns-in_default c = missed_inbound c.args.pairs.now c.args.end Accepts c.in_default.ensures.none

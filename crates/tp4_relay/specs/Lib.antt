@@ -1,0 +1,10 @@
+pub mod Allowed
+pub mod Kept
+pub mod Leaving
+pub mod Pairs
+pub mod Pump
+pub mod Reaction
+pub mod Relaying
+pub mod Service
+pub mod Worked
+pub mod steps

@@ -1,0 +1,75 @@
+-- What a relay does about an event of a line (X.214, service primitives).
+use Rattle.std.specs.Prelude.{ℕ, ◌==◌, if◌then◌else◌, List, [], ◌∷◌, Option, Some, None}
+use Rattle.osi_script.specs.declared.line.Options.{Options as ScriptOptions}
+use Rattle.osi_journal.specs.declared.event.Event.{Event}
+use Rattle.osi_journal.specs.declared.event.Event.TheVariants as events
+use Rattle.osi_journal.specs.declared.event.Indication.{Indication}
+use Rattle.tpdu.specs.declared.tpdu.Format.TheVariants.{Normal, Extended}
+use Rattle.tp4_flow.specs.declared.rules.Options.{Options}
+use Rattle.tp4_conn.specs.declared.call.ConnectCall.{ConnectCall}
+use Rattle.tp4_conn.specs.declared.call.UserCall.TheVariants as asks
+use Rattle.tp4_conn.specs.declared.timers.Timers.{Timers}
+use Rattle.tp4_relay.specs.declared.pair.Pair.{Pair}
+use Rattle.tp4_relay.specs.declared.reaction.Reaction.{Reaction}
+use Rattle.tp4_relay.specs.declared.reaction.Reaction.TheVariants.{Nothing, Begin, Ask}
+use Rattle.tp4_relay.specs.declared.row.RelayRow.{RelayRow}
+use Rattle.tp4_relay.specs.Kept.{Kept, row_for}
+use Rattle.tp4_relay.specs.Pairs.{is_closed}
+
+-- options of an event, as a user asks for them
+abbrev pub asked_options : ScriptOptions → Options
+asked_options o = record { format = if o.extended then Extended else Normal; size = o.size; preferred = o.preferred; expedited = o.expedited; sum = o.sum }
+
+-- the request for the second connection: from the row's address and selector, with the options and the octets of the first
+abbrev pub request_for : Timers → RelayRow → Indication → ConnectCall
+request_for rules row heard = record {
+  own = 0;
+  from = row.own;
+  from_selector = row.selector;
+  to = row.to;
+  to_selector = row.to_selector;
+  options = asked_options heard.options;
+  octets = heard.octets;
+  rules = rules;
+}
+
+abbrev pub begins : Timers → Indication → Option RelayRow → Reaction
+begins rules heard None = Nothing
+begins rules heard (Some row) = Begin heard.end row.system (request_for rules row heard)
+
+-- the pair of this inbound end, or of this outbound end
+abbrev pub inbound_pair : List Pair → ℕ → Option Pair
+inbound_pair [] end = None
+inbound_pair (pair ∷ pairs) end = if pair.inbound == end then Some pair else inbound_pair pairs end
+
+abbrev pub outbound_pair : List Pair → ℕ → Option Pair
+outbound_pair [] end = None
+outbound_pair (pair ∷ pairs) end = if pair.outbound == end then Some pair else outbound_pair pairs end
+
+-- a pair whose outbound end is confirmed has its inbound end accepted
+abbrev pub confirms : ScriptOptions → List ℕ → Option Pair → Reaction
+confirms options octets None = Nothing
+confirms options octets (Some pair) = if is_closed pair.phase then Nothing else Ask pair.inbound (asks.Accept (asked_options options) octets)
+
+-- an end that was not accepted is refused, and another one is disconnected
+abbrev pub ends_call : Pair → Reaction
+ends_call pair = if pair.accepted then Ask pair.inbound (asks.Disconnect []) else Ask pair.inbound (asks.Refuse [])
+
+abbrev pub outbound_goes : Option Pair → Reaction
+outbound_goes None = Nothing
+outbound_goes (Some pair) = if is_closed pair.phase then Nothing else ends_call pair
+
+abbrev pub inbound_goes : Pair → Reaction
+inbound_goes pair = if is_closed pair.phase then Nothing else Ask pair.outbound (asks.Disconnect [])
+
+-- where one end of a pair goes that is not closed, the other one goes too
+abbrev pub goes : List Pair → ℕ → Option Pair → Reaction
+goes pairs end None = outbound_goes (outbound_pair pairs end)
+goes pairs end (Some pair) = inbound_goes pair
+
+-- by what is kept of the events before
+abbrev pub reaction : Kept → Event → Reaction
+reaction kept (events.Incoming heard) = begins kept.rules heard (row_for kept.rows heard)
+reaction kept (events.Confirm end options octets) = confirms options octets (outbound_pair kept.pairs end)
+reaction kept (events.Gone end cause octets) = goes kept.pairs end (inbound_pair kept.pairs end)
+reaction kept event = Nothing

@@ -1,0 +1,182 @@
+//! What a relay does about an event of a line (X.214, service primitives).
+
+ghost use Rattle.std.specs.Prelude.{◌≡◌, [], Some, IfOk};
+ghost use Rattle.tp4_relay.specs.Kept.{row_for};
+ghost use Rattle.tp4_relay.specs.Reaction.{asked_options, begins, confirms, goes, inbound_goes, inbound_pair, outbound_goes, outbound_pair, reaction, request_for};
+ghost use Rattle.tp4_relay.specs.steps.Rising.{IsRisingBy, inbound_of, outbound_of};
+ghost use Rattle.tp4_relay.specs.steps.Tables.{IsTied, kept_of};
+
+use crate::pair::Pair;
+use crate::places::{inbound_place, outbound_place};
+use crate::row::{RelayRow, row_for};
+use crate::table::Table;
+use osi_base::{Bytes, NoMemory};
+use osi_journal::{Event, Indication};
+use osi_script::Options as ToldOptions;
+use std::alloc::Global;
+use tp4_conn::{ConnectCall, Options, Timers, UserCall};
+use tpdu::Format;
+
+/// What is to be done about an event.
+#[derive(Drop)]
+pub enum Reaction {
+    Nothing,
+    /// A connection is asked for, and joined to the inbound end; else that end is refused.
+    Begin {
+        inbound: u32,
+        system: u8,
+        call: ConnectCall,
+    },
+    /// A call on an end.
+    Ask {
+        end: u32,
+        call: UserCall,
+    },
+}
+
+/// What is to be done about an event of a line, before it is noted.
+pub fn reaction_to(table: &Table, event: &Event) -> Result<Reaction, NoMemory>
+    requires { IsTied table.now }
+    ensures { IfOk result (λ to_do. to_do ≡ reaction (kept_of table.now) event.now) }
+{
+    match event {
+        Event::Incoming(heard) => beginning(table, heard.get()),
+        Event::Confirm {
+            end,
+            options,
+            octets,
+        } => acceptance(table.alloc, &table.pairs, *end, *options, octets),
+        Event::Gone { end, .. } => Ok(parting(table.alloc, &table.pairs, *end)),
+        _ => Ok(Reaction::Nothing),
+    }
+}
+
+/// A connection that is indicated at a row is asked for again.
+fn beginning(table: &Table, heard: &Indication) -> Result<Reaction, NoMemory>
+    ensures { IfOk result (λ to_do. to_do ≡ begins table.now.rules heard.now (row_for table.now.rows.items heard.now)) }
+{
+    let Some(row) = row_for(&table.rows, heard) else {
+        return Ok(Reaction::Nothing);
+    };
+    let call = request_for(table.alloc, table.rules, row, heard)?;
+    Ok(Reaction::Begin {
+        inbound: heard.end,
+        system: row.system,
+        call,
+    })
+}
+
+/// A pair whose outbound end is confirmed has its inbound end accepted.
+fn acceptance(
+    alloc: Global,
+    pairs: &[Pair],
+    end: u32,
+    options: ToldOptions,
+    octets: &Bytes,
+) -> Result<Reaction, NoMemory>
+    requires { IsRisingBy outbound_of pairs.now }
+    ensures { IfOk result (λ to_do. to_do ≡ confirms options octets.now (outbound_pair pairs.now end)) }
+{
+    let Some(place) = outbound_place(pairs, end) else {
+        return Ok(Reaction::Nothing);
+    };
+    if pairs[place].is_closed() {
+        return Ok(Reaction::Nothing);
+    }
+    let octets = Bytes::copy(alloc, octets.as_slice())?;
+    Ok(Reaction::Ask {
+        end: pairs[place].inbound,
+        call: UserCall::Accept(asked_options(options), octets),
+    })
+}
+
+/// Where one end of a pair goes that is not closed, the other one goes too.
+fn parting(alloc: Global, pairs: &[Pair], end: u32) -> Reaction
+    requires inbound { IsRisingBy inbound_of pairs.now }
+    requires outbound { IsRisingBy outbound_of pairs.now }
+    ensures { result ≡ goes pairs.now end (inbound_pair pairs.now end) }
+{
+    if let Some(place) = inbound_place(pairs, end) {
+        return after_inbound(alloc, &pairs[place]);
+    }
+    if let Some(place) = outbound_place(pairs, end) {
+        return after_outbound(alloc, &pairs[place]);
+    }
+    Reaction::Nothing
+}
+
+/// The inbound end went: the outbound one is disconnected.
+fn after_inbound(alloc: Global, pair: &Pair) -> Reaction
+    ensures { result ≡ inbound_goes pair.now }
+{
+    if pair.is_closed() {
+        return Reaction::Nothing;
+    }
+    Reaction::Ask {
+        end: pair.outbound,
+        call: UserCall::Disconnect(nothing(alloc)),
+    }
+}
+
+/// The outbound end went: an inbound end that was not accepted is refused, another one is disconnected.
+fn after_outbound(alloc: Global, pair: &Pair) -> Reaction
+    ensures { result ≡ outbound_goes (Some pair.now) }
+{
+    if pair.is_closed() {
+        return Reaction::Nothing;
+    }
+    let octets = nothing(alloc);
+    Reaction::Ask {
+        end: pair.inbound,
+        call: if pair.accepted {
+            UserCall::Disconnect(octets)
+        } else {
+            UserCall::Refuse(octets)
+        },
+    }
+}
+
+/// No octets.
+pub fn nothing(alloc: Global) -> Bytes
+    ensures { result ≡ [] }
+{
+    Bytes::of(Vec::new(alloc))
+}
+
+/// The request for the second connection: from the row's address and selector, with the options and the octets of the first.
+fn request_for(
+    alloc: Global,
+    rules: Timers,
+    row: &RelayRow,
+    heard: &Indication,
+) -> Result<ConnectCall, NoMemory>
+    ensures { IfOk result (λ call. call ≡ request_for rules row.now heard.now) }
+{
+    Ok(ConnectCall {
+        own: 0,
+        from: row.own,
+        from_selector: Bytes::copy(alloc, row.selector.as_slice())?,
+        to: row.to,
+        to_selector: Bytes::copy(alloc, row.to_selector.as_slice())?,
+        options: asked_options(heard.options),
+        octets: Bytes::copy(alloc, heard.octets.as_slice())?,
+        rules,
+    })
+}
+
+/// Options of an event, as a user asks for them.
+fn asked_options(options: ToldOptions) -> Options
+    ensures { result ≡ asked_options options }
+{
+    Options {
+        format: if options.extended {
+            Format::Extended
+        } else {
+            Format::Normal
+        },
+        size: options.size,
+        preferred: options.preferred,
+        expedited: options.expedited,
+        sum: options.sum,
+    }
+}

@@ -1,0 +1,52 @@
+//! Transport as a relay sees it (X.214, service primitives).
+
+use osi_base::NoMemory;
+use osi_journal::Event;
+use tp4_conn::{ConnectCall, UserCall};
+
+/// Transport, as its users see it. Each call appends its events, and answers whether it was done.
+pub trait Service {
+    ghost use Rattle.std.specs.Prelude.{◌≡◌, ℕ, Bool, List, IfOk, OnErr};
+    ghost use Rattle.osi_journal.specs.declared.event.Event.{Event as Happened};
+    ghost use Rattle.tp4_conn.specs.declared.call.ConnectCall.{ConnectCall as Begun};
+    ghost use Rattle.tp4_conn.specs.declared.call.UserCall.{UserCall as Asked};
+    ghost use Rattle.tp4_conn.specs.End.{IsSized};
+    ghost use Rattle.tp4_conn.specs.Calls.{IsCall};
+    ghost use Rattle.tp4_relay.specs.Service.{IsService, Tells};
+
+    /// The systems that it has.
+    ghost has: { Self → ℕ → Type 0 };
+
+    /// How many ends were made. Ends are numbered from 1, in the order in which they are made.
+    ghost ends: { Self → ℕ };
+
+    /// Whether nothing was injected.
+    ghost honest: { Self → Bool };
+
+    /// What a request for a connection does: the state before, the system, the request, the answer, the events, the state after.
+    ghost connects: { Self → ℕ → Begun → Bool → List Happened → Self → Type 0 };
+
+    /// What a call on an end does: the state before, the end, the call, the answer, the events, the state after.
+    ghost calls: { Self → ℕ → Asked → Bool → List Happened → Self → Type 0 };
+
+    /// A user of a system asks for a connection. At NoMemory nothing is told.
+    fn connect(
+        &mut self,
+        system: u8,
+        call: ConnectCall,
+        events: &mut Vec<Event>,
+    ) -> Result<bool, NoMemory>
+        requires has { has self.old system }
+        requires size { IsSized call.options }
+        ensures connects { IfOk result (λ done. Tells events.old.items events.new.items (λ made. connects self.old system call done made self.new)) }
+        ensures same { OnErr result (events.new.items ≡ events.old.items) };
+
+    /// A user calls an end. At NoMemory nothing is told.
+    fn call(&mut self, end: u32, call: UserCall, events: &mut Vec<Event>) -> Result<bool, NoMemory>
+        requires call { IsCall call }
+        ensures calls { IfOk result (λ done. Tells events.old.items events.new.items (λ made. calls self.old end call done made self.new)) }
+        ensures same { OnErr result (events.new.items ≡ events.old.items) };
+
+    /// What each call tells, and what it leaves as it is.
+    ghost laws: { IsService has ends honest connects calls };
+}
