@@ -10,7 +10,7 @@ use Rattle.clnp_system.specs.Node.{Frame, Node, Reaction}
 use Rattle.clnp_system.specs.Receiving.{JoinGives, Joins}
 use Rattle.clnp_system.specs.Reporting.{Discarded, Discards, ReportsIf}
 use Rattle.clnp_system.specs.Tables.{rows_tables}
-use Rattle.clnp_entity.specs.declared.came.Came.{Came}
+use Rattle.clnp_entity.specs.declared.received_frame.ReceivedFrame.{ReceivedFrame}
 use Rattle.clnp_entity.specs.steps.Came.{Puts, frame_of}
 
 pub some_is : {X : Type 0} (option : Option X) → IsSome option → (x : X) × (option ≡ Some x)
@@ -34,7 +34,7 @@ gives_alike node tick store now frame pdu (joined.Whole octets) reaction h = h
 gives_alike node tick store now frame pdu joined.Full reaction h = discards_alike node tick store now _ reaction h
 gives_alike node tick store now frame pdu joined.Interference reaction h = discards_alike node tick store now _ reaction h
 
-pub joins_of : (old mid : Node Rows) (came : Came) (pdu : Pdu) (answer : Joined) (reaction : Reaction) → IsSome pdu.segment → Puts old came pdu answer mid
+pub joins_of : (old mid : Node Rows) (came : ReceivedFrame) (pdu : Pdu) (answer : Joined) (reaction : Reaction) → IsSome pdu.segment → Puts old came pdu answer mid
     → JoinGives rows_tables mid came.tick (frame_of came) pdu answer reaction → Joins rows_tables old came.tick (frame_of came) pdu reaction mid
 joins_of old mid came pdu answer reaction some puts gives =
     let there = some_is pdu.segment some in record {

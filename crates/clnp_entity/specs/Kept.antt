@@ -2,7 +2,7 @@
 use Rattle.std.specs.Prelude.{◌≡◌, ◌≤◌, List, IsSome}
 use Rattle.std.specs.List.{AllByRecursion}
 use Rattle.nsap.specs.declared.port.Hop.{Hop}
-use Rattle.esis_tables.specs.declared.row.Row.{Row}
+use Rattle.esis_tables.specs.declared.holding_time.Row.{Row}
 use Rattle.esis_tables.specs.Rows.{Rows}
 use Rattle.clnp_system.specs.Setting.{IsSetting, Setting, port_on}
 use Rattle.clnp_system.specs.Node.{Node}

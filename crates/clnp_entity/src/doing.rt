@@ -1,14 +1,14 @@
 //! What a system does with a PDU that it could read (X.233, discard PDU function, reassembly function, route PDU function).
 
-ghost use Rattle.std.specs.Prelude.{◌≡◌, ◌≤◌, ◌<◌, [], IfOk, IsSome, Some, option_map};
-ghost use Rattle.osi_base.specs.declared.unit.Up.TheVariants.{Note as Noted};
+ghost use Rattle.std.specs.Prelude.{◌≡◌, ◌≤◌, ◌<◌, ◌∷◌, [], IfOk, IsSome, Some, option_map};
+ghost use Rattle.osi_base.specs.declared.unit.Up.TheVariants.{Note as Noted, Unit as CameUp};
 ghost use Rattle.clnp_options.specs.Options.{value_of as option_of};
 ghost use Rattle.clnp_options.specs.declared.reason.Reason.TheVariants.{SegmentationNeeded};
 ghost use Rattle.clnp_header.specs.Values.{parameters, value_of};
 ghost use Rattle.clnp_system.specs.Forwarding.{GoesOnward};
 ghost use Rattle.clnp_system.specs.Hearing.{only_note};
 ghost use Rattle.clnp_system.specs.Hellos.{AnswersGroup};
-ghost use Rattle.clnp_system.specs.Node.{reaction_of};
+ghost use Rattle.clnp_system.specs.Node.{reaction_in, reaction_of};
 ghost use Rattle.clnp_system.specs.Receiving.{JoinGives, Joins, came as arrived, told_reason};
 ghost use Rattle.clnp_system.specs.Reporting.{Discards, discarded_pdu};
 ghost use Rattle.clnp_system.specs.Setting.{bound_of, port_on};
@@ -16,20 +16,20 @@ ghost use Rattle.clnp_system.specs.Tables.{rows_tables};
 ghost use Rattle.clnp_entity.specs.steps.Came.{Lends, Puts, frame_of};
 ghost use Rattle.clnp_entity.specs.Kept.{IsKept, IsNear};
 
-use crate::came::{Came, octet_at};
 use crate::entity::NetEntity;
+use crate::received_frame::{ReceivedFrame, octet_at};
 use clnp_header::{PduRef, Reason};
 use clnp_options::{REASON, get};
 use clnp_segment::{Joined, read_may_come};
-use clnp_system::Handled;
-use nsap::{Hop, Nsap};
+use clnp_system::{Handled, Outcome};
+use nsap::{Hop, Nsap, Port};
 use osi_base::{Arrival, Bytes, NoMemory, Note, Unit, Up};
 
 impl NetEntity {
     /// A PDU is discarded.
     pub(crate) fn discard_pdu(
         &self,
-        came: &Came<'_>,
+        came: &ReceivedFrame<'_>,
         pdu: &PduRef<'_>,
         reason: Reason,
         place: u8,
@@ -52,24 +52,32 @@ impl NetEntity {
     }
 
     /// A whole unit comes up.
-    pub(crate) fn take(&self, came: &Came<'_>, pdu: &PduRef<'_>) -> Result<Handled, NoMemory>
+    pub(crate) fn take(
+        &self,
+        came: &ReceivedFrame<'_>,
+        pdu: &PduRef<'_>,
+    ) -> Result<Outcome, NoMemory>
         requires port { IsSome (port_on self.now.setup came.now.at.lan) }
-        ensures { IfOk result (λ handled. (handled.ups.items ≡ arrived self.now (value_of pdu.now) pdu.now.body.now)
-            × AnswersGroup self.now.setup came.now.from came.now.at handled.frames.items) }
+        ensures { IfOk result (λ received. ((reaction_in received).ups ≡ arrived self.now (value_of pdu.now) pdu.now.body.now)
+            × AnswersGroup self.now.setup came.now.from came.now.at (reaction_in received).frames) }
     {
         let octets = Vec::from_slice(self.alloc, pdu.body)?;
         self.arrive(came, pdu, Bytes::of(octets))
     }
 
     /// A segment is taken into the store, and what then comes of it.
-    pub(crate) fn join(&mut self, came: &Came<'_>, pdu: &PduRef<'_>) -> Result<Handled, NoMemory>
+    pub(crate) fn join(
+        &mut self,
+        came: &ReceivedFrame<'_>,
+        pdu: &PduRef<'_>,
+    ) -> Result<Outcome, NoMemory>
         requires clock { self.old.clock ≤ came.now.tick }
         requires end { came.now.tick ≤ 4000000000 }
         requires port { IsSome (port_on self.old.setup came.now.at.lan) }
         requires lends { Lends came.now.octets.now pdu.now }
         requires segment { IsSome pdu.now.segment }
-        ensures joins { IfOk result (λ handled. Joins rows_tables self.old came.now.tick (frame_of came.now) (value_of pdu.now)
-            (reaction_of handled) self.new) }
+        ensures joins { IfOk result (λ received. Joins rows_tables self.old came.now.tick (frame_of came.now) (value_of pdu.now)
+            (reaction_in received) self.new) }
         ensures kept { IsKept self.new }
         ensures clock { self.new.clock ≤ came.now.tick }
     {
@@ -78,7 +86,7 @@ impl NetEntity {
     }
 
     /// A segment is taken into the store.
-    fn put(&mut self, came: &Came<'_>, pdu: &PduRef<'_>) -> Result<Joined, NoMemory>
+    fn put(&mut self, came: &ReceivedFrame<'_>, pdu: &PduRef<'_>) -> Result<Joined, NoMemory>
         requires clock { self.old.clock ≤ came.now.tick }
         requires end { came.now.tick ≤ 4000000000 }
         requires lends { Lends came.now.octets.now pdu.now }
@@ -96,55 +104,94 @@ impl NetEntity {
     }
 
     /// What comes of a segment that the store took.
-    fn joined(&self, came: &Came<'_>, pdu: &PduRef<'_>, answer: Joined) -> Result<Handled, NoMemory>
+    fn joined(
+        &self,
+        came: &ReceivedFrame<'_>,
+        pdu: &PduRef<'_>,
+        answer: Joined,
+    ) -> Result<Outcome, NoMemory>
         requires clock { self.now.clock ≤ came.now.tick }
         requires port { IsSome (port_on self.now.setup came.now.at.lan) }
         requires lends { Lends came.now.octets.now pdu.now }
-        ensures { IfOk result (λ handled. JoinGives rows_tables self.now came.now.tick (frame_of came.now) (value_of pdu.now) answer (reaction_of handled)) }
+        ensures { IfOk result (λ received. JoinGives rows_tables self.now came.now.tick (frame_of came.now) (value_of pdu.now) answer (reaction_in received)) }
     {
         match answer {
-            Joined::Held => self.answer(came, Vec::new(self.alloc)),
+            Joined::Held => {
+                let handled = self.answer(came)?;
+                Ok(Outcome::Handled(handled))
+            }
             Joined::Whole(octets) => self.arrive(came, pdu, octets),
-            Joined::Full => self.discard_pdu(came, pdu, Reason::Congestion, 0),
+            Joined::Full => {
+                let handled = self.discard_pdu(came, pdu, Reason::Congestion, 0)?;
+                Ok(Outcome::Handled(handled))
+            }
             Joined::Interference => {
-                self.discard_pdu(came, pdu, Reason::ReassemblyInterference, 0)
+                let handled = self.discard_pdu(came, pdu, Reason::ReassemblyInterference, 0)?;
+                Ok(Outcome::Handled(handled))
             }
         }
     }
 
     /// A unit with these octets comes up.
-    fn arrive(&self, came: &Came<'_>, pdu: &PduRef<'_>, octets: Bytes) -> Result<Handled, NoMemory>
+    fn arrive(
+        &self,
+        came: &ReceivedFrame<'_>,
+        pdu: &PduRef<'_>,
+        octets: Bytes,
+    ) -> Result<Outcome, NoMemory>
         requires port { IsSome (port_on self.now.setup came.now.at.lan) }
-        ensures { IfOk result (λ handled. (handled.ups.items ≡ arrived self.now (value_of pdu.now) octets)
-            × AnswersGroup self.now.setup came.now.from came.now.at handled.frames.items) }
+        ensures { IfOk result (λ received. ((reaction_in received).ups ≡ arrived self.now (value_of pdu.now) octets)
+            × AnswersGroup self.now.setup came.now.from came.now.at (reaction_in received).frames) }
     {
         let unit = Unit {
             from: pdu.source,
             to: pdu.destination,
             octets,
         };
-        let mut ups = Vec::with_capacity(self.alloc, 1)?;
-        ups.push(Up::Unit(Arrival {
+        let arrival = Arrival {
             system: self.setup.system,
             unit,
-        }))?;
-        self.answer(came, ups)
+        };
+        match self.setup.answer_group(self.alloc, &came.from, &came.at)? {
+            None => Ok(Outcome::Unit(arrival)),
+            Some(frame) => self.arrive_and_answer(arrival, frame),
+        }
     }
 
-    /// This comes up, and the sender of a group frame is answered.
-    fn answer(&self, came: &Came<'_>, ups: Vec<Up<Nsap>>) -> Result<Handled, NoMemory>
+    /// A unit comes up, and this frame goes out.
+    // Not inlined: where no frame goes out, no room for the lists is cleared.
+    #[inline(never)]
+    fn arrive_and_answer(
+        &self,
+        arrival: Arrival<Nsap>,
+        frame: Unit<Port>,
+    ) -> Result<Outcome, NoMemory>
+        ensures { IfOk result (λ received. reaction_in received ≡ record { ups = CameUp arrival ∷ []; frames = frame ∷ [] }) }
+    {
+        let mut ups = Vec::with_capacity(self.alloc, 1)?;
+        ups.push(Up::Unit(arrival))?;
+        let mut frames = Vec::with_capacity(self.alloc, 1)?;
+        frames.push(frame)?;
+        Ok(Outcome::Handled(Handled { ups, frames }))
+    }
+
+    /// Nothing comes up, and the sender of a group frame is answered.
+    fn answer(&self, came: &ReceivedFrame<'_>) -> Result<Handled, NoMemory>
         requires port { IsSome (port_on self.now.setup came.now.at.lan) }
-        ensures { IfOk result (λ handled. (handled.ups.items ≡ ups.items) × AnswersGroup self.now.setup came.now.from came.now.at handled.frames.items) }
+        ensures { IfOk result (λ handled. (handled.ups.items ≡ []) × AnswersGroup self.now.setup came.now.from came.now.at handled.frames.items) }
     {
         let answer = self.setup.answer_group(self.alloc, &came.from, &came.at)?;
         let frames = self.listed(answer)?;
-        Ok(Handled { ups, frames })
+        Ok(Handled {
+            ups: Vec::new(self.alloc),
+            frames,
+        })
     }
 
     /// A PDU goes onward to the hop, or is discarded since it may not be cut.
     pub(crate) fn pass(
         &self,
-        came: &Came<'_>,
+        came: &ReceivedFrame<'_>,
         pdu: &PduRef<'_>,
         hop: &Hop,
     ) -> Result<Handled, NoMemory>

@@ -110,7 +110,7 @@ impl NetEntity {
     }
 
     /// The clock rises to that tick.
-    pub(crate) fn advance(&mut self, now: Tick)
+    pub(crate) fn set_clock(&mut self, now: Tick)
         requires { self.old.clock ≤ now }
         ensures after { self.new ≡ at_tick now self.old }
         ensures kept { IsKept self.new }

@@ -10,7 +10,7 @@ ghost use Rattle.clnp_entity.specs.Kept.{IsKept};
 ghost use Rattle.clnp_entity.specs.steps.Lost.{lost_pdu};
 
 use crate::entity::NetEntity;
-use crate::reporting::Lost;
+use crate::reporting::DiscardedPdu;
 use clnp_header::Reason;
 use clnp_segment::{Expired, Store};
 use clnp_system::Handled;
@@ -116,10 +116,10 @@ fn expiry_note(system: u8, unit: &Expired) -> Up<Nsap>
 }
 
 /// A unit that was given up, as what is discarded.
-fn lost(unit: &Expired) -> Lost<'_>
+fn lost(unit: &Expired) -> DiscardedPdu<'_>
     ensures { lost_pdu result ≡ discarded_unit unit.now }
 {
-    Lost {
+    DiscardedPdu {
         wanted: unit.reportable,
         source: unit.source,
         header: unit.header.as_slice(),

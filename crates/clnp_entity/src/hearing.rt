@@ -12,8 +12,8 @@ ghost use Rattle.clnp_system.specs.Tables.{heard_rows, rows_tables};
 ghost use Rattle.clnp_entity.specs.steps.Came.{frame_of};
 ghost use Rattle.clnp_entity.specs.Kept.{IsKept};
 
-use crate::came::Came;
 use crate::entity::NetEntity;
+use crate::received_frame::ReceivedFrame;
 use clnp_system::{Handled, sender};
 use esis_pdu::{EsisFault, HelloRef, read_esis};
 use esis_tables::HearRefusal;
@@ -22,7 +22,7 @@ use osi_base::{Address, HelloCause, HelloKind, NoMemory, Note, Tick};
 
 impl NetEntity {
     /// Reads a hello, and hears it.
-    pub(crate) fn hear(&mut self, came: &Came<'_>) -> Result<Handled, NoMemory>
+    pub(crate) fn hear(&mut self, came: &ReceivedFrame<'_>) -> Result<Handled, NoMemory>
         requires clock { self.old.clock ≤ came.now.tick }
         requires port { IsSome (port_on self.old.setup came.now.at.lan) }
         requires first { slice_index came.now.octets.now 0 ≡ 0x82 }

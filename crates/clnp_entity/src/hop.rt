@@ -149,7 +149,7 @@ impl NetEntity {
     fn is_closed_to(&self, address: &Nsap) -> bool
         ensures { result ≡ (is_alone self.now.setup || is_own_system self.now.setup address.now) }
     {
-        self.is_alone() || self.is_own(address)
+        self.is_alone() || self.is_own_system(address)
     }
 
     /// Whether there is no port.
@@ -160,7 +160,7 @@ impl NetEntity {
     }
 
     /// Whether the address is one of the own system.
-    pub(crate) fn is_own(&self, address: &Nsap) -> bool
+    pub(crate) fn is_own_system(&self, address: &Nsap) -> bool
         ensures { result ≡ is_own_system self.now.setup address.now }
     {
         address.same_system(&self.setup.title)

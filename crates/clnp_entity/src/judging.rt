@@ -8,7 +8,7 @@ ghost use Rattle.clnp_system.specs.declared.verdict.Verdict.TheVariants.{Discard
 ghost use Rattle.clnp_system.specs.Setting.{bound_of};
 ghost use Rattle.clnp_system.specs.Tables.{rows_tables};
 ghost use Rattle.clnp_system.specs.Verdicts.{IsRouteOf, aim_of, by_aim, for_this, is_titled, to_destination, to_entry, verdict, whole_or_part};
-ghost use Rattle.clnp_system.specs.Written.{IsRead};
+ghost use Rattle.clnp_system.specs.Written.{WasRead};
 ghost use Rattle.clnp_entity.specs.steps.Judged.{MayDo, MayGo, MayStay};
 
 use crate::entity::NetEntity;
@@ -24,14 +24,14 @@ impl NetEntity {
     /// What is to be done with a PDU that came on a LAN.
     pub(crate) fn judge(&self, now: Tick, lan: u8, pdu: &PduRef<'_>) -> Verdict
         requires clock { self.now.clock ≤ now }
-        requires read { IsRead pdu.now }
+        requires read { WasRead pdu.now }
         ensures value { (route : Option SourceRoute) → IsRouteOf (value_of pdu.now) route
             → result ≡ verdict rows_tables self.now now (bound_of self.now.setup lan) (value_of pdu.now) route }
         ensures may { MayDo self.now.setup (bound_of self.now.setup lan) (value_of pdu.now) result }
     {
         let bound = self.setup.bound(lan);
         let lifetime = u32::from(pdu.lifetime);
-        if self.is_own(&pdu.destination) {
+        if self.is_own_system(&pdu.destination) {
             if lifetime < bound {
                 return too_old();
             }
@@ -63,7 +63,7 @@ impl NetEntity {
     /// What is to be done with a PDU that goes onward, if it can.
     fn judge_onward(&self, now: Tick, pdu: &PduRef<'_>) -> Verdict
         requires clock { self.now.clock ≤ now }
-        requires read { IsRead pdu.now }
+        requires read { WasRead pdu.now }
         ensures value { (route : Option SourceRoute) → IsRouteOf (value_of pdu.now) route
             → result ≡ by_aim rows_tables self.now now (value_of pdu.now).destination (aim_of self.now.setup route) }
         ensures near { MayGo self.now.setup result }

@@ -2,16 +2,16 @@
 //! tells who is where (X.233, functions of the protocol; ISO 9542, functions of the protocol).
 #![tactic(auto)]
 
-mod came;
 mod doing;
 mod entity;
 mod expiring;
 mod hearing;
 mod hop;
 mod judging;
+mod received_frame;
 mod receiving;
 mod reporting;
 mod sending;
 
-pub use clnp_system::{Handled, NetSent, Path, SystemSetup};
+pub use clnp_system::{Handled, NetSent, Outcome, Path, SystemSetup, UnitFrames};
 pub use entity::NetEntity;

@@ -4,7 +4,7 @@ ghost use Rattle.std.specs.Prelude.{◌≡◌, ◌≢◌, ◌≤◌, IfOk, IsSom
 ghost use Rattle.clnp_header.specs.Faults.{IsPduFault};
 ghost use Rattle.clnp_header.specs.Values.{value_of};
 ghost use Rattle.clnp_system.specs.declared.verdict.Verdict.TheVariants.{Join};
-ghost use Rattle.clnp_system.specs.Node.{at_tick, reaction_of};
+ghost use Rattle.clnp_system.specs.Node.{at_tick, reaction_in, reaction_of};
 ghost use Rattle.clnp_system.specs.Receiving.{Does, Receives};
 ghost use Rattle.clnp_system.specs.Reporting.{Discards, discarded_octets};
 ghost use Rattle.clnp_system.specs.Setting.{bound_of, port_on};
@@ -13,10 +13,10 @@ ghost use Rattle.clnp_entity.specs.steps.Came.{CarriesOut, Lends, frame_of};
 ghost use Rattle.clnp_entity.specs.steps.Judged.{MayDo};
 ghost use Rattle.clnp_entity.specs.Kept.{IsKept};
 
-use crate::came::{Came, octet_at};
 use crate::entity::NetEntity;
+use crate::received_frame::{ReceivedFrame, octet_at};
 use clnp_header::{CLNP, Fault, PduRef, read_pdu};
-use clnp_system::{Handled, Verdict};
+use clnp_system::{Handled, Outcome, Verdict};
 use esis_pdu::ESIS;
 use nsap::Port;
 use osi_base::{NoMemory, Note, Tick};
@@ -32,19 +32,19 @@ impl NetEntity {
         from: Port,
         at: Port,
         octets: &[u8],
-    ) -> Result<Handled, NoMemory>
+    ) -> Result<Outcome, NoMemory>
         requires clock { self.old.clock ≤ now }
         requires end { now ≤ 4000000000 }
-        ensures receives { IfOk result (λ handled. Receives rows_tables self.old now
-            (record { from = from; to = at; octets = octets.now }) (reaction_of handled) self.new) }
+        ensures receives { IfOk result (λ received. Receives rows_tables self.old now
+            (record { from = from; to = at; octets = octets.now }) (reaction_in received) self.new) }
         ensures kept { IsKept self.new }
         ensures clock { self.new.clock ≤ now }
     {
         if !self.has_port(at.lan) {
-            self.advance(now);
-            return Ok(self.nothing());
+            self.set_clock(now);
+            return Ok(Outcome::Handled(self.nothing()));
         }
-        self.receive(&Came {
+        self.receive(&ReceivedFrame {
             tick: now,
             from,
             at,
@@ -60,11 +60,11 @@ impl NetEntity {
     }
 
     /// What comes of a frame on the LAN of a port, by its first octet.
-    fn receive(&mut self, came: &Came<'_>) -> Result<Handled, NoMemory>
+    fn receive(&mut self, came: &ReceivedFrame<'_>) -> Result<Outcome, NoMemory>
         requires clock { self.old.clock ≤ came.now.tick }
         requires end { came.now.tick ≤ 4000000000 }
         requires port { IsSome (port_on self.old.setup came.now.at.lan) }
-        ensures receives { IfOk result (λ handled. Receives rows_tables self.old came.now.tick (frame_of came.now) (reaction_of handled) self.new) }
+        ensures receives { IfOk result (λ received. Receives rows_tables self.old came.now.tick (frame_of came.now) (reaction_in received) self.new) }
         ensures kept { IsKept self.new }
         ensures clock { self.new.clock ≤ came.now.tick }
     {
@@ -73,34 +73,37 @@ impl NetEntity {
             return self.read(came);
         }
         if first == ESIS {
-            return self.hear(came);
+            let heard = self.hear(came)?;
+            return Ok(Outcome::Handled(heard));
         }
         let system = self.system();
-        self.note(came.tick, Note::Alien { system })
+        let noted = self.note(came.tick, Note::Alien { system })?;
+        Ok(Outcome::Handled(noted))
     }
 
     /// Reads a PDU, and does what is to be done with it.
-    fn read(&mut self, came: &Came<'_>) -> Result<Handled, NoMemory>
+    fn read(&mut self, came: &ReceivedFrame<'_>) -> Result<Outcome, NoMemory>
         requires clock { self.old.clock ≤ came.now.tick }
         requires end { came.now.tick ≤ 4000000000 }
         requires port { IsSome (port_on self.old.setup came.now.at.lan) }
         requires first { slice_index came.now.octets.now 0 ≡ 0x81 }
-        ensures receives { IfOk result (λ handled. Receives rows_tables self.old came.now.tick (frame_of came.now) (reaction_of handled) self.new) }
+        ensures receives { IfOk result (λ received. Receives rows_tables self.old came.now.tick (frame_of came.now) (reaction_in received) self.new) }
         ensures kept { IsKept self.new }
         ensures clock { self.new.clock ≤ came.now.tick }
     {
         match read_pdu(came.octets) {
             Ok(pdu) => self.carry_out(came, &pdu),
             Err(fault) => {
-                let handled = self.refuse(came, fault);
-                self.advance(came.tick);
-                handled
+                let answer = self.refuse(came, fault);
+                self.set_clock(came.tick);
+                let refused = answer?;
+                Ok(Outcome::Handled(refused))
             }
         }
     }
 
     /// What comes of a PDU with a fault.
-    fn refuse(&self, came: &Came<'_>, fault: Fault) -> Result<Handled, NoMemory>
+    fn refuse(&self, came: &ReceivedFrame<'_>, fault: Fault) -> Result<Handled, NoMemory>
         requires clock { self.now.clock ≤ came.now.tick }
         requires fault { IsPduFault came.now.octets.now fault }
         ensures { IfOk result (λ handled. Discards rows_tables self.now came.now.tick (discarded_octets (frame_of came.now) fault) (reaction_of handled)) }
@@ -116,12 +119,12 @@ impl NetEntity {
     }
 
     /// Does what is to be done with a PDU.
-    fn carry_out(&mut self, came: &Came<'_>, pdu: &PduRef<'_>) -> Result<Handled, NoMemory>
+    fn carry_out(&mut self, came: &ReceivedFrame<'_>, pdu: &PduRef<'_>) -> Result<Outcome, NoMemory>
         requires clock { self.old.clock ≤ came.now.tick }
         requires end { came.now.tick ≤ 4000000000 }
         requires port { IsSome (port_on self.old.setup came.now.at.lan) }
         requires lends { Lends came.now.octets.now pdu.now }
-        ensures does { IfOk result (λ handled. CarriesOut self.old came.now (value_of pdu.now) (reaction_of handled) self.new) }
+        ensures does { IfOk result (λ received. CarriesOut self.old came.now (value_of pdu.now) (reaction_in received) self.new) }
         ensures kept { IsKept self.new }
         ensures clock { self.new.clock ≤ came.now.tick }
     {
@@ -129,31 +132,40 @@ impl NetEntity {
         if let Verdict::Join = verdict {
             return self.join(came, pdu);
         }
-        let handled = self.react(came, pdu, &verdict);
-        self.advance(came.tick);
-        handled
+        let received = self.react(came, pdu, &verdict);
+        self.set_clock(came.tick);
+        received
     }
 
     /// Does what is to be done with a PDU that is not taken into the store.
     fn react(
         &self,
-        came: &Came<'_>,
+        came: &ReceivedFrame<'_>,
         pdu: &PduRef<'_>,
         verdict: &Verdict,
-    ) -> Result<Handled, NoMemory>
+    ) -> Result<Outcome, NoMemory>
         requires clock { self.now.clock ≤ came.now.tick }
         requires port { IsSome (port_on self.now.setup came.now.at.lan) }
         requires lends { Lends came.now.octets.now pdu.now }
         requires may { MayDo self.now.setup (bound_of self.now.setup came.now.at.lan) (value_of pdu.now) verdict.now }
         requires other { verdict.now ≢ Join }
-        ensures { IfOk result (λ handled. Does rows_tables self.now came.now.tick (frame_of came.now) (value_of pdu.now) verdict.now (reaction_of handled)
+        ensures { IfOk result (λ received. Does rows_tables self.now came.now.tick (frame_of came.now) (value_of pdu.now) verdict.now (reaction_in received)
             (at_tick came.now.tick self.now)) }
     {
         match verdict {
-            Verdict::Discard { reason, place } => self.discard_pdu(came, pdu, *reason, *place),
-            Verdict::Tell => self.show(pdu),
+            Verdict::Discard { reason, place } => {
+                let discarded = self.discard_pdu(came, pdu, *reason, *place)?;
+                Ok(Outcome::Handled(discarded))
+            }
+            Verdict::Tell => {
+                let shown = self.show(pdu)?;
+                Ok(Outcome::Handled(shown))
+            }
             Verdict::Take => self.take(came, pdu),
-            Verdict::Onward(hop) => self.pass(came, pdu, hop),
+            Verdict::Onward(hop) => {
+                let passed = self.pass(came, pdu, hop)?;
+                Ok(Outcome::Handled(passed))
+            }
             Verdict::Join => unreachable!(),
         }
     }

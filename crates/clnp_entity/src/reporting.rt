@@ -17,7 +17,7 @@ use osi_base::{NoMemory, Note, Tick, Unit, Up};
 
 /// A PDU that is discarded.
 #[derive(Clone, Copy)]
-pub struct Lost<'a> {
+pub struct DiscardedPdu<'a> {
     /// Whether its source gets a report.
     pub wanted: bool,
     /// Its source address.
@@ -32,7 +32,7 @@ pub struct Lost<'a> {
 
 impl NetEntity {
     /// What comes of a PDU that is discarded: a note, and a report where one is wanted.
-    pub(crate) fn discard(&self, now: Tick, lost: &Lost<'_>) -> Result<Handled, NoMemory>
+    pub(crate) fn discard(&self, now: Tick, lost: &DiscardedPdu<'_>) -> Result<Handled, NoMemory>
         requires clock { self.now.clock ≤ now }
         ensures { IfOk result (λ handled. Discards rows_tables self.now now (lost_pdu lost.now) (reaction_of handled)) }
     {
@@ -46,7 +46,11 @@ impl NetEntity {
     }
 
     /// The frames of the report about a PDU that is discarded.
-    pub(crate) fn report(&self, now: Tick, lost: &Lost<'_>) -> Result<Vec<Unit<Port>>, NoMemory>
+    pub(crate) fn report(
+        &self,
+        now: Tick,
+        lost: &DiscardedPdu<'_>,
+    ) -> Result<Vec<Unit<Port>>, NoMemory>
         requires clock { self.now.clock ≤ now }
         ensures { IfOk result (λ frames. Reports rows_tables self.now now (lost_pdu lost.now) frames.items) }
     {
@@ -58,7 +62,11 @@ impl NetEntity {
     }
 
     /// The frames of the report by the hop to the source.
-    fn report_by(&self, hop: &Option<Hop>, lost: &Lost<'_>) -> Result<Vec<Unit<Port>>, NoMemory>
+    fn report_by(
+        &self,
+        hop: &Option<Hop>,
+        lost: &DiscardedPdu<'_>,
+    ) -> Result<Vec<Unit<Port>>, NoMemory>
         requires near { IfSome hop.now (IsNear self.now.setup) }
         ensures { IfOk result (λ frames. GoesBy self.now.setup hop.now (report_pdu self.now.setup (lost_pdu lost.now)) frames.items) }
     {
@@ -90,7 +98,7 @@ impl NetEntity {
         ensures after { self.new ≡ at_tick now self.old }
         ensures kept { IsKept self.new }
     {
-        self.advance(now);
+        self.set_clock(now);
         self.tell(note)
     }
 

@@ -39,7 +39,7 @@ impl NetEntity {
         match self.start(now, unit, wish) {
             Ok(hop) => self.send_by(now, unit, wish, &hop),
             Err(cause) => {
-                self.advance(now);
+                self.set_clock(now);
                 Ok(NetSent::Dropped(cause))
             }
         }
@@ -62,7 +62,7 @@ impl NetEntity {
         ensures clock { self.new.clock ≤ now }
     {
         let sent = self.setup.send(self.alloc, unit, wish, self.next_id, hop)?;
-        self.advance(now);
+        self.set_clock(now);
         match sent {
             Some(frames) => {
                 self.number_if(wish.cut, now);
@@ -95,7 +95,7 @@ impl NetEntity {
         ensures value { result ≡ way rows_tables self.now now address.now path }
         ensures near { IfSome result (IsNear self.now.setup) }
     {
-        if self.is_own(address) {
+        if self.is_own_system(address) {
             return None;
         }
         match self.setup.path(path) {

@@ -1,9 +1,11 @@
 //! The frames of a system are offered to the carrier below, and what it tells is passed on.
 
 ghost use Rattle.std.specs.Prelude.{◌≡◌, ◌++◌, OnOk};
+ghost use Rattle.clnp_system.specs.Node.{frames_in};
 ghost use Rattle.clnp_net.specs.steps.Telling.{Passes, Tells, note_in};
 ghost use Rattle.law_clnp_step.specs.Handling.{OffersFrame, OffersFrames, drop_note};
 
+use clnp_entity::UnitFrames;
 use nsap::{Nsap, Port};
 use osi_base::{Carrier, NoMemory, Note, Offered, Unit, Up, Wish};
 use std::collections::VecDeque;
@@ -44,8 +46,39 @@ fn pass_note(up: Up<Port>, waiting: &mut Ups) -> Result<(), NoMemory>
     Ok(())
 }
 
+/// Offers the frames in which a unit of a system goes out.
+pub fn offer_sent<C: Carrier<Addr = Port>>(
+    link: &mut C,
+    system: u8,
+    frames: UnitFrames,
+    waiting: &mut Ups,
+) -> Result<(), NoMemory>
+    ensures { OnOk result (Tells waiting.old.items waiting.new.items (λ told. OffersFrames C.link C.steps link.old system (frames_in frames) link.new told)) }
+{
+    match frames {
+        UnitFrames::One(frame) => offer_alone(link, system, frame, waiting),
+        UnitFrames::List(frames) => offer_frames(link, system, frames, waiting),
+    }
+}
+
+/// Offers the one frame of a system, and tells where it is lost.
+// As `offer_frame`, which has one caller alone, so that it is inlined into the loop over a list.
+#[inline(always)]
+fn offer_alone<C: Carrier<Addr = Port>>(
+    link: &mut C,
+    system: u8,
+    frame: Unit<Port>,
+    waiting: &mut Ups,
+) -> Result<(), NoMemory>
+    ensures { OnOk result (Tells waiting.old.items waiting.new.items (λ told. OffersFrame C.link C.steps link.old system frame link.new told)) }
+{
+    let answer = link.offer(frame, PLAIN)?;
+    pass_notes(link, waiting)?;
+    tell_drop(system, answer, waiting)
+}
+
 /// Offers the frames of a system, one after another.
-pub fn offer_frames<C: Carrier<Addr = Port>>(
+fn offer_frames<C: Carrier<Addr = Port>>(
     link: &mut C,
     system: u8,
     frames: Vec<Unit<Port>>,

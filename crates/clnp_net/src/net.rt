@@ -1,18 +1,18 @@
 //! The network (X.233, connectionless-mode network service).
 
-ghost use Rattle.std.specs.Prelude.{◌≡◌, ◌<◌, ◌≤◌, ℕ, List, [], ◌∷◌, Some, drop, slice_get, IfOk, OnOk};
+ghost use Rattle.std.specs.Prelude.{◌≡◌, ◌<◌, ◌≤◌, ℕ, List, [], ◌∷◌, Some, drop, false, slice_get, IfOk, OnOk};
 ghost use Rattle.osi_base.specs.declared.unit.Up.{Up};
 ghost use Rattle.osi_base.specs.declared.unit.Up.TheVariants.{Unit as Came};
-ghost use Rattle.clnp_system.specs.Node.{reaction_of};
+ghost use Rattle.clnp_system.specs.Node.{reaction_in, reaction_of};
 ghost use Rattle.clnp_system.specs.Tables.{rows_tables};
 ghost use Rattle.law_clnp_step.specs.Handling.{Handles, TicksAll};
 ghost use Rattle.law_clnp_step.specs.Step.{counted, strays_in};
 ghost use Rattle.clnp_net.specs.steps.Telling.{AreBehind, HandlesWaiting, HandsOut, Reacts, Tells};
 
 use crate::afloat::Afloat;
-use crate::frames::{Ups, offer_any, offer_frames, pass_notes};
+use crate::frames::{Ups, offer_any, offer_sent, pass_notes};
 use crate::systems::Systems;
-use clnp_entity::{Handled, NetEntity, NetSent};
+use clnp_entity::{Handled, NetEntity, NetSent, Outcome};
 use nsap::{Nsap, Port};
 use osi_base::{
     Arrival, Carrier, DropCause, Injected, NoMemory, Offered, Picked, Tick, Unit, Up, Wish, gather,
@@ -101,12 +101,10 @@ impl<C: Carrier<Addr = Port> + Drop> ClnpNet<C> {
     }
 
     /// A unit is offered.
-    fn send(&mut self, unit: Unit<Nsap>, wish: Wish) -> Result<Offered, NoMemory>
+    fn offer_unit(&mut self, unit: Unit<Nsap>, wish: Wish) -> Result<Offered, NoMemory>
         ensures { IfOk result (λ answer. NetStep C.link C.steps rows_tables self.old (Offer unit wish answer) self.new) }
     {
-        if self.stopped {
-            return Err(NoMemory);
-        }
+        go_on(self.stopped)?;
         if self.floating.is_full() {
             return Ok(Offered::Dropped(DropCause::Full));
         }
@@ -134,12 +132,10 @@ impl<C: Carrier<Addr = Port> + Drop> ClnpNet<C> {
     }
 
     /// A choice is made below, and what comes of it is handled.
-    fn deliver(&mut self, pick: u32, system: u8) -> Result<Picked, NoMemory>
+    fn choose_pick(&mut self, pick: u32, system: u8) -> Result<Picked, NoMemory>
         ensures { IfOk result (λ answer. NetStep C.link C.steps rows_tables self.old (Choose pick system answer) self.new) }
     {
-        if self.stopped {
-            return Err(NoMemory);
-        }
+        go_on(self.stopped)?;
         self.stopped = true;
         let now = self.link.now();
         let before = self.waiting.len();
@@ -163,12 +159,10 @@ impl<C: Carrier<Addr = Port> + Drop> ClnpNet<C> {
     }
 
     /// Octets are injected below, and what comes of it is handled.
-    fn receive(&mut self, lan: u8, system: u8, octets: Vec<u8>) -> Result<Injected, NoMemory>
+    fn inject_octets(&mut self, lan: u8, system: u8, octets: Vec<u8>) -> Result<Injected, NoMemory>
         ensures { IfOk result (λ answer. NetStep C.link C.steps rows_tables self.old (Inject lan system octets.items answer) self.new) }
     {
-        if self.stopped {
-            return Err(NoMemory);
-        }
+        go_on(self.stopped)?;
         self.stopped = true;
         let now = self.link.now();
         let before = self.waiting.len();
@@ -193,13 +187,11 @@ impl<C: Carrier<Addr = Port> + Drop> ClnpNet<C> {
     }
 
     /// One tick passes: first below, then each system in order. Units older than the lifetime are given up.
-    fn pass(&mut self) -> Result<(), NoMemory>
+    fn tick_once(&mut self) -> Result<(), NoMemory>
         requires { (C.link self.old.link).clock < 4000000000 }
         ensures { OnOk result (NetStep C.link C.steps rows_tables self.old OneTick self.new) }
     {
-        if self.stopped {
-            return Err(NoMemory);
-        }
+        go_on(self.stopped)?;
         self.stopped = true;
         self.link.tick()?;
         let now = self.link.now();
@@ -229,18 +221,18 @@ impl<C: Carrier<Addr = Port> + Drop> Carrier for ClnpNet<C> {
         ensures link { IfOk result (λ answer. Offers (net_link C.link self.old) unit answer (net_link C.link self.new)) }
         ensures steps { IfOk result (λ answer. NetStep C.link C.steps rows_tables self.old (Offer unit wish answer) self.new) }
     {
-        self.send(unit, wish)
+        self.offer_unit(unit, wish)
     }
 
     fn choose(&mut self, pick: u32, system: u8) -> Result<Picked, NoMemory> {
-        self.deliver(pick, system)
+        self.choose_pick(pick, system)
     }
 
     fn inject(&mut self, lan: u8, system: u8, octets: Vec<u8>) -> Result<Injected, NoMemory>
         ensures link { IfOk result (λ answer. Injects (net_link C.link self.old) answer (net_link C.link self.new)) }
         ensures steps { IfOk result (λ answer. NetStep C.link C.steps rows_tables self.old (Inject lan system octets.items answer) self.new) }
     {
-        self.receive(lan, system, octets)
+        self.inject_octets(lan, system, octets)
     }
 
     fn next_up(&mut self) -> Option<Up<Nsap>> {
@@ -248,7 +240,7 @@ impl<C: Carrier<Addr = Port> + Drop> Carrier for ClnpNet<C> {
     }
 
     fn tick(&mut self) -> Result<(), NoMemory> {
-        self.pass()
+        self.tick_once()
     }
 
     fn fresh(&self) -> Option<(u32, u8)> {
@@ -282,6 +274,16 @@ impl<C: Carrier<Addr = Port> + Drop> Carrier for ClnpNet<C> {
     ghost keeps = { net_keeps C.link C.steps C.keeps C.given rows_tables };
 }
 
+/// After a call that ended for want of memory each further one wants it again: what that one left half done is not known.
+fn go_on(stopped: bool) -> Result<(), NoMemory>
+    ensures { OnOk result (stopped ≡ false) }
+{
+    if stopped {
+        return Err(NoMemory);
+    }
+    Ok(())
+}
+
 /// A unit is handed to the system that has its source, and the frames that it sends are offered.
 fn hand_out<C: Carrier<Addr = Port>>(
     link: &mut C,
@@ -300,7 +302,7 @@ fn hand_out<C: Carrier<Addr = Port>>(
     };
     match sent {
         NetSent::Frames(frames) => {
-            offer_frames(link, system, frames, waiting)?;
+            offer_sent(link, system, frames, waiting)?;
             Ok(Offered::Taken)
         }
         NetSent::Dropped(cause) => Ok(Offered::Dropped(cause)),
@@ -393,9 +395,30 @@ fn meet<C: Carrier<Addr = Port>>(
         (λ told. Handles C.link C.steps rows_tables now link.old systems.old (Came arrival.now ∷ []) link.new systems.new told)) }
     ensures behind { OnOk result (AreBehind now systems.new) }
 {
-    let handled = systems.receive(now, arrival)?;
-    react(link, arrival.system, handled, waiting)?;
+    let received = systems.receive(now, arrival)?;
+    react_to(link, arrival.system, received, waiting)?;
     Ok(())
+}
+
+/// What comes of a frame waits or is offered: mostly a unit comes up.
+// Inlined: the unit is moved once less.
+#[inline(always)]
+fn react_to<C: Carrier<Addr = Port>>(
+    link: &mut C,
+    system: u8,
+    received: Outcome,
+    waiting: &mut Ups,
+) -> Result<(), NoMemory>
+    ensures { OnOk result (Tells waiting.old.items waiting.new.items
+        (λ told. Reacts C.link C.steps link.old system (reaction_in received) link.new told)) }
+{
+    match received {
+        Outcome::Unit(arrival) => {
+            waiting.push_back(Up::Unit(arrival))?;
+            Ok(())
+        }
+        Outcome::Handled(handled) => react(link, system, handled, waiting),
+    }
 }
 
 /// What a system tells and hands up waits, and its frames are offered.

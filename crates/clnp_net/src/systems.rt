@@ -2,13 +2,13 @@
 
 ghost use Rattle.std.specs.Prelude.{◌≡◌, ◌<◌, ◌≤◌, IfOk, length};
 ghost use Rattle.std.specs.List.{position};
-ghost use Rattle.clnp_system.specs.Node.{reaction_of, sent_of};
+ghost use Rattle.clnp_system.specs.Node.{reaction_in, reaction_of, sent_of};
 ghost use Rattle.clnp_system.specs.Tables.{rows_tables};
 ghost use Rattle.law_clnp_step.specs.Handling.{IsReceived, is_system};
 ghost use Rattle.law_clnp_step.specs.Step.{is_source};
 ghost use Rattle.clnp_net.specs.steps.Telling.{AreBehind, IsSentBy, IsSourceAt, ReceivesAt, SendsAt, TicksAt};
 
-use clnp_entity::{Handled, NetEntity, NetSent};
+use clnp_entity::{Handled, NetEntity, NetSent, Outcome};
 use nsap::{Nsap, Port};
 use osi_base::{Arrival, NoMemory, Tick, Unit, Wish};
 use std::alloc::Global;
@@ -47,20 +47,20 @@ impl Systems {
     }
 
     /// A frame that arrived is handed to its system. Nothing comes of it where there is no such system.
-    pub fn receive(&mut self, now: Tick, arrival: &Arrival<Port>) -> Result<Handled, NoMemory>
+    pub fn receive(&mut self, now: Tick, arrival: &Arrival<Port>) -> Result<Outcome, NoMemory>
         requires behind { AreBehind now self.old }
         requires low { now ≤ 4000000000 }
-        ensures received { IfOk result (λ handled. IsReceived rows_tables now self.old arrival.now (reaction_of handled) self.new) }
-        ensures behind { IfOk result (λ handled. AreBehind now self.new) }
+        ensures received { IfOk result (λ received. IsReceived rows_tables now self.old arrival.now (reaction_in received) self.new) }
+        ensures behind { IfOk result (λ received. AreBehind now self.new) }
     {
         let Some(place) = self.place_of(arrival.system) else {
-            return Ok(Handled {
+            return Ok(Outcome::Handled(Handled {
                 ups: Vec::new(self.alloc),
                 frames: Vec::new(self.alloc),
-            });
+            }));
         };
-        let handled = self.receive_at(place, now, arrival)?;
-        Ok(handled)
+        let received = self.receive_at(place, now, arrival)?;
+        Ok(received)
     }
 
     /// The system at a place takes a frame.
@@ -69,18 +69,18 @@ impl Systems {
         place: usize,
         now: Tick,
         arrival: &Arrival<Port>,
-    ) -> Result<Handled, NoMemory>
+    ) -> Result<Outcome, NoMemory>
         requires within { place < length self.old }
         requires behind { AreBehind now self.old }
         requires low { now ≤ 4000000000 }
-        ensures { IfOk result (λ handled. ReceivesAt now place self.old arrival.now (reaction_of handled) self.new) }
+        ensures { IfOk result (λ received. ReceivesAt now place self.old arrival.now (reaction_in received) self.new) }
     {
         let Some(system) = self.list.get_mut(place) else {
             unreachable!();
         };
         let unit = &arrival.unit;
-        let handled = system.on_frame(now, unit.from, unit.to, unit.octets.as_slice())?;
-        Ok(handled)
+        let received = system.on_frame(now, unit.from, unit.to, unit.octets.as_slice())?;
+        Ok(received)
     }
 
     /// The end system that has the source of a unit sends it; the answer is its number, and what becomes of the unit. None exactly

@@ -93,7 +93,7 @@ impl Table {
         ensures ok { OnOk result (self.new ≡ self.old ++ record { prefix = prefix; hop = hop } ∷ []) }
         ensures duplicate { (result ≡ Err Duplicate) ↔ (has_prefix self.old prefix ≡ true) }
         ensures full { (result ≡ Err Full) ↔ ((has_prefix self.old prefix ≡ false) × (256 ≤ length self.old)) }
-        ensures unchanged { OnErr result (self.new ≡ self.old) }
+        ensures err { OnErr result (self.new ≡ self.old) }
     {
         if self.has(&prefix) {
             return Err(AddRefusal::Duplicate);
@@ -110,7 +110,7 @@ impl Table {
         requires fresh { has_prefix self.old prefix ≡ false }
         requires room { length self.old < 256 }
         ensures ok { OnOk result (self.new ≡ self.old ++ record { prefix = prefix; hop = record { port = port; title = title } } ∷ []) }
-        ensures unchanged { OnErr result (self.new ≡ self.old) }
+        ensures err { OnErr result (self.new ≡ self.old) }
     {
         let hop = Hop { port, title };
         self.rows.push(RouteRow { prefix, hop })?;

@@ -52,7 +52,7 @@ pub struct Store {
     octets: usize,
     used: usize,
     held: Vec<HeldUnit>,
-    /// Until when each unit is held, by its place among them.
+    /// Until when each unit is held, by its place among them: a tick gives up those whose time has passed, and goes over no others.
     due: Due,
 }
 

@@ -9,10 +9,10 @@ use Rattle.clnp_system.specs.declared.aim.Aim.{Aim}
 use Rattle.clnp_system.specs.declared.aim.Aim.TheVariants.{Free}
 use Rattle.clnp_system.specs.Setting.{Setting}
 use Rattle.clnp_system.specs.Verdicts.{IsRoute, IsRouteOf, aim_at, aim_of}
-use Rattle.clnp_system.specs.Written.{IsRead}
+use Rattle.clnp_system.specs.Written.{WasRead}
 use Rattle.clnp_system.proofs.Writable.{parameters_own, read_known}
 
-pub route_there : (pdu : PduRef) (value : List ℕ) → IsRead pdu → value_of 0xc8 (listed pdu.options) ≡ Some value → HasSourceRoute value
+pub route_there : (pdu : PduRef) (value : List ℕ) → WasRead pdu → value_of 0xc8 (listed pdu.options) ≡ Some value → HasSourceRoute value
 route_there pdu value read e = known_route pdu.kind value (found_known pdu.kind (listed pdu.options) 0xc8 value (read_known pdu read) e)
 
 pub aim_some : (setting : Setting) (pdu : PduRef) (value : List ℕ) (aim : Aim) → value_of 0xc8 (listed pdu.options) ≡ Some value

@@ -7,7 +7,7 @@ use Rattle.std.specs.Cmp.Lexicographic.{pointwise}
 use Rattle.nsap.specs.declared.port.Hop.{Hop}
 use Rattle.clnp_route.specs.declared.table.RouteRow.{RouteRow}
 use Rattle.clnp_route.specs.Routes.{is_longest, next_hop}
-use Rattle.esis_tables.specs.declared.row.Row.{Row}
+use Rattle.esis_tables.specs.declared.holding_time.Row.{Row}
 use Rattle.esis_tables.specs.Told.{Told, is_among}
 use Rattle.esis_tables.specs.Rows.{Rows, find_row, heard_of, heard_table, hop_known, is_least, is_row_known, new_names, addresses, renewed, router_in, row_at, row_of, rows_with}
 

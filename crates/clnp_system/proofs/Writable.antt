@@ -27,7 +27,7 @@ use Rattle.clnp_header.proofs.Parts.{length-header}
 use Rattle.clnp_segment.specs.Cutting.{Cuts, CutsWritable, MayGo, piece_of}
 use Rattle.clnp_system.specs.Setting.{Setting}
 use Rattle.clnp_system.specs.Node.{Frame}
-use Rattle.clnp_system.specs.Written.{AreFrames, HasPdu, IsPduFrame, IsRead, MayBeWritten}
+use Rattle.clnp_system.specs.Written.{AreFrames, HasPdu, IsPduFrame, WasRead, MayBeWritten}
 use Rattle.clnp_system.specs.Reporting as reporting
 use Rattle.clnp_system.specs.Reporting.{report_pdu}
 use Rattle.clnp_system.specs.Forwarding.{AreOptionsOnward, IsOnward, IsOptionOnward, Records, Routed, Recorded, Other, Written, Full, Ended, past_own}
@@ -137,7 +137,7 @@ pub parameters_own : (options : List Parameter) → parameters (map own options)
 parameters_own [] = refl
 parameters_own (option ∷ options) = ap (λ (os : List Parameter). option ∷ os) (parameters_own options)
 
-pub read_known : (pdu : PduRef) → IsRead pdu → All (IsKnown pdu.kind) (listed pdu.options)
+pub read_known : (pdu : PduRef) → WasRead pdu → All (IsKnown pdu.kind) (listed pdu.options)
 read_known pdu h = subst (λ (os : List Parameter). All (IsKnown pdu.kind) os) (parameters_own (listed pdu.options)) h.1.1.stands.options_part.allowed.known
 
 all_of : {X : Type 0} (P : X → Type 0) (xs : List X) → AllByRecursion P xs → All P xs

@@ -1,13 +1,18 @@
 -- A system of the network, with what it knows of others in any form.
-use Rattle.std.specs.Prelude.{ℕ, List, [], Option, None, Result, Ok, Err}
+use Rattle.std.specs.Prelude.{ℕ, List, [], ◌∷◌, Option, None, Result, Ok, Err}
 use Rattle.nsap.specs.declared.port.Port.{Port}
 use Rattle.osi_base.specs.declared.unit.DropCause.{DropCause}
 use Rattle.osi_base.specs.declared.unit.Unit.{Unit as CarriedUnit}
 use Rattle.osi_base.specs.declared.unit.Up.{Up}
+use Rattle.osi_base.specs.declared.unit.Up.TheVariants.{Unit as Came}
 use Rattle.clnp_segment.specs.Store.{Holding}
 use Rattle.clnp_system.specs.declared.answer.Handled.{Handled}
 use Rattle.clnp_system.specs.declared.answer.NetSent.{NetSent}
 use Rattle.clnp_system.specs.declared.answer.NetSent.TheVariants.{Dropped, Frames}
+use Rattle.clnp_system.specs.declared.answer.Outcome.{Outcome}
+use Rattle.clnp_system.specs.declared.answer.Outcome.TheVariants.{Handled as Many, Unit as Alone}
+use Rattle.clnp_system.specs.declared.answer.UnitFrames.{UnitFrames}
+use Rattle.clnp_system.specs.declared.answer.UnitFrames.TheVariants.{List as Listed, One}
 use Rattle.clnp_system.specs.Setting.{Setting}
 
 pub record Node (N : Type 0) : Type 0 where
@@ -50,7 +55,17 @@ pub record Reaction : Type 0 where
 abbrev pub reaction_of : Handled → Reaction
 reaction_of handled = record { ups = handled.ups.items; frames = handled.frames.items }
 
+-- the same of what a frame comes to: mostly a unit alone comes up
+abbrev pub reaction_in : Outcome → Reaction
+reaction_in (Alone arrival) = record { ups = Came arrival ∷ []; frames = [] }
+reaction_in (Many handled) = reaction_of handled
+
+-- the frames in which a unit goes out, mostly one
+abbrev pub frames_in : UnitFrames → List (CarriedUnit Port)
+frames_in (One frame) = frame ∷ []
+frames_in (Listed frames) = frames.items
+
 -- what it answers to a unit that is sent: the frames, or the cause by which the unit is dropped
 abbrev pub sent_of : NetSent → Result (List (CarriedUnit Port)) DropCause
-sent_of (Frames frames) = Ok frames.items
+sent_of (Frames frames) = Ok (frames_in frames)
 sent_of (Dropped cause) = Err cause

@@ -1,8 +1,8 @@
 -- What a system is set up with (X.233, network entity title, route PDU; ISO 9542, holding time).
-use Rattle.std.specs.Prelude.{◌≡◌, ◌≢◌, ℕ, ◌-◌, ◌==◌, ◌%◌, ◌≤◌, Bool, false, nat_eq, if◌then◌else◌, List, [], ◌∷◌, ◌++◌, find, length, slice_get, slice_index, Option, None, IsSome, unwrap_or}
+use Rattle.std.specs.Prelude.{◌≡◌, ◌≢◌, ℕ, ◌-◌, ◌==◌, ◌%◌, ◌≤◌, Bool, nat_eq, if◌then◌else◌, List, [], ◌∷◌, ◌++◌, find, length, slice_get, slice_index, Option, None, IsSome, unwrap_or}
 use Rattle.std.specs.Cmp.Lexicographic.{pointwise}
 use Rattle.std.specs.List.{AllByRecursion}
-use Rattle.nsap.specs.Address.{selector_of, system_part, is_same_system}
+use Rattle.nsap.specs.Address.{system_part, is_same_system}
 use Rattle.nsap.specs.declared.port.Port.{Port}
 use Rattle.pdu_parts.specs.Field.{IsAddress}
 use Rattle.clnp_route.specs.declared.table.RouteRow.{RouteRow}
@@ -80,11 +80,9 @@ IsAddressed path = AllByRecursion IsAddress path.titles
 
 -- times in ticks but for the holding time, which is in seconds; an end system has one port at most, and an intermediate system eight
 pub record IsSetting (setting : Setting) : Type 0 where
-  pub entity : selector_of setting.title ≡ 0
   pub few_ports : length setting.ports ≤ (if setting.end then 1 else 8)
   pub lans : AllByRecursion (λ port. HasLan setting port.lan) setting.ports
   pub apart : AreApart setting.ports
-  pub single : AllByRecursion (λ port. is_group port.snpa ≡ false) setting.ports
   pub hops : AllByRecursion (λ row. IsSome (port_on setting row.hop.port.lan)) setting.rows
   pub least_life : 1 ≤ setting.life
   pub most_life : setting.life ≤ 255

@@ -22,8 +22,8 @@ abbrev pub header_in : List ℕ → Pdu → List ℕ
 header_in octets pdu = take (header_length pdu) octets
 
 -- the PDU was read from the front of some octets
-abbrev pub IsRead : PduRef → Type 0
-IsRead pdu = (octets : List ℕ) × HasPdu octets (value_of pdu)
+abbrev pub WasRead : PduRef → Type 0
+WasRead pdu = (octets : List ℕ) × HasPdu octets (value_of pdu)
 
 -- the grammar allows the PDU, and its header and whole length fit
 pub record MayBeWritten (pdu : Pdu) : Type 0 where

@@ -4,7 +4,7 @@ ghost use Rattle.std.specs.Prelude.{◌≡◌, ◌==◌, Option, drop, slice_get
 ghost use Rattle.clnp_options.specs.SourceRoute.{HasSourceRoute, IsOnTheWay, IsSourceRoute, SourceRoute};
 ghost use Rattle.clnp_header.specs.Values.{value_of};
 ghost use Rattle.clnp_system.specs.Verdicts.{IsRouteOf, aim_at, aim_behind, aim_of};
-ghost use Rattle.clnp_system.specs.Written.{IsRead};
+ghost use Rattle.clnp_system.specs.Written.{WasRead};
 
 use crate::setup::SystemSetup;
 use clnp_header::PduRef;
@@ -28,7 +28,7 @@ const LONGEST_ROUTE: usize = 254;
 impl SystemSetup {
     /// Where a PDU goes next, by its source route.
     pub fn aim(&self, pdu: &PduRef<'_>) -> Aim
-        requires { IsRead pdu.now }
+        requires { WasRead pdu.now }
         ensures { (route : Option SourceRoute) → IsRouteOf (value_of pdu.now) route → result ≡ aim_of self.now route }
     {
         match get(&pdu.options, SOURCE_ROUTING) {
@@ -45,7 +45,7 @@ impl SystemSetup {
         let complete = value[0] == COMPLETE;
         match next_source_hop(value) {
             None => Aim::Free,
-            Some(title) if self.is_own(&title) => aim_behind(value, complete),
+            Some(title) if self.is_own_title(&title) => aim_behind(value, complete),
             Some(_) if complete => Aim::Forbidden,
             Some(title) => Aim::Entry { title, complete },
         }

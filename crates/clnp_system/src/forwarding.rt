@@ -9,7 +9,7 @@ ghost use Rattle.clnp_options.specs.Recording.{IsRecording};
 ghost use Rattle.clnp_options.specs.declared.reason.PduKind.{PduKind};
 ghost use Rattle.clnp_header.specs.Values.{own, value_of};
 ghost use Rattle.clnp_system.specs.Setting.{IsSetting, bound_of, port_on};
-ghost use Rattle.clnp_system.specs.Written.{IsRead};
+ghost use Rattle.clnp_system.specs.Written.{WasRead};
 ghost use Rattle.clnp_system.specs.Forwarding.{AreOptionsOnward, Forwards, IsOnward, IsOptionOnward, Passes, Records};
 
 use crate::setup::SystemSetup;
@@ -24,7 +24,7 @@ use std::alloc::Global;
 impl SystemSetup {
     /// The PDU as it goes onward: the own title passed and recorded, and the lifetime less the bound.
     fn onward(&self, alloc: Global, pdu: &PduRef<'_>, bound: u8) -> Result<Pdu, NoMemory>
-        requires read { IsRead pdu.now }
+        requires read { WasRead pdu.now }
         requires lasts { bound ≤ pdu.now.lifetime }
         ensures { IfOk result (λ onward. IsOnward self.now bound (value_of pdu.now) onward) }
     {
@@ -53,7 +53,7 @@ impl SystemSetup {
         hop: &Hop,
     ) -> Result<Option<Vec<Unit<Port>>>, NoMemory>
         requires setting { IsSetting self.now }
-        requires read { IsRead pdu.now }
+        requires read { WasRead pdu.now }
         requires port { IsSome (port_on self.now at.lan) }
         requires hop { IsSome (port_on self.now hop.now.port.lan) }
         requires lasts { bound_of self.now at.lan < pdu.now.lifetime }
@@ -117,7 +117,7 @@ impl SystemSetup {
         ensures { Passes self.now value.old value.new }
     {
         if let Some(title) = next_source_hop(value)
-            && self.is_own(&title)
+            && self.is_own_title(&title)
         {
             advance_source(value);
         }

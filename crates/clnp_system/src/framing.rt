@@ -1,15 +1,16 @@
-//! The frames that a system sends (X.233, PDU composition; ISO 9542, request redirect).
+//! The frames that a system sends (X.233, PDU composition).
 
-ghost use Rattle.std.specs.Prelude.{◌≡◌, ◌≤◌, ◌∷◌, [], All, IfOk, IsSome, Some, length, option_map, option_to_list};
+ghost use Rattle.std.specs.Prelude.{◌≡◌, ◌≤◌, ◌∷◌, [], All, IfOk, IsSome, Some, option_map};
 ghost use Rattle.clnp_header.specs.Writing.{header_length as length_of_header, pdu_length as length_of_pdu, with_body};
 ghost use Rattle.clnp_segment.specs.Cutting.{Cuts};
-ghost use Rattle.esis_pdu.specs.Hellos.{IsEsis, size_of, title_field};
+ghost use Rattle.esis_pdu.specs.Hellos.{IsEsis, size_of};
 ghost use Rattle.esis_pdu.specs.Hellos.{IsWritten as IsWrittenHello};
-ghost use Rattle.esis_pdu.specs.declared.hello.Hello.TheVariants.{Rd};
-ghost use Rattle.clnp_system.specs.Hellos.{RedirectsTo, is_detour, sender};
+ghost use Rattle.clnp_system.specs.Node.{frames_in};
+ghost use Rattle.clnp_system.specs.Hellos.{sender};
 ghost use Rattle.clnp_system.specs.Setting.{IsSetting, port_on};
 ghost use Rattle.clnp_system.specs.Written.{AreFrames, CutFrames, IsHelloFrame, IsPduFrame, MayBeWritten};
 
+use crate::answer::UnitFrames;
 use crate::setup::SystemSetup;
 use clnp_header::{Pdu, header_length, write_pdu_with};
 use clnp_segment::{CutRefusal, cut, cut_written};
@@ -30,18 +31,22 @@ impl SystemSetup {
         to: Port,
         pdu: Pdu,
         body: &[u8],
-    ) -> Result<Option<Vec<Unit<Port>>>, NoMemory>
+    ) -> Result<Option<UnitFrames>, NoMemory>
         requires setting { IsSetting self.now }
         requires port { IsSome (port_on self.now to.lan) }
         requires written { MayBeWritten (with_body pdu body.now) }
-        ensures { IfOk result (λ frames. CutFrames self.now to (with_body pdu body.now) (option_map (λ list. list.items) frames)) }
+        ensures { IfOk result (λ frames. CutFrames self.now to (with_body pdu body.now) (option_map frames_in frames)) }
     {
         if length_with(&pdu, body) <= self.room(to.lan) as usize {
-            return Ok(Some(self.whole(alloc, to, &pdu, body)?));
+            let frame = self.frame_with(alloc, to, &pdu, body)?;
+            return Ok(Some(UnitFrames::One(frame)));
         }
         let mut pdu = pdu;
         pdu.body = Bytes::of(Vec::from_slice(alloc, body)?);
-        self.cut_frames(alloc, to, pdu)
+        match self.cut_frames(alloc, to, pdu)? {
+            Some(frames) => Ok(Some(UnitFrames::List(frames))),
+            None => Ok(None),
+        }
     }
 
     /// The frames of a PDU, cut for the room of the LAN. None exactly where it does not fit and may not be cut.
@@ -142,44 +147,6 @@ impl SystemSetup {
         Ok(self.unit(to, octets))
     }
 
-    /// The redirect to the sender of a frame, about a PDU for that destination that goes to the hop. None exactly where the
-    /// hop is on another LAN, or is the sender.
-    pub(crate) fn redirect(
-        &self,
-        alloc: Global,
-        from: Port,
-        at: Port,
-        destination: Nsap,
-        hop: &Hop,
-    ) -> Result<Option<Unit<Port>>, NoMemory>
-        requires { IsSome (port_on self.now at.lan) }
-        ensures { IfOk result (λ frame. RedirectsTo self.now from at destination hop.now (option_to_list frame)) }
-    {
-        if !is_detour(&from, &at, hop) {
-            return Ok(None);
-        }
-        let hello = self.rd(destination, hop);
-        let frame = self.hello_frame(alloc, sender(&from, &at), &hello)?;
-        Ok(Some(frame))
-    }
-
-    /// A redirect to the hop.
-    fn rd(&self, destination: Nsap, hop: &Hop) -> Hello
-        ensures value { result ≡ Rd self.now.hold destination hop.now.port.snpa hop.now.title }
-        ensures short { size_of result ≤ 254 }
-    {
-        // Reads for their clauses alone: how long what is read is at most.
-        let _octets = destination.octets().len()
-            + hop.port.snpa.octets().len()
-            + title_octets(&hop.title);
-        Hello::Rd {
-            hold: self.hold,
-            address: destination,
-            snpa: hop.port.snpa,
-            title: hop.title,
-        }
-    }
-
     /// Octets on their way from the own port on the LAN.
     pub(crate) fn unit(&self, to: Port, octets: Vec<u8>) -> Unit<Port>
         requires { IsSome (port_on self.now to.lan) }
@@ -215,24 +182,6 @@ pub fn sender(from: &Port, at: &Port) -> Port
     Port {
         lan: at.lan,
         snpa: from.snpa,
-    }
-}
-
-/// Whether the hop is on the LAN on which a frame came, and is not its sender.
-fn is_detour(from: &Port, at: &Port, hop: &Hop) -> bool
-    ensures { result ≡ is_detour from.now at.now hop.now }
-{
-    hop.port.lan == at.lan && hop.port.snpa != from.snpa
-}
-
-/// The octets of a title and its length.
-fn title_octets(title: &Option<Nsap>) -> usize
-    ensures count { result ≡ length (title_field title.now) }
-    ensures most { result ≤ 21 }
-{
-    match title {
-        Some(title) => 1 + title.octets().len(),
-        None => 1,
     }
 }
 

@@ -8,13 +8,14 @@ mod forwarding;
 mod framing;
 mod hello;
 mod laws;
+mod redirect;
 mod report;
 mod sending;
 mod setup;
 mod verdict;
 
 pub use aim::Aim;
-pub use answer::{Handled, NetSent};
+pub use answer::{Handled, NetSent, Outcome, UnitFrames};
 pub use framing::sender;
 pub use laws::{comes_up, derived, quiet_tick, sent, stored};
 pub use report::Reported;

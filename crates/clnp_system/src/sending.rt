@@ -5,10 +5,12 @@ ghost use Rattle.std.specs.List.{AllByRecursion};
 ghost use Rattle.pdu_parts.specs.Field.{IsAddress};
 ghost use Rattle.clnp_options.specs.Titles.{entries};
 ghost use Rattle.clnp_header.specs.Writing.{with_body};
+ghost use Rattle.clnp_system.specs.Node.{frames_in};
 ghost use Rattle.clnp_system.specs.Sending.{first_pdu, first_segment, pdu_with, recording_options, route_options};
 ghost use Rattle.clnp_system.specs.Setting.{IsAddressed, IsSetting, path_of, port_on};
 ghost use Rattle.clnp_system.specs.Written.{CutFrames, MayBeWritten};
 
+use crate::answer::UnitFrames;
 use crate::framing::length_with;
 use crate::setup::{Path, SystemSetup};
 use clnp_header::{OwnOpt, Pdu, PduKind, SegmentPart};
@@ -34,11 +36,11 @@ impl SystemSetup {
         wish: Wish,
         id: u16,
         hop: &Hop,
-    ) -> Result<Option<Vec<Unit<Port>>>, NoMemory>
+    ) -> Result<Option<UnitFrames>, NoMemory>
         requires setting { IsSetting self.now }
         requires unit { length unit.now.octets ≤ 16384 }
         requires hop { IsSome (port_on self.now hop.now.port.lan) }
-        ensures { IfOk result (λ frames. CutFrames self.now hop.now.port (first_pdu self.now unit.now wish id) (option_map (λ list. list.items) frames)) }
+        ensures { IfOk result (λ frames. CutFrames self.now hop.now.port (first_pdu self.now unit.now wish id) (option_map frames_in frames)) }
     {
         let pdu = self.first_pdu(alloc, unit, wish, id)?;
         self.frames_with(alloc, hop.port, pdu, unit.octets.as_slice())

@@ -108,7 +108,7 @@ impl SystemSetup {
     }
 
     /// Whether the title is the own one.
-    pub(crate) fn is_own(&self, title: &Nsap) -> bool
+    pub(crate) fn is_own_title(&self, title: &Nsap) -> bool
         ensures { result ≡ is_own_title self.now title.now }
     {
         *title == self.title

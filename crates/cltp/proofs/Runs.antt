@@ -16,7 +16,7 @@ use Rattle.osi_journal.specs.declared.event.Event.TheVariants as events
 use Rattle.cltp.specs.declared.sending.Request.{Request}
 use Rattle.cltp.specs.declared.sending.ClAnswer.{ClAnswer}
 use Rattle.cltp.specs.declared.system.ClSystem.{ClSystem}
-use Rattle.cltp.specs.Laws.{IsNew, ShowsSent}
+use Rattle.cltp.specs.Laws.{IsNew, ShowsSentDatagrams}
 use Rattle.cltp.specs.Run.{ClCall, Sending, Delivering, Ticking, Settling, Delivers, NoneLeft, OneMore, RunsCall, RunsCalls, SendsIf, Settles, Starts, TakesUp, TooMany}
 use Rattle.cltp.specs.Sending.{send_event, ud_for, ud_wish}
 use Rattle.cltp.specs.Systems.{World, system_at}
@@ -117,6 +117,6 @@ module _ {C : Type 0} (link : C → Link (List ℕ)) (steps : C → Call (List �
 
 -- each datagram that is shown was sent
 pub shows_sent : {C : Type 0} (link : C → Link (List ℕ)) (steps : C → Call (List ℕ) → C → Type 0) (law : (old : C) (call : Call (List ℕ)) (new : C) → steps old call new → Keeps (link old) call (link new))
-    → ShowsSent link steps
+    → ShowsSentDatagrams link steps
 shows_sent link steps law life systems made begun journal calls first last is start run =
     (run_rests link steps law life systems calls first last begun journal (first_rests link steps law life systems made first begun is start) run).stands.lawful

@@ -22,8 +22,8 @@ pub record IsNew (life : ℕ) (link : Link (List ℕ)) : Type 0 where
   pub bounds : (to : List ℕ) → link.bound to ≤ life
 
 -- each datagram that is shown was sent
-abbrev pub ShowsSent : {C : Type 0} → (C → Link (List ℕ)) → (C → Call (List ℕ) → C → Type 0) → Type 0
-ShowsSent {C} link steps = (life : ℕ) (systems : List ClSystem) (made : C) (begun journal : List Event) (calls : List ClCall) (first last : World C)
+abbrev pub ShowsSentDatagrams : {C : Type 0} → (C → Link (List ℕ)) → (C → Call (List ℕ) → C → Type 0) → Type 0
+ShowsSentDatagrams {C} link steps = (life : ℕ) (systems : List ClSystem) (made : C) (begun journal : List Event) (calls : List ClCall) (first last : World C)
     → IsNew life (link made) → Starts link steps made systems begun first → RunsCalls link steps first calls journal last
     → DatagramLawful life systems (begun ++ journal)
 

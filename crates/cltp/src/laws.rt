@@ -3,7 +3,7 @@
 ghost use Rattle.std.specs.Prelude.{◌≡◌, ◌⊎◌, List, ℕ};
 ghost use Rattle.pdu_parts.specs.Front.{OneValue};
 ghost use Rattle.cltp.specs.Faults.{IsUdFault};
-ghost use Rattle.cltp.specs.Laws.{OneHearing, OneRun, OneStart, ShowsSent};
+ghost use Rattle.cltp.specs.Laws.{OneHearing, OneRun, OneStart, ShowsSentDatagrams};
 ghost use Rattle.cltp.specs.Total.{SomeRun, SomeStart};
 ghost use Rattle.cltp.specs.Ud.{Ud, IsUd};
 ghost use Rattle.cltp.specs.Writing.{IsWritten};
@@ -40,7 +40,7 @@ pub fn one_hearing()
 
 /// Each datagram that is shown was sent, to this system and selector, with these octets, at most the lifetime before.
 pub fn shows_sent<C: Carrier<Addr = Nsap>>()
-    ensures { ShowsSent C.link C.steps }
+    ensures { ShowsSentDatagrams C.link C.steps }
 {}
 
 /// A call has one list of events, and leads to one state, where the carrier answers in one way.

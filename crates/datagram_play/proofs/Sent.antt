@@ -12,7 +12,7 @@ use Rattle.cltp.specs.declared.system.ClSystem.{ClSystem}
 use Rattle.cltp.proofs.Runs.{Rests, call_rests, first_rests}
 use Rattle.osi_journal.specs.declared.event.Event.{Event}
 use Rattle.osi_journal.specs.declared.event.Event.TheVariants as events
-use Rattle.osi_script.specs.declared.form.Dialect.TheVariants as dialects
+use Rattle.osi_script.specs.declared.words.Dialect.TheVariants as dialects
 use Rattle.osi_script.specs.declared.line.Line.{Line}
 use Rattle.osi_script.specs.declared.line.Line.TheVariants as lines
 use Rattle.osi_script.specs.Known.{Declared, nothing_declared}

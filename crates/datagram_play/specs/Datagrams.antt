@@ -6,7 +6,7 @@ use Rattle.cltp.specs.Run.{RunsCall, Sending, Delivering, Ticking, Settling, Sta
 use Rattle.cltp.specs.Systems.{World}
 use Rattle.cltp.specs.declared.sending.Request.{Request}
 use Rattle.osi_journal.specs.declared.event.Event.{Event}
-use Rattle.osi_script.specs.declared.form.Dialect.TheVariants as dialects
+use Rattle.osi_script.specs.declared.words.Dialect.TheVariants as dialects
 use Rattle.osi_script.specs.declared.line.Line.{Line}
 use Rattle.osi_script.specs.declared.line.Line.TheVariants as lines
 use Rattle.osi_setup.specs.SetUp.{SetUp, titles_of}

@@ -70,7 +70,8 @@ impl Due {
         self.move_to(id, at);
     }
 
-    /// The id is due at another tick than before. Apart, so that where its tick stays there is no room for these values to clear.
+    /// The id is due at another tick than before.
+    // Not inlined: where the tick of an id stays, as mostly, there is no room for these values to clear.
     #[inline(never)]
     fn move_to(&mut self, id: u32, at: Tick)
         requires { id < length self.old }
@@ -101,7 +102,8 @@ impl Due {
         self.pop_by(now)
     }
 
-    /// The same by a look at what is due. Apart, so that where no tick can have come there is no room for its values to clear.
+    /// The same by a look at what is due.
+    // Not inlined: where no tick can have come, as mostly, there is no room for its values to clear.
     #[inline(never)]
     fn pop_by(&mut self, now: Tick) -> Option<u32>
         ensures { Pops self.old now result self.new }

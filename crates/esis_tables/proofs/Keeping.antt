@@ -10,8 +10,8 @@ use Rattle.std.proofs.lemmas.List.Elements.{All-get_or}
 use Rattle.std.proofs.lemmas.List.Folds.{list_any-append}
 use Rattle.std.proofs.lemmas.Option.{slice_get_cases}
 use Rattle.due_links.specs.Ticks.{Pops, tick_at}
-use Rattle.esis_tables.specs.declared.row.Heard.{Heard}
-use Rattle.esis_tables.specs.declared.row.Row.{Row}
+use Rattle.esis_tables.specs.declared.holding_time.Heard.{Heard}
+use Rattle.esis_tables.specs.declared.holding_time.Row.{Row}
 use Rattle.esis_tables.specs.Told.{is_among}
 use Rattle.esis_tables.specs.Rows.{addresses, is_row_known, new_names, row_of, rows_with}
 use Rattle.esis_tables.specs.steps.Deadlines.{AreDeadlines, IsDue, IsKept, IsKeptBelow, IsMade, deadline_at, deadline_of}

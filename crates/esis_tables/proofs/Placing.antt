@@ -11,8 +11,8 @@ use Rattle.std.proofs.lemmas.Bool.{cases_eq, or_left, or_right}
 use Rattle.std.proofs.lemmas.List.Folds.{list_any-append}
 use Rattle.std.proofs.lemmas.List.Elements.{All-push, All-weaker}
 use Rattle.std.proofs.lemmas.List.Quantifiers.{position-Some}
-use Rattle.esis_tables.specs.declared.row.Heard.{Heard}
-use Rattle.esis_tables.specs.declared.row.Row.{Row}
+use Rattle.esis_tables.specs.declared.holding_time.Heard.{Heard}
+use Rattle.esis_tables.specs.declared.holding_time.Row.{Row}
 use Rattle.esis_tables.specs.Told.{Told, is_among}
 use Rattle.esis_tables.specs.Rows.{AreDistinct, IsTable, Rows, addresses, count_with, has_row, heard_of, heard_table, new_names, renewed, row_of, rows_with}
 use Rattle.esis_tables.specs.steps.Places.{ArePlaces, IsPlace, IsRenewed, is_noted, renewed_if, row_added, told_by}

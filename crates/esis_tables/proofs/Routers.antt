@@ -12,7 +12,7 @@ use Rattle.std.proofs.lemmas.List.{take_more}
 use Rattle.std.proofs.lemmas.List.Elements.{All-contains, All-push, All-weaker, Contains-append_left, Contains-push}
 use Rattle.std.proofs.lemmas.List.Folds.{list_any_none}
 use Rattle.nsap.specs.declared.port.Hop.{Hop}
-use Rattle.esis_tables.specs.declared.row.Row.{Row}
+use Rattle.esis_tables.specs.declared.holding_time.Row.{Row}
 use Rattle.esis_tables.specs.Told.{is_among, is_upto}
 use Rattle.esis_tables.specs.Rows.{AreDistinct, IsTable, addresses, is_least, is_router, precedes, router_in}
 use Rattle.esis_tables.specs.steps.Least.{IsLeastOf, IsLeastRouter, IsRouterHop, is_before, is_lesser}

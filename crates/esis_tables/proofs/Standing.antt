@@ -10,8 +10,8 @@ use Rattle.nsap.specs.declared.port.Port.{Port}
 use Rattle.nsap.specs.declared.port.Hop.{Hop}
 use Rattle.esis_pdu.specs.declared.hello.Hello.{Hello}
 use Rattle.esis_pdu.specs.declared.hello.Hello.TheVariants.{Esh, Ish, Rd}
-use Rattle.esis_tables.specs.declared.known.HearRefusal.{HearRefusal}
-use Rattle.esis_tables.specs.declared.row.Row.{Row}
+use Rattle.esis_tables.specs.declared.address_table.HearRefusal.{HearRefusal}
+use Rattle.esis_tables.specs.declared.holding_time.Row.{Row}
 use Rattle.esis_tables.specs.Told.{IsKnownRouter, IsRouter, Told, is_among, is_upto, known_hop, known_of, latest, or_this, told_of}
 use Rattle.esis_tables.specs.Rows.{Rows, addresses, find_row, has_row, heard_of, heard_table, hop_known, is_router, is_row_known}
 use Rattle.esis_tables.specs.Rows.{is_title, new_names, renewed, row_at, row_of, rows_with, swept_table}

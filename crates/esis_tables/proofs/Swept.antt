@@ -9,8 +9,8 @@ use Rattle.std.proofs.lemmas.Bool.{or_left, or_right, or_parts}
 use Rattle.std.proofs.lemmas.List.{append-nil, length-map}
 use Rattle.std.proofs.lemmas.List.Elements.{All-contains, All-nil, All-weaker, Contains-append_left, Contains-append_right, Contains-push}
 use Rattle.std.proofs.lemmas.List.Folds.{list_any_none}
-use Rattle.esis_tables.specs.declared.row.Heard.{Heard}
-use Rattle.esis_tables.specs.declared.row.Row.{Row}
+use Rattle.esis_tables.specs.declared.holding_time.Heard.{Heard}
+use Rattle.esis_tables.specs.declared.holding_time.Row.{Row}
 use Rattle.esis_tables.specs.Told.{Told, is_among, is_known, known_hop, known_of, latest, or_this}
 use Rattle.esis_tables.specs.Rows.{AreDistinct, Rows, addresses, find_row, has_row, heard_of, heard_table, is_router, is_row_known, new_names}
 use Rattle.esis_tables.specs.Rows.{router_in, row_at, rows_with, swept_table}

@@ -5,8 +5,8 @@ use Rattle.std.specs.List.{filter, list_any}
 use Rattle.std.specs.Ordering.{is_lt, nat_cmp}
 use Rattle.std.specs.Cmp.Lexicographic.{pointwise, slice_cmp}
 use Rattle.nsap.specs.declared.port.Hop.{Hop}
-use Rattle.esis_tables.specs.declared.row.Heard.{Heard}
-use Rattle.esis_tables.specs.declared.row.Row.{Row}
+use Rattle.esis_tables.specs.declared.holding_time.Heard.{Heard}
+use Rattle.esis_tables.specs.declared.holding_time.Row.{Row}
 use Rattle.esis_tables.specs.Told.{Told, is_among}
 
 -- a table: the latest tick of a call that changed it, and its rows in the order in which their addresses were first named

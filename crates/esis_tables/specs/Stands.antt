@@ -1,7 +1,7 @@
 -- What the rows of a table mean: the hellos heard so far (ISO 9542, record and flush of configuration and of redirects).
 use Rattle.std.specs.Prelude.{◌≡◌, ℕ, ◌≤◌, false, List, [], ◌∷◌, ◌++◌, Option, Some, None}
 use Rattle.std.specs.List.{All}
-use Rattle.esis_tables.specs.declared.row.Row.{Row}
+use Rattle.esis_tables.specs.declared.holding_time.Row.{Row}
 use Rattle.esis_tables.specs.Told.{Told, known_hop, latest}
 use Rattle.esis_tables.specs.Rows.{Rows, has_row, heard_of}
 

@@ -2,13 +2,13 @@
 //! function, flush old configuration function, flush old redirect function).
 #![tactic(auto)]
 
-mod known;
+mod address_table;
+mod holding_time;
 mod laws;
 mod neighbours;
 mod redirects;
-mod row;
 
-pub use known::HearRefusal;
+pub use address_table::HearRefusal;
 pub use laws::{
     count_is_told, empty_stands, finds_what_is_told, named_have_rows, one_router, stays_swept,
     stays_table,

@@ -2,14 +2,14 @@
 
 ghost use Rattle.std.specs.Prelude.{◌≡◌, ◌<◌, ◌≤◌, Err, IfOk, List, OnOk, OnErr, ◌↔◌, [], IsTrue};
 ghost use Rattle.esis_pdu.specs.Lent.{listed, value_of};
-ghost use Rattle.esis_tables.specs.declared.known.HearRefusal.TheVariants.{Full};
+ghost use Rattle.esis_tables.specs.declared.address_table.HearRefusal.TheVariants.{Full};
 ghost use Rattle.esis_tables.specs.Told.{IsConfiguration, IsRouter, Told, known_hop, told_of};
 ghost use Rattle.esis_tables.specs.Rows.{count_with, find_row, heard_table, no_rows, router_in, swept_table};
 ghost use Rattle.esis_tables.specs.Stands.{Stands, StandsStill, StandsWith};
 
 use crate::HearRefusal;
-use crate::known::Known;
-use crate::row::Heard;
+use crate::address_table::AddressTable;
+use crate::holding_time::Heard;
 use esis_pdu::{AddressesRef, HelloRef};
 use nsap::{Hop, Nsap, Port};
 use osi_base::{NoMemory, Tick};
@@ -20,7 +20,7 @@ use std::marker::Model;
 #[derive(Drop)]
 pub struct Neighbours {
     alloc: Global,
-    known: Known,
+    known: AddressTable,
 }
 
 impl Model for Neighbours {
@@ -38,7 +38,7 @@ impl Neighbours {
     {
         Neighbours {
             alloc,
-            known: Known::new(alloc),
+            known: AddressTable::new(alloc),
         }
     }
 
@@ -78,7 +78,7 @@ impl Neighbours {
         ensures value { OnOk result (self.new ≡ heard_table self.old (told_of now port (value_of hello.now))) }
         ensures room { OnOk result (count_with self.old.rows (told_of now port (value_of hello.now)) ≤ 256) }
         ensures full { result ≡ Err Full → 256 < count_with self.old.rows (told_of now port (value_of hello.now)) }
-        ensures unchanged { OnErr result (self.new ≡ self.old) }
+        ensures err { OnErr result (self.new ≡ self.old) }
         ensures clock { self.new.clock ≤ now }
     {
         match hello {

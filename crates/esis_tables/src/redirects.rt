@@ -2,14 +2,14 @@
 
 ghost use Rattle.std.specs.Prelude.{◌≡◌, ◌<◌, ◌≤◌, Err, List, OnOk, OnErr, ◌↔◌, [], IsTrue};
 ghost use Rattle.esis_pdu.specs.Lent.{value_of};
-ghost use Rattle.esis_tables.specs.declared.known.HearRefusal.TheVariants.{Full};
+ghost use Rattle.esis_tables.specs.declared.address_table.HearRefusal.TheVariants.{Full};
 ghost use Rattle.esis_tables.specs.Told.{IsRedirect, Told, known_hop, on_lan, told_of};
 ghost use Rattle.esis_tables.specs.Rows.{count_with, find_row, heard_table, no_rows, swept_table};
 ghost use Rattle.esis_tables.specs.Stands.{Stands, StandsStill, StandsWith};
 
 use crate::HearRefusal;
-use crate::known::Known;
-use crate::row::Heard;
+use crate::address_table::AddressTable;
+use crate::holding_time::Heard;
 use esis_pdu::HelloRef;
 use nsap::{Hop, Nsap, Port};
 use osi_base::Tick;
@@ -19,7 +19,7 @@ use std::marker::Model;
 /// The addresses of which a redirect told a hop, each with the one that was told last.
 #[derive(Drop)]
 pub struct Redirects {
-    known: Known,
+    known: AddressTable,
 }
 
 impl Model for Redirects {
@@ -36,7 +36,7 @@ impl Redirects {
         ensures { result ≡ no_rows }
     {
         Redirects {
-            known: Known::new(alloc),
+            known: AddressTable::new(alloc),
         }
     }
 
@@ -66,7 +66,7 @@ impl Redirects {
         ensures value { OnOk result (self.new ≡ heard_table self.old (told_of now (on_lan lan) (value_of hello.now))) }
         ensures room { OnOk result (count_with self.old.rows (told_of now (on_lan lan) (value_of hello.now)) ≤ 256) }
         ensures full { result ≡ Err Full → 256 < count_with self.old.rows (told_of now (on_lan lan) (value_of hello.now)) }
-        ensures unchanged { OnErr result (self.new ≡ self.old) }
+        ensures err { OnErr result (self.new ≡ self.old) }
         ensures clock { self.new.clock ≤ now }
     {
         match hello {

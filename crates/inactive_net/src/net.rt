@@ -1,6 +1,6 @@
 //! The network by the inactive subset (X.233, Inactive Network Layer Protocol subset).
 
-ghost use Rattle.std.specs.Prelude.{◌≡◌, ◌<◌, ◌≤◌, List, ℕ, [], ◌∷◌, Some, drop, slice_get, IfOk, OnOk};
+ghost use Rattle.std.specs.Prelude.{◌≡◌, ◌<◌, ◌≤◌, List, ℕ, [], ◌∷◌, Some, drop, false, slice_get, IfOk, OnOk};
 ghost use Rattle.std.specs.List.{All};
 ghost use Rattle.osi_base.specs.declared.unit.Up.{Up};
 ghost use Rattle.inactive_step.specs.Step.{counted, floated, strays_in};
@@ -86,13 +86,11 @@ impl<C: Carrier<Addr = Port> + Drop> InactiveNet<C> {
     }
 
     /// A unit is offered: its frame is offered below, where there is a way for it and it is not too long.
-    fn send(&mut self, unit: Unit<Nsap>, wish: Wish) -> Result<Offered, NoMemory>
+    fn offer_unit(&mut self, unit: Unit<Nsap>, wish: Wish) -> Result<Offered, NoMemory>
         ensures { IfOk result (λ answer. InactiveStep C.link C.steps self.old (Offer unit wish answer) self.new) }
     {
         let _ = wish;
-        if self.stopped {
-            return Err(NoMemory);
-        }
+        go_on(self.stopped)?;
         let Some(way) = self.rows.way(&unit.from, &unit.to) else {
             return Ok(Offered::Dropped(DropCause::NoRoute));
         };
@@ -110,12 +108,10 @@ impl<C: Carrier<Addr = Port> + Drop> InactiveNet<C> {
     }
 
     /// A choice is made below, and what comes up is read.
-    fn deliver(&mut self, pick: u32, system: u8) -> Result<Picked, NoMemory>
+    fn choose_pick(&mut self, pick: u32, system: u8) -> Result<Picked, NoMemory>
         ensures { IfOk result (λ answer. InactiveStep C.link C.steps self.old (Choose pick system answer) self.new) }
     {
-        if self.stopped {
-            return Err(NoMemory);
-        }
+        go_on(self.stopped)?;
         self.stopped = true;
         let now = self.link.now();
         let before = self.waiting.len();
@@ -135,12 +131,10 @@ impl<C: Carrier<Addr = Port> + Drop> InactiveNet<C> {
     }
 
     /// Octets are injected below, and what comes up is read.
-    fn receive(&mut self, lan: u8, system: u8, octets: Vec<u8>) -> Result<Injected, NoMemory>
+    fn inject_octets(&mut self, lan: u8, system: u8, octets: Vec<u8>) -> Result<Injected, NoMemory>
         ensures { IfOk result (λ answer. InactiveStep C.link C.steps self.old (Inject lan system octets.items answer) self.new) }
     {
-        if self.stopped {
-            return Err(NoMemory);
-        }
+        go_on(self.stopped)?;
         self.stopped = true;
         let now = self.link.now();
         let before = self.waiting.len();
@@ -160,13 +154,11 @@ impl<C: Carrier<Addr = Port> + Drop> InactiveNet<C> {
     }
 
     /// One tick passes below. Units older than the greatest bound are given up.
-    fn pass(&mut self) -> Result<(), NoMemory>
+    fn tick_once(&mut self) -> Result<(), NoMemory>
         requires { (C.link self.old.link).clock < 4000000000 }
         ensures { OnOk result (InactiveStep C.link C.steps self.old OneTick self.new) }
     {
-        if self.stopped {
-            return Err(NoMemory);
-        }
+        go_on(self.stopped)?;
         self.stopped = true;
         self.link.tick()?;
         read_all(&mut self.link, &self.rows, &mut self.waiting)?;
@@ -194,18 +186,18 @@ impl<C: Carrier<Addr = Port> + Drop> Carrier for InactiveNet<C> {
         ensures link { IfOk result (λ answer. Offers (inactive_link C.link self.old) unit answer (inactive_link C.link self.new)) }
         ensures steps { IfOk result (λ answer. InactiveStep C.link C.steps self.old (Offer unit wish answer) self.new) }
     {
-        self.send(unit, wish)
+        self.offer_unit(unit, wish)
     }
 
     fn choose(&mut self, pick: u32, system: u8) -> Result<Picked, NoMemory> {
-        self.deliver(pick, system)
+        self.choose_pick(pick, system)
     }
 
     fn inject(&mut self, lan: u8, system: u8, octets: Vec<u8>) -> Result<Injected, NoMemory>
         ensures link { IfOk result (λ answer. Injects (inactive_link C.link self.old) answer (inactive_link C.link self.new)) }
         ensures steps { IfOk result (λ answer. InactiveStep C.link C.steps self.old (Inject lan system octets.items answer) self.new) }
     {
-        self.receive(lan, system, octets)
+        self.inject_octets(lan, system, octets)
     }
 
     fn next_up(&mut self) -> Option<Up<Nsap>> {
@@ -213,7 +205,7 @@ impl<C: Carrier<Addr = Port> + Drop> Carrier for InactiveNet<C> {
     }
 
     fn tick(&mut self) -> Result<(), NoMemory> {
-        self.pass()
+        self.tick_once()
     }
 
     fn fresh(&self) -> Option<(u32, u8)> {
@@ -243,6 +235,16 @@ impl<C: Carrier<Addr = Port> + Drop> Carrier for InactiveNet<C> {
     ghost given = { inactive_given C.link C.given };
 
     ghost keeps = { inactive_keeps C.link C.steps C.keeps C.given };
+}
+
+/// After a call that ended for want of memory each further one wants it again: what that one left half done is not known.
+fn go_on(stopped: bool) -> Result<(), NoMemory>
+    ensures { OnOk result (stopped ≡ false) }
+{
+    if stopped {
+        return Err(NoMemory);
+    }
+    Ok(())
 }
 
 /// A unit that was taken floats from now on.

@@ -13,8 +13,8 @@ use Rattle.lan_bag.specs.declared.setup.PortRow.{PortRow}
 use Rattle.lan_bag.specs.declared.setup.Lan.{Lan}
 use Rattle.lan_bag.specs.Rows.{same_port, same_snpa, sender_of, is_on, has_sent, goes_to, is_one_of, is_named_by}
 use Rattle.lan_bag.specs.Frames.{Frame, has_taken, is_live, is_taken}
-use Rattle.lan_bag.specs.steps.Openings.{is_free_to, is_open_to, is_open_at}
-use Rattle.lan_bag.proofs.Openings.{IsLeastAmong, any_less, none_each}
+use Rattle.lan_bag.specs.steps.Openings.{is_free_to, is_open_to, is_open_at, IsLeastAt}
+use Rattle.lan_bag.proofs.Openings.{IsLeastAmong, any_less, none_each, open_nowhere}
 use Rattle.lan_bag.specs.steps.Setting.{AreOfLans, rows_on}
 
 pub any_on : (test : PortRow → Bool) (lan : ℕ) → ((row : PortRow) → test row ≡ true → (row.port.lan == lan) ≡ true) → (some all : List PortRow) → rows_on some lan ≡ rows_on all lan → list_any test some ≡ list_any test all
@@ -152,6 +152,13 @@ open_free clock lans rows frame some k row same lt at live one =
 pub none_reached : (clock : ℕ) (lans : List Lan) (rows all : List PortRow) (frame : Frame) → list_any (is_one_of frame.unit.to) all ≡ false → list_any (is_open_at clock lans rows frame) all ≡ false
 none_reached clock lans rows all frame none =
     any_less (is_one_of frame.unit.to) (is_open_at clock lans rows frame) (λ row e. first_shut (is_one_of frame.unit.to row) (is_open_to clock lans rows frame row.system) e) all none
+
+-- a frame for a destination that is no port's is open to no system
+pub none_to : (clock : ℕ) (lans : List Lan) (rows : List PortRow) (slot : Option Frame) (to : Port) → list_any (is_one_of to) rows ≡ false → ((frame : Frame) → slot ≡ Some frame → frame.unit.to ≡ to) → IsLeastAt clock lans rows slot None
+none_to clock lans rows None to none goes = refl
+none_to clock lans rows (Some frame) to none goes =
+    open_nowhere clock lans rows frame
+    (none_reached clock lans rows rows frame (subst (λ (p : Port). list_any (is_one_of p) rows ≡ false) (sym (goes frame refl)) none))
 
 -- the least at the ports on its LAN is the least at all
 pub least_on : (clock : ℕ) (lans : List Lan) (rows : List PortRow) (frame : Frame) (some : List PortRow) (least : Option ℕ) → rows_on some frame.unit.to.lan ≡ rows_on rows frame.unit.to.lan → IsLeastAmong clock lans rows frame some least → IsLeastAmong clock lans rows frame rows least

@@ -2,5 +2,6 @@ pub mod Headers
 pub mod LanLists
 pub mod Offers
 pub mod Openings
+pub mod Picks
 pub mod Stored
 pub mod Wheels

@@ -11,9 +11,9 @@ use Rattle.nsap.specs.declared.port.Port.{Port}
 use Rattle.lan_bag.specs.declared.setup.Lan.{Lan}
 use Rattle.lan_bag.specs.declared.setup.PortRow.{PortRow}
 use Rattle.lan_bag.specs.Rows.{is_one_of, goes_to}
-use Rattle.lan_bag.specs.Frames.{Frame, kept, has_taken, is_live, is_taken, picked_of, kept_at, marked, marked_at, marked_frame}
+use Rattle.lan_bag.specs.Frames.{Frame, kept, frame_of, has_taken, is_live, is_taken, picked_of, kept_at, marked, marked_at, marked_frame}
 use Rattle.lan_bag.specs.steps.Openings.{is_open_to, is_open_at, is_open, IsClosedTo, IsFirstOpen, IsFreshAt, IsLeastAt, IsLeastOpen, IsPairAt, lesser_of}
-use Rattle.lan_bag.specs.steps.Places.{set_same, set_other, kept_places, marked_by, takes_in, takes_at}
+use Rattle.lan_bag.specs.steps.Places.{push_last, set_same, set_other, kept_places, marked_by, takes_in, takes_at}
 use Rattle.lan_bag.specs.Bag.{Bag, link_of, took_by}
 use Rattle.osi_base.specs.Link.{is_fresh, IsUpTo, IsLeastFresh}
 
@@ -377,7 +377,25 @@ fresh_nowhere clock lans rows frames place within past closed = record {
   pair = subst (λ (slot : Option (Option Frame)). IsPairAt clock lans rows place (kept slot) None) (sym (nothing_past frames place past)) refl;
 }
 
+-- where the frame behind the closed ones is the last and open to no system, no frame is open
+pub fresh_last : (clock : ℕ) (lans : List Lan) (rows : List PortRow) (frames : List (Option Frame)) (place number : ℕ) → place + 1 ≡ number → length frames ≡ number → IsClosedTo clock lans rows frames place → IsLeastAt clock lans rows (frame_of frames number) None → IsFreshAt clock lans rows frames number None
+fresh_last clock lans rows frames place number next last closed least =
+    let at : number ≡ suc place = omega (arith, next) in
+    let here : IsLeastAt clock lans rows (kept (slice_get frames place)) None = subst (λ (n : ℕ). IsLeastAt clock lans rows (frame_of frames n) None) at least in
+    fresh_nowhere clock lans rows frames number (omega (arith, last)) (omega (arith, last))
+    (subst (λ (n : ℕ). IsClosedTo clock lans rows frames n) next (closed_more clock lans rows frames place closed here))
+
 -- what changes do to the first frame that is open, with its pair
+
+-- the frame that was put behind the others has the last number
+pub pushed_is : (frames after : List (Option Frame)) (sent : Frame) (number : ℕ) → after ≡ frames ++ Some sent ∷ [] → number ≡ length frames + 1 → (frame : Frame) → frame_of after number ≡ Some frame → frame ≡ sent
+pushed_is frames after sent number pushed is frame at =
+    let next : number ≡ suc (length frames) = omega (arith, is) in
+    let same : Some sent ≡ Some frame =
+    sym (ap kept (push_last frames (Some sent)))
+    ∙ (ap (λ (fs : List (Option Frame)). frame_of fs (suc (length frames))) (sym pushed) ∙ (ap (λ (n : ℕ). frame_of after n) (sym next) ∙ at)) in
+    let e : sent ≡ frame = cc in
+    sym e
 
 pub fresh_pushed : (clock : ℕ) (lans : List Lan) (rows : List PortRow) (frames : List (Option Frame)) (place number : ℕ) (next : Option (ℕ × ℕ)) (slot : Option Frame) → IsFreshAt clock lans rows frames place next → place + 1 ≢ number → number ≡ length frames + 1 → IsFreshAt clock lans rows (frames ++ slot ∷ []) place next
 fresh_pushed clock lans rows frames place number next slot f other is =

@@ -2,14 +2,15 @@
 
 ghost use Rattle.std.specs.Prelude.{◌≡◌, ◌<◌, ◌≤◌, ◌+◌, ◌++◌, IfOk, OnOk, length, option_copied, if◌then◌else◌};
 ghost use Rattle.osi_base.specs.declared.unit.Offered.TheVariants.{Taken as WasTaken};
+ghost use Rattle.osi_base.specs.declared.unit.Picked.TheVariants.{Taken as WasPicked};
 ghost use Rattle.lan_bag.specs.Rows.{IsSetUp, sender_of};
 ghost use Rattle.lan_bag.specs.Bag.{frame_note};
 ghost use Rattle.lan_bag.specs.Frames.{live_frame, octets_of, offered, frame_of, strays_of};
 
-use crate::delivery::{Fresh, answer_to, judge, open_after, open_while_live};
+use crate::delivery::{LeastPair, answer_to, fresh_after, fresh_while_live, judge, open_with};
 use crate::frame::{Sent, up_of};
+use crate::frame_store::FrameStore;
 use crate::setup::{Lan, PortRow, Setup};
-use crate::store::Store;
 use crate::waiting::Waiting;
 use crate::wheel::Wheel;
 use lan_frame::HEADER;
@@ -24,9 +25,11 @@ pub struct LanBag {
     alloc: Global,
     clock: Tick,
     setup: Setup,
-    frames: Store,
+    frames: FrameStore,
+    /// The places of the frames by the tick at which they are late, so that a tick gives up those alone and goes over no others.
     wheel: Wheel,
-    fresh: Fresh,
+    /// The answer of `fresh`, kept so that a `settle` goes over each frame once and not once for each delivery.
+    fresh: LeastPair,
     waiting: Waiting,
     honest: bool,
     strays: u32,
@@ -66,9 +69,9 @@ impl LanBag {
             alloc,
             clock: 0,
             setup: Setup::new(alloc, lans, ports)?,
-            frames: Store::new(alloc),
+            frames: FrameStore::new(alloc),
             wheel: Wheel::new(alloc)?,
-            fresh: Fresh {
+            fresh: LeastPair {
                 place: 0,
                 pair: None,
             },
@@ -102,9 +105,9 @@ impl LanBag {
     }
 
     /// Offers the frame of a unit.
-    // Inlined, as `keep`: what is told of a frame is moved once less.
+    // Inlined: what is told of a frame is moved once less.
     #[inline(always)]
-    fn send(&mut self, unit: Unit<Port>, wish: Wish) -> Result<Offered, NoMemory>
+    fn offer_unit(&mut self, unit: Unit<Port>, wish: Wish) -> Result<Offered, NoMemory>
         ensures { IfOk result (λ answer. BagStep self.old (Offer unit wish answer) self.new) }
     {
         let _ = wish;
@@ -117,7 +120,6 @@ impl LanBag {
     }
 
     /// Keeps the frame of a unit of a system that is taken, and tells of it.
-    #[inline(always)]
     fn keep(&mut self, sender: Option<u8>, unit: Unit<Port>) -> Result<(), NoMemory>
         requires sender { sender ≡ sender_of self.old.rows unit.from }
         requires taken { WasTaken ≡ offered self.old.lans self.old.rows self.old.frames unit }
@@ -126,15 +128,16 @@ impl LanBag {
         let place = self.frames.count();
         tell(sender, place + 1, &unit, &mut self.waiting)?;
         self.wheel.list(self.setup.bound(unit.to.lan), place)?;
+        let to = unit.to;
         let sent = Sent::new(self.alloc, self.clock, unit)?;
         self.frames.push(sent)?;
         let fresh = self.fresh;
-        self.fresh = open_after(self.clock, &self.setup, &self.frames, fresh, place + 1);
+        self.fresh = open_with(self.clock, &self.setup, &self.frames, fresh, place + 1, &to);
         Ok(())
     }
 
     /// Lets a frame arrive at a system.
-    fn deliver(&mut self, pick: u32, system: u8) -> Result<Picked, NoMemory>
+    fn choose_pick(&mut self, pick: u32, system: u8) -> Result<Picked, NoMemory>
         ensures { IfOk result (λ answer. BagStep self.old (Choose pick system answer) self.new) }
     {
         let answer = self.answer_for(pick, system);
@@ -156,21 +159,22 @@ impl LanBag {
 
     /// A frame that may be taken arrives, and is marked.
     fn arrive(&mut self, pick: u32, system: u8) -> Result<(), NoMemory>
+        requires taken { WasPicked ≡ picked_in self.old pick system }
         ensures { OnOk result (self.new ≡ after_pick self.old pick system (frame_of self.old.frames pick)) }
     {
         let Some(sent) = self.frames.get(pick) else {
-            return Ok(());
+            unreachable!();
         };
         let arrival = sent.arrival(self.alloc, system)?;
         self.waiting.push(Up::Unit(arrival))?;
         self.frames.mark(pick, system)?;
         let fresh = self.fresh;
-        self.fresh = open_after(self.clock, &self.setup, &self.frames, fresh, pick);
+        self.fresh = fresh_after(self.clock, &self.setup, &self.frames, fresh, pick);
         Ok(())
     }
 
     /// A system gets octets that no system sent.
-    fn receive(&mut self, lan: u8, system: u8, octets: &[u8]) -> Result<Injected, NoMemory>
+    fn inject_octets(&mut self, lan: u8, system: u8, octets: &[u8]) -> Result<Injected, NoMemory>
         ensures { IfOk result (λ answer. BagStep self.old (Inject lan system octets.now answer) self.new) }
     {
         if !self.setup.has_port(system, lan) {
@@ -185,7 +189,7 @@ impl LanBag {
     }
 
     /// One tick passes; the frames that are late are given up.
-    fn pass(&mut self)
+    fn tick_once(&mut self)
         requires { self.old.clock < 4000000000 }
         ensures { BagStep self.old OneTick self.new }
     {
@@ -193,11 +197,11 @@ impl LanBag {
         self.clock += 1;
         self.frames.give_up(self.clock, &self.setup, &due);
         let fresh = self.fresh;
-        self.fresh = open_while_live(self.clock, &self.setup, &self.frames, fresh);
+        self.fresh = fresh_while_live(self.clock, &self.setup, &self.frames, fresh);
     }
 
     /// The least pair that a choice would take and has not taken.
-    fn next_pair(&self) -> Option<(u32, u8)>
+    fn fresh_pair(&self) -> Option<(u32, u8)>
         ensures { IsLeastFresh (link_of self.now) result }
     {
         self.fresh.pair
@@ -230,7 +234,7 @@ fn tell(
 }
 
 /// How many arrivals there are in what came that equal no live frame.
-fn strays_in(clock: Tick, setup: &Setup, frames: &Store, up: &Up<Port>) -> u32
+fn strays_in(clock: Tick, setup: &Setup, frames: &FrameStore, up: &Up<Port>) -> u32
     ensures { result ≡ strays_of clock setup.now.lans frames.now up.now }
 {
     match up {
@@ -256,18 +260,18 @@ impl Carrier for LanBag {
         ensures link { IfOk result (λ answer. Offers (link_of self.old) unit answer (link_of self.new)) }
         ensures steps { IfOk result (λ answer. BagStep self.old (Offer unit wish answer) self.new) }
     {
-        self.send(unit, wish)
+        self.offer_unit(unit, wish)
     }
 
     fn choose(&mut self, pick: u32, system: u8) -> Result<Picked, NoMemory> {
-        self.deliver(pick, system)
+        self.choose_pick(pick, system)
     }
 
     fn inject(&mut self, lan: u8, system: u8, octets: Vec<u8>) -> Result<Injected, NoMemory>
         ensures link { IfOk result (λ answer. Injects (link_of self.old) answer (link_of self.new)) }
         ensures steps { IfOk result (λ answer. BagStep self.old (Inject lan system octets.items answer) self.new) }
     {
-        self.receive(lan, system, &octets)
+        self.inject_octets(lan, system, &octets)
     }
 
     fn next_up(&mut self) -> Option<Up<Port>> {
@@ -275,12 +279,12 @@ impl Carrier for LanBag {
     }
 
     fn tick(&mut self) -> Result<(), NoMemory> {
-        self.pass();
+        self.tick_once();
         Ok(())
     }
 
     fn fresh(&self) -> Option<(u32, u8)> {
-        self.next_pair()
+        self.fresh_pair()
     }
 
     fn bound(&self, to: &Port) -> u32 {

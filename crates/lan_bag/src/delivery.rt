@@ -1,20 +1,20 @@
 //! Which answers offers and choices get, and which frame comes next (IEEE 802.3).
 
-ghost use Rattle.std.specs.Prelude.{◌≡◌, ◌≢◌, ◌≤◌, ◌+◌, length, IsSome, option_copied, slice_get};
+ghost use Rattle.std.specs.Prelude.{◌≡◌, ◌≢◌, ◌≤◌, ◌+◌, length, IsSome, Some, option_copied, slice_get};
 ghost use Rattle.lan_bag.specs.Rows.{sender_of};
-ghost use Rattle.lan_bag.specs.Frames.{kept, offered, picked, picked_of};
+ghost use Rattle.lan_bag.specs.Frames.{Frame, frame_of, kept, offered, picked, picked_of};
 ghost use Rattle.lan_bag.specs.steps.Openings.{is_free_to, IsClosedTo, IsFreshAt, IsLeastAt, IsLeastOpen, lesser_of};
 
 use crate::frame::Sent;
+use crate::frame_store::FrameStore;
 use crate::setup::Setup;
-use crate::store::Store;
 use nsap::Port;
 use osi_base::{DropCause, Offered, Picked, Tick, Unit};
 
 /// The first frame that a system may take and has not taken. It is kept, since a run asks for it again and again: then nobody looks at
 /// the frames before it once more.
 #[derive(Clone, Copy)]
-pub struct Fresh {
+pub struct LeastPair {
     /// Its place, and where there is none how many frames were numbered.
     pub place: u32,
     /// Its number, and the least system that may take it and has not.
@@ -22,7 +22,12 @@ pub struct Fresh {
 }
 
 /// The answer to an offer of a unit of a system: the first cause that applies.
-pub fn answer_to(setup: &Setup, frames: &Store, sender: Option<u8>, unit: &Unit<Port>) -> Offered
+pub fn answer_to(
+    setup: &Setup,
+    frames: &FrameStore,
+    sender: Option<u8>,
+    unit: &Unit<Port>,
+) -> Offered
     requires { sender ≡ sender_of setup.now.rows unit.now.from }
     ensures { result ≡ offered setup.now.lans setup.now.rows frames.now unit.now }
 {
@@ -38,7 +43,7 @@ pub fn answer_to(setup: &Setup, frames: &Store, sender: Option<u8>, unit: &Unit<
 }
 
 /// The answer to a choice: the first that applies.
-pub fn judge(clock: Tick, setup: &Setup, frames: &Store, pick: u32, system: u8) -> Picked
+pub fn judge(clock: Tick, setup: &Setup, frames: &FrameStore, pick: u32, system: u8) -> Picked
     ensures { result ≡ picked clock setup.now.lans setup.now.rows frames.now pick system }
 {
     if pick == 0 || pick > frames.count() {
@@ -64,7 +69,7 @@ fn judge_system(setup: &Setup, sent: &Sent, system: u8) -> Picked
 }
 
 /// The first frame, from that place on, that a system may take and has not taken.
-fn first_open(clock: Tick, setup: &Setup, frames: &Store, from: u32) -> Fresh
+fn first_fresh(clock: Tick, setup: &Setup, frames: &FrameStore, from: u32) -> LeastPair
     requires within { from ≤ length frames.now }
     requires closed { IsClosedTo clock setup.now.lans setup.now.rows frames.now from }
     ensures { IsFreshAt clock setup.now.lans setup.now.rows frames.now result.place result.pair }
@@ -73,29 +78,68 @@ fn first_open(clock: Tick, setup: &Setup, frames: &Store, from: u32) -> Fresh
     while place < frames.count() {
         if let Some(system) = first_system_at(clock, setup, frames.at(place)) {
             let pair = Some((place + 1, system));
-            return Fresh { place, pair };
+            return LeastPair { place, pair };
         }
         place += 1;
     }
-    Fresh { place, pair: None }
+    LeastPair { place, pair: None }
 }
 
 /// The same where it was known, and since then at most the frame of a number came or was taken.
-pub fn open_after(clock: Tick, setup: &Setup, frames: &Store, fresh: Fresh, number: u32) -> Fresh
+pub fn fresh_after(
+    clock: Tick,
+    setup: &Setup,
+    frames: &FrameStore,
+    fresh: LeastPair,
+    number: u32,
+) -> LeastPair
     requires within { fresh.place ≤ length frames.now }
     requires closed { IsClosedTo clock setup.now.lans setup.now.rows frames.now fresh.place }
     requires others { fresh.place + 1 ≢ number → IsFreshAt clock setup.now.lans setup.now.rows frames.now fresh.place fresh.pair }
     ensures { IsFreshAt clock setup.now.lans setup.now.rows frames.now result.place result.pair }
 {
     if u64::from(fresh.place) + 1 == u64::from(number) {
-        first_open(clock, setup, frames, fresh.place)
+        first_fresh(clock, setup, frames, fresh.place)
     } else {
         fresh
     }
 }
 
+/// The same where it was known, and since then the frame of a number came, behind the others, for that destination: where it goes to no
+/// port, no frame is looked at.
+// Inlined: mostly one look at the destination or at the place tells.
+#[inline(always)]
+pub fn open_with(
+    clock: Tick,
+    setup: &Setup,
+    frames: &FrameStore,
+    fresh: LeastPair,
+    number: u32,
+    to: &Port,
+) -> LeastPair
+    requires within { fresh.place ≤ length frames.now }
+    requires closed { IsClosedTo clock setup.now.lans setup.now.rows frames.now fresh.place }
+    requires others { fresh.place + 1 ≢ number → IsFreshAt clock setup.now.lans setup.now.rows frames.now fresh.place fresh.pair }
+    requires last { length frames.now ≡ number }
+    requires to { (frame : Frame) → frame_of frames.now number ≡ Some frame → frame.unit.to ≡ to.now }
+    ensures { IsFreshAt clock setup.now.lans setup.now.rows frames.now result.place result.pair }
+{
+    if u64::from(fresh.place) + 1 == u64::from(number) && !setup.may_reach(to) {
+        return LeastPair {
+            place: number,
+            pair: None,
+        };
+    }
+    fresh_after(clock, setup, frames, fresh, number)
+}
+
 /// The same where it was known, and since then the frames that are late were given up.
-pub fn open_while_live(clock: Tick, setup: &Setup, frames: &Store, fresh: Fresh) -> Fresh
+pub fn fresh_while_live(
+    clock: Tick,
+    setup: &Setup,
+    frames: &FrameStore,
+    fresh: LeastPair,
+) -> LeastPair
     requires within { fresh.place ≤ length frames.now }
     requires closed { IsClosedTo clock setup.now.lans setup.now.rows frames.now fresh.place }
     requires stands { IsSome (kept (slice_get frames.now fresh.place)) → IsFreshAt clock setup.now.lans setup.now.rows frames.now fresh.place fresh.pair }
@@ -103,7 +147,7 @@ pub fn open_while_live(clock: Tick, setup: &Setup, frames: &Store, fresh: Fresh)
 {
     match frames.at(fresh.place) {
         Some(_) => fresh,
-        None => first_open(clock, setup, frames, fresh.place),
+        None => first_fresh(clock, setup, frames, fresh.place),
     }
 }
 

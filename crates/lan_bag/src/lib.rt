@@ -4,9 +4,9 @@
 mod bag;
 mod delivery;
 mod frame;
-mod listed;
+mod frame_store;
+mod lan_ports;
 mod setup;
-mod store;
 mod takers;
 mod waiting;
 mod wheel;

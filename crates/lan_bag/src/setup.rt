@@ -5,7 +5,7 @@ ghost use Rattle.std.specs.List.{list_any};
 ghost use Rattle.lan_bag.specs.Rows.{bound_on, room_on, is_on, sender_of, has_sent, goes_to, is_named_by, is_one_of, group_of_kind};
 ghost use Rattle.lan_bag.specs.steps.Setting.{AreOfLans, rows_on};
 
-use crate::listed::Listed;
+use crate::lan_ports::LanPorts;
 use nsap::{ALL_END_SYSTEMS, ALL_INTERMEDIATE_SYSTEMS, Port, Snpa};
 use osi_base::NoMemory;
 use std::alloc::Global;
@@ -42,7 +42,7 @@ pub struct PortRow {
 pub struct Setup {
     lans: Vec<Lan>,
     rows: Vec<PortRow>,
-    lists: Vec<Listed>,
+    lists: Vec<LanPorts>,
 }
 
 // The ports on each LAN that is listed are in its list.
@@ -198,12 +198,12 @@ fn goes_to(rows: &[PortRow], system: u8, to: &Port) -> bool
 
 /// The ports on each LAN.
 #[tactic(auto, using(crate::proofs::LanLists::listed_more))]
-fn lists_of(alloc: Global, lans: usize, rows: &[PortRow]) -> Result<Vec<Listed>, NoMemory>
+fn lists_of(alloc: Global, lans: usize, rows: &[PortRow]) -> Result<Vec<LanPorts>, NoMemory>
     ensures { IfOk result (λ lists. AreOfLans lists.items rows.now) }
 {
     let mut lists = Vec::new(alloc);
     for lan in 0..lans {
-        lists.push(Listed::of(list_of(alloc, lan, rows)?))?;
+        lists.push(LanPorts::of(list_of(alloc, lan, rows)?))?;
     }
     Ok(lists)
 }

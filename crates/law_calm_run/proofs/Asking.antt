@@ -23,7 +23,7 @@ use Rattle.tp4_number.specs.Number.{whole}
 use Rattle.tp4_conn.specs.Calls.{IsCall}
 use Rattle.tp4_conn.specs.End.{IsSized}
 use Rattle.tp4_conn.specs.Proper.{IsProperCall}
-use Rattle.tp4_conn.specs.declared.call.ConnectCall.{ConnectCall}
+use Rattle.tp4_conn.specs.declared.call.ConnectRequest.{ConnectRequest}
 use Rattle.tp4_conn.specs.declared.call.UserCall.{UserCall}
 use Rattle.tp4_entity.specs.declared.refusal.ConnectRefusal.{ConnectRefusal}
 use Rattle.tp4_entity.specs.declared.refusal.EntityRefusal.{EntityRefusal}
@@ -48,11 +48,11 @@ use Rattle.law_calm_run.proofs.Queueing.{all_parts, none_dropped, raw_behind}
 use Rattle.tp4_entity.proofs.Restarts.{calling_same, connecting_same}
 
 -- what a connect line may ask: one of the sizes, selectors of 32 octets at most, and the address of a system
-pub record IsAsked (titles : List (List ℕ)) (call : ConnectCall) : Type 0 where
-  pub size : IsSized call.options
-  pub calling : length call.from_selector ≤ 32
-  pub called : length call.to_selector ≤ 32
-  pub address : IsAddress titles call.to
+pub record IsAsked (titles : List (List ℕ)) (request : ConnectRequest) : Type 0 where
+  pub size : IsSized request.options
+  pub calling : length request.from_selector ≤ 32
+  pub called : length request.to_selector ≤ 32
+  pub address : IsAddress titles request.to
 
 no_quiet : (why : Refused) → AreQuiet (events.No why ∷ [])
 no_quiet why = (record { submits = λ end. refl; shows = λ end. refl; makes = refl }, tt)
@@ -81,25 +81,25 @@ module _ {C : Type 0} (link : C → Link (List ℕ)) (steps : C → Call (List �
 
   -- ---- connect
 
-  begun : (old new : World C) (hall : Hall) (queue : List (CarriedUnit (List ℕ))) (made : List Event) (system : ℕ) (entity : Entity) (call : ConnectCall) (found : Option ℕ) → Known old hall queue → queue ≡ []
-      → AllByRecursion IsUndropped made → entity_at old.entities system ≡ Some entity → IsAsked titles call → length call.octets ≤ 32 → least_free (clock_of link steps old) entity ≡ found
-      → BeginsAt link steps old system entity call found made new → Goes_on hall made new
-  begun old new hall queue made system entity call None s none all there asked octets least step = absurd step
-  begun old new hall queue made system entity call (Some reference) s none all there asked octets least step =
+  begun : (old new : World C) (hall : Hall) (queue : List (CarriedUnit (List ℕ))) (made : List Event) (system : ℕ) (entity : Entity) (request : ConnectRequest) (found : Option ℕ) → Known old hall queue → queue ≡ []
+      → AllByRecursion IsUndropped made → entity_at old.entities system ≡ Some entity → IsAsked titles request → length request.octets ≤ 32 → least_free (clock_of link steps old) entity ≡ found
+      → BeginsAt link steps old system entity request found made new → Goes_on hall made new
+  begun old new hall queue made system entity request None s none all there asked octets least step = absurd step
+  begun old new hall queue made system entity request (Some reference) s none all there asked octets least step =
       let now : ℕ = hall.clock in
       let place : List EndAt = record { system = system; reference = reference } ∷ [] in
       let there_now : entity_at hall.entities system ≡ Some entity = sym (ap (λ (ps : List Placed). entity_at ps system) s.shows.entities) ∙ there in
       let free : least_free hall.clock entity ≡ Some reference = subst (λ (n : ℕ). least_free n entity ≡ Some reference) s.shows.clock least in
       let was = s.kept system entity there_now in
-      let proper : IsProperCall (call_of entity reference call) = record { timers = was.proper.timers; size = asked.size; calling = asked.calling; called = asked.called; octets = octets } in
-      let acted : Acted = connecting hall.clock entity reference call in
+      let proper : IsProperCall (call_of entity reference request) = record { timers = was.proper.timers; size = asked.size; calling = asked.calling; called = asked.called; octets = octets } in
+      let acted : Acted = connecting hall.clock entity reference request in
       let begins : World C = record old { ends = old.ends ++ place } in
-      let acts : Acts link steps begins system entity.own acted step.0 new = subst (λ (n : ℕ). Acts link steps begins system entity.own (connecting n entity reference call) step.0 new) s.shows.clock step.1 in
-      let goes : IsProperStep hall.clock acted = connecting_rests hall.clock reference entity call (record { proper = was.proper; idle = s.rest system entity there_now }) free proper in
-      let fine : ActsFine (IsAddress titles) entity.own acted = connecting_fine (IsAddress titles) hall.clock entity reference call was.ends asked.address in
+      let acts : Acts link steps begins system entity.own acted step.0 new = subst (λ (n : ℕ). Acts link steps begins system entity.own (connecting n entity reference request) step.0 new) s.shows.clock step.1 in
+      let goes : IsProperStep hall.clock acted = connecting_rests hall.clock reference entity request (record { proper = was.proper; idle = s.rest system entity there_now }) free proper in
+      let fine : ActsFine (IsAddress titles) entity.own acted = connecting_fine (IsAddress titles) hall.clock entity reference request was.ends asked.address in
       let shows : IsHall link titles Waits begins (with_new hall system reference) queue =
       record { clock = s.shows.clock; entities = s.shows.entities; ends = ap (λ (es : List EndAt). es ++ place) s.shows.ends; waits = s.shows.waits; units = s.shows.units } in
-      let event : Event = connect_event (length old.ends + 1) system reference entity.own call in
+      let event : Event = connect_event (length old.ends + 1) system reference entity.own request in
       let a = acts_go link steps law titles Waits fifo begins new (with_new hall system reference) queue system was.title entity.own acted step.0 shows was.title_is was.own fine goes.tpdus
       (undropped_behind (event ∷ []) made step.0 step.2 all) acts in
       let next : Hall = after (with_new hall system reference) system acted in
@@ -111,32 +111,32 @@ module _ {C : Type 0} (link : C → Link (List ℕ)) (steps : C → Call (List �
           system = system;
           entity = entity;
           there = there_now;
-          call = call;
+          request = request;
           reference = reference;
           free = free;
           proper = proper;
           address = asked.address;
           later = step.0;
           does = a.does;
-          made_is = step.2 ∙ ap (λ (es : List EndAt). connect_event (length es + 1) system reference entity.own call ∷ step.0) s.shows.ends;
+          made_is = step.2 ∙ ap (λ (es : List EndAt). connect_event (length es + 1) system reference entity.own request ∷ step.0) s.shows.ends;
         }));
         shows = a.shows;
-        kept = kept_after titles hall.entities system entity acted s.kept there_now (connecting_same hall.clock reference entity call) goes.rest.proper fine;
+        kept = kept_after titles hall.entities system entity acted s.kept there_now (connecting_same hall.clock reference entity request) goes.rest.proper fine;
         have = have_after titles hall.entities system acted.entity s.have;
         rest = waiting_after link steps law titles Waits fifo hall system acted s.rest goes.rest.idle;
       }
 
-  connect_by : (old new : World C) (hall : Hall) (queue : List (CarriedUnit (List ℕ))) (made : List Event) (system : ℕ) (entity : Entity) (call : ConnectCall) (why : Option ConnectRefusal) → Known old hall queue
-      → queue ≡ [] → AllByRecursion IsUndropped made → entity_at old.entities system ≡ Some entity → IsAsked titles call → connect_refusal (clock_of link steps old) entity call.octets ≡ why
-      → ConnectsBy link steps old system entity call why made new → Goes_on hall made new
-  connect_by old new hall queue made system entity call (Some why) s none all there asked is step = refused old new hall queue made _ s step
-  connect_by old new hall queue made system entity call None s none all there asked is step =
-      begun old new hall queue made system entity call (least_free (clock_of link steps old) entity) s none all there asked (short (clock_of link steps old) entity call.octets is) refl step
+  connect_by : (old new : World C) (hall : Hall) (queue : List (CarriedUnit (List ℕ))) (made : List Event) (system : ℕ) (entity : Entity) (request : ConnectRequest) (why : Option ConnectRefusal) → Known old hall queue
+      → queue ≡ [] → AllByRecursion IsUndropped made → entity_at old.entities system ≡ Some entity → IsAsked titles request → connect_refusal (clock_of link steps old) entity request.octets ≡ why
+      → ConnectsBy link steps old system entity request why made new → Goes_on hall made new
+  connect_by old new hall queue made system entity request (Some why) s none all there asked is step = refused old new hall queue made _ s step
+  connect_by old new hall queue made system entity request None s none all there asked is step =
+      begun old new hall queue made system entity request (least_free (clock_of link steps old) entity) s none all there asked (short (clock_of link steps old) entity request.octets is) refl step
 
-  pub connected : (old new : World C) (hall : Hall) (queue : List (CarriedUnit (List ℕ))) (made : List Event) (system : ℕ) (call : ConnectCall) → Known old hall queue → queue ≡ [] → AllByRecursion IsUndropped made
-      → IsAsked titles call → Connects link steps old system call made new → Goes_on hall made new
-  connected old new hall queue made system call s none all asked step =
-      connect_by old new hall queue made system step.0 call (connect_refusal (clock_of link steps old) step.0 call.octets) s none all step.1 asked refl step.2
+  pub connected : (old new : World C) (hall : Hall) (queue : List (CarriedUnit (List ℕ))) (made : List Event) (system : ℕ) (request : ConnectRequest) → Known old hall queue → queue ≡ [] → AllByRecursion IsUndropped made
+      → IsAsked titles request → Connects link steps old system request made new → Goes_on hall made new
+  connected old new hall queue made system request s none all asked step =
+      connect_by old new hall queue made system step.0 request (connect_refusal (clock_of link steps old) step.0 request.octets) s none all step.1 asked refl step.2
 
   -- ---- a call on an end
 

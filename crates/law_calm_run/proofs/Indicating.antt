@@ -21,11 +21,11 @@ use Rattle.tpdu.specs.Writing.{is_summed, kind_for}
 use Rattle.tp4_number.specs.Number.{whole}
 use Rattle.tp4_flow.specs.declared.rules.Options.{Options}
 use Rattle.tp4_flow.specs.declared.step.Sent.{Sent}
-use Rattle.tp4_conn.specs.Agreeing.{proposed_by, request}
+use Rattle.tp4_conn.specs.Agreeing.{proposed_by, request as cr_of}
 use Rattle.tp4_conn.specs.End.{IsSized}
 use Rattle.tp4_conn.specs.Making.{called_end, caller, indicated}
 use Rattle.tp4_conn.specs.Proper.{IsProperCall}
-use Rattle.tp4_conn.specs.declared.call.ConnectCall.{ConnectCall}
+use Rattle.tp4_conn.specs.declared.call.ConnectRequest.{ConnectRequest}
 use Rattle.tp4_entity.specs.Association.{met}
 use Rattle.tp4_entity.specs.Entity.{Acted, Entity, at, moved}
 use Rattle.tp4_entity.specs.References.{least_free}
@@ -92,16 +92,16 @@ met_first titles hall made new (More o m n mid here others proper step goes all)
 -- ---- the CR
 
 -- what a request says, from an entity of that address
-abbrev asked_by : ℕ → ℕ → ℕ → List ℕ → ConnectCall → Request
-asked_by number system reference own call = record {
+abbrev asked_by : ℕ → ℕ → ℕ → List ℕ → ConnectRequest → Request
+asked_by number system reference own request = record {
   end = number;
   system = system;
   reference = reference;
   calling = own;
-  calling_selector = call.from_selector;
-  called = call.to;
-  called_selector = call.to_selector;
-  octets = call.octets;
+  calling_selector = request.from_selector;
+  called = request.to;
+  called_selector = request.to_selector;
+  octets = request.octets;
 }
 
 connect_same : (one other : Request) (xs ys : List Event) → events.Connect one ∷ xs ≡ events.Connect other ∷ ys → one ≡ other
@@ -117,26 +117,26 @@ module _ {C : Type 0} (link : C → Link (List ℕ)) (steps : C → Call (List �
     (law : (old : C) (call : Call (List ℕ)) (new : C) → steps old call new → Keeps (link old) call (link new))
     (titles : List (List ℕ)) (Waits : C → List (CarriedUnit (List ℕ)) → Type 0) (fifo : IsFifo link steps titles Waits) where
   -- an entity made an end and sent its CR: it stands beside what waited
-  record Requested (hall : Hall) (system reference : ℕ) (entity : Entity) (call : ConnectCall) (new : World C) : Type 0 where
+  record Requested (hall : Hall) (system reference : ℕ) (entity : Entity) (request : ConnectRequest) (new : World C) : Type 0 where
     queue : List (CarriedUnit (List ℕ))
-    stands : Stands link steps law titles Waits fifo new (after (with_new hall system reference) system (connecting hall.clock entity reference call)) queue
+    stands : Stands link steps law titles Waits fifo new (after (with_new hall system reference) system (connecting hall.clock entity reference request)) queue
 
-  requested : (old new : World C) (hall : Hall) (queue : List (CarriedUnit (List ℕ))) (system reference : ℕ) (entity : Entity) (call : ConnectCall) (later : List Event)
-      → Stands link steps law titles Waits fifo old hall queue → AllByRecursion IsUndropped later → entity_at old.entities system ≡ Some entity → IsAsked titles call → length call.octets ≤ 32
+  requested : (old new : World C) (hall : Hall) (queue : List (CarriedUnit (List ℕ))) (system reference : ℕ) (entity : Entity) (request : ConnectRequest) (later : List Event)
+      → Stands link steps law titles Waits fifo old hall queue → AllByRecursion IsUndropped later → entity_at old.entities system ≡ Some entity → IsAsked titles request → length request.octets ≤ 32
       → least_free (clock_of link steps old) entity ≡ Some reference
-      → Acts link steps (record old { ends = old.ends ++ record { system = system; reference = reference } ∷ [] }) system entity.own (connecting (clock_of link steps old) entity reference call) later new
-      → Requested hall system reference entity call new
-  requested old new hall queue system reference entity call later s all there asked octets least acted_so =
+      → Acts link steps (record old { ends = old.ends ++ record { system = system; reference = reference } ∷ [] }) system entity.own (connecting (clock_of link steps old) entity reference request) later new
+      → Requested hall system reference entity request new
+  requested old new hall queue system reference entity request later s all there asked octets least acted_so =
       let place : List EndAt = record { system = system; reference = reference } ∷ [] in
       let there_now : entity_at hall.entities system ≡ Some entity = sym (ap (λ (ps : List Placed). entity_at ps system) s.shows.entities) ∙ there in
       let free : least_free hall.clock entity ≡ Some reference = subst (λ (n : ℕ). least_free n entity ≡ Some reference) s.shows.clock least in
       let was = s.kept system entity there_now in
-      let proper : IsProperCall (call_of entity reference call) = record { timers = was.proper.timers; size = asked.size; calling = asked.calling; called = asked.called; octets = octets } in
-      let acted : Acted = connecting hall.clock entity reference call in
+      let proper : IsProperCall (call_of entity reference request) = record { timers = was.proper.timers; size = asked.size; calling = asked.calling; called = asked.called; octets = octets } in
+      let acted : Acted = connecting hall.clock entity reference request in
       let begins : World C = record old { ends = old.ends ++ place } in
-      let acts : Acts link steps begins system entity.own acted later new = subst (λ (n : ℕ). Acts link steps begins system entity.own (connecting n entity reference call) later new) s.shows.clock acted_so in
-      let goes : IsProperStep hall.clock acted = connecting_rests hall.clock reference entity call (record { proper = was.proper; idle = s.rest system entity there_now }) free proper in
-      let fine : ActsFine _ entity.own acted = connecting_fine _ hall.clock entity reference call was.ends asked.address in
+      let acts : Acts link steps begins system entity.own acted later new = subst (λ (n : ℕ). Acts link steps begins system entity.own (connecting n entity reference request) later new) s.shows.clock acted_so in
+      let goes : IsProperStep hall.clock acted = connecting_rests hall.clock reference entity request (record { proper = was.proper; idle = s.rest system entity there_now }) free proper in
+      let fine : ActsFine _ entity.own acted = connecting_fine _ hall.clock entity reference request was.ends asked.address in
       let shows : IsHall link titles Waits begins (with_new hall system reference) queue =
       record { clock = s.shows.clock; entities = s.shows.entities; ends = ap (λ (es : List EndAt). es ++ place) s.shows.ends; waits = s.shows.waits; units = s.shows.units } in
       let a = acts_go link steps law titles Waits fifo begins new (with_new hall system reference) queue system was.title entity.own acted later shows was.title_is was.own fine goes.tpdus all acts in
@@ -144,7 +144,7 @@ module _ {C : Type 0} (link : C → Link (List ℕ)) (steps : C → Call (List �
         queue = a.queue;
         stands = record {
           shows = a.shows;
-          kept = kept_after titles hall.entities system entity acted s.kept there_now (connecting_same hall.clock reference entity call) goes.rest.proper fine;
+          kept = kept_after titles hall.entities system entity acted s.kept there_now (connecting_same hall.clock reference entity request) goes.rest.proper fine;
           have = have_after titles hall.entities system acted.entity s.have;
           rest = waiting_after link steps law titles Waits fifo hall system acted s.rest goes.rest.idle;
         };
@@ -152,16 +152,16 @@ module _ {C : Type 0} (link : C → Link (List ℕ)) (steps : C → Call (List �
 
   -- ---- the settle behind it
 
-  module _ (distinct : AreDistinct titles) (hall : Hall) (none : hall.posts ≡ []) (system to : ℕ) (receiver : List ℕ) (to_is : slice_get titles to ≡ Some receiver) (reference : ℕ) (entity : Entity) (call : ConnectCall)
-      (address : call.to ≡ transport_address receiver) (there : entity_at hall.entities system ≡ Some entity) (kept : AreKept titles hall.entities) where
+  module _ (distinct : AreDistinct titles) (hall : Hall) (none : hall.posts ≡ []) (system to : ℕ) (receiver : List ℕ) (to_is : slice_get titles to ≡ Some receiver) (reference : ℕ) (entity : Entity) (request : ConnectRequest)
+      (address : request.to ≡ transport_address receiver) (there : entity_at hall.entities system ≡ Some entity) (kept : AreKept titles hall.entities) where
     abbrev acted : Acted
-    acted = connecting hall.clock entity reference call
+    acted = connecting hall.clock entity reference request
 
     abbrev next : Hall
     next = after (with_new hall system reference) system acted
 
     abbrev cr : Sent
-    cr = request (caller hall.clock (call_of entity reference call)) call.octets
+    cr = cr_of (caller hall.clock (call_of entity reference request)) request.octets
 
     abbrev post : Post
     post = record { system = system; sent = cr }
@@ -195,20 +195,20 @@ module _ {C : Type 0} (link : C → Link (List ℕ)) (steps : C → Call (List �
       reads = inl (ap (λ (p : Post). has_number (kind_for p.sent.tpdu)) post_is)
 
       -- so it is indicated, where it may be
-      indicates : IsSized call.options → (may : MayIndicate hall.clock m.entity entity.own reference call.to_selector)
-          → m.acted ≡ moved (at hall.clock m.entity) may.own (indicated (called_end hall.clock may.own entity.own m.entity.timers entity.timers.credit reference call.from_selector call.to_selector (proposed_by call.options)) call.octets)
+      indicates : IsSized request.options → (may : MayIndicate hall.clock m.entity entity.own reference request.to_selector)
+          → m.acted ≡ moved (at hall.clock m.entity) may.own (indicated (called_end hall.clock may.own entity.own m.entity.timers entity.timers.credit reference request.from_selector request.to_selector (proposed_by request.options)) request.octets)
       indicates sized may =
           m.heard reads
           ∙ ap (λ (f : List ℕ). met whole hall.clock (at hall.clock m.entity) f (m.post.sent.tpdu, is_summed m.post.sent.sum m.post.sent.tpdu)) from_is
           ∙ ap (λ (p : Post). met whole hall.clock (at hall.clock m.entity) entity.own (p.sent.tpdu, is_summed p.sent.sum p.sent.tpdu)) post_is
-          ∙ incoming hall.clock hall.clock may.own (at hall.clock m.entity) entity.own (call_of entity reference call) (is_summed cr.sum cr.tpdu) sized may.none may.none_frozen may.registered may.free
+          ∙ incoming hall.clock hall.clock may.own (at hall.clock m.entity) entity.own (call_of entity reference request) (is_summed cr.sum cr.tpdu) sized may.none may.none_frozen may.registered may.free
 
       -- and its line says what the request does
-      told : IsSized call.options → (may : MayIndicate hall.clock m.entity entity.own reference call.to_selector)
-          → (heard : Indication) × Contains here (events.Incoming heard) × IsIndicationOf (asked_by (length hall.ends + 1) system reference entity.own call) heard
+      told : IsSized request.options → (may : MayIndicate hall.clock m.entity entity.own reference request.to_selector)
+          → (heard : Indication) × Contains here (events.Incoming heard) × IsIndicationOf (asked_by (length hall.ends + 1) system reference entity.own request) heard
       told sized may =
-          let b = called_end hall.clock may.own entity.own m.entity.timers entity.timers.credit reference call.from_selector call.to_selector (proposed_by call.options) in
-          let lines : here ≡ events_after next.ends m.system m.entity.own (indicated b call.octets).events ++ m.does.aside =
+          let b = called_end hall.clock may.own entity.own m.entity.timers entity.timers.credit reference request.from_selector request.to_selector (proposed_by request.options) in
+          let lines : here ≡ events_after next.ends m.system m.entity.own (indicated b request.octets).events ++ m.does.aside =
           m.does.made_is ∙ ap (λ (a : Acted). events_after next.ends m.system m.entity.own a.events ++ m.does.aside) (indicates sized may) in
           let heard : Indication = record {
             end = latest (next.ends ++ record { system = m.system; reference = may.own } ∷ []) m.system may.own;
@@ -216,11 +216,11 @@ module _ {C : Type 0} (link : C → Link (List ℕ)) (steps : C → Call (List �
             reference = may.own;
             calling = entity.own;
             partner = reference;
-            calling_selector = call.from_selector;
+            calling_selector = request.from_selector;
             called = m.entity.own;
-            called_selector = call.to_selector;
-            options = told_options call.options;
-            octets = call.octets;
+            called_selector = request.to_selector;
+            options = told_options request.options;
+            octets = request.octets;
           } in (
             heard,
             subst (λ (es : List Event). Contains es (events.Incoming heard)) (sym lines) (Contains-append_left (events.Incoming heard ∷ []) m.does.aside (events.Incoming heard) (Contains-push [] (events.Incoming heard))),
@@ -254,29 +254,29 @@ module _ {C : Type 0} (link : C → Link (List ℕ)) (steps : C → Call (List �
     abbrev Found : Type 0
     Found = (heard : Indication) × Contains settled_by (events.Incoming heard) × IsIndicationOf asked heard
 
-    made_one : (receiver : List ℕ) (call : ConnectCall) (entity : Entity) (found : Option ℕ) → slice_get titles to ≡ Some receiver → call.to ≡ transport_address receiver → call.to_selector ≡ called → IsAsked titles call
-        → length call.octets ≤ 32 → entity_at before.entities system ≡ Some entity → least_free (clock_of link steps before) entity ≡ found
-        → BeginsAt link steps before system entity call found (events.Connect asked ∷ c.later) c.between → Found
-    made_one receiver call entity None to_is address selects is_asked short_enough there least begins = absurd begins
-    made_one receiver call entity (Some reference) to_is address selects is_asked short_enough there least begins =
-        let asked_is : asked ≡ asked_by (length before.ends + 1) system reference entity.own call = connect_same asked _ c.later begins.0 begins.2 in
-        let later_is : begins.0 ≡ c.later = sym (connect_rest asked (asked_by (length before.ends + 1) system reference entity.own call) c.later begins.0 begins.2) in
+    made_one : (receiver : List ℕ) (request : ConnectRequest) (entity : Entity) (found : Option ℕ) → slice_get titles to ≡ Some receiver → request.to ≡ transport_address receiver → request.to_selector ≡ called → IsAsked titles request
+        → length request.octets ≤ 32 → entity_at before.entities system ≡ Some entity → least_free (clock_of link steps before) entity ≡ found
+        → BeginsAt link steps before system entity request found (events.Connect asked ∷ c.later) c.between → Found
+    made_one receiver request entity None to_is address selects is_asked short_enough there least begins = absurd begins
+    made_one receiver request entity (Some reference) to_is address selects is_asked short_enough there least begins =
+        let asked_is : asked ≡ asked_by (length before.ends + 1) system reference entity.own request = connect_same asked _ c.later begins.0 begins.2 in
+        let later_is : begins.0 ≡ c.later = sym (connect_rest asked (asked_by (length before.ends + 1) system reference entity.own request) c.later begins.0 begins.2) in
         let there_now : entity_at done.went.next.entities system ≡ Some entity = sym (ap (λ (ps : List Placed). entity_at ps system) known.shows.entities) ∙ there in
-        let r = requested before c.between done.went.next done.went.queue system reference entity call begins.0 known (subst (λ (es : List Event). AllByRecursion IsUndropped es) (sym later_is) parts.0) there is_asked short_enough least begins.1 in
-        let after_it : Hall = after (with_new done.went.next system reference) system (connecting done.went.next.clock entity reference call) in
+        let r = requested before c.between done.went.next done.went.queue system reference entity request begins.0 known (subst (λ (es : List Event). AllByRecursion IsUndropped es) (sym later_is) parts.0) there is_asked short_enough least begins.1 in
+        let after_it : Hall = after (with_new done.went.next system reference) system (connecting done.went.next.clock entity reference request) in
         let over = settled link steps law titles Waits fifo 0 c.between settled_by last c.settles after_it r.queue r.stands parts.1 in
         let over_none : over.went.next.posts ≡ [] = subst (λ (q : List (CarriedUnit (List ℕ))). AreUnitsOf titles q over.went.next.posts) over.none over.went.shows.units in
-        let m = met_first titles after_it settled_by over.went.next over.went.goes (record { system = system; sent = request (caller done.went.next.clock (call_of entity reference call)) call.octets }) []
-        (ap (λ (ps : List Post). ps ++ record { system = system; sent = request (caller done.went.next.clock (call_of entity reference call)) call.octets } ∷ []) idle) over_none in
-        let at_to : m.meets.system ≡ to = system_is start.distinct done.went.next idle system to receiver to_is reference entity call address there_now known.kept m.here m.next m.meets r.stands.kept in
+        let m = met_first titles after_it settled_by over.went.next over.went.goes (record { system = system; sent = cr_of (caller done.went.next.clock (call_of entity reference request)) request.octets }) []
+        (ap (λ (ps : List Post). ps ++ record { system = system; sent = cr_of (caller done.went.next.clock (call_of entity reference request)) request.octets } ∷ []) idle) over_none in
+        let at_to : m.meets.system ≡ to = system_is start.distinct done.went.next idle system to receiver to_is reference entity request address there_now known.kept m.here m.next m.meets r.stands.kept in
         let same : m.meets.entity ≡ c.entity =
         some_same m.meets.entity c.entity (sym m.meets.there ∙ ap (entity_at after_it.entities) at_to ∙ ap (λ (ps : List Placed). entity_at ps to) (sym r.stands.shows.entities) ∙ c.entity_is) in
-        let may : MayIndicate done.went.next.clock m.meets.entity entity.own reference call.to_selector =
-        subst (λ (e : Entity). MayIndicate done.went.next.clock e entity.own reference call.to_selector) (sym same)
-        (subst (λ (n : ℕ). MayIndicate n c.entity entity.own reference call.to_selector) r.stands.shows.clock
+        let may : MayIndicate done.went.next.clock m.meets.entity entity.own reference request.to_selector =
+        subst (λ (e : Entity). MayIndicate done.went.next.clock e entity.own reference request.to_selector) (sym same)
+        (subst (λ (n : ℕ). MayIndicate n c.entity entity.own reference request.to_selector) r.stands.shows.clock
         (subst (λ (s : List ℕ). MayIndicate (link c.between.carrier).clock c.entity entity.own reference s) (sym selects)
         (subst (λ (q : Request). MayIndicate (link c.between.carrier).clock c.entity q.calling q.reference called) asked_is c.may))) in
-        let found = told start.distinct done.went.next idle system to receiver to_is reference entity call address there_now known.kept m.here m.next m.meets r.stands.kept is_asked.size may in (
+        let found = told start.distinct done.went.next idle system to receiver to_is reference entity request address there_now known.kept m.here m.next m.meets r.stands.kept is_asked.size may in (
           found.0,
           subst (λ (es : List Event). Contains es (events.Incoming found.0)) (sym m.made_is) (Contains-append_right m.before (m.here ++ m.rest) (events.Incoming found.0) (Contains-append_left m.here m.rest (events.Incoming found.0) found.1)),
           record {
@@ -289,12 +289,12 @@ module _ {C : Type 0} (link : C → Link (List ℕ)) (steps : C → Call (List �
           },
         )
 
-    by_why : (receiver : List ℕ) (call : ConnectCall) (entity : Entity) (why : Option ConnectRefusal) → slice_get titles to ≡ Some receiver → call.to ≡ transport_address receiver → call.to_selector ≡ called → IsAsked titles call
-        → entity_at before.entities system ≡ Some entity → connect_refusal (clock_of link steps before) entity call.octets ≡ why
-        → ConnectsBy link steps before system entity call why (events.Connect asked ∷ c.later) c.between → Found
-    by_why receiver call entity (Some why) to_is address selects is_asked there why_is step = absurd (refused_never before c.between asked c.later (told_connect why) step)
-    by_why receiver call entity None to_is address selects is_asked there why_is step =
-        made_one receiver call entity (least_free (clock_of link steps before) entity) to_is address selects is_asked (short (clock_of link steps before) entity call.octets why_is) there refl step
+    by_why : (receiver : List ℕ) (request : ConnectRequest) (entity : Entity) (why : Option ConnectRefusal) → slice_get titles to ≡ Some receiver → request.to ≡ transport_address receiver → request.to_selector ≡ called → IsAsked titles request
+        → entity_at before.entities system ≡ Some entity → connect_refusal (clock_of link steps before) entity request.octets ≡ why
+        → ConnectsBy link steps before system entity request why (events.Connect asked ∷ c.later) c.between → Found
+    by_why receiver request entity (Some why) to_is address selects is_asked there why_is step = absurd (refused_never before c.between asked c.later (told_connect why) step)
+    by_why receiver request entity None to_is address selects is_asked there why_is step =
+        made_one receiver request entity (least_free (clock_of link steps before) entity) to_is address selects is_asked (short (clock_of link steps before) entity request.octets why_is) there refl step
 
     pub is_indicated : Found
     is_indicated =

@@ -12,7 +12,7 @@ use Rattle.tp4_number.specs.Number.{whole}
 use Rattle.tp4_flow.specs.declared.rules.Options.{Options}
 use Rattle.tp4_conn.specs.End.{IsSized}
 use Rattle.tp4_conn.specs.declared.call.UserCall.TheVariants as asks
-use Rattle.law_tp4_pair.specs.Calm.{IsSettled, Settles as IsSettledNext}
+use Rattle.law_tp4_pair.specs.Calm.{IsSettledScript, Settles as IsSettledNext}
 use Rattle.law_tp4_pair.specs.Claim.{IsUndropped}
 use Rattle.tp4_world.specs.Run.{RunsLine, RunsLines}
 use Rattle.tp4_world.specs.World.{World}
@@ -51,7 +51,7 @@ module _ {C : Type 0} (link : C → Link (List ℕ)) (steps : C → Call (List �
   MayGo queue script = (queue ≡ []) ⊎ IsSettledNext script
 
   -- a line but `settle`, where nothing waits
-  asked : (line : Line) (script : List Line) (old new : World C) (hall : Hall) (queue : List (CarriedUnit (List ℕ))) (made : List Event) → Known old hall queue → queue ≡ [] → IsSettled (line ∷ script)
+  asked : (line : Line) (script : List Line) (old new : World C) (hall : Hall) (queue : List (CarriedUnit (List ℕ))) (made : List Event) → Known old hall queue → queue ≡ [] → IsSettledScript (line ∷ script)
       → IsProperLine line → IsUnrouted line → AllByRecursion IsUndropped made → RunsLine link steps whole titles old line made new → (line ≡ lines.Settle → ⊥) → Goes_on hall made new
   asked lines.Nothing script old new hall queue made s none calm proper path all step other = nowhere old new hall queue made s step.0 step.1
   asked (lines.Connect system selector to called_selector options octets) script old new hall queue made s none calm proper path all step other =
@@ -93,10 +93,10 @@ module _ {C : Type 0} (link : C → Link (List ℕ)) (steps : C → Call (List �
   record Passed (old : Hall) (made : List Event) (new : World C) (script : List Line) : Type 0 where
     went : Goes_on old made new
     may : MayGo went.queue script
-    calm : IsSettled script
+    calm : IsSettledScript script
 
   line_goes : (line : Line) (script : List Line) (old new : World C) (hall : Hall) (queue : List (CarriedUnit (List ℕ))) (made : List Event) → Known old hall queue → MayGo queue (line ∷ script)
-      → IsSettled (line ∷ script) → IsProperLine line → IsUnrouted line → AllByRecursion IsUndropped made → RunsLine link steps whole titles old line made new → Passed hall made new script
+      → IsSettledScript (line ∷ script) → IsProperLine line → IsUnrouted line → AllByRecursion IsUndropped made → RunsLine link steps whole titles old line made new → Passed hall made new script
   line_goes lines.Nothing script old new hall queue made s may calm proper path all step = record { went = nowhere old new hall queue made s step.0 step.1; may = may; calm = calm }
   line_goes lines.Settle script old new hall queue made s may calm proper path all step =
       let done = settled link steps law titles Waits fifo 0 old made new step hall queue s all in
@@ -112,7 +112,7 @@ module _ {C : Type 0} (link : C → Link (List ℕ)) (steps : C → Call (List �
   line_goes line script old new hall queue made s (inr next) calm proper path all step = absurd next
 
   -- the lines, one after another, leave nothing that waits
-  pub lines_go : (script : List Line) (old last : World C) (hall : Hall) (queue : List (CarriedUnit (List ℕ))) (journal : List Event) → Known old hall queue → MayGo queue script → IsSettled script
+  pub lines_go : (script : List Line) (old last : World C) (hall : Hall) (queue : List (CarriedUnit (List ℕ))) (journal : List Event) → Known old hall queue → MayGo queue script → IsSettledScript script
       → AllByRecursion IsProperLine script → AllByRecursion IsUnrouted script → AllByRecursion IsUndropped journal → RunsLines link steps whole titles old script journal last
       → HasSettled link steps law titles Waits fifo hall journal last
   lines_go [] old last hall queue journal s (inl none) calm proper path all run = record { went = nowhere old last hall queue journal s run.0 run.1; none = none }

@@ -11,7 +11,7 @@ use Rattle.osi_script.specs.declared.line.Line.TheVariants as lines
 use Rattle.tp4_conn.specs.End.{IsTimed}
 use Rattle.tp4_conn.specs.declared.timers.Timers.{Timers}
 use Rattle.tp4_entity.specs.Entity.{Entity}
-use Rattle.law_tp4_pair.specs.Calm.{IsSettled}
+use Rattle.law_tp4_pair.specs.Calm.{IsSettledScript}
 use Rattle.law_tp4_pair.specs.Claim.{IsUndropped}
 use Rattle.tp4_world.specs.Laws.{IsNew}
 use Rattle.tp4_world.specs.Run.{RunsLines}
@@ -42,7 +42,7 @@ pub record IsStart {C : Type 0} (titles : List (List ℕ)) (timers : Timers) (Wa
 -- the lines are settled, none asks for a path, and as they run nothing is dropped. `wrap` is what a receiving half keeps of a number
 pub record IsCalmRun {C : Type 0} (link : C → Link (List ℕ)) (steps : C → Call (List ℕ) → C → Type 0) (wrap : ℕ → ℕ → ℕ) (titles : List (List ℕ)) (first : World C) (script : List Line) (journal : List Event)
     (last : World C) : Type 0 where
-  pub settled : IsSettled script
+  pub settled : IsSettledScript script
   pub proper : AllByRecursion IsProperLine script
   pub unrouted : AllByRecursion IsUnrouted script
   pub undropped : AllByRecursion IsUndropped journal

@@ -23,13 +23,13 @@ use Rattle.tp4_conn.specs.End.{End, IsProposal, IsSized, Moved, end_of}
 use Rattle.tp4_conn.specs.Table.{Called, Took, at as now_at, on_call, stepped, takes}
 use Rattle.tp4_conn.specs.UserWait.{accepted, user_wait_accept}
 use Rattle.tp4_conn.specs.Calls.{call_refusal}
-use Rattle.tp4_conn.specs.declared.base.Base.{Base}
+use Rattle.tp4_conn.specs.declared.end_record.EndRecord.{EndRecord}
 use Rattle.tp4_conn.specs.declared.call.UserCall.{UserCall}
 use Rattle.tp4_conn.specs.declared.call.UserCall.TheVariants.{Accept}
-use Rattle.tp4_conn.specs.declared.stage.Answering.{Answering}
-use Rattle.tp4_conn.specs.declared.stage.Requesting.{Requesting}
-use Rattle.tp4_conn.specs.declared.stage.Stage.{Stage}
-use Rattle.tp4_conn.specs.declared.stage.Stage.TheVariants.{CrWait, WaitBeforeClose, UserWait, AkWait, Opened, Closing, Frozen}
+use Rattle.tp4_conn.specs.declared.states.InAkWait.{InAkWait}
+use Rattle.tp4_conn.specs.declared.states.InCrWait.{InCrWait}
+use Rattle.tp4_conn.specs.declared.states.StateData.{StateData}
+use Rattle.tp4_conn.specs.declared.states.StateData.TheVariants.{CrWait, WaitBeforeClose, UserWait, AkWait, Opened, Closing, Frozen}
 use Rattle.tp4_conn.specs.declared.timers.Timers.{Timers}
 use Rattle.tp4_entity.specs.Association.{met}
 use Rattle.tp4_entity.specs.Entity.{Acted, Entity, at, end_at, moved}
@@ -59,7 +59,7 @@ use Rattle.law_calm_run.proofs.Going.{HasSettled, Stands, settled, stands_then}
 use Rattle.law_calm_run.proofs.Indicating.{met_first}
 use Rattle.law_calm_run.proofs.Queueing.{all_parts}
 use Rattle.law_calm_run.proofs.Starting.{first_hall, run_settles}
-use Rattle.law_calm_service.specs.Confirms.{AcceptsAreConfirmed}
+use Rattle.law_calm_service.specs.steps.Confirms.{AcceptsAreConfirmed}
 use Rattle.law_calm_service.specs.steps.Story.{ArePosts, Story, address_of}
 use Rattle.law_calm_service.proofs.Continuing.{get_set_same, some_same}
 use Rattle.law_calm_service.proofs.Keeping.{has_story}
@@ -82,7 +82,7 @@ asked_at reference entity options octets allowed = by_place (end_at entity refer
     some_none : (why : EntityRefusal) → Some why ≡ None → ⊥
     some_none why is = absurd cc
 
-    by_stage : (base : Base) (stage : Stage) → refused_by (call_refusal base stage (Accept options octets)) ≡ None → (since : ℕ) × (stage ≡ UserWait since)
+    by_stage : (base : EndRecord) (stage : StateData) → refused_by (call_refusal base stage (Accept options octets)) ≡ None → (since : ℕ) × (stage ≡ UserWait since)
     by_stage base (UserWait since) may = (since, refl)
     by_stage base (CrWait w) may = absurd (some_none _ may)
     by_stage base (WaitBeforeClose w) may = absurd (some_none _ may)
@@ -96,23 +96,23 @@ asked_at reference entity options octets allowed = by_place (end_at entity refer
     by_place (Some end) is may = let w = by_stage end.base end.stage may in record { end = end; stands = is; since = w.0; waits = w.1 }
 
 -- what the called end has agreed on by an accept
-abbrev answering : ℕ → End → Options → Base
+abbrev answering : ℕ → End → Options → EndRecord
 answering now y options = record y.base { clock = now; agreed = Some (agreed_by y.base.proposed options) }
 
 accepts_so : (now : ℕ) (y : End) (since : ℕ) (options : Options) (octets : List ℕ) → y.stage ≡ UserWait since
     → stepped whole now y (Called (Accept options octets)) ≡ accepted (answering now y options) (agreed_by y.base.proposed options) octets
 unfolding user_wait_accept
-accepts_so now y since options octets is = ap (λ (stage : Stage). on_call (now_at now y.base) stage (Accept options octets)) is
+accepts_so now y since options octets is = ap (λ (stage : StateData). on_call (now_at now y.base) stage (Accept options octets)) is
 
 -- the calling end takes the CC
-confirms_so : (now : ℕ) (x y : End) (r : Requesting) (options : Options) (octets : List ℕ) → x.stage ≡ CrWait r → y.base.proposed ≡ x.base.proposed → IsProposal y.base.proposed → IsSized options
+confirms_so : (now : ℕ) (x y : End) (r : InCrWait) (options : Options) (octets : List ℕ) → x.stage ≡ CrWait r → y.base.proposed ≡ x.base.proposed → IsProposal y.base.proposed → IsSized options
     → let c = answering now y options in let agreed = agreed_by y.base.proposed options in
     stepped whole now x (Took (confirm c agreed octets).tpdu (confirm c agreed octets).sum)
     ≡ confirmed (record x.base { partner = c.own; credit = c.timers.credit; agreed = Some agreed; clock = now }) agreed octets
 confirms_so now x y r options octets is same proposal sized =
-    let c : Base = answering now y options in
+    let c : EndRecord = answering now y options in
     let agreed : Options = agreed_by y.base.proposed options in
-    ap (λ (stage : Stage). takes whole now x.base stage (confirm c agreed octets).tpdu (confirm c agreed octets).sum) is
+    ap (λ (stage : StateData). takes whole now x.base stage (confirm c agreed octets).tpdu (confirm c agreed octets).sum) is
     ∙ confirms x.base c r agreed octets now refl (agreed_sized y.base.proposed options proposal sized)
     (subst (λ (p : Proposed). is_confirmed p agreed ≡ true) same (agreed_within y.base.proposed options proposal sized))
 
@@ -123,7 +123,7 @@ or_false false = refl
 -- ---- the network without its carrier
 
 module _ (titles : List (List ℕ)) (timers : Timers) (laws : Laws timers (address_of titles) (IsTicking timers (address_of titles))) (hall : Hall) (journal : List Event) (proper : AreAllProper hall.entities)
-    (s : Story timers (address_of titles) hall journal) (calling called : ℕ) (are : AreEnds journal calling called) (x : End) (r : Requesting) (x_at : IsWhere hall.entities hall.ends calling x) (x_waits : x.stage ≡ CrWait r)
+    (s : Story timers (address_of titles) hall journal) (calling called : ℕ) (are : AreEnds journal calling called) (x : End) (r : InCrWait) (x_at : IsWhere hall.entities hall.ends calling x) (x_waits : x.stage ≡ CrWait r)
     (options : Options) (octets : List ℕ) (made : List Event) (next : Hall) (c : Calls hall made next) (number_is : c.number ≡ called) (call_is : c.call ≡ Accept options octets) (size : IsSized options)
     (proper_then : AreAllProper next.entities) where
   abbrev own : ℕ → List ℕ
@@ -285,7 +285,7 @@ module _ (titles : List (List ℕ)) (timers : Timers) (laws : Laws timers (addre
       answered = λ since is. waits_no_more since (sym (ap (λ (m : Moved). m.stage) row_is) ∙ is);
     }
       where
-        waits_no_more : {w : Answering} (since : ℕ) → AkWait w ≡ UserWait since → ⊥
+        waits_no_more : {w : InAkWait} (since : ℕ) → AkWait w ≡ UserWait since → ⊥
         waits_no_more since is = absurd cc
 
     taken_by : (e : Entity) (did : Acted) (others : List Association) (d : Association) → Takes own hall.clock e waits did all others b d

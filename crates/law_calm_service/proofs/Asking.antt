@@ -10,8 +10,8 @@ use Rattle.tp4_conn.specs.Table.{Called, stepped}
 use Rattle.tp4_conn.specs.declared.call.CallRefusal.{CallRefusal}
 use Rattle.tp4_conn.specs.declared.call.UserCall.{UserCall}
 use Rattle.tp4_conn.specs.declared.call.UserCall.TheVariants.{Accept}
-use Rattle.tp4_conn.specs.declared.stage.Requesting.{Requesting}
-use Rattle.tp4_conn.specs.declared.stage.Stage.TheVariants.{CrWait, UserWait}
+use Rattle.tp4_conn.specs.declared.states.InCrWait.{InCrWait}
+use Rattle.tp4_conn.specs.declared.states.StateData.TheVariants.{CrWait, UserWait}
 use Rattle.tp4_conn.specs.declared.timers.Timers.{Timers}
 use Rattle.tp4_entity.specs.Entity.{Acted, Entity, at, end_at, moved}
 use Rattle.tp4_entity.specs.References.{is_free}
@@ -128,7 +128,7 @@ module _ (timers : Timers) (own : ℕ → List ℕ) (called : WasCalled timers o
       → asked.end.stage ≡ UserWait since → c.call ≡ Accept options octets → MayBegin old.clock x asked.end options
   begins k p x since options octets x_is stays stage call_is = by_calling (answerable old.clock old.entities s.all k p.a x asked.end since stood p.is x_is p.end_is stage)
     where
-      by_calling : HasLeft x.stage ⊎ ((r : Requesting) × (x.stage ≡ CrWait r)) → MayBegin old.clock x asked.end options
+      by_calling : HasLeft x.stage ⊎ ((r : InCrWait) × (x.stage ≡ CrWait r)) → MayBegin old.clock x asked.end options
       by_calling (inl left) = absurd (stays left)
       by_calling (inr waits) = (
         subst IsYoung (sym waits.1) tt,

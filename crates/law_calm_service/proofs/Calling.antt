@@ -10,9 +10,9 @@ use Rattle.tp4_conn.specs.End.{End, Moved, end_of}
 use Rattle.tp4_conn.specs.Table.{Called, stepped}
 use Rattle.tp4_conn.specs.declared.call.UserCall.{UserCall}
 use Rattle.tp4_conn.specs.declared.call.UserCall.TheVariants as calls
-use Rattle.tp4_conn.specs.declared.stage.Requesting.{Requesting}
-use Rattle.tp4_conn.specs.declared.stage.Stage.{Stage}
-use Rattle.tp4_conn.specs.declared.stage.Stage.TheVariants as stages
+use Rattle.tp4_conn.specs.declared.states.InCrWait.{InCrWait}
+use Rattle.tp4_conn.specs.declared.states.StateData.{StateData}
+use Rattle.tp4_conn.specs.declared.states.StateData.TheVariants as stages
 use Rattle.law_tp4_moves.specs.Lines.{given, shown_in}
 use Rattle.law_tp4_pair.specs.Pair.{Accepts}
 use Rattle.law_tp4_pair.specs.steps.Standing.{HasLeft}
@@ -27,12 +27,12 @@ use Rattle.law_calm_service.proofs.Telling.{ActsIn}
 use Rattle.law_calm_service.proofs.Young.{row_answers, row_from}
 
 -- a state by what may be answered in it
-pub data Answers (stage : Stage) : Type 0 where
+pub data Answers (stage : StateData) : Type 0 where
   Users : (since : ℕ) → stage ≡ stages.UserWait since → Answers stage
-  Partners : (r : Requesting) → stage ≡ stages.CrWait r → Answers stage
+  Partners : (r : InCrWait) → stage ≡ stages.CrWait r → Answers stage
   Nobodys : (IsYoung stage → ⊥) → Answers stage
 
-pub answers : (stage : Stage) → Answers stage
+pub answers : (stage : StateData) → Answers stage
 answers (stages.CrWait w) = Partners w refl
 answers (stages.UserWait since) = Users since refl
 answers (stages.WaitBeforeClose w) = Nobodys (λ h. h)
@@ -77,7 +77,7 @@ module _ (own : ℕ → List ℕ) (now : ℕ) (ends : List EndAt) (all : List As
           (subst (λ (l : List Sent). IsRunning (journal ++ made) now c d (end_of M) y M.tpdus l) (sym (waiting_side k true M.tpdus)) goes))
 
   -- on the called end
-  pub tells_called : a.called ≡ Some end → number k false ≡ Some n → ActsIn n made (given (Called call)) (shown_in M.events) M.events → ((r : Requesting) → end.stage ≡ stages.CrWait r → ⊥)
+  pub tells_called : a.called ≡ Some end → number k false ≡ Some n → ActsIn n made (given (Called call)) (shown_in M.events) M.events → ((r : InCrWait) → end.stage ≡ stages.CrWait r → ⊥)
       → ((x : End) (since : ℕ) (asked : Options) (octets : List ℕ) → a.calling ≡ Some x → (HasLeft x.stage → ⊥) → end.stage ≡ stages.UserWait since → call ≡ calls.Accept asked octets → MayBegin now x end asked)
       → Tells IsRunning own now ends (slice_set all k (with_party a false (Some (end_of M)))) (post k false M.tpdus) number (journal ++ made)
   tells_called end_is n_is acts uncalling begins =

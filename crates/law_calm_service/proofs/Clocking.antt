@@ -9,14 +9,14 @@ use Rattle.tp4_conn.specs.End.{End, Moved, end_of}
 use Rattle.tp4_conn.specs.Table.{Called, Ticked, stepped}
 use Rattle.tp4_conn.specs.declared.call.UserCall.{UserCall}
 use Rattle.tp4_conn.specs.declared.call.UserCall.TheVariants as calls
-use Rattle.tp4_conn.specs.declared.stage.Requesting.{Requesting}
-use Rattle.tp4_conn.specs.declared.stage.Stage.TheVariants as stages
+use Rattle.tp4_conn.specs.declared.states.InCrWait.{InCrWait}
+use Rattle.tp4_conn.specs.declared.states.StateData.TheVariants as stages
 use Rattle.tp4_entity.specs.Step.{is_due}
 use Rattle.law_tp4_history.specs.Journals.{MakesNone}
 use Rattle.law_tp4_moves.specs.Lines.{shown_in}
 use Rattle.tp4_world.specs.declared.place.EndAt.{EndAt}
 use Rattle.law_tp4_associations.specs.Association.{Association, Posted, post, waiting, with_party}
-use Rattle.law_tp4_associations.specs.Phase.{IsHeld}
+use Rattle.law_tp4_associations.specs.Phase.{IsInUse}
 use Rattle.law_calm_service.specs.steps.Story.{AreOpening, HasNoUnits, IsClocking, IsRunning, IsYoung, Numbers, Tells}
 use Rattle.law_calm_service.proofs.Calling.{Answers, Nobodys, Partners, Users, answers}
 use Rattle.law_calm_service.proofs.Continuing.{some_same}
@@ -29,7 +29,7 @@ use Rattle.law_calm_service.proofs.Young.{row_answers, row_from}
 
 -- the clock goes on, and no end has ticked yet
 pub tells_clock : (own : ℕ → List ℕ) (now : ℕ) (ends : List EndAt) (all : List Association) (number : Numbers) (journal made : List JournalEvent) → Tells IsRunning own now ends all [] number journal
-    → MakesNone made → ((n : ℕ) → HasNoUnits made n) → ((k : ℕ) (a : Association) (x y : End) → slice_get all k ≡ Some a → a.calling ≡ Some x → a.called ≡ Some y → IsYoung x.stage → IsHeld (now + 1) y)
+    → MakesNone made → ((n : ℕ) → HasNoUnits made n) → ((k : ℕ) (a : Association) (x y : End) → slice_get all k ≡ Some a → a.calling ≡ Some x → a.called ≡ Some y → IsYoung x.stage → IsInUse (now + 1) y)
     → Tells IsClocking own (now + 1) ends all [] number (journal ++ made)
 tells_clock own now ends all number journal made t none no_units held = record {
   numbered = t.numbered;
@@ -124,7 +124,7 @@ module _ (own : ℕ → List ℕ) (now : ℕ) (ends : List EndAt) (all : List As
 
   -- the called end ticks
   pub tells_called_tick : a.called ≡ Some end → number k false ≡ Some n → ((e : End) → place ≡ Some e → e ≡ end_of M) → is_due now (Some (end_of M)) ≡ false
-      → ((r : Requesting) → end.stage ≡ stages.CrWait r → ⊥) → (place ≡ None → IsHeld now (end_of M) → ⊥) → ActsIn n made [] (shown_in M.events) M.events
+      → ((r : InCrWait) → end.stage ≡ stages.CrWait r → ⊥) → (place ≡ None → IsInUse now (end_of M) → ⊥) → ActsIn n made [] (shown_in M.events) M.events
       → Tells IsClocking own now ends (slice_set all k (with_party a false place)) (queue ++ post k false M.tpdus) number (journal ++ made)
   tells_called_tick end_is n_is place_is over uncalling lost acts =
       tells_acted IsClocking clocking_stays own now ends all queue number journal t k a false end n is end_is n_is Ticked tt place place_is (λ _. lost) made acts (queue ++ post k false M.tpdus)

@@ -47,29 +47,29 @@ module _ (titles : List (List ℕ)) (timers : Timers) (connected : Connected tim
     system = c.system;
     reference = c.reference;
     calling = c.entity.own;
-    calling_selector = c.call.from_selector;
-    called = c.call.to;
-    called_selector = c.call.to_selector;
-    octets = c.call.octets;
+    calling_selector = c.request.from_selector;
+    called = c.request.to;
+    called_selector = c.request.to_selector;
+    octets = c.request.octets;
   }
 
   abbrev first : Event
   first = events.Connect request
 
   abbrev made_end : End
-  made_end = end_of (connected_by old.clock (call_of c.entity c.reference c.call))
+  made_end = end_of (connected_by old.clock (call_of c.entity c.reference c.request))
 
   abbrev joined : Hall
-  joined = after (with_new old c.system c.reference) c.system (connecting old.clock c.entity c.reference c.call)
+  joined = after (with_new old c.system c.reference) c.system (connecting old.clock c.entity c.reference c.request)
 
   abbrev a : Association
-  a = requested_by timers own old.clock c.entity c.system c.reference c.call c.address.system
+  a = requested_by timers own old.clock c.entity c.system c.reference c.request c.address.system
 
   abbrev all : List Association
   all = map (cleared c.system c.reference) s.all ++ a ∷ []
 
   abbrev tpdus : List Sent
-  tpdus = (connecting old.clock c.entity c.reference c.call).tpdus
+  tpdus = (connecting old.clock c.entity c.reference c.request).tpdus
 
   queue_is : s.queue ≡ []
   queue_is = none_posted s.all s.queue old.posts s.posts c.idle
@@ -83,7 +83,7 @@ module _ (titles : List (List ℕ)) (timers : Timers) (connected : Connected tim
   are_proper : AreProperEnds old.entities
   are_proper system reference end stands = ((proper system stands.0 stands.1).ends reference end stands.2).proper
 
-  to_is : c.call.to ≡ own c.address.system
+  to_is : c.request.to ≡ own c.address.system
   to_is = c.address.address_is ∙ ap (λ (o : Option (List ℕ)). transport_address (unwrap_or o [])) (sym c.address.title_is)
 
   others : (k : ℕ) (b : Association) (y : End) → slice_get s.all k ≡ Some b → b.calling ≡ Some y → own b.from.system ≡ own c.system → b.from.reference ≡ c.reference
@@ -101,7 +101,7 @@ module _ (titles : List (List ℕ)) (timers : Timers) (connected : Connected tim
     queue = post (length s.all) true tpdus;
     number = with_caller s.number (length s.all) (length old.ends + 1);
     standing =
-        connected old.clock old.entities s.all c.system c.entity c.reference c.call c.address.system (have c.address.system c.address.title c.address.title_is).0 stood are_proper c.there c.free c.proper to_is
+        connected old.clock old.entities s.all c.system c.entity c.reference c.request c.address.system (have c.address.system c.address.title c.address.title_is).0 stood are_proper c.there c.free c.proper to_is
         (have c.address.system c.address.title c.address.title_is).1;
     posts = subst (λ (before : List Post). ArePosts all (post (length s.all) true tpdus) (before ++ posted c.system tpdus)) (sym c.idle) (posts_of all (length s.all) true c.system a tpdus there_is refl);
     tells =

@@ -12,9 +12,9 @@ use Rattle.tp4_sending.specs.Pieces.{sooner}
 use Rattle.tp4_conn.specs.End.{End, Moved, end_of, frozen_for}
 use Rattle.tp4_conn.specs.Proper.{IsProper}
 use Rattle.tp4_conn.specs.Table.{Ticked, at as at_tick, due, stepped}
-use Rattle.tp4_conn.specs.declared.base.Base.{Base}
-use Rattle.tp4_conn.specs.declared.stage.Stage.{Stage}
-use Rattle.tp4_conn.specs.declared.stage.Stage.TheVariants.{CrWait, WaitBeforeClose, UserWait, AkWait, Opened, Closing, Frozen}
+use Rattle.tp4_conn.specs.declared.end_record.EndRecord.{EndRecord}
+use Rattle.tp4_conn.specs.declared.states.StateData.{StateData}
+use Rattle.tp4_conn.specs.declared.states.StateData.TheVariants.{CrWait, WaitBeforeClose, UserWait, AkWait, Opened, Closing, Frozen}
 use Rattle.tp4_conn.specs.declared.timers.Timers.{Timers}
 use Rattle.tp4_entity.specs.Entity.{Entity, end_at, there}
 use Rattle.tp4_entity.specs.References.{was_frozen}
@@ -23,7 +23,7 @@ use Rattle.tp4_entity.proofs.PlaceLaws.{end_at_of}
 use Rattle.law_tp4_proper.proofs.Ends.{kept_later}
 use Rattle.law_tp4_proper.proofs.Rows.{ticked_later}
 use Rattle.law_tp4_associations.specs.Association.{Association}
-use Rattle.law_tp4_associations.specs.Phase.{Answered, Asking, IsFrozen, IsHeld, IsOver, Late, Leaving, Over, Paired, Phase, Refused, Rejected, Waiting, WillFreeze}
+use Rattle.law_tp4_associations.specs.Phase.{Answered, Asking, IsFrozen, IsInUse, IsOver, Late, Leaving, Over, Paired, Phase, Refused, Rejected, Waiting, WillFreeze}
 use Rattle.law_tp4_associations.proofs.Handing.{paired_held}
 use Rattle.law_tp4_associations.proofs.Keeping.{ticks_same}
 use Rattle.law_calm_service.specs.steps.Story.{IsYoung}
@@ -60,7 +60,7 @@ open_due took acked None is = cc is
 open_due took acked (Some tick) is = cc is
 
 -- an end without a due tick was frozen for long enough
-no_due : (b : Base) (stage : Stage) → due b stage ≡ None → was_frozen b.clock (frozen_for b.timers) stage ≡ true
+no_due : (b : EndRecord) (stage : StateData) → due b stage ≡ None → was_frozen b.clock (frozen_for b.timers) stage ≡ true
 no_due b (CrWait w) is = absurd (cc is)
 no_due b (WaitBeforeClose w) is = absurd (cc is)
 no_due b (UserWait since) is = absurd (cc is)
@@ -78,11 +78,11 @@ kept_none m None is = refl
 kept_none m (Some tick) is = absurd (none_some (end_of m) (sym is))
 
 -- an end that has to keep its reference is not taken out
-pub kept_held : (now : ℕ) (end : End) → kept_end (stepped whole now end Ticked) (due (stepped whole now end Ticked).base (stepped whole now end Ticked).stage) ≡ None → IsHeld now (end_of (stepped whole now end Ticked)) → ⊥
+pub kept_held : (now : ℕ) (end : End) → kept_end (stepped whole now end Ticked) (due (stepped whole now end Ticked).base (stepped whole now end Ticked).stage) ≡ None → IsInUse now (end_of (stepped whole now end Ticked)) → ⊥
 kept_held now end none held =
     let m : Moved = stepped whole now end Ticked in
     let frozen : was_frozen m.base.clock (frozen_for m.base.timers) m.stage ≡ true = no_due m.base m.stage (kept_none m (due m.base m.stage) none) in
-    let clock : m.base.clock ≡ now = ap (λ (b : Base). b.clock) (ticks_same (at_tick now end.base) end.stage) in
+    let clock : m.base.clock ≡ now = ap (λ (b : EndRecord). b.clock) (ticks_same (at_tick now end.base) end.stage) in
     never (sym frozen ∙ ap (λ (n : ℕ). was_frozen n (frozen_for m.base.timers) m.stage) clock ∙ held)
   where
     never : true ≡ false → ⊥
@@ -90,17 +90,17 @@ kept_held now end none held =
 
 -- ---- a called end, where nothing waits
 
-never_frozen : (stage : Stage) → IsYoung stage → IsFrozen stage → ⊥
+never_frozen : (stage : StateData) → IsYoung stage → IsFrozen stage → ⊥
 never_frozen (Frozen when) young frozen = young
 never_frozen stage young frozen = frozen
 
-never_parts : (own other : ℕ) (stage theirs : Stage) (into out : List Sent) → IsYoung stage → WillFreeze own other stage theirs into out → ⊥
+never_parts : (own other : ℕ) (stage theirs : StateData) (into out : List Sent) → IsYoung stage → WillFreeze own other stage theirs into out → ⊥
 never_parts own other (CrWait w) theirs into out young freezes = freezes
 never_parts own other (UserWait since) theirs into out young freezes = freezes
 never_parts own other stage theirs into out young freezes = young
 
-user_held : (now since : ℕ) (y : End) → y.stage ≡ UserWait since → IsHeld now y
-user_held now since y is = subst (λ (s : Stage). was_frozen now (frozen_for y.base.timers) s ≡ false) (sym is) refl
+user_held : (now since : ℕ) (y : End) → y.stage ≡ UserWait since → IsInUse now y
+user_held now since y is = subst (λ (s : StateData). was_frozen now (frozen_for y.base.timers) s ≡ false) (sym is) refl
 
 module _ (timers : Timers) (here there_address : List ℕ) (now later : ℕ) (a : Association) (x y : End) (calling : a.calling ≡ Some x) (called : a.called ≡ Some y) (young : IsYoung x.stage) where
   same_calling : (z : End) → a.calling ≡ Some z → z ≡ x
@@ -112,14 +112,14 @@ module _ (timers : Timers) (here there_address : List ℕ) (now later : ℕ) (a 
   none_called : {A : Type 0} → a.called ≡ None → A
   none_called none = absurd (none_some y (sym none ∙ called))
 
-  pub stays_held : Phase timers here there_address now a [] [] → IsHeld later y
+  pub stays_held : Phase timers here there_address now a [] [] → IsInUse later y
   stays_held (Asking z r x_is none asks stage forth_is back_is) = none_called none
   stays_held (Rejected z refusal x_is none asks forth_is back_is to refuses) = none_called none
-  stays_held (Waiting z w since x_is y_is asks is copies back_is) = subst (IsHeld later) (same_called w y_is) (user_held later since w is.stage)
-  stays_held (Late z w when since x_is y_is stage unagreed is past forth_is back_is) = subst (IsHeld later) (same_called w y_is) (user_held later since w is.stage)
+  stays_held (Waiting z w since x_is y_is asks is copies back_is) = subst (IsInUse later) (same_called w y_is) (user_held later since w is.stage)
+  stays_held (Late z w when since x_is y_is stage unagreed is past forth_is back_is) = subst (IsInUse later) (same_called w y_is) (user_held later since w is.stage)
   stays_held (Refused z w first others x_is y_is asks frozen held unagreed copies back_is refusals) = absurd (cc back_is)
   stays_held (Answered z w parting x_is y_is asks stage is forth_is) = absurd (subst IsYoung (ap (λ (e : End). e.stage) (sym (same_calling z x_is)) ∙ stage) young)
-  stays_held (Paired p x_is y_is is) = subst (IsHeld later) (same_called p.called y_is) (paired_held later p.called (λ left. is.stays (inr left)))
+  stays_held (Paired p x_is y_is is) = subst (IsInUse later) (same_called p.called y_is) (paired_held later p.called (λ left. is.stays (inr left)))
   stays_held (Leaving z w x_is y_is parts held also) =
       absurd (never_parts z.base.own w.base.own z.stage w.stage [] [] (subst (λ (e : End). IsYoung e.stage) (sym (same_calling z x_is)) young) parts.one.freezes)
   stays_held (Over x_over y_over forth_is back_is) = absurd (never_frozen x.stage young (subst IsOver calling x_over))

@@ -7,12 +7,12 @@ use Rattle.osi_journal.specs.declared.event.Event.TheVariants as events
 use Rattle.osi_journal.specs.declared.event.Request.{Request}
 use Rattle.tp4_flow.specs.declared.step.Sent.{Sent}
 use Rattle.tp4_conn.specs.End.{End}
-use Rattle.tp4_conn.specs.declared.stage.Requesting.{Requesting}
-use Rattle.tp4_conn.specs.declared.stage.Stage.TheVariants.{CrWait}
+use Rattle.tp4_conn.specs.declared.states.InCrWait.{InCrWait}
+use Rattle.tp4_conn.specs.declared.states.StateData.TheVariants.{CrWait}
 use Rattle.law_tp4_history.specs.Journals.{MakesNone}
 use Rattle.tp4_world.specs.declared.place.EndAt.{EndAt}
 use Rattle.law_tp4_associations.specs.Association.{Association, Posted, cleared, party, waiting, without}
-use Rattle.law_tp4_associations.specs.Phase.{IsHeld}
+use Rattle.law_tp4_associations.specs.Phase.{IsInUse}
 use Rattle.law_calm_service.specs.steps.Story.{AreOpening, AreOwn, HasNoUnits, IsYoung, Numbers, Runs, Tells}
 use Rattle.law_calm_service.proofs.Continuing.{get_behind, left_party, length_map, map_got, none_some, some_same}
 use Rattle.law_calm_service.proofs.Numbering.{linked_connect, number_here, number_there, numbered_connect, one_more, with_caller}
@@ -54,7 +54,7 @@ cleared_called system reference a none = by_place (a.to == system) refl a.called
 
 -- the called end of that system and reference is none that has to keep it
 abbrev pub IsFree : ℕ → List Association → (system reference : ℕ) → Type 0
-IsFree now all system reference = (k : ℕ) (a : Association) (y : End) → slice_get all k ≡ Some a → a.called ≡ Some y → a.to ≡ system → y.base.own ≡ reference → IsHeld now y → ⊥
+IsFree now all system reference = (k : ℕ) (a : Association) (y : End) → slice_get all k ≡ Some a → a.called ≡ Some y → a.to ≡ system → y.base.own ≡ reference → IsInUse now y → ⊥
 
 -- both ends are those of the association as it was
 pub both_there : (all : List Association) (system reference k : ℕ) (b : Association) (x y : End) → slice_get (map (cleared system reference) all) k ≡ Some b → b.calling ≡ Some x → b.called ≡ Some y
@@ -151,11 +151,11 @@ module _ (Running : Runs) (stays : (journal made : List JournalEvent) (now c d :
         ap (λ (j : ℕ). numbers j false) (last.0 ∙ length_map (cleared system reference) all) ∙ number_here (length all) None (number (length all) false)
 
     held_then : (k : ℕ) (b : Association) (one two : End) → (slice_get (map (cleared system reference) all) k ≡ Some b) ⊎ ((k ≡ length (map (cleared system reference) all)) × (b ≡ a)) → b.calling ≡ Some one
-        → b.called ≡ Some two → IsYoung one.stage → IsHeld now two
+        → b.called ≡ Some two → IsYoung one.stage → IsInUse now two
     held_then k b one two (inl at) one_is two_is young = let w = both_there all system reference k b one two at one_is two_is in t.held k w.0 one two w.1 w.2 w.3 young
     held_then k b one two (inr last) one_is two_is young = absurd (none_some two (sym uncalled ∙ (ap (λ (e : Association). e.called) (sym last.1) ∙ two_is)))
 
-    uncalling_then : (k : ℕ) (b : Association) (two : End) (r : Requesting) → (slice_get (map (cleared system reference) all) k ≡ Some b) ⊎ ((k ≡ length (map (cleared system reference) all)) × (b ≡ a)) → b.called ≡ Some two
+    uncalling_then : (k : ℕ) (b : Association) (two : End) (r : InCrWait) → (slice_get (map (cleared system reference) all) k ≡ Some b) ⊎ ((k ≡ length (map (cleared system reference) all)) × (b ≡ a)) → b.called ≡ Some two
         → two.stage ≡ CrWait r → ⊥
     uncalling_then k b two r (inl at) two_is stage = let w = was_there all system reference k b false two at two_is in t.uncalling k w.a two r w.is w.end_is stage
     uncalling_then k b two r (inr last) two_is stage = none_some two (sym uncalled ∙ (ap (λ (e : Association). e.called) (sym last.1) ∙ two_is))

@@ -7,14 +7,14 @@ use Rattle.osi_journal.specs.declared.event.Event.TheVariants as events
 use Rattle.osi_journal.specs.declared.event.Indication.{Indication}
 use Rattle.tp4_flow.specs.declared.step.Sent.{Sent}
 use Rattle.tp4_conn.specs.End.{End}
-use Rattle.tp4_conn.specs.declared.base.Base.{Base}
-use Rattle.tp4_conn.specs.declared.stage.Requesting.{Requesting}
-use Rattle.tp4_conn.specs.declared.stage.Stage.{Stage}
-use Rattle.tp4_conn.specs.declared.stage.Stage.TheVariants as stages
+use Rattle.tp4_conn.specs.declared.end_record.EndRecord.{EndRecord}
+use Rattle.tp4_conn.specs.declared.states.InCrWait.{InCrWait}
+use Rattle.tp4_conn.specs.declared.states.StateData.{StateData}
+use Rattle.tp4_conn.specs.declared.states.StateData.TheVariants as stages
 use Rattle.law_tp4_history.specs.Journals.{MakesNone}
 use Rattle.tp4_world.specs.declared.place.EndAt.{EndAt}
 use Rattle.law_tp4_associations.specs.Association.{Association, Posted, cleared, party, waiting}
-use Rattle.law_tp4_associations.specs.Phase.{IsHeld}
+use Rattle.law_tp4_associations.specs.Phase.{IsInUse}
 use Rattle.law_calm_service.specs.steps.Story.{AreOpening, AreOwn, HasNoUnits, IsYoung, Numbers, Runs, Tells}
 use Rattle.law_calm_service.proofs.Continuing.{get_set_other, get_set_same, map_get, none_some, some_same}
 use Rattle.law_calm_service.proofs.Numbering.{number_here, number_there, one_more}
@@ -22,12 +22,12 @@ use Rattle.law_calm_service.proofs.NumberingCalled.{linked_begins, numbered_begi
 use Rattle.law_calm_service.proofs.Making.{IsFree, both_there, pair_stays, still_none, still_uncalled, was_there}
 
 -- the reference of an end that waits for an answer is not free
-young_held : (now : ℕ) (b : Base) (stage : Stage) → IsYoung stage → IsHeld now (record { base = b; stage = stage })
+young_held : (now : ℕ) (b : EndRecord) (stage : StateData) → IsYoung stage → IsInUse now (record { base = b; stage = stage })
 young_held now b (stages.CrWait w) young = refl
 young_held now b (stages.UserWait since) young = refl
 young_held now b stage young = absurd young
 
-user_waits : (since : ℕ) (r : Requesting) → stages.UserWait since ≡ stages.CrWait r → ⊥
+user_waits : (since : ℕ) (r : InCrWait) → stages.UserWait since ≡ stages.CrWait r → ⊥
 user_waits since r is = cc is
 
 module _ (Running : Runs) (stays : (journal made : List JournalEvent) (now c d : ℕ) (x y : End) (forth back : List Sent) → Running journal now c d x y forth back → HasNoUnits made c → HasNoUnits made d
@@ -113,15 +113,15 @@ module _ (Running : Runs) (stays : (journal made : List JournalEvent) (now c d :
           ∙ still_uncalled Running stays own_address now ends all queue number journal t a.to reference j b one free (there j b at other) one_is gone young
     ]
 
-    held_then : (j : ℕ) (b : Association) (one two : End) → slice_get new j ≡ Some b → b.calling ≡ Some one → b.called ≡ Some two → IsYoung one.stage → IsHeld now two
+    held_then : (j : ℕ) (b : Association) (one two : End) → slice_get new j ≡ Some b → b.calling ≡ Some one → b.called ≡ Some two → IsYoung one.stage → IsInUse now two
     held_then j b one two at one_is two_is young = elim (cases_eq j k) [
       | inl same ↦
           let y_is : y ≡ two = some_same y two (ap (λ (e : Association). e.called) (sym (here j b at same)) ∙ two_is) in
-          subst (IsHeld now) y_is (young_held now y.base y.stage (subst IsYoung (sym waits) tt))
+          subst (IsInUse now) y_is (young_held now y.base y.stage (subst IsYoung (sym waits) tt))
       | inr other ↦ let w = both_there all a.to reference j b one two (there j b at other) one_is two_is in t.held j w.0 one two w.1 w.2 w.3 young
     ]
 
-    uncalling_then : (j : ℕ) (b : Association) (two : End) (r : Requesting) → slice_get new j ≡ Some b → b.called ≡ Some two → two.stage ≡ stages.CrWait r → ⊥
+    uncalling_then : (j : ℕ) (b : Association) (two : End) (r : InCrWait) → slice_get new j ≡ Some b → b.called ≡ Some two → two.stage ≡ stages.CrWait r → ⊥
     uncalling_then j b two r at two_is stage = elim (cases_eq j k) [
       | inl same ↦
           let y_is : y ≡ two = some_same y two (ap (λ (e : Association). e.called) (sym (here j b at same)) ∙ two_is) in

@@ -7,9 +7,9 @@ use Rattle.tp4_flow.specs.declared.step.Sent.{Sent}
 use Rattle.tp4_conn.specs.End.{End, Moved, end_of, frozen_for}
 use Rattle.tp4_conn.specs.Making.{indicated}
 use Rattle.tp4_conn.specs.Table.{Took, stepped}
-use Rattle.tp4_conn.specs.declared.base.Base.{Base}
-use Rattle.tp4_conn.specs.declared.stage.Requesting.{Requesting}
-use Rattle.tp4_conn.specs.declared.stage.Stage.TheVariants.{CrWait}
+use Rattle.tp4_conn.specs.declared.end_record.EndRecord.{EndRecord}
+use Rattle.tp4_conn.specs.declared.states.InCrWait.{InCrWait}
+use Rattle.tp4_conn.specs.declared.states.StateData.TheVariants.{CrWait}
 use Rattle.tp4_conn.specs.declared.timers.Timers.{Timers}
 use Rattle.tp4_entity.specs.Entity.{Acted, Entity, at, moved}
 use Rattle.tp4_entity.specs.References.{is_free_place, least_free, was_frozen}
@@ -42,7 +42,7 @@ use Rattle.law_calm_service.proofs.Telling.{ActsIn}
 -- the calling end waits for the answer
 pub record IsAskingOf (a : Association) : Type 0 where
   pub x : End
-  pub r : Requesting
+  pub r : InCrWait
   pub calling : a.calling ≡ Some x
   pub stage : x.stage ≡ CrWait r
 
@@ -140,7 +140,7 @@ module _ (timers : Timers) (own : ℕ → List ℕ) (now : ℕ) (entities : List
 
   -- ---- the called end is made
 
-  begins_at : (base : Base) (octets : List ℕ) → Standing timers own now entities all (first true ∷ queue) → Tells IsRunning own now ends all (first true ∷ queue) number journal
+  begins_at : (base : EndRecord) (octets : List ℕ) → Standing timers own now entities all (first true ∷ queue) → Tells IsRunning own now ends all (first true ∷ queue) number journal
       → entity_at entities a.to ≡ Some e → a.called ≡ None → least_free now e ≡ Some base.own → base.to ≡ own a.from.system → base.partner ≡ a.from.reference
       → Stands true (moved (at now e) base.own (indicated base octets)) (map (cleared a.to base.own) all) (record a { called = Some (end_of (indicated base octets)) })
       → Story timers own (next true (moved (at now e) base.own (indicated base octets))) (journal ++ lines true (moved (at now e) base.own (indicated base octets)))
@@ -169,17 +169,17 @@ module _ (timers : Timers) (own : ℕ → List ℕ) (now : ℕ) (entities : List
       some_not : (one : Sent) (rest : List Sent) → one ∷ rest ≡ [] → ⊥
       some_not one rest e = cc e
 
-      waits : (x : End) (r : Requesting) → x.stage ≡ CrWait r → is_free_place now (Some x) ≡ true → ⊥
+      waits : (x : End) (r : InCrWait) → x.stage ≡ CrWait r → is_free_place now (Some x) ≡ true → ⊥
       waits x r stage is_free =
           let e : was_frozen now (frozen_for x.base.timers) (CrWait r) ≡ true = ap (was_frozen now (frozen_for x.base.timers)) (sym stage) ∙ is_free in
           absurd (cc e)
 
-      apart : (x : End) (r : Requesting) → a.calling ≡ Some x → x.stage ≡ CrWait r → a.from.system ≡ a.to → x.base.own ≡ base.own → ⊥
+      apart : (x : End) (r : InCrWait) → a.calling ≡ Some x → x.stage ≡ CrWait r → a.from.system ≡ a.to → x.base.own ≡ base.own → ⊥
       apart x r calling stage system_is own_is =
           waits x r stage
           (free_place now entities a.to e there base.own free x (s.stand k true a.to base.own x (record { a = a; is = is; end_is = calling; system_is = system_is; reference_is = own_is })))
 
-  story_begun : (by : Bool) (base : Base) (octets : List ℕ) → by ≡ true → Standing timers own now entities all (first by ∷ queue) → Tells IsRunning own now ends all (first by ∷ queue) number journal
+  story_begun : (by : Bool) (base : EndRecord) (octets : List ℕ) → by ≡ true → Standing timers own now entities all (first by ∷ queue) → Tells IsRunning own now ends all (first by ∷ queue) number journal
       → entity_at entities (system_of a (not by)) ≡ Some e → a.called ≡ None → least_free now e ≡ Some base.own → base.to ≡ own a.from.system → base.partner ≡ a.from.reference
       → Stands by (moved (at now e) base.own (indicated base octets)) (map (cleared a.to base.own) all) (record a { called = Some (end_of (indicated base octets)) })
       → Story timers own (next by (moved (at now e) base.own (indicated base octets))) (journal ++ lines by (moved (at now e) base.own (indicated base octets)))

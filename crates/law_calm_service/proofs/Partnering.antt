@@ -3,11 +3,11 @@
 use Rattle.std.proofs.Common.{◌≡◌, ◌<◌, ℕ, Bool, true, false, List, [], ◌∷◌, length, slice_get, Some, refl, sym, ◌∙◌, ap, subst}
 use Rattle.osi_journal.specs.declared.event.Event.{Event}
 use Rattle.tp4_conn.specs.End.{End}
-use Rattle.tp4_conn.specs.declared.stage.Open.{Open}
-use Rattle.tp4_conn.specs.declared.stage.Stage.{Stage}
-use Rattle.tp4_conn.specs.declared.stage.Stage.TheVariants.{Opened}
+use Rattle.tp4_conn.specs.declared.states.InOpened.{InOpened}
+use Rattle.tp4_conn.specs.declared.states.StateData.{StateData}
+use Rattle.tp4_conn.specs.declared.states.StateData.TheVariants.{Opened}
 use Rattle.tp4_conn.specs.declared.timers.Timers.{Timers}
-use Rattle.law_tp4_pair.specs.Claim.{ArePairs, IsPairOf}
+use Rattle.law_tp4_pair.specs.steps.Pairs.{ArePairs, IsPairOf}
 use Rattle.law_tp4_pair.specs.steps.Standing.{HasLeft}
 use Rattle.tp4_world.specs.World.{World}
 use Rattle.tp4_world.specs.declared.place.EndAt.{EndAt}
@@ -28,10 +28,10 @@ none_waits all (posted ∷ queue) posts = absurd (never posts.1 posts.3)
     never : {x : Post} (rest : List Post) → [] ≡ x ∷ rest → ⊥
     never rest is = cc is
 
-open_stays : (stage : Stage) (o : Open) → stage ≡ Opened o → HasLeft stage → ⊥
+open_stays : (stage : StateData) (o : InOpened) → stage ≡ Opened o → HasLeft stage → ⊥
 open_stays stage o is left = subst HasLeft is left
 
-open_answered : (stage : Stage) (o : Open) → stage ≡ Opened o → IsYoung stage → ⊥
+open_answered : (stage : StateData) (o : InOpened) → stage ≡ Opened o → IsYoung stage → ⊥
 open_answered stage o is young = subst IsYoung is young
 
 pub story_has_pairs : {C : Type 0} (timers : Timers) (own : ℕ → List ℕ) (hall : Hall) (journal : List Event) (world : World C) → Story timers own hall journal → hall.posts ≡ [] → world.entities ≡ hall.entities

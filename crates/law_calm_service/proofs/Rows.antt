@@ -1,9 +1,9 @@
 -- What a row of an end leaves as it is: its reference, also in its halves; and of that reference is all that it tells of the end.
 use Rattle.std.proofs.Common.{◌≡◌, ℕ, refl, sym, subst}
 use Rattle.tp4_number.specs.Number.{whole}
-use Rattle.tp4_conn.specs.declared.base.Base.{Base}
-use Rattle.tp4_conn.specs.declared.stage.Stage.{Stage}
-use Rattle.tp4_conn.specs.declared.stage.Stage.TheVariants as stages
+use Rattle.tp4_conn.specs.declared.end_record.EndRecord.{EndRecord}
+use Rattle.tp4_conn.specs.declared.states.StateData.{StateData}
+use Rattle.tp4_conn.specs.declared.states.StateData.TheVariants as stages
 use Rattle.tp4_conn.specs.End.{End, end_of}
 use Rattle.tp4_conn.specs.Table.{Event, stepped}
 use Rattle.law_tp4_lawful.proofs.ActsRows.{AreTold, IsRowOf, row_of}
@@ -11,12 +11,12 @@ use Rattle.law_tp4_lawful.specs.Own.{IsStageOf}
 use Rattle.law_calm_service.specs.steps.Story.{AreOwn, AreOwnIn}
 
 -- so are the halves of an end by itself
-to_stage : (b : Base) (stage : Stage) → AreOwnIn b stage → IsStageOf b.own stage
+to_stage : (b : EndRecord) (stage : StateData) → AreOwnIn b stage → IsStageOf b.own stage
 to_stage b (stages.AkWait w) own = own
 to_stage b (stages.Opened o) own = own
 to_stage b stage own = tt
 
-from_stage : (b : Base) (stage : Stage) → IsStageOf b.own stage → AreOwnIn b stage
+from_stage : (b : EndRecord) (stage : StateData) → IsStageOf b.own stage → AreOwnIn b stage
 from_stage b (stages.AkWait w) own = own
 from_stage b (stages.Opened o) own = own
 from_stage b stage own = tt

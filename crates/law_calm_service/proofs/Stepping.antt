@@ -12,10 +12,10 @@ use Rattle.tp4_flow.specs.declared.step.Sent.{Sent}
 use Rattle.tp4_conn.specs.End.{End, Moved, end_of}
 use Rattle.tp4_conn.specs.Matching.{wants_sum}
 use Rattle.tp4_conn.specs.Table.{Took, stepped}
-use Rattle.tp4_conn.specs.declared.base.Base.{Base}
-use Rattle.tp4_conn.specs.declared.stage.Requesting.{Requesting}
-use Rattle.tp4_conn.specs.declared.stage.Stage.{Stage}
-use Rattle.tp4_conn.specs.declared.stage.Stage.TheVariants as stages
+use Rattle.tp4_conn.specs.declared.end_record.EndRecord.{EndRecord}
+use Rattle.tp4_conn.specs.declared.states.InCrWait.{InCrWait}
+use Rattle.tp4_conn.specs.declared.states.StateData.{StateData}
+use Rattle.tp4_conn.specs.declared.states.StateData.TheVariants as stages
 use Rattle.law_tp4_moves.specs.Lines.{shown_in}
 use Rattle.tp4_world.specs.declared.place.EndAt.{EndAt}
 use Rattle.law_tp4_associations.specs.Association.{Association, Posted, is_same, post, waiting, with_party}
@@ -98,7 +98,7 @@ first_other posted rest j side apart =
 -- ---- a TPDU that is taken
 
 -- a called end that is still to be answered takes none
-waits_still : (now : ℕ) (b : Base) (stage : Stage) (tpdu : Tpdu) (sum : Bool) → ((r : Requesting) → stage ≡ stages.CrWait r → ⊥) → IsYoung stage
+waits_still : (now : ℕ) (b : EndRecord) (stage : StateData) (tpdu : Tpdu) (sum : Bool) → ((r : InCrWait) → stage ≡ stages.CrWait r → ⊥) → IsYoung stage
     → IsYoung (stepped whole now (record { base = b; stage = stage }) (Took tpdu sum)).stage
 waits_still now b (stages.CrWait w) tpdu sum answered young = absurd (answered w refl)
 waits_still now b (stages.UserWait since) tpdu sum answered young = if_kept (λ (m : Moved). IsYoung m.stage) (wants_sum b (stages.UserWait since) tpdu && not sum) _ _ (λ _. tt) (λ _. tt)
@@ -123,7 +123,7 @@ module _ (own : ℕ → List ℕ) (now : ℕ) (ends : List EndAt) (all : List As
 
   -- the called end takes it
   pub tells_forth : Tells IsRunning own now ends all (record { of = k; by = true; sent = sent } ∷ rest) number journal → a.called ≡ Some end → number k false ≡ Some n
-      → ((r : Requesting) → end.stage ≡ stages.CrWait r → ⊥) → ActsIn n made [] (shown_in M.events) M.events
+      → ((r : InCrWait) → end.stage ≡ stages.CrWait r → ⊥) → ActsIn n made [] (shown_in M.events) M.events
       → Tells IsRunning own now ends (slice_set all k (with_party a false (Some (end_of M)))) (rest ++ post k false M.tpdus) number (journal ++ made)
   tells_forth t end_is n_is answered acts =
       let posted : Posted = record { of = k; by = true; sent = sent } in

@@ -7,13 +7,13 @@ use Rattle.tp4_number.specs.Number.{whole}
 use Rattle.tp4_flow.specs.declared.step.Sent.{Sent}
 use Rattle.tp4_conn.specs.End.{End, Moved, end_of}
 use Rattle.tp4_conn.specs.Table.{Event, stepped}
-use Rattle.tp4_conn.specs.declared.stage.Requesting.{Requesting}
-use Rattle.tp4_conn.specs.declared.stage.Stage.TheVariants.{CrWait}
+use Rattle.tp4_conn.specs.declared.states.InCrWait.{InCrWait}
+use Rattle.tp4_conn.specs.declared.states.StateData.TheVariants.{CrWait}
 use Rattle.law_tp4_history.specs.Journals.{MakesNone}
 use Rattle.law_tp4_moves.specs.Lines.{given, shown_in}
 use Rattle.tp4_world.specs.declared.place.EndAt.{EndAt}
 use Rattle.law_tp4_associations.specs.Association.{Association, Posted, party, waiting, with_party}
-use Rattle.law_tp4_associations.specs.Phase.{IsHeld}
+use Rattle.law_tp4_associations.specs.Phase.{IsInUse}
 use Rattle.law_tp4_associations.proofs.Holding.{held_on}
 use Rattle.law_calm_service.specs.steps.Story.{AreLinked, AreOpening, AreOwn, HasNoUnits, IsLatestOf, IsYoung, Numbers, Runs, Tells}
 use Rattle.law_calm_service.proofs.Continuing.{AllContinue, get_set_other, get_set_same, numbered_on, party_continues, set_continues, some_same, with_from, with_to}
@@ -81,7 +81,7 @@ module _ (Running : Runs) (stays : (journal made : List JournalEvent) (now c d :
 
   module _ (k : ℕ) (a : Association) (by : Bool) (end : End) (n : ℕ) (is : slice_get all k ≡ Some a) (end_is : party a by ≡ Some end) (n_is : number k by ≡ Some n)
       (event : Event) (allowed : IsAllowed end event) (place : Option End) (place_is : (e : End) → place ≡ Some e → e ≡ end_of (stepped whole now end event))
-      (lost : by ≡ false → place ≡ None → IsHeld now (end_of (stepped whole now end event)) → ⊥)
+      (lost : by ≡ false → place ≡ None → IsInUse now (end_of (stepped whole now end event)) → ⊥)
       (made : List JournalEvent) (acts : ActsIn n made (given event) (shown_in (stepped whole now end event).events) (stepped whole now end event).events)
       (after : List Posted) (others : (j : ℕ) (side : Bool) → j ≢ k → waiting j side after ≡ waiting j side queue)
       (pair : (x y : End) (c d : ℕ) → (with_party a by place).calling ≡ Some x → (with_party a by place).called ≡ Some y → number k true ≡ Some c → number k false ≡ Some d → AreOpening x y
@@ -173,14 +173,14 @@ module _ (Running : Runs) (stays : (journal made : List JournalEvent) (now c d :
       ]
     ]
 
-    held_here : (x y : End) → party b true ≡ Some x → party b false ≡ Some y → IsYoung x.stage → IsHeld now y
+    held_here : (x y : End) → party b true ≡ Some x → party b false ≡ Some y → IsYoung x.stage → IsInUse now y
     held_here x y x_is y_is young = elim (party_cases a by place true x x_is) [
       | inl acted ↦ elim (party_cases a by place false y y_is) [
         | inl both ↦ absurd (differ (acted.0 ∙ sym both.0))
         | inr other ↦ t.held k a end y is (end_at_side true acted.0) other.1 (still_young x acted.1 young)
       ]
       | inr was ↦ elim (party_cases a by place false y y_is) [
-        | inl acted ↦ subst (IsHeld now) (sym (place_is y acted.1)) (held_on now end event (t.held k a x end is was.1 (end_at_side false acted.0) young))
+        | inl acted ↦ subst (IsInUse now) (sym (place_is y acted.1)) (held_on now end event (t.held k a x end is was.1 (end_at_side false acted.0) young))
         | inr other ↦ t.held k a x y is was.1 other.1 young
       ]
     ]
@@ -193,7 +193,7 @@ module _ (Running : Runs) (stays : (journal made : List JournalEvent) (now c d :
       | inr apart ↦ t.uncalled j c x (there j c apart at) x_is none young
     ]
 
-    held_then : (j : ℕ) (c : Association) (x y : End) → slice_get new j ≡ Some c → c.calling ≡ Some x → c.called ≡ Some y → IsYoung x.stage → IsHeld now y
+    held_then : (j : ℕ) (c : Association) (x y : End) → slice_get new j ≡ Some c → c.calling ≡ Some x → c.called ≡ Some y → IsYoung x.stage → IsInUse now y
     held_then j c x y at x_is y_is young = elim (cases_eq j k) [
       | inl same ↦
           let c_is : c ≡ b = here c (ap (slice_get new) (sym same) ∙ at) in
@@ -201,7 +201,7 @@ module _ (Running : Runs) (stays : (journal made : List JournalEvent) (now c d :
       | inr apart ↦ t.held j c x y (there j c apart at) x_is y_is young
     ]
 
-    uncalling_then : (j : ℕ) (c : Association) (y : End) (r : Requesting) → slice_get new j ≡ Some c → c.called ≡ Some y → y.stage ≡ CrWait r → ⊥
+    uncalling_then : (j : ℕ) (c : Association) (y : End) (r : InCrWait) → slice_get new j ≡ Some c → c.called ≡ Some y → y.stage ≡ CrWait r → ⊥
     uncalling_then j c y r at y_is waits = elim (cases_eq j k) [
       | inl same ↦
           let c_is : c ≡ b = here c (ap (slice_get new) (sym same) ∙ at) in

@@ -15,7 +15,7 @@ use Rattle.tp4_world.specs.declared.place.EndAt.{EndAt}
 use Rattle.tp4_world.specs.declared.place.Placed.{Placed}
 use Rattle.law_tp4_associations.specs.Association.{Association, Posted, post, with_party}
 use Rattle.law_tp4_associations.specs.Laws.{AreProperEnds, Ticks as TickLaws}
-use Rattle.law_tp4_associations.specs.Phase.{IsHeld}
+use Rattle.law_tp4_associations.specs.Phase.{IsInUse}
 use Rattle.law_tp4_associations.specs.Standing.{IsParty, Standing}
 use Rattle.law_calm_run.specs.steps.Hall.{AreAllProper, Clocks, Hall, IsOver, Over, Post, TickGoes, TickStep, Ticking, Ticks, TicksDone, TicksMore, after, posted}
 use Rattle.law_calm_service.specs.steps.Story.{ArePosts, IsClocking, IsRunning, IsYoung, Story, Tells, TickStory}
@@ -161,7 +161,7 @@ module _ (timers : Timers) (own : ℕ → List ℕ) (IsTicking : ℕ → List Pl
   are_proper_ends : AreProperEnds old.entities
   are_proper_ends system reference end stands = ((proper system stands.0 stands.1).ends reference end stands.2).proper
 
-  held_on : (k : ℕ) (a : Association) (x y : End) → slice_get s.all k ≡ Some a → a.calling ≡ Some x → a.called ≡ Some y → IsYoung x.stage → IsHeld (old.clock + 1) y
+  held_on : (k : ℕ) (a : Association) (x y : End) → slice_get s.all k ≡ Some a → a.calling ≡ Some x → a.called ≡ Some y → IsYoung x.stage → IsInUse (old.clock + 1) y
   held_on k a x y is x_is y_is young = stays_held timers (own a.from.system) (own a.to) old.clock (old.clock + 1) a x y x_is y_is young (stood.each k a is).phase
 
   begins : TickStory IsTicking own old.clock (record old { clock = old.clock + 1 }) (journal ++ c.front)

@@ -12,8 +12,8 @@ use Rattle.tp4_number.specs.Number.{whole, wire}
 use Rattle.tp4_conn.specs.Matching.{is_called_by}
 use Rattle.tp4_conn.specs.End.{End}
 use Rattle.tp4_conn.specs.Wire.{end_on_wire, stage_on_wire}
-use Rattle.tp4_conn.specs.declared.stage.Stage.{Stage}
-use Rattle.tp4_conn.specs.declared.stage.Stage.TheVariants.{CrWait, WaitBeforeClose, UserWait, AkWait, Opened, Closing, Frozen}
+use Rattle.tp4_conn.specs.declared.states.StateData.{StateData}
+use Rattle.tp4_conn.specs.declared.states.StateData.TheVariants.{CrWait, WaitBeforeClose, UserWait, AkWait, Opened, Closing, Frozen}
 use Rattle.tp4_entity.specs.Association.{is_called, is_frozen}
 use Rattle.tp4_entity.specs.Entity.{Entity}
 use Rattle.tp4_entity.specs.Wire.{entity_on_wire}
@@ -27,7 +27,7 @@ use Rattle.law_calm_run.specs.Service.{ConnectsAreIndicated, MayIndicate}
 
 -- ---- entities
 
-frozen_on : (stage : Stage) → is_frozen (stage_on_wire stage) ≡ is_frozen stage
+frozen_on : (stage : StateData) → is_frozen (stage_on_wire stage) ≡ is_frozen stage
 frozen_on (CrWait w) = refl
 frozen_on (WaitBeforeClose w) = refl
 frozen_on (UserWait since) = refl

@@ -10,10 +10,10 @@ use Rattle.osi_journal.specs.declared.event.Event.{Event}
 use Rattle.osi_journal.specs.declared.event.Event.TheVariants as events
 use Rattle.osi_script.specs.declared.line.Line.TheVariants as lines
 use Rattle.tp4_number.specs.Number.{whole, wire}
-use Rattle.tp4_conn.specs.declared.stage.Open.{Open}
-use Rattle.tp4_conn.specs.declared.stage.Requesting.{Requesting}
-use Rattle.tp4_conn.specs.declared.stage.Stage.{Stage}
-use Rattle.tp4_conn.specs.declared.stage.Stage.TheVariants.{CrWait, WaitBeforeClose, UserWait, AkWait, Opened, Closing, Frozen}
+use Rattle.tp4_conn.specs.declared.states.InOpened.{InOpened}
+use Rattle.tp4_conn.specs.declared.states.InCrWait.{InCrWait}
+use Rattle.tp4_conn.specs.declared.states.StateData.{StateData}
+use Rattle.tp4_conn.specs.declared.states.StateData.TheVariants.{CrWait, WaitBeforeClose, UserWait, AkWait, Opened, Closing, Frozen}
 use Rattle.tp4_conn.specs.End.{End}
 use Rattle.tp4_conn.specs.Wire.{end_on_wire, halves_on_wire, stage_on_wire}
 use Rattle.tp4_entity.specs.Entity.{Entity, end_at, there}
@@ -25,7 +25,7 @@ use Rattle.tp4_world.specs.World.{World, end_numbered, entity_at, latest}
 use Rattle.tp4_world.specs.declared.place.EndAt.{EndAt}
 use Rattle.tp4_world.proofs.OnWire.{found_on}
 use Rattle.law_calm_run.specs.Service.{end_at_number, end_placed}
-use Rattle.law_calm_service.specs.Confirms.{AcceptsAreConfirmed}
+use Rattle.law_calm_service.specs.steps.Confirms.{AcceptsAreConfirmed}
 use Rattle.law_calm_service.specs.Pairs.{ShowAll}
 use Rattle.law_calm_service.proofs.Continuing.{none_some, some_same}
 use Rattle.law_calm_service.proofs.Wired.{no_ends}
@@ -72,15 +72,15 @@ upper_end {C} world number lower is = by (end_at_number world number) refl (sym 
 -- ---- states
 
 -- it is Opened over whole numbers too, with the same halves but for the numbers that are expected
-pub record IsOpenUpper (stage : Stage) (lower : Open) : Type 0 where
-  pub opened : Open
+pub record IsOpenUpper (stage : StateData) (lower : InOpened) : Type 0 where
+  pub opened : InOpened
   pub stage_is : stage ≡ Opened opened
   pub is : lower ≡ record opened { halves = halves_on_wire opened.halves }
 
-open_same : (one other : Open) → Opened one ≡ Opened other → one ≡ other
+open_same : (one other : InOpened) → Opened one ≡ Opened other → one ≡ other
 open_same one other is = cc is
 
-pub upper_open : (stage : Stage) (lower : Open) → stage_on_wire stage ≡ Opened lower → IsOpenUpper stage lower
+pub upper_open : (stage : StateData) (lower : InOpened) → stage_on_wire stage ≡ Opened lower → IsOpenUpper stage lower
 upper_open (Opened o) lower is = record { opened = o; stage_is = refl; is = sym (open_same (record o { halves = halves_on_wire o.halves }) lower is) }
 upper_open (CrWait w) lower is = absurd cc
 upper_open (WaitBeforeClose w) lower is = absurd cc
@@ -89,7 +89,7 @@ upper_open (AkWait w) lower is = absurd cc
 upper_open (Closing c) lower is = absurd cc
 upper_open (Frozen when) lower is = absurd cc
 
-pub upper_waiting : (stage : Stage) (r : Requesting) → stage_on_wire stage ≡ CrWait r → stage ≡ CrWait r
+pub upper_waiting : (stage : StateData) (r : InCrWait) → stage_on_wire stage ≡ CrWait r → stage ≡ CrWait r
 upper_waiting (CrWait w) r is = is
 upper_waiting (WaitBeforeClose w) r is = absurd cc
 upper_waiting (UserWait since) r is = absurd cc
@@ -107,10 +107,10 @@ all_shown_on_wire {C} now journal world shown calling called x y o q are x_at y_
     let first = upper_open one.end.stage o (sym (ap (λ (e : End). e.stage) one.is) ∙ x_open) in
     let second = upper_open other.end.stage q (sym (ap (λ (e : End). e.stage) other.is) ∙ y_open) in
     let both = shown calling called one.end other.end first.opened second.opened are one.stands other.stands first.stage_is second.stage_is in
-    let P : Open → Open → Type 0 = λ a b. HasShown now journal calling called a.halves.sending b.halves.receiving × HasShown now journal called calling b.halves.sending a.halves.receiving in
-    let on_wire : Open → Open = λ a. record a { halves = halves_on_wire a.halves } in
-    subst (λ (a : Open). P a q) (sym first.is)
-    (subst (λ (b : Open). P (on_wire first.opened) b) (sym second.is)
+    let P : InOpened → InOpened → Type 0 = λ a b. HasShown now journal calling called a.halves.sending b.halves.receiving × HasShown now journal called calling b.halves.sending a.halves.receiving in
+    let on_wire : InOpened → InOpened = λ a. record a { halves = halves_on_wire a.halves } in
+    subst (λ (a : InOpened). P a q) (sym first.is)
+    (subst (λ (b : InOpened). P (on_wire first.opened) b) (sym second.is)
     (record { expedited = both.0.expedited; normal = both.0.normal }, record { expedited = both.1.expedited; normal = both.1.normal }))
 
 pub shown_on_wire : {C : Type 0} (link : C → Link (List ℕ)) (steps : C → Call (List ℕ) → C → Type 0) (titles : List (List ℕ)) (Waits : C → List (CarriedUnit (List ℕ)) → Type 0)

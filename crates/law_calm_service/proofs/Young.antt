@@ -12,16 +12,16 @@ use Rattle.tp4_flow.specs.declared.rules.Life.{Life}
 use Rattle.tp4_flow.specs.declared.rules.Life.TheVariants.{Goes, Exhausted}
 use Rattle.tp4_flow.specs.declared.rules.Options.{Options}
 use Rattle.tp4_sending.specs.FlowSender.{at, life_of}
-use Rattle.tp4_conn.specs.declared.base.Base.{Base}
+use Rattle.tp4_conn.specs.declared.end_record.EndRecord.{EndRecord}
 use Rattle.tp4_conn.specs.declared.call.UserCall.{UserCall}
 use Rattle.tp4_conn.specs.declared.call.UserCall.TheVariants as calls
-use Rattle.tp4_conn.specs.declared.stage.Answering.{Answering}
-use Rattle.tp4_conn.specs.declared.stage.Open.{Open}
-use Rattle.tp4_conn.specs.declared.stage.Parting.{Parting}
-use Rattle.tp4_conn.specs.declared.stage.Releasing.{Releasing}
-use Rattle.tp4_conn.specs.declared.stage.Requesting.{Requesting}
-use Rattle.tp4_conn.specs.declared.stage.Stage.{Stage}
-use Rattle.tp4_conn.specs.declared.stage.Stage.TheVariants as stages
+use Rattle.tp4_conn.specs.declared.states.InAkWait.{InAkWait}
+use Rattle.tp4_conn.specs.declared.states.InOpened.{InOpened}
+use Rattle.tp4_conn.specs.declared.states.InWaitBeforeClose.{InWaitBeforeClose}
+use Rattle.tp4_conn.specs.declared.states.InClosing.{InClosing}
+use Rattle.tp4_conn.specs.declared.states.InCrWait.{InCrWait}
+use Rattle.tp4_conn.specs.declared.states.StateData.{StateData}
+use Rattle.tp4_conn.specs.declared.states.StateData.TheVariants as stages
 use Rattle.tp4_conn.specs.Agreeing.{is_within}
 use Rattle.tp4_conn.specs.AkWait.{ak_wait_tick, ak_wait_tpdu}
 use Rattle.tp4_conn.specs.Calls.{call_refusal}
@@ -40,12 +40,12 @@ use Rattle.law_tp4_pair.proofs.Leaving.{stays_left}
 
 -- ---- an end that is still to be answered
 
-abbrev IsCalling : Stage → Type 0
+abbrev IsCalling : StateData → Type 0
 IsCalling (stages.CrWait w) = Prim.Unit {0}
 IsCalling stage = ⊥
 
 -- what a row leads to, where it leads to such an end
-abbrev Follows : Stage → Moved → Type 0
+abbrev Follows : StateData → Moved → Type 0
 Follows (stages.CrWait w) m = IsYoung m.stage → IsCalling m.stage × (shown_in m.events ≡ [])
 Follows (stages.UserWait since) m = IsYoung m.stage → (m.stage ≡ stages.UserWait since) × (shown_in m.events ≡ [])
 Follows stage m = IsYoung m.stage → ⊥
@@ -53,14 +53,14 @@ Follows stage m = IsYoung m.stage → ⊥
 abbrev IsOld : Moved → Type 0
 IsOld m = IsYoung m.stage → ⊥
 
-module _ (b : Base) where
-  dt_old : (got : Got) (o : Open) (r : Received) → IsOld (dt_as got b o r)
+module _ (b : EndRecord) where
+  dt_old : (got : Got) (o : InOpened) (r : Received) → IsOld (dt_as got b o r)
   dt_old TooLarge o r = λ h. h
   dt_old Kept o r = λ h. h
   dt_old Old o r = λ h. h
   dt_old Outside o r = λ h. h
 
-  opened_old : (o : Open) (tpdu : Tpdu) → IsOld (opened_tpdu whole b o tpdu)
+  opened_old : (o : InOpened) (tpdu : Tpdu) → IsOld (opened_tpdu whole b o tpdu)
   unfolding opened_tpdu
   opened_old o (wires.Dr destination source reason info text) = λ h. h
   opened_old o (wires.Er destination cause rejected) = λ h. h
@@ -72,7 +72,7 @@ module _ (b : Base) where
   opened_old o (wires.Cr credit source width calling called size preferred extra version classes ack_time text) = λ h. h
   opened_old o (wires.Dc destination source) = λ h. h
 
-  ak_old : (w : Answering) (tpdu : Tpdu) → IsOld (ak_wait_tpdu whole b w tpdu)
+  ak_old : (w : InAkWait) (tpdu : Tpdu) → IsOld (ak_wait_tpdu whole b w tpdu)
   unfolding ak_wait_tpdu
   ak_old w (wires.Ak destination number credit subsequence confirmation) = opened_old _ (wires.Ak destination number credit subsequence confirmation)
   ak_old w (wires.Dt destination last number text) = opened_old _ (wires.Dt destination last number text)
@@ -82,26 +82,26 @@ module _ (b : Base) where
   ak_old w (wires.Er destination cause rejected) = λ h. h
   ak_old w other = λ h. h
 
-  cr_follows : (w : Requesting) (tpdu : Tpdu) → Follows (stages.CrWait w) (cr_wait_tpdu b w tpdu)
+  cr_follows : (w : InCrWait) (tpdu : Tpdu) → Follows (stages.CrWait w) (cr_wait_tpdu b w tpdu)
   unfolding cr_wait_tpdu
   cr_follows w (wires.Cc credit destination source width calling called size preferred extra version classes ack_time text) =
       if_kept (Follows (stages.CrWait w)) (is_within b.proposed width size preferred extra) _ _ (λ _ h. absurd h) (λ _ h. absurd h)
   cr_follows w (wires.Dr destination source reason info text) = λ h. absurd h
   cr_follows w other = λ h. (tt, refl)
 
-  parting_old : (w : Parting) (tpdu : Tpdu) → IsOld (wait_before_close_tpdu b w tpdu)
+  parting_old : (w : InWaitBeforeClose) (tpdu : Tpdu) → IsOld (wait_before_close_tpdu b w tpdu)
   unfolding wait_before_close_tpdu
   parting_old w (wires.Cc credit destination source width calling called size preferred extra version classes ack_time text) = λ h. h
   parting_old w (wires.Dr destination source reason info text) = λ h. h
   parting_old w other = λ h. h
 
-  closing_old : (c : Releasing) (tpdu : Tpdu) → IsOld (closing_tpdu b c tpdu)
+  closing_old : (c : InClosing) (tpdu : Tpdu) → IsOld (closing_tpdu b c tpdu)
   unfolding closing_tpdu
   closing_old c (wires.Dc destination source) = λ h. h
   closing_old c (wires.Dr destination source cause info text) = λ h. h
   closing_old c other = λ h. h
 
-  tpdu_follows : (stage : Stage) (tpdu : Tpdu) → Follows stage (on_tpdu whole b stage tpdu)
+  tpdu_follows : (stage : StateData) (tpdu : Tpdu) → Follows stage (on_tpdu whole b stage tpdu)
   tpdu_follows (stages.CrWait w) tpdu = cr_follows w tpdu
   tpdu_follows (stages.WaitBeforeClose w) tpdu = parting_old w tpdu
   tpdu_follows (stages.UserWait since) tpdu = λ h. (refl, refl)
@@ -110,13 +110,13 @@ module _ (b : Base) where
   tpdu_follows (stages.Closing c) tpdu = closing_old c tpdu
   tpdu_follows (stages.Frozen when) tpdu = λ h. h
 
-  cr_tick_follows : (w : Requesting) → Follows (stages.CrWait w) (cr_wait_tick b w)
+  cr_tick_follows : (w : InCrWait) → Follows (stages.CrWait w) (cr_wait_tick b w)
   unfolding cr_wait_tick
   cr_tick_follows w =
       if_kept (Follows (stages.CrWait w)) (nat_lt b.clock (w.tries.last + b.timers.t1)) _ _ (λ _ h. (tt, refl))
       (λ _. if_kept (Follows (stages.CrWait w)) (nat_lt w.tries.count b.timers.sendings) _ _ (λ _ h. (tt, refl)) (λ _ h. absurd h))
 
-  parting_tick_old : (w : Parting) → IsOld (wait_before_close_tick b w)
+  parting_tick_old : (w : InWaitBeforeClose) → IsOld (wait_before_close_tick b w)
   unfolding wait_before_close_tick
   parting_tick_old w =
       if_kept IsOld (nat_lt b.clock (w.request.tries.last + b.timers.t1)) _ _ (λ _ h. h) (λ _. if_kept IsOld (nat_lt w.request.tries.count b.timers.sendings) _ _ (λ _ h. h) (λ _ h. h))
@@ -125,23 +125,23 @@ module _ (b : Base) where
   unfolding user_wait_tick
   user_tick_follows since = if_kept (Follows (stages.UserWait since)) (nat_lt b.clock (since + b.timers.inactive)) _ _ (λ _ h. (refl, refl)) (λ _ h. absurd h)
 
-  ak_tick_old : (w : Answering) → IsOld (ak_wait_tick b w)
+  ak_tick_old : (w : InAkWait) → IsOld (ak_wait_tick b w)
   unfolding ak_wait_tick
   ak_tick_old w = if_kept IsOld (nat_lt b.clock (w.tries.last + b.timers.t1)) _ _ (λ _ h. h) (λ _. if_kept IsOld (nat_lt w.tries.count b.timers.sendings) _ _ (λ _ h. h) (λ _ h. h))
 
-  opened_as_old : (life : Life) (o : Open) → IsOld (opened_as life b o)
+  opened_as_old : (life : Life) (o : InOpened) → IsOld (opened_as life b o)
   opened_as_old Exhausted o = λ h. h
   opened_as_old Goes o = if_kept IsOld (nat_le (o.acked + b.timers.window) b.clock) _ _ (λ _ h. h) (λ _ h. h)
 
-  opened_tick_old : (o : Open) → IsOld (opened_tick b o)
+  opened_tick_old : (o : InOpened) → IsOld (opened_tick b o)
   unfolding opened_tick
   opened_tick_old o = if_kept IsOld (nat_le (o.took + b.timers.inactive) b.clock) _ _ (λ _ h. h) (λ _. opened_as_old (life_of (at b.clock o.halves.sending)) o)
 
-  closing_tick_old : (c : Releasing) → IsOld (closing_tick b c)
+  closing_tick_old : (c : InClosing) → IsOld (closing_tick b c)
   unfolding closing_tick
   closing_tick_old c = if_kept IsOld (nat_le (c.from + span b.timers) b.clock) _ _ (λ _ h. h) (λ _. if_kept IsOld (nat_lt b.clock (c.last + b.timers.t1)) _ _ (λ _ h. h) (λ _ h. h))
 
-  tick_follows : (stage : Stage) → Follows stage (on_tick b stage)
+  tick_follows : (stage : StateData) → Follows stage (on_tick b stage)
   tick_follows (stages.CrWait w) = cr_tick_follows w
   tick_follows (stages.WaitBeforeClose w) = parting_tick_old w
   tick_follows (stages.UserWait since) = user_tick_follows since
@@ -162,10 +162,10 @@ module _ (b : Base) where
   unfolding user_wait_refuse
   refuse_left octets = tt
 
-  window_old : (o : Open) (credit : ℕ) → IsOld (opened_window b o credit)
+  window_old : (o : InOpened) (credit : ℕ) → IsOld (opened_window b o credit)
   window_old o credit = if_kept IsOld ((half_granted o.halves.receiving credit).receiver.inbox.credit == o.halves.receiving.receiver.inbox.credit) _ _ (λ _ h. h) (λ _ h. h)
 
-  call_follows : (stage : Stage) (call : UserCall) → Follows stage (on_call b stage call)
+  call_follows : (stage : StateData) (call : UserCall) → Follows stage (on_call b stage call)
   call_follows (stages.CrWait w) (calls.Disconnect octets) = λ h. absurd h
   call_follows (stages.CrWait w) call = λ h. (tt, refl)
   call_follows (stages.UserWait since) (calls.Accept asked octets) = λ h. absurd (accept_old asked octets h)
@@ -184,7 +184,7 @@ module _ (b : Base) where
   call_follows (stages.Closing c) call = λ h. h
   call_follows (stages.Frozen when) call = λ h. h
 
-untaken_follows : (stage : Stage) (m : Moved) → m.stage ≡ stage → shown_in m.events ≡ [] → Follows stage m
+untaken_follows : (stage : StateData) (m : Moved) → m.stage ≡ stage → shown_in m.events ≡ [] → Follows stage m
 untaken_follows (stages.CrWait w) m same none = λ h. (subst IsCalling (sym same) tt, none)
 untaken_follows (stages.UserWait since) m same none = λ h. (same, none)
 untaken_follows (stages.WaitBeforeClose w) m same none = λ h. subst IsYoung same h
@@ -204,7 +204,7 @@ abbrev pub IsAllowed : End → Event → Type 0
 IsAllowed e (Called call) = call_refusal e.base e.stage call ≡ None
 IsAllowed e other = Prim.Unit {0}
 
-young_before : (stage : Stage) (m : Moved) → Follows stage m → IsYoung m.stage → IsYoung stage × (shown_in m.events ≡ [])
+young_before : (stage : StateData) (m : Moved) → Follows stage m → IsYoung m.stage → IsYoung stage × (shown_in m.events ≡ [])
 young_before (stages.CrWait w) m f h = (tt, (f h).1)
 young_before (stages.UserWait since) m f h = (tt, (f h).1)
 young_before (stages.WaitBeforeClose w) m f h = absurd (f h)
@@ -214,7 +214,7 @@ young_before (stages.Closing c) m f h = absurd (f h)
 young_before (stages.Frozen when) m f h = absurd (f h)
 
 -- such an end is given no unit
-none_given : (b : Base) (stage : Stage) (call : UserCall) → IsYoung stage → call_refusal b stage call ≡ None → given (Called call) ≡ []
+none_given : (b : EndRecord) (stage : StateData) (call : UserCall) → IsYoung stage → call_refusal b stage call ≡ None → given (Called call) ≡ []
 none_given b (stages.CrWait w) (calls.Normal unit) young allowed = absurd cc
 none_given b (stages.CrWait w) (calls.Urgent unit) young allowed = absurd cc
 none_given b (stages.UserWait since) (calls.Normal unit) young allowed = absurd cc
@@ -242,7 +242,7 @@ row_young now e event young allowed =
     (before.0, gives_none e event before.0 allowed, before.1)
 
 -- a called end that is still to be answered waits since the same tick
-waits_before : (stage : Stage) (m : Moved) (since : ℕ) → Follows stage m → m.stage ≡ stages.UserWait since → stage ≡ stages.UserWait since
+waits_before : (stage : StateData) (m : Moved) (since : ℕ) → Follows stage m → m.stage ≡ stages.UserWait since → stage ≡ stages.UserWait since
 waits_before (stages.CrWait w) m since f is = absurd (subst IsCalling is (f (subst IsYoung (sym is) tt)).0)
 waits_before (stages.UserWait before) m since f is =
     let same : m.stage ≡ stages.UserWait before = (f (subst IsYoung (sym is) tt)).0 in
@@ -257,7 +257,7 @@ pub row_young_stays : (now : ℕ) (e : End) (event : Event) (since : ℕ) → (s
 row_young_stays now e event since is = waits_before e.stage (stepped whole now e event) since (follows now e event) is
 
 -- an end that waits for the answer to its CR did so before
-calls_before : (stage : Stage) (m : Moved) (now_waits : Requesting) → Follows stage m → m.stage ≡ stages.CrWait now_waits → (w : Requesting) × (stage ≡ stages.CrWait w)
+calls_before : (stage : StateData) (m : Moved) (now_waits : InCrWait) → Follows stage m → m.stage ≡ stages.CrWait now_waits → (w : InCrWait) × (stage ≡ stages.CrWait w)
 calls_before (stages.CrWait w) m r f is = (w, refl)
 calls_before (stages.UserWait since) m r f is = absurd (subst IsCalling (sym is ∙ (f (subst IsYoung (sym is) tt)).0) tt)
 calls_before (stages.WaitBeforeClose w) m r f is = absurd (f (subst IsYoung (sym is) tt))
@@ -266,7 +266,7 @@ calls_before (stages.Opened o) m r f is = absurd (f (subst IsYoung (sym is) tt))
 calls_before (stages.Closing c) m r f is = absurd (f (subst IsYoung (sym is) tt))
 calls_before (stages.Frozen when) m r f is = absurd (f (subst IsYoung (sym is) tt))
 
-pub row_calls : (now : ℕ) (e : End) (event : Event) (r : Requesting) → (stepped whole now e event).stage ≡ stages.CrWait r → (w : Requesting) × (e.stage ≡ stages.CrWait w)
+pub row_calls : (now : ℕ) (e : End) (event : Event) (r : InCrWait) → (stepped whole now e event).stage ≡ stages.CrWait r → (w : InCrWait) × (e.stage ≡ stages.CrWait w)
 row_calls now e event r is = calls_before e.stage (stepped whole now e event) r (follows now e event) is
 
 -- ---- a called end that was answered
@@ -278,11 +278,11 @@ IsAccept event = (asked : Options) × (octets : List ℕ) × (event ≡ Called (
 abbrev Unanswered : Moved → Type 0
 Unanswered m = (IsYoung m.stage → ⊥) → (HasLeft m.stage → ⊥) → ⊥
 
-user_tick_unanswered : (b : Base) (since : ℕ) → Unanswered (user_wait_tick b since)
+user_tick_unanswered : (b : EndRecord) (since : ℕ) → Unanswered (user_wait_tick b since)
 unfolding user_wait_tick
 user_tick_unanswered b since = if_kept Unanswered (nat_lt b.clock (since + b.timers.inactive)) _ _ (λ _ young left. young tt) (λ _ young left. left tt)
 
-answered_by : (now : ℕ) (b : Base) (since : ℕ) (event : Event) → (IsYoung (stepped whole now (record { base = b; stage = stages.UserWait since }) event).stage → ⊥)
+answered_by : (now : ℕ) (b : EndRecord) (since : ℕ) (event : Event) → (IsYoung (stepped whole now (record { base = b; stage = stages.UserWait since }) event).stage → ⊥)
     → (HasLeft (stepped whole now (record { base = b; stage = stages.UserWait since }) event).stage → ⊥) → IsAccept event
 answered_by now b since (Called (calls.Accept asked octets)) young left = (asked, octets, refl)
 answered_by now b since (Called (calls.Refuse octets)) young left = absurd (left (refuse_left (at_tick now b) octets))

@@ -1,2 +1,3 @@
--- What only carries the proofs: the story of the associations beside a network.
+-- What only carries the proofs: what the law says of accepts, and the story of the associations beside a network.
+pub mod Confirms
 pub mod Story

@@ -1,7 +1,7 @@
 //! Laws of the ends of calm runs (X.214, queue model of the transport service).
 
 ghost use Rattle.law_calm_run.specs.Service.{ConnectsAreIndicated, OnFifo};
-ghost use Rattle.law_calm_service.specs.Confirms.{AcceptsAreConfirmed};
+ghost use Rattle.law_calm_service.specs.steps.Confirms.{AcceptsAreConfirmed};
 ghost use Rattle.law_calm_service.specs.Pairs.{HavePairs, ShowAll};
 ghost use Rattle.tp4_number.specs.Number.{whole, wire};
 

@@ -11,7 +11,7 @@ use Rattle.lan_bag.specs.Frames.{Frame as LanFrame}
 use Rattle.pdu_parts.specs.Field.{IsAddress}
 use Rattle.law_carrier_answers.specs.Answers.{AreOctets}
 use Rattle.clnp_segment.specs.Store.{HasPlaces, Partial}
-use Rattle.esis_tables.specs.declared.row.Row.{Row}
+use Rattle.esis_tables.specs.declared.holding_time.Row.{Row}
 use Rattle.esis_tables.specs.Rows.{Rows}
 use Rattle.clnp_system.specs.Node.{Frame, Node}
 use Rattle.clnp_system.specs.Setting.{IsSetting, Setting, port_on}

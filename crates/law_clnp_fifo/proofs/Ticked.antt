@@ -3,7 +3,7 @@ use Rattle.std.proofs.Common.{◌≡◌, ℕ, Bool, true, false, List, [], ◌�
 use Rattle.std.specs.List.{AllByRecursion, filter}
 use Rattle.nsap.specs.declared.port.Port.{Port}
 use Rattle.esis_tables.specs.Rows.{Rows, is_row_known}
-use Rattle.esis_tables.specs.declared.row.Row.{Row}
+use Rattle.esis_tables.specs.declared.holding_time.Row.{Row}
 use Rattle.clnp_segment.specs.Store.{Holding}
 use Rattle.clnp_segment.specs.declared.store.Expired.{Expired}
 use Rattle.clnp_system.specs.Hellos.{AreHellos, HellosIf, hearers, is_due}

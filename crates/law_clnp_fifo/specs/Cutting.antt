@@ -68,7 +68,7 @@ pub record IsEmptyStore (store : Holding) : Type 0 where
   pub octets : store.octets ≡ 262144
 
 -- nothing comes of a frame but what is then held, and the next frames bring the unit
-pub record IsHeld {N : Type 0} (old : Node N) (now : ℕ) (reaction : Reaction) (new : Node N) (Next : Holding → Type 0) : Type 0 where
+pub record OnlyHolds {N : Type 0} (old : Node N) (now : ℕ) (reaction : Reaction) (new : Node N) (Next : Holding → Type 0) : Type 0 where
   pub store : Holding
   pub quiet : reaction ≡ record { ups = []; frames = [] }
   pub after : new ≡ record old { clock = now; store = store }
@@ -84,7 +84,7 @@ pub record IsWhole {N : Type 0} (unit : CarriedUnit (List ℕ)) (old : Node N) (
 -- what comes of a frame: the unit with the last one, and before that nothing, while the next ones bring it
 abbrev pub BringsBy : {N : Type 0} → (Holding → Type 0) → CarriedUnit (List ℕ) → List Frame → Node N → ℕ → Reaction → Node N → Type 0
 BringsBy Next unit [] old now reaction new = IsWhole unit old now reaction new
-BringsBy Next unit (frame ∷ frames) old now reaction new = IsHeld old now reaction new Next
+BringsBy Next unit (frame ∷ frames) old now reaction new = OnlyHolds old now reaction new Next
 
 -- handed one after another to a system with that setting and that store, these frames bring the unit
 abbrev pub Bring : {N : Type 0} → Tables N → Setting → CarriedUnit (List ℕ) → List Frame → Holding → Type 0

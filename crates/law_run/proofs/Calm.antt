@@ -46,7 +46,7 @@ use Rattle.osi_setup.specs.Fitting.{IsWell}
 use Rattle.osi_setup.specs.SetUp.{SetUp, entities_of, timers_of, titles_of as titles_said}
 use Rattle.osi_setup.proofs.Entities.{are_timed}
 use Rattle.law_run.specs.Calm.{AcceptsAreConfirmed, ActsCalmly, ConnectsAreIndicated, RunsCalmly, ServesCalmScripts}
-use Rattle.law_run.specs.World.{Ends, Net, NetDoes, Started, World, WorldRuns, WorldStep, link_of_net, running, titles_of}
+use Rattle.law_run.specs.World.{TransportNet, Net, NetDoes, Started, World, WorldRuns, WorldStep, link_of_net, running, titles_of}
 use Rattle.script_world.specs.declared.play.World.TheVariants.{SettingUp, Running}
 use Rattle.script_bench.specs.steps.Moves.{line_moves}
 use Rattle.law_setup.proofs.Started.{still_started}
@@ -64,11 +64,11 @@ use Rattle.tp4_conn.specs.declared.timers.Timers.{Timers}
 -- ---- networks that run
 
 -- the ends of a network that runs
-abbrev ends_in : World → Ends → Ends
+abbrev ends_in : World → TransportNet → TransportNet
 ends_in (SettingUp setup) ends = ends
 ends_in (Running run) ends = run.ends
 
-same_running : (titles others : List (List ℕ)) (timers left : Timers) (one other : Ends) → running titles timers one ≡ running others left other → (titles ≡ others) × (one ≡ other)
+same_running : (titles others : List (List ℕ)) (timers left : Timers) (one other : TransportNet) → running titles timers one ≡ running others left other → (titles ≡ others) × (one ≡ other)
 same_running titles others timers left one other is = (ap titles_of is, ap (λ (w : World). ends_in w one) is)
 
 -- where the start was read, it was for the lines behind it
@@ -80,12 +80,12 @@ says_started names last (text ∷ texts) (line ∷ script) begun says =
     says_started says.0 last texts script ((line_moves names text line says.0 says.1).started ∙ still_started names.started line begun) says.2
 
 -- lines that do nothing, and then a `settle`
-record HasSettled (titles : List (List ℕ)) (timers : Timers) (old : Ends) (settled : List Event) (last : World) : Type 0 where
-  new : Ends
+record HasSettled (titles : List (List ℕ)) (timers : Timers) (old : TransportNet) (settled : List Event) (last : World) : Type 0 where
+  new : TransportNet
   runs : RunsLine link_of_net NetDoes wire titles old lines.Settle settled new
   is : last ≡ running titles timers new
 
-idle_settles : (titles : List (List ℕ)) (timers : Timers) (old : Ends) (idle : List Line) (settled : List Event) (last : World) → AllByRecursion (λ line. line ≡ lines.Nothing) idle
+idle_settles : (titles : List (List ℕ)) (timers : Timers) (old : TransportNet) (idle : List Line) (settled : List Event) (last : World) → AllByRecursion (λ line. line ≡ lines.Nothing) idle
     → WorldRuns (running titles timers old) (idle ++ lines.Settle ∷ []) settled last → HasSettled titles timers old settled last
 idle_settles titles timers old [] settled last all h =
     let step = ran_line titles timers old lines.Settle h.1 h.0 h.3 in
@@ -97,7 +97,7 @@ idle_settles titles timers old [] settled last all h =
     }
 idle_settles titles timers old (line ∷ idle) settled last all h =
     let step = ran_line titles timers old lines.Nothing h.1 h.0 (subst (λ (l : Line). WorldStep (running titles timers old) l h.1 h.0) all.0 h.3) in
-    let there : h.0 ≡ running titles timers old = step.2 ∙ ap (λ (ends : Ends). running titles timers ends) step.1.1 in
+    let there : h.0 ≡ running titles timers old = step.2 ∙ ap (λ (ends : TransportNet). running titles timers ends) step.1.1 in
     let same : settled ≡ h.2 = h.4 ∙ ap (λ (made : List Event). made ++ h.2) step.1.0 in
     subst (λ (made : List Event). HasSettled titles timers old made last) (sym same)
     (idle_settles titles timers old idle h.2 last all.1 (subst (λ (w : World). WorldRuns w (idle ++ lines.Settle ∷ []) h.2 last) there h.5))
@@ -129,7 +129,7 @@ module _ (setup : SetUp) (calm : MakesCalm setup) where
   -- at the start nothing waits, and each end system has an entity without ends
   begins : IsWell setup → (made : List Event) (mid : World) (starts : Started setup made mid) → AllByRecursion IsUndropped made → IsStart (titles_said setup) (timers_of setup.life setup.limits) queue_of starts.1
   begins w made mid starts none =
-      let first : Ends = starts.1 in
+      let first : TransportNet = starts.1 in
       let begun = starts.2 in
       let starting = starts.3 in
       let told_none : AllByRecursion IsUndropped (told starting.ups) = (subst (AllByRecursion IsUndropped) starting.made_is none).1 in
@@ -146,15 +146,15 @@ module _ (setup : SetUp) (calm : MakesCalm setup) where
         none = refl;
         waits = waits.1;
       } in
-      subst (λ (world : Ends). IsStart (titles_said setup) (timers_of setup.life setup.limits) queue_of world) (sym starting.becomes) start
+      subst (λ (world : TransportNet). IsStart (titles_said setup) (timers_of setup.life setup.limits) queue_of world) (sym starting.becomes) start
 
 -- ---- a calm script that runs
 
 -- a run of a calm script, as the laws over a carrier that loses nothing speak of it
-record IsCalmly (journal : List Event) (titles : List (List ℕ)) (last : Ends) : Type 0 where
+record IsCalmly (journal : List Event) (titles : List (List ℕ)) (last : TransportNet) : Type 0 where
   setup : SetUp
   calm : MakesCalm setup
-  first : Ends
+  first : TransportNet
   script : List Line
   begun : List Event
   rest : List Event
@@ -164,12 +164,12 @@ record IsCalmly (journal : List Event) (titles : List (List ℕ)) (last : Ends) 
   run : IsCalmRun link_of_net NetDoes wire (titles_said setup) first script rest last
   journal_is : journal ≡ begun ++ rest
 
-started_names : (texts : List (List ℕ)) (script : List Line) (names : Declared) (journal : List Event) (titles : List (List ℕ)) (last : Ends) → RunsCalmly texts script names journal titles last → names.started ≡ true
+started_names : (texts : List (List ℕ)) (script : List Line) (names : Declared) (journal : List Event) (titles : List (List ℕ)) (last : TransportNet) → RunsCalmly texts script names journal titles last → names.started ≡ true
 started_names texts script names journal titles last r =
     let c = runs_calm texts script names journal (running titles r.timers last) r.says r.run r.calm in
     says_started c.names names c.texts c.after c.begins c.says
 
-calmly : (texts : List (List ℕ)) (script : List Line) (names : Declared) (journal : List Event) (titles : List (List ℕ)) (last : Ends) → RunsCalmly texts script names journal titles last
+calmly : (texts : List (List ℕ)) (script : List Line) (names : Declared) (journal : List Event) (titles : List (List ℕ)) (last : TransportNet) → RunsCalmly texts script names journal titles last
     → AllByRecursion IsUndropped journal → IsCalmly journal titles last
 calmly texts script names journal titles last r none =
     let c = runs_calm texts script names journal (running titles r.timers last) r.says r.run r.calm in
@@ -194,21 +194,21 @@ calmly texts script names journal titles last r none =
         proper = script_proper c.names c.texts c.after names c.begins c.says;
         unrouted = c.unrouted;
         undropped = parts.1;
-        runs = subst (λ (e : Ends). RunsLines link_of_net NetDoes wire (titles_said c.setup) starts.1 c.after c.rest e) (sym same.1) on.runs;
+        runs = subst (λ (e : TransportNet). RunsLines link_of_net NetDoes wire (titles_said c.setup) starts.1 c.after c.rest e) (sym same.1) on.runs;
       };
       journal_is = c.journal_is;
     }
 
 -- ---- a line and the `settle` behind it
 
-record HasActed (titles : List (List ℕ)) (old : Ends) (line : Line) (own : Event) (later : List Event) (between : Ends) (settled : List Event) : Type 0 where
+record HasActed (titles : List (List ℕ)) (old : TransportNet) (line : Line) (own : Event) (later : List Event) (between : TransportNet) (settled : List Event) : Type 0 where
   proper : IsProperLine line
   acts : RunsLine link_of_net NetDoes wire titles old line (own ∷ later) between
-  new : Ends
+  new : TransportNet
   settles : RunsLine link_of_net NetDoes wire titles between lines.Settle settled new
   undropped : AllByRecursion IsUndropped (later ++ settled)
 
-has_acted : (texts : List (List ℕ)) (script : List Line) (names new : Declared) (before : List Event) (titles others : List (List ℕ)) (old between : Ends) → RunsCalmly texts script names before titles old → titles ≡ others
+has_acted : (texts : List (List ℕ)) (script : List Line) (names new : Declared) (before : List Event) (titles others : List (List ℕ)) (old between : TransportNet) → RunsCalmly texts script names before titles old → titles ≡ others
     → (text : List ℕ) (line : Line) → line_read names text ≡ Ok (record { line = line; names = new }) → (own : Event) (later settled : List Event) (last : World)
     → ActsCalmly titles before old line own later between settled last → HasActed others old line own later between settled
 has_acted texts script names new before titles others old between r same text line read own later settled last a =
@@ -219,7 +219,7 @@ has_acted texts script names new before titles others old between r same text li
     record {
       proper = (script_proper names (text ∷ []) (line ∷ []) new (started_names texts script names before titles old r) (new, read, refl)).0;
       acts = subst (λ (t : List (List ℕ)). RunsLine link_of_net NetDoes wire t old line (own ∷ later) between) same
-          (subst (λ (e : Ends). RunsLine link_of_net NetDoes wire titles old line (own ∷ later) e) (sym now.1) step.1);
+          (subst (λ (e : TransportNet). RunsLine link_of_net NetDoes wire titles old line (own ∷ later) e) (sym now.1) step.1);
       new = settle.new;
       settles = subst (λ (t : List (List ℕ)). RunsLine link_of_net NetDoes wire t between lines.Settle settled settle.new) same settle.runs;
       undropped = all.1.1;
@@ -234,7 +234,7 @@ all_shown titles Waits fifo_is timers first last script begun journal start asid
     (none_due link_of_net NetDoes net_law titles Waits fifo_is timers first last script journal start run)
 
 module _ (whole_run : WholeRun link_of_net NetDoes) (whole_line : WholeLine link_of_net NetDoes) where
-  connects_indicated : (texts : List (List ℕ)) (script : List Line) (names : Declared) (before : List Event) (titles : List (List ℕ)) (old : Ends) → RunsCalmly texts script names before titles old
+  connects_indicated : (texts : List (List ℕ)) (script : List Line) (names : Declared) (before : List Event) (titles : List (List ℕ)) (old : TransportNet) → RunsCalmly texts script names before titles old
       → ConnectsAreIndicated names before titles old
   connects_indicated texts script names before titles old r new between text system to selector called octets options read asked later settled last a entity there may =
       let c = calmly texts script names before titles old r (all_parts IsUndropped before (events.Connect asked ∷ (later ++ settled)) a.undropped).0 in
@@ -254,7 +254,7 @@ module _ (whole_run : WholeRun link_of_net NetDoes) (whole_line : WholeLine link
         may = may;
       })
 
-  ends_shown : (texts : List (List ℕ)) (script : List Line) (names : Declared) (journal : List Event) (titles : List (List ℕ)) (last : Ends) → RunsCalmly texts script names journal titles last
+  ends_shown : (texts : List (List ℕ)) (script : List Line) (names : Declared) (journal : List Event) (titles : List (List ℕ)) (last : TransportNet) → RunsCalmly texts script names journal titles last
       → AllByRecursion IsUndropped journal → AllShown (link_of_net last.carrier).clock journal (end_at_number last)
   ends_shown texts script names journal titles last r none =
       let c = calmly texts script names journal titles last r none in
@@ -263,7 +263,7 @@ module _ (whole_run : WholeRun link_of_net NetDoes) (whole_line : WholeLine link
       (all_shown (titles_said c.setup) (queue_of c.setup c.calm) (fifo c.setup c.calm))
       (timers_of c.setup.life c.setup.limits) c.first last c.script c.begun c.rest c.start c.aside c.run)
 
-  accepts_confirmed : (texts : List (List ℕ)) (script : List Line) (names : Declared) (before : List Event) (titles : List (List ℕ)) (old : Ends) → RunsCalmly texts script names before titles old
+  accepts_confirmed : (texts : List (List ℕ)) (script : List Line) (names : Declared) (before : List Event) (titles : List (List ℕ)) (old : TransportNet) → RunsCalmly texts script names before titles old
       → AcceptsAreConfirmed names before titles old
   accepts_confirmed texts script names before titles old r new between text calling called options agreed octets read partners waits later settled last a =
       let c = calmly texts script names before titles old r (all_parts IsUndropped before (events.Accept called agreed octets ∷ (later ++ settled)) a.undropped).0 in

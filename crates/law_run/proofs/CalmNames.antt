@@ -2,10 +2,10 @@
 use Rattle.std.proofs.Common.{◌≡◌, ℕ, zero, suc, ◌<◌, ◌≤◌, true, false, List, [], ◌∷◌, length, Option, Some, None, refl, sym, ◌∙◌, subst, arith}
 use Rattle.std.specs.Prelude.{slice_get}
 use Rattle.std.specs.List.{AllByRecursion}
-use Rattle.osi_script.specs.declared.form.Word.{Word}
-use Rattle.osi_script.specs.declared.form.Word.TheVariants as words
+use Rattle.osi_script.specs.declared.words.Word.{Word}
+use Rattle.osi_script.specs.declared.words.Word.TheVariants as words
 use Rattle.osi_script.specs.declared.line.Line.{Line}
-use Rattle.osi_script.specs.declared.parts.Parts.{Parts}
+use Rattle.osi_script.specs.declared.field_values.FieldValues.{FieldValues}
 use Rattle.osi_script.specs.Grammar.{Reading, declared_by, line_for, new_system, next_number}
 use Rattle.osi_script.specs.Known.{Declared, KnownSystem, changed, end_of as end_of_known, with_changed}
 use Rattle.osi_script.specs.Names.{AreIntermediateSystems, NamesDeclared}
@@ -44,7 +44,7 @@ no_path : (names : Declared) (systems : List ℕ) → HasEndsAlone names → 1 �
 no_path names [] h some are = absurd (omega arith)
 no_path names (system ∷ systems) h some are = let clash : false ≡ true = sym are.0.1 ∙ is_one names.systems system h.ends are.0.0 in cc
 
-word_ends : (names : Declared) (setup : SetUp) (parts : Parts) (script : List Line) (word : Word) → HasEndsAlone names → Fits setup (line_for (next_number names (row_of word).effect) word parts)
+word_ends : (names : Declared) (setup : SetUp) (parts : FieldValues) (script : List Line) (word : Word) → HasEndsAlone names → Fits setup (line_for (next_number names (row_of word).effect) word parts)
     → NamesDeclared names (line_for (next_number names (row_of word).effect) word parts) → intermediate_systems (line_for (next_number names (row_of word).effect) word parts ∷ script) ≡ []
     → HasEndsAlone (declared_by names (row_of word).effect parts) × (intermediate_systems script ≡ [])
 word_ends names setup parts script words.Set h fits known none = (record { ends = h.ends; paths = h.paths }, none)

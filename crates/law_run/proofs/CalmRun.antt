@@ -10,12 +10,12 @@ use Rattle.osi_script.specs.Known.{Declared, nothing_declared}
 use Rattle.osi_script.specs.Names.{NamesDeclared}
 use Rattle.osi_script.specs.Script.{Says}
 use Rattle.osi_script.proofs.LineNames.{line_named}
-use Rattle.law_tp4_pair.specs.Calm.{IsCalmScript, IsSettled, intermediate_systems}
+use Rattle.law_tp4_pair.specs.Calm.{IsCalmScript, IsSettledScript, intermediate_systems}
 use Rattle.law_calm_run.specs.Run.{IsUnrouted}
 use Rattle.osi_setup.specs.Fitting.{IsWell}
 use Rattle.osi_setup.specs.SetUp.{SetUp, nothing_said, set_up}
 use Rattle.osi_setup.proofs.Wellness.{nothing_well, well_after}
-use Rattle.osi_script.specs.declared.form.Dialect.TheVariants as dialects
+use Rattle.osi_script.specs.declared.words.Dialect.TheVariants as dialects
 use Rattle.law_run.specs.World.{SetsUp, Started, WorldRun, WorldRuns, is_start}
 use Rattle.law_run.specs.steps.WorldLaws.{started}
 use Rattle.law_run.specs.World.{World}
@@ -212,7 +212,7 @@ pub record RunsCalm (script : List Line) (journal : List Event) (last : World) (
   pub starts : Started setup made mid
   pub runs : WorldRuns mid after rest last
   pub journal_is : journal ≡ made ++ rest
-  pub settled : IsSettled after
+  pub settled : IsSettledScript after
   pub unrouted : AllByRecursion IsUnrouted after
   pub names : Declared
   pub texts : List (List ℕ)

@@ -1,25 +1,25 @@
--- Whatever part of the octets was run, its lines are a script and the network ran them; so where nothing is injected the journal is lawful, and a system that
--- began again is silent in any case.
-use Rattle.std.proofs.Common.{ℕ, List}
+-- Whatever part of the octets was run, its lines are a script and the network ran them; so where no injection was taken the journal is lawful, and a system
+-- that began again is silent in any case.
+use Rattle.std.proofs.Common.{◌≡◌, ℕ, List, None}
 use Rattle.osi_journal.specs.declared.event.Event.{Event}
 use Rattle.osi_journal.specs.Lawful.{KeepsSilence, Lawful}
 use Rattle.osi_script.specs.declared.line.Line.{Line}
 use Rattle.osi_script.specs.Known.{Declared, nothing_declared}
 use Rattle.osi_script.specs.Script.{Says}
-use Rattle.osi_script.specs.declared.form.Dialect.TheVariants as dialects
+use Rattle.osi_script.specs.declared.words.Dialect.TheVariants as dialects
 use Rattle.script_bench.proofs.Claimed.{shows}
 use Rattle.script_world.proofs.Headline.{front_lawful, front_silent}
 use Rattle.law_run.specs.Transcript.{ShowsSilence, ShowsWhatWasSubmitted}
-use Rattle.law_run.specs.World.{HasNoInject, World, WorldRun, frozen_of, titles_of, world_acts}
+use Rattle.law_run.specs.World.{World, WorldRun, frozen_of, strays_of, titles_of, world_acts}
 
 abbrev IsLawfulRun : List Line → List Event → World → Type 0
-IsLawfulRun script journal last = HasNoInject script → Lawful (frozen_of last) (titles_of last) journal
+IsLawfulRun script journal last = strays_of last ≡ None → Lawful (frozen_of last) (titles_of last) journal
 
 abbrev IsSilentRun : List Line → List Event → World → Type 0
 IsSilentRun script journal last = KeepsSilence (frozen_of last) journal
 
 module _ (law : (texts : List (List ℕ)) (script : List Line) (names : Declared) (journal : List Event) (last : World) → Says (nothing_declared dialects.Run) texts script names
-    → WorldRun script journal last → HasNoInject script → Lawful (frozen_of last) (titles_of last) journal) where
+    → WorldRun script journal last → strays_of last ≡ None → Lawful (frozen_of last) (titles_of last) journal) where
   pub shows_submitted : (octets : List ℕ) → ShowsWhatWasSubmitted octets
   shows_submitted octets =
       shows world_acts IsLawfulRun (record { runs = law; front = λ script before after last lawful none. front_lawful (frozen_of last) (titles_of last) before after (lawful none) }) octets

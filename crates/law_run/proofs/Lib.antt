@@ -1,3 +1,4 @@
+mod AskedLines
 mod Calm
 mod CalmDrawn
 mod CalmNames
@@ -5,6 +6,7 @@ mod CalmNet
 mod CalmRows
 mod CalmRun
 pub mod Handled
-mod Lawful
+pub mod Lawful
 pub mod ScriptRuns
 pub mod Served
+pub mod told

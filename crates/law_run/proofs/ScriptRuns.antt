@@ -13,7 +13,7 @@ use Rattle.script_bench.proofs.Given.{outcome_run, ran_script}
 use Rattle.script_bench.proofs.Runs.{filled_run as filled_of, script_run as run_of}
 use Rattle.law_run.specs.Bench.{Bench, FillsJournal, first_bench, bench_meaning, most_events}
 use Rattle.law_run.specs.World.{life_of, titles_of, world_acts}
-use Rattle.law_run.specs.Transcript.{IsFilledRun, IsScriptRun, IsTranscript, ServesWhereCalm, ShowsSent, ShowsSilence, ShowsWhatWasSubmitted}
+use Rattle.law_run.specs.Transcript.{IsFilledRun, IsScriptRun, IsTranscript, ServesWhereCalm, ShowsSentUnits, ShowsSilence, ShowsWhatWasSubmitted}
 use Rattle.law_run.proofs.Lawful.{raw_lawful}
 
 pub script_run : (texts : List (List ℕ)) (journal : List Event) (last : Bench) → Runs bench_meaning first_bench texts journal last → IsScriptRun texts journal last
@@ -42,7 +42,7 @@ filled_run texts before state text part journal last runs h is =
           (subst (λ (j : List Event). RawLawful (life_of last.world) (titles_of last.world) j) parts (sent none));
     }
 
-pub shows_sent : (read : List ℕ) → ShowsSent read
+pub shows_sent : (read : List ℕ) → ShowsSentUnits read
 shows_sent read = λ front journal last begins run. ran_script world_acts IsScriptRun IsFilledRun script_run filled_run front journal last run
 
 module _ {S K : Type 0} (left : S → Option (List ℕ)) (held : K → Option (List ℕ)) (source : S) (sink : K) (now_source : S) (now_sink : K) (answer : Status)

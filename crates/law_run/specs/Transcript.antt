@@ -1,6 +1,5 @@
 -- What `run` writes for a script: the transcript of the run of the network, and what is claimed of it.
-use Rattle.std.specs.Prelude.{◌≡◌, ℕ, ◌+◌, ◌<◌, ◌≤◌, List, length, take}
-use Rattle.std.proofs.Common.{inl, inr}
+use Rattle.std.specs.Prelude.{◌≡◌, ℕ, ◌+◌, ◌<◌, ◌≤◌, List, length, take, None}
 use Rattle.osi_base.specs.declared.status.Status.{Status}
 use Rattle.osi_journal.specs.declared.event.Event.{Event}
 use Rattle.osi_script.specs.declared.line.Line.{Line}
@@ -10,25 +9,25 @@ use Rattle.line_loop.specs.Outcome.{Outcome}
 use Rattle.osi_script.specs.Known.{nothing_declared}
 use Rattle.osi_script.specs.Script.{Says}
 use Rattle.law_tp4_pair.specs.Calm.{IsCalmScript}
-use Rattle.script_bench.specs.Claims.{IsRun as IsRunOf, lines_handled as lines_handled_of, lines_run as lines_run_of}
+use Rattle.script_bench.specs.Claims.{AllLines, IsRun as IsRunOf, ToLimit, ToLimitAtEnd, WholeLines, lines_handled as lines_handled_of, lines_run as lines_run_of}
 pub use Rattle.script_bench.specs.Claims.{texts_in}
 use Rattle.script_bench.specs.Told.{OutcomeRun as OutcomeRunOf, RanScript as RanScriptOf}
-use Rattle.osi_script.specs.declared.form.Dialect.TheVariants as dialects
+use Rattle.osi_script.specs.declared.words.Dialect.TheVariants as dialects
 use Rattle.law_run.specs.Bench.{Bench, first_bench, bench_meaning, most_events}
-use Rattle.law_run.specs.Calm.{Serves}
-use Rattle.law_run.specs.World.{Ends, HasNoInject, frozen_of, life_of, running, titles_of, world_acts, WorldRun}
+use Rattle.law_run.specs.Calm.{ServesUsers}
+use Rattle.law_run.specs.World.{TransportNet, frozen_of, life_of, running, strays_of, titles_of, world_acts, WorldRun}
 use Rattle.osi_journal.specs.Lawful.{KeepsSilence, Lawful}
 use Rattle.osi_journal.specs.RawLawful.{RawLawful}
 use Rattle.line_loop.specs.Writing.{IsPrefix}
 use Rattle.tp4_conn.specs.declared.timers.Timers.{Timers}
 
--- the texts are the lines of a script, and by the run of the network they have this journal and leave that network; where none of them
--- is an `inject` line, each raw unit that is shown was sent
+-- the texts are the lines of a script, and by the run of the network they have this journal and leave that network; where that tells no
+-- strays, since none of them is an `inject` line that was taken, each raw unit that is shown was sent
 pub record IsScriptRun (texts : List (List ℕ)) (journal : List Event) (last : Bench) : Type 0 where
   pub script : List Line
   pub lines : Says (nothing_declared dialects.Run) texts script last.names
   pub run : WorldRun script journal last.world
-  pub sent : HasNoInject script → RawLawful (life_of last.world) (titles_of last.world) journal
+  pub sent : strays_of last.world ≡ None → RawLawful (life_of last.world) (titles_of last.world) journal
 
 -- what runs on the bench is a script, line by line, and the run of the network for its lines
 abbrev pub RunsScripts : Type 0
@@ -40,7 +39,7 @@ pub record IsFilledRun (texts : List (List ℕ)) (journal : List Event) (last : 
   pub run : IsScriptRun texts whole last
   pub over : most_events < length whole
   pub journal_is : journal ≡ take most_events whole
-  pub sent : HasNoInject run.script → RawLawful (life_of last.world) (titles_of last.world) journal
+  pub sent : strays_of last.world ≡ None → RawLawful (life_of last.world) (titles_of last.world) journal
 
 -- where what was written is a transcript or a front of it: the lines whose journal it tells are a script, and it is that of the run of the network
 abbrev pub OutcomeRun : (end : Type 0) (read written : List ℕ) (status : Status) → Outcome bench_meaning end first_bench read written status → Type 0
@@ -54,10 +53,10 @@ IsRun = IsRunOf world_acts
 abbrev pub RanScript : (octets : List ℕ) (journal : List Event) (last : Bench) → IsRun octets journal last → Type 0
 RanScript = RanScriptOf world_acts IsScriptRun IsFilledRun
 
--- whatever front of the octets was run: a script was run, and where no line of it is an `inject` line, each raw unit that is shown was
--- sent
-abbrev pub ShowsSent : List ℕ → Type 0
-ShowsSent octets = (front : List ℕ) (journal : List Event) (last : Bench) → IsPrefix front octets → (run : IsRun front journal last) → RanScript front journal last run
+-- whatever front of the octets was run: a script was run, and where no line of it is an `inject` line that was taken, each raw unit that is
+-- shown was sent
+abbrev pub ShowsSentUnits : List ℕ → Type 0
+ShowsSentUnits octets = (front : List ℕ) (journal : List Event) (last : Bench) → IsPrefix front octets → (run : IsRun front journal last) → RanScript front journal last run
 
 -- the lines that ran
 abbrev pub lines_run : (first : Bench) (texts : List (List ℕ)) (journal : List Event) (last : Bench) → Runs bench_meaning first texts journal last → List Line
@@ -67,13 +66,13 @@ lines_run = lines_run_of world_acts
 abbrev pub lines_handled : (octets : List ℕ) (journal : List Event) (last : Bench) → IsRun octets journal last → List Line
 lines_handled = lines_handled_of world_acts
 
--- whatever front of the octets was run: where no line handled is an `inject` line, the journal is lawful, and so is each front of it. Each
--- connect indication has one request, which says the same: its partner. What an end shows of the connection is a front, in order, of what
--- its partner submitted, of normal units and of expedited ones, and no normal unit comes before an expedited one that was submitted
--- before it. An end without a partner shows nothing
+-- whatever front of the octets was run: where no line handled is an `inject` line that was taken, and so no strays are told, the journal is
+-- lawful, and so is each front of it. Each connect indication has one request, which says the same: its partner. What an end shows of the
+-- connection is a front, in order, of what its partner submitted, of normal units and of expedited ones, and no normal unit comes before an
+-- expedited one that was submitted before it. An end without a partner shows nothing
 abbrev pub ShowsWhatWasSubmitted : List ℕ → Type 0
 ShowsWhatWasSubmitted octets = (front : List ℕ) (journal : List Event) (last : Bench) → IsPrefix front octets
-    → (run : IsRun front journal last) → HasNoInject (lines_handled front journal last run) → Lawful (frozen_of last.world) (titles_of last.world) journal
+    → IsRun front journal last → strays_of last.world ≡ None → Lawful (frozen_of last.world) (titles_of last.world) journal
 
 -- whatever front of the octets was run, also where frames are injected: after a `restart` line of a system nothing is told of the ends that it had, and it makes
 -- none for as long as references are frozen
@@ -82,14 +81,15 @@ ShowsSilence octets = (front : List ℕ) (journal : List Event) (last : Bench) �
 
 -- the lines ran whole: none went past a limit
 abbrev pub RanWhole : (octets : List ℕ) (journal : List Event) (last : Bench) → IsRun octets journal last → Type 0
-RanWhole octets journal last (inl read) = Unit {0}
-RanWhole octets journal last (inr (inl whole)) = Unit {0}
-RanWhole octets journal last (inr (inr past)) = ⊥
+RanWhole octets journal last (WholeLines read) = Unit {0}
+RanWhole octets journal last (AllLines whole) = Unit {0}
+RanWhole octets journal last (ToLimit past) = ⊥
+RanWhole octets journal last (ToLimitAtEnd past) = ⊥
 
 -- whatever front of the octets was run whole: where its lines are a calm script, nothing is missing after them, as long as nothing was dropped
 abbrev pub ServesWhereCalm : List ℕ → Type 0
 ServesWhereCalm octets = (front : List ℕ) (journal : List Event) (last : Bench) → IsPrefix front octets → (run : IsRun front journal last) → RanWhole front journal last run
-    → (titles : List (List ℕ)) (timers : Timers) (ends : Ends) → last.world ≡ running titles timers ends → IsCalmScript (lines_handled front journal last run) → Serves last.names journal titles ends
+    → (titles : List (List ℕ)) (timers : Timers) (ends : TransportNet) → last.world ≡ running titles timers ends → IsCalmScript (lines_handled front journal last run) → ServesUsers last.names journal titles ends
 
 -- of the octets read, what was written is told as the status says, and tells the run of the network for the lines of the
 -- script; whatever part of the octets was run, each raw unit that is shown was sent, and each end shows what its partner submitted,
@@ -97,7 +97,7 @@ ServesWhereCalm octets = (front : List ℕ) (journal : List Event) (last : Bench
 pub record IsTranscript (end : Type 0) (read written : List ℕ) (status : Status) : Type 0 where
   pub outcome : Outcome bench_meaning end first_bench read written status
   pub run : OutcomeRun end read written status outcome
-  pub sent : ShowsSent read
+  pub sent : ShowsSentUnits read
   pub lawful : ShowsWhatWasSubmitted read
   pub silent : ShowsSilence read
   pub calm : ServesWhereCalm read

@@ -1,17 +1,18 @@
 //! What holds of every run of the network, for all scripts.
 
-ghost use Rattle.std.specs.Prelude.{◌≡◌, List, ℕ};
+ghost use Rattle.std.specs.Prelude.{◌≡◌, List, None, ℕ};
 ghost use Rattle.law_run.specs.Calm.{ServesCalmScripts};
-ghost use Rattle.osi_script.specs.declared.form.Dialect.TheVariants as dialects;
+ghost use Rattle.osi_script.specs.declared.words.Dialect.TheVariants as dialects;
 ghost use Rattle.law_run.specs.Bench.{bench_meaning, first_bench};
 ghost use Rattle.line_loop.specs.Total.{AsksSomething};
 ghost use Rattle.line_loop.specs.Exact.{OneCourse, AsksOne};
 ghost use Rattle.law_run.specs.Transcript.{RunsScripts};
 ghost use Rattle.osi_journal.specs.declared.event.Event.{Event};
 ghost use Rattle.osi_script.specs.declared.line.Line.{Line};
+ghost use Rattle.osi_script.specs.Injecting.{HasNoInject};
 ghost use Rattle.osi_script.specs.Known.{Declared, nothing_declared};
 ghost use Rattle.osi_script.specs.Script.{Says};
-ghost use Rattle.law_run.specs.World.{HasNoInject, World, WorldRun, frozen_of, life_of, titles_of};
+ghost use Rattle.law_run.specs.World.{World, WorldRun, frozen_of, life_of, strays_of, titles_of};
 ghost use Rattle.osi_journal.specs.Lawful.{KeepsSilence, Lawful};
 ghost use Rattle.osi_journal.specs.RawLawful.{RawLawful};
 
@@ -23,20 +24,27 @@ pub fn one_journal()
         → WorldRun script journal last → WorldRun script other end → (journal ≡ other) × (last ≡ end) }
 {}
 
-/// Where no line is an `inject` line, each raw unit that is shown was sent to that system, from that address, with those octets,
-/// at most the lifetime before.
+/// No strays are told where no line of a script is an `inject` line.
+pub fn strays_are_injected()
+    ensures { (texts : List (List ℕ)) (script : List Line) (names : Declared) (journal : List Event) (last : World)
+        → Says (nothing_declared dialects.Run) texts script names → WorldRun script journal last → HasNoInject script
+        → strays_of last ≡ None }
+{}
+
+/// Where no strays are told, since no line is an `inject` line that was taken, each raw unit that is shown was sent to that system, from
+/// that address, with those octets, at most the lifetime before.
 pub fn raw_units_are_lawful()
-    ensures { (script : List Line) (journal : List Event) (last : World) → WorldRun script journal last → HasNoInject script
+    ensures { (script : List Line) (journal : List Event) (last : World) → WorldRun script journal last → strays_of last ≡ None
         → RawLawful (life_of last) (titles_of last) journal }
 {}
 
-/// Where no line of a script is an `inject` line, its journal is lawful, and with it each front of the journal: what an end shows of a
-/// connection is a front, in order, of what its one partner was asked to send, of normal units and of expedited ones; no normal unit
-/// comes before an expedited one that was submitted before it; an end without a partner shows nothing; and a system that began again is
-/// silent, as `systems_are_silent` says.
+/// Where no strays are told, since no line of a script is an `inject` line that was taken, its journal is lawful, and with it each front
+/// of the journal: what an end shows of a connection is a front, in order, of what its one partner was asked to send, of normal units and
+/// of expedited ones; no normal unit comes before an expedited one that was submitted before it; an end without a partner shows nothing;
+/// and a system that began again is silent, as `systems_are_silent` says.
 pub fn ends_are_lawful()
     ensures { (texts : List (List ℕ)) (script : List Line) (names : Declared) (journal : List Event) (last : World)
-        → Says (nothing_declared dialects.Run) texts script names → WorldRun script journal last → HasNoInject script
+        → Says (nothing_declared dialects.Run) texts script names → WorldRun script journal last → strays_of last ≡ None
         → Lawful (frozen_of last) (titles_of last) journal }
 {
     law_tp4_lawful::lawful::<RoutedNet>();

@@ -6,14 +6,14 @@ use Rattle.std.specs.List.{AllByRecursion, list_any}
 use Rattle.std.proofs.lemmas.Bool.Decides.{nat_tests}
 use Rattle.law_carrier_answers.specs.Answers.{AreOctets}
 use Rattle.tp4_conn.specs.End.{IsSize, IsSizedBy}
-use Rattle.osi_script.specs.declared.fault.LineCause.{LineCause}
-use Rattle.osi_script.specs.declared.fault.LineCause.TheVariants as causes
-use Rattle.osi_script.specs.declared.field.TpduSize.{TpduSize}
-use Rattle.osi_script.specs.declared.form.Form.{Form}
-use Rattle.osi_script.specs.declared.form.Form.TheVariants as forms
-use Rattle.osi_script.specs.declared.form.Named.TheVariants as named
-use Rattle.osi_script.specs.declared.form.Plain.TheVariants as plain
-use Rattle.osi_script.specs.declared.parts.Parts.{Parts}
+use Rattle.osi_script.specs.declared.cause.LineCause.{LineCause}
+use Rattle.osi_script.specs.declared.cause.LineCause.TheVariants as causes
+use Rattle.osi_script.specs.declared.field_forms.TpduSize.{TpduSize}
+use Rattle.osi_script.specs.declared.words.FieldKind.{FieldKind}
+use Rattle.osi_script.specs.declared.words.FieldKind.TheVariants as forms
+use Rattle.osi_script.specs.declared.words.NameKind.TheVariants as named
+use Rattle.osi_script.specs.declared.words.WordKind.TheVariants as plain
+use Rattle.osi_script.specs.declared.field_values.FieldValues.{FieldValues}
 use Rattle.osi_script.specs.Field.{number_of, octets_of, within}
 use Rattle.osi_script.specs.Gives.{into, then_read}
 use Rattle.osi_script.specs.Grammar.{at_column, count_fault, fields_read, next_column}
@@ -85,7 +85,7 @@ new_selector_short names system field selector is = selector_short field selecto
 -- ---- what all fields keep
 
 -- the credit is in its bounds, octets are octets, and where a size was read it is one
-pub record AreFine (sized : Bool) (parts : Parts) : Type 0 where
+pub record AreFine (sized : Bool) (parts : FieldValues) : Type 0 where
   pub size : sized ≡ true → IsSizedBy parts.options.preferred parts.options.size
   pub credit : parts.credit ≤ 255
   pub octets : AreOctets parts.octets
@@ -98,12 +98,12 @@ none_short = record { few = omega arith; octets = tt }
 none_fine : AreFine false no_parts
 none_fine = record { size = λ is. absurd (cc); credit = omega arith; octets = tt; selector = none_short; called = none_short }
 
-through : {A : Type 0} (sized : Bool) (read : Result A LineCause) (put : A → Parts) (more : Parts) → into read put ≡ Ok more → ((value : A) → read ≡ Ok value → AreFine sized (put value)) → AreFine sized more
+through : {A : Type 0} (sized : Bool) (read : Result A LineCause) (put : A → FieldValues) (more : FieldValues) → into read put ≡ Ok more → ((value : A) → read ≡ Ok value → AreFine sized (put value)) → AreFine sized more
 through sized (Err cause) put more is fine = absurd (cc)
 through sized (Ok value) put more is fine = let same : put value ≡ more = cc in subst (AreFine sized) same (fine value refl)
 
 module _ (names : Declared) (sized : Bool) where
-  field_fine : (form : Form) (parts more : Parts) (field : List ℕ) → field_read names parts form field ≡ Ok more → AreFine sized parts → AreFine sized more
+  field_fine : (form : FieldKind) (parts more : FieldValues) (field : List ℕ) → field_read names parts form field ≡ Ok more → AreFine sized parts → AreFine sized more
   field_fine (forms.Named named.System) parts more field is f = through sized _ _ more is (λ value read. record { size = f.size; credit = f.credit; octets = f.octets; selector = f.selector; called = f.called })
   field_fine (forms.Named named.EndSystem) parts more field is f = through sized _ _ more is (λ value read. record { size = f.size; credit = f.credit; octets = f.octets; selector = f.selector; called = f.called })
   field_fine (forms.Named named.To) parts more field is f = through sized _ _ more is (λ value read. record { size = f.size; credit = f.credit; octets = f.octets; selector = f.selector; called = f.called })
@@ -142,31 +142,31 @@ module _ (names : Declared) (sized : Bool) where
   field_fine forms.Octets parts more field is f =
       through sized _ _ more is (λ value read. record { size = f.size; credit = f.credit; octets = unit_octets field value read; selector = f.selector; called = f.called })
 
-  left_fine : (forms : List Form) (fields : List (List ℕ)) (column : ℕ) (parts out : Parts) → fields_read names parts column forms fields ≡ Ok out → AreFine sized parts → AreFine sized out
+  left_fine : (forms : List FieldKind) (fields : List (List ℕ)) (column : ℕ) (parts out : FieldValues) → fields_read names parts column forms fields ≡ Ok out → AreFine sized parts → AreFine sized out
   left_fine [] fields column parts out is f = subst (AreFine sized) (same_parts parts out is) f
   left_fine (form ∷ forms) [] column parts out is f = subst (AreFine sized) (same_parts parts out is) f
   left_fine (form ∷ forms) (field ∷ fields) column parts out is f =
       by (λ more i g. left_fine forms fields (next_column column field) more out i g) (field_read names parts form field) refl is
     where
-      by : ((more : Parts) → fields_read names more (next_column column field) forms fields ≡ Ok out → AreFine sized more → AreFine sized out) → (read : Result Parts LineCause) → field_read names parts form field ≡ read
+      by : ((more : FieldValues) → fields_read names more (next_column column field) forms fields ≡ Ok out → AreFine sized more → AreFine sized out) → (read : Result FieldValues LineCause) → field_read names parts form field ≡ read
           → at_column column read (λ more. fields_read names more (next_column column field) forms fields) ≡ Ok out → AreFine sized out
       by rest (Err cause) here i = absurd (cc)
       by rest (Ok more) here i = rest more i (field_fine form parts more field here f)
 
 -- the field of a size
-size_fine : (names : Declared) (parts more : Parts) (field : List ℕ) → field_read names parts (forms.Plain plain.Size) field ≡ Ok more → AreFine false parts → AreFine true more
+size_fine : (names : Declared) (parts more : FieldValues) (field : List ℕ) → field_read names parts (forms.Plain plain.Size) field ≡ Ok more → AreFine false parts → AreFine true more
 size_fine names parts more field is f =
     through true (size_of names.second field) (λ size. record parts { options = with_size parts.options size }) more is
     (λ value read. record { size = λ asked. size_read names.second field value read; credit = f.credit; octets = f.octets; selector = f.selector; called = f.called })
 
 -- fields among which a size stands
-sized_fine : (names : Declared) (before others : List Form) (fields : List (List ℕ)) (past column : ℕ) (parts out : Parts)
+sized_fine : (names : Declared) (before others : List FieldKind) (fields : List (List ℕ)) (past column : ℕ) (parts out : FieldValues)
     → count_fault past column (before ++ forms.Plain plain.Size ∷ others) fields ≡ None → fields_read names parts column (before ++ forms.Plain plain.Size ∷ others) fields ≡ Ok out
     → AreFine false parts → AreFine true out
 sized_fine names [] others [] past column parts out count is f = absurd (cc)
 sized_fine names [] others (field ∷ fields) past column parts out count is f = by (field_read names parts (forms.Plain plain.Size) field) refl is
   where
-    by : (read : Result Parts LineCause) → field_read names parts (forms.Plain plain.Size) field ≡ read → at_column column read (λ more. fields_read names more (next_column column field) others fields) ≡ Ok out
+    by : (read : Result FieldValues LineCause) → field_read names parts (forms.Plain plain.Size) field ≡ read → at_column column read (λ more. fields_read names more (next_column column field) others fields) ≡ Ok out
         → AreFine true out
     by (Err cause) here i = absurd (cc)
     by (Ok more) here i = left_fine names true others fields (next_column column field) more out i (size_fine names parts more field here f)
@@ -174,23 +174,23 @@ sized_fine names (form ∷ before) others [] past column parts out count is f = 
 sized_fine names (form ∷ before) others (field ∷ fields) past column parts out count is f =
     by (λ more i g. sized_fine names before others fields past (next_column column field) more out count i g) (field_read names parts form field) refl is
   where
-    by : ((more : Parts) → fields_read names more (next_column column field) (before ++ forms.Plain plain.Size ∷ others) fields ≡ Ok out → AreFine false more → AreFine true out) → (read : Result Parts LineCause)
+    by : ((more : FieldValues) → fields_read names more (next_column column field) (before ++ forms.Plain plain.Size ∷ others) fields ≡ Ok out → AreFine false more → AreFine true out) → (read : Result FieldValues LineCause)
         → field_read names parts form field ≡ read → at_column column read (λ more. fields_read names more (next_column column field) (before ++ forms.Plain plain.Size ∷ others) fields) ≡ Ok out → AreFine true out
     by rest (Err cause) here i = absurd (cc)
     by rest (Ok more) here i = rest more i (field_fine names false form parts more field here f)
 
 -- ---- what a line that was read has
 
-pub all_fine : (names : Declared) (forms : List Form) (fields : List (List ℕ)) (column : ℕ) (out : Parts) → fields_read names no_parts column forms fields ≡ Ok out → AreFine false out
+pub all_fine : (names : Declared) (forms : List FieldKind) (fields : List (List ℕ)) (column : ℕ) (out : FieldValues) → fields_read names no_parts column forms fields ≡ Ok out → AreFine false out
 all_fine names forms fields column out is = left_fine names false forms fields column no_parts out is none_fine
 
 -- a line with an agreement has a size
-pub agreed_size : (names : Declared) (before : List Form) (fields : List (List ℕ)) (past column : ℕ) (out : Parts) → count_fault past column (before ++ agreement) fields ≡ None
+pub agreed_size : (names : Declared) (before : List FieldKind) (fields : List (List ℕ)) (past column : ℕ) (out : FieldValues) → count_fault past column (before ++ agreement) fields ≡ None
     → fields_read names no_parts column (before ++ agreement) fields ≡ Ok out → IsSizedBy out.options.preferred out.options.size
 agreed_size names before fields past column out count is =
     let same : before ++ agreement ≡ (before ++ forms.Plain plain.Format ∷ []) ++ forms.Plain plain.Size ∷ left = sym (append_assoc before (forms.Plain plain.Format ∷ []) (forms.Plain plain.Size ∷ left)) in
     (sized_fine names (before ++ forms.Plain plain.Format ∷ []) left fields past column no_parts out
-    (subst (λ (f : List Form). count_fault past column f fields ≡ None) same count) (subst (λ (f : List Form). fields_read names no_parts column f fields ≡ Ok out) same is) none_fine).size refl
+    (subst (λ (f : List FieldKind). count_fault past column f fields ≡ None) same count) (subst (λ (f : List FieldKind). fields_read names no_parts column f fields ≡ Ok out) same is) none_fine).size refl
   where
-    left : List Form
+    left : List FieldKind
     left = forms.Plain plain.Expedited ∷ forms.Plain plain.Sum ∷ forms.Octets ∷ []

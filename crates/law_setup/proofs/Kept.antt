@@ -17,15 +17,15 @@ use Rattle.nsap.specs.declared.port.Port.{Port}
 use Rattle.lan_bag.specs.declared.setup.Lan.{Lan}
 use Rattle.lan_bag.specs.declared.setup.PortRow.{PortRow}
 use Rattle.clnp_route.specs.declared.table.RouteRow.{RouteRow}
-use Rattle.osi_script.specs.declared.fault.LineCause.TheVariants as causes
-use Rattle.osi_script.specs.declared.form.Form.TheVariants as forms
-use Rattle.osi_script.specs.declared.form.Named.TheVariants as named
-use Rattle.osi_script.specs.declared.form.Plain.TheVariants as plain
-use Rattle.osi_script.specs.declared.form.Word.{Word}
-use Rattle.osi_script.specs.declared.form.Word.TheVariants as words
+use Rattle.osi_script.specs.declared.cause.LineCause.TheVariants as causes
+use Rattle.osi_script.specs.declared.words.FieldKind.TheVariants as forms
+use Rattle.osi_script.specs.declared.words.NameKind.TheVariants as named
+use Rattle.osi_script.specs.declared.words.WordKind.TheVariants as plain
+use Rattle.osi_script.specs.declared.words.Word.{Word}
+use Rattle.osi_script.specs.declared.words.Word.TheVariants as words
 use Rattle.osi_script.specs.declared.line.Line.{Line}
 use Rattle.osi_script.specs.declared.line.Line.TheVariants as lines
-use Rattle.osi_script.specs.declared.parts.Parts.{Parts}
+use Rattle.osi_script.specs.declared.field_values.FieldValues.{FieldValues}
 use Rattle.osi_script.specs.declared.settings.Key.{Key}
 use Rattle.osi_script.specs.declared.settings.Key.TheVariants as keys
 use Rattle.osi_script.specs.declared.system.LanRow.{LanRow}
@@ -51,7 +51,7 @@ use Rattle.osi_setup.proofs.Wellness.{made_hop, with_one, with_row}
 
 -- ---- one more of each
 
-lan_one : (names : Declared) (setup : SetUp) (parts : Parts) (number room : ℕ) → AreOne names setup
+lan_one : (names : Declared) (setup : SetUp) (parts : FieldValues) (number room : ℕ) → AreOne names setup
     → AreOne (declared_by names (row_of words.Lan).effect parts) (set_up setup (lines.Lan number parts.number room))
 lan_one names setup parts number room one = record {
   lans = let same = one.lans in omega (arith, length-append setup.lans (record { bound = parts.number; room = room } ∷ []), length-append names.lans (record { name = parts.name; bound = parts.number } ∷ []));
@@ -63,13 +63,13 @@ lan_one names setup parts number room one = record {
   selectors = one.selectors;
 }
 
-no_port_more : (systems : List KnownSystem) (end : Bool) (parts : Parts) (n : ℕ) → ports_of (slice_get (systems ++ new_system end parts ∷ []) n) ≡ ports_of (slice_get systems n)
+no_port_more : (systems : List KnownSystem) (end : Bool) (parts : FieldValues) (n : ℕ) → ports_of (slice_get (systems ++ new_system end parts ∷ []) n) ≡ ports_of (slice_get systems n)
 no_port_more [] end parts zero = refl
 no_port_more [] end parts (suc n) = refl
 no_port_more (system ∷ systems) end parts zero = refl
 no_port_more (system ∷ systems) end parts (suc n) = no_port_more systems end parts n
 
-no_selector_more : (systems : List KnownSystem) (end : Bool) (parts : Parts) (n : ℕ) → selectors_of (slice_get (systems ++ new_system end parts ∷ []) n) ≡ selectors_of (slice_get systems n)
+no_selector_more : (systems : List KnownSystem) (end : Bool) (parts : FieldValues) (n : ℕ) → selectors_of (slice_get (systems ++ new_system end parts ∷ []) n) ≡ selectors_of (slice_get systems n)
 no_selector_more [] end parts zero = refl
 no_selector_more [] end parts (suc n) = refl
 no_selector_more (system ∷ systems) end parts zero = refl
@@ -81,7 +81,7 @@ none_registered [] end title (suc n) = refl
 none_registered (system ∷ systems) end title zero = refl
 none_registered (system ∷ systems) end title (suc n) = none_registered systems end title n
 
-system_one : (names : Declared) (setup : SetUp) (end : Bool) (parts : Parts) → AreOne names setup
+system_one : (names : Declared) (setup : SetUp) (end : Bool) (parts : FieldValues) → AreOne names setup
     → AreOne (record names { systems = names.systems ++ new_system end parts ∷ [] }) (record setup { systems = setup.systems ++ record { end = end; title = (given_title parts); rows = []; selectors = [] } ∷ [] })
 system_one names setup end parts one = record {
   lans = one.lans;
@@ -132,7 +132,7 @@ module _ (systems : List KnownSystem) (row : PortRow) (system : KnownSystem) (is
         ∙ sym (ap (λ (ports : List Port). ports_of (slice_get systems n) ++ ports) (own_none row n differ) ∙ append-nil (ports_of (slice_get systems n)))
   ]
 
-port_one : (names : Declared) (setup : SetUp) (parts : Parts) → AreOne names setup → parts.system < length names.systems
+port_one : (names : Declared) (setup : SetUp) (parts : FieldValues) → AreOne names setup → parts.system < length names.systems
     → AreOne (declared_by names (row_of words.Port).effect parts) (set_up setup (lines.Port parts.system parts.lan (given_station parts)))
 port_one names setup parts one known =
     let row : PortRow = record { system = parts.system; end = end_at setup.systems parts.system; port = new_port parts } in
@@ -192,7 +192,7 @@ has_hop setup next lan some = by (port_on setup.ports next lan) refl some
       is = ap (λ (found : Option Port). option_map (made_hop (hop_title (slice_get setup.systems next))) found) is;
     }
 
-route_one : (names : Declared) (setup : SetUp) (parts : Parts) → AreOne names setup → parts.system < length names.systems → IsSome (port_on setup.ports parts.other parts.lan)
+route_one : (names : Declared) (setup : SetUp) (parts : FieldValues) → AreOne names setup → parts.system < length names.systems → IsSome (port_on setup.ports parts.other parts.lan)
     → AreOne (declared_by names (row_of words.Route).effect parts) (set_up setup (lines.Route parts.system (given_prefix parts) parts.other parts.lan))
 route_one names setup parts one known on =
     let hop : HasHop setup parts.other parts.lan = has_hop setup parts.other parts.lan on in
@@ -303,7 +303,7 @@ module _ (xs : List System) (ys : List KnownSystem) (i : ℕ) (x : System) (y : 
         ∙ sym (ap (λ (found : Option KnownSystem). is_among (selectors_of found) other) (get_other ys i n (with_known y selector) differ))
   ]
 
-selector_one : (names : Declared) (setup : SetUp) (parts : Parts) → AreOne names setup → parts.system < length names.systems
+selector_one : (names : Declared) (setup : SetUp) (parts : FieldValues) → AreOne names setup → parts.system < length names.systems
     → AreOne (declared_by names (row_of words.Tsap).effect parts) (set_up setup (lines.Tsap parts.system parts.selector))
 selector_one names setup parts one known =
     let x : There setup.systems parts.system = there setup.systems parts.system (subst (λ (n : ℕ). parts.system < n) (sym (as_many names setup one)) known) in
@@ -328,7 +328,7 @@ selector_one names setup parts one known =
 
 -- ---- a relay
 
-relay_one : (names : Declared) (setup : SetUp) (parts : Parts) → AreOne names setup → parts.system < length names.systems
+relay_one : (names : Declared) (setup : SetUp) (parts : FieldValues) → AreOne names setup → parts.system < length names.systems
     → AreOne (declared_by names (row_of words.Relay).effect parts) (set_up setup (lines.Relay parts.system parts.selector parts.other parts.called))
 relay_one names setup parts one known =
     let more = selector_one names setup parts one known in
@@ -377,7 +377,7 @@ not_out : (started : Bool) → started ≡ false → not started ≡ false → �
 not_out true is out = absurd (cc)
 not_out false is out = absurd (cc)
 
-module _ (names : Declared) (setup : SetUp) (past column : ℕ) (fields : List (List ℕ)) (parts : Parts) (one : AreOne names setup) (w : IsWell setup) (begun : names.started ≡ false) where
+module _ (names : Declared) (setup : SetUp) (past column : ℕ) (fields : List (List ℕ)) (parts : FieldValues) (one : AreOne names setup) (w : IsWell setup) (begun : names.started ≡ false) where
   word_kept : (word : Word) → is_out_of_order names word ≡ false → count_fault past column (row_of word).fields fields ≡ None
       → fields_read names no_parts column (row_of word).fields fields ≡ Ok parts → limit_cause names (row_of word).effect parts ≡ None
       → NamesDeclared names (line_for (next_number names (row_of word).effect) word parts)
@@ -445,7 +445,7 @@ none_behind : (a b : Bool) → (a || b) ≡ false → b ≡ true → ⊥
 none_behind true b is begun = absurd (cc)
 none_behind false b is begun = cc
 
-module _ (names : Declared) (clock : ℕ) (past column : ℕ) (fields : List (List ℕ)) (parts : Parts) (begun : names.started ≡ true) (low : clock < 4000000000) where
+module _ (names : Declared) (clock : ℕ) (past column : ℕ) (fields : List (List ℕ)) (parts : FieldValues) (begun : names.started ≡ true) (low : clock < 4000000000) where
   word_runs : (word : Word) → is_out_of_order names word ≡ false → count_fault past column (row_of word).fields fields ≡ None → fields_read names no_parts column (row_of word).fields fields ≡ Ok parts
       → NamesDeclared names (line_for (next_number names (row_of word).effect) word parts)
       → RunsAt (length names.systems) clock (line_for (next_number names (row_of word).effect) word parts)

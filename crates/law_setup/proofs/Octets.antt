@@ -15,11 +15,11 @@ use Rattle.esis_tables.specs.Rows.{Rows}
 use Rattle.law_clnp_step.specs.Sound.{IsPeopled, settings_of}
 use Rattle.law_clnp_answers.specs.Laws.{MayBegin, first_node}
 use Rattle.law_clnp_answers.specs.Standing.{IsHop, IsNsap, IsSetUp, IsSnpa}
-use Rattle.osi_script.specs.declared.form.Word.{Word}
-use Rattle.osi_script.specs.declared.form.Word.TheVariants as words
+use Rattle.osi_script.specs.declared.words.Word.{Word}
+use Rattle.osi_script.specs.declared.words.Word.TheVariants as words
 use Rattle.osi_script.specs.declared.line.Line.{Line}
 use Rattle.osi_script.specs.declared.line.Line.TheVariants as lines
-use Rattle.osi_script.specs.declared.parts.Parts.{Parts}
+use Rattle.osi_script.specs.declared.field_values.FieldValues.{FieldValues}
 use Rattle.osi_script.specs.declared.settings.Key.{Key}
 use Rattle.osi_script.specs.declared.settings.Key.TheVariants as keys
 use Rattle.osi_script.specs.Grammar.{Reading, count_fault, fields_read, next_number, line_for, line_read}
@@ -38,7 +38,7 @@ use Rattle.osi_setup.proofs.Wellness.{made_hop, rows_more, rows_there, set_rows,
 
 -- ---- lines
 
-word_octets : (names : Declared) (past column number : ℕ) (fields : List (List ℕ)) (parts : Parts) (word : Word) → count_fault past column (row_of word).fields fields ≡ None
+word_octets : (names : Declared) (past column number : ℕ) (fields : List (List ℕ)) (parts : FieldValues) (word : Word) → count_fault past column (row_of word).fields fields ≡ None
     → fields_read names no_parts column (row_of word).fields fields ≡ Ok parts → LineInOctets (line_for number word parts)
 word_octets names past column number fields parts words.Es count filled = (title_values names past column fields parts count filled).octets
 word_octets names past column number fields parts words.Is count filled = (title_values names past column fields parts count filled).octets

@@ -4,17 +4,17 @@ use Rattle.std.proofs.Common.{◌≡◌, ℕ, ◌≤◌, Bool, true, false, List
 use Rattle.std.specs.Prelude.{◌&&◌, if◌then◌else◌, nat_le}
 use Rattle.std.specs.List.{AllByRecursion}
 use Rattle.std.proofs.lemmas.Bool.Decides.{nat_tests}
-use Rattle.osi_script.specs.declared.fault.LineCause.{LineCause}
-use Rattle.osi_script.specs.declared.fault.LineCause.TheVariants as causes
-use Rattle.osi_script.specs.declared.form.Form.{Form}
-use Rattle.osi_script.specs.declared.form.Form.TheVariants as forms
-use Rattle.osi_script.specs.declared.form.Named.TheVariants as named
-use Rattle.osi_script.specs.declared.form.Plain.TheVariants as plain
-use Rattle.osi_script.specs.declared.form.Word.{Word}
-use Rattle.osi_script.specs.declared.form.Word.TheVariants as words
+use Rattle.osi_script.specs.declared.cause.LineCause.{LineCause}
+use Rattle.osi_script.specs.declared.cause.LineCause.TheVariants as causes
+use Rattle.osi_script.specs.declared.words.FieldKind.{FieldKind}
+use Rattle.osi_script.specs.declared.words.FieldKind.TheVariants as forms
+use Rattle.osi_script.specs.declared.words.NameKind.TheVariants as named
+use Rattle.osi_script.specs.declared.words.WordKind.TheVariants as plain
+use Rattle.osi_script.specs.declared.words.Word.{Word}
+use Rattle.osi_script.specs.declared.words.Word.TheVariants as words
 use Rattle.osi_script.specs.declared.line.Line.{Line}
 use Rattle.osi_script.specs.declared.line.Line.TheVariants as lines
-use Rattle.osi_script.specs.declared.parts.Parts.{Parts}
+use Rattle.osi_script.specs.declared.field_values.FieldValues.{FieldValues}
 use Rattle.osi_script.specs.Field.{octets_of, within}
 use Rattle.osi_script.specs.Gives.{into, then_read}
 use Rattle.osi_script.specs.Grammar.{Reading, at_column, fields_read, line_for, next_column, next_number}
@@ -33,7 +33,7 @@ use Rattle.law_setup.proofs.Values.{same_parts, then_by}
 -- ---- selectors
 
 -- selectors of a line have 32 octets at most
-abbrev AreShort : Parts → Type 0
+abbrev AreShort : FieldValues → Type 0
 AreShort parts = (length parts.selector ≤ 32) × (length parts.called ≤ 32)
 
 short_within : (octets selector : List ℕ) (b : Bool) → (nat_le 1 (length octets) && nat_le (length octets) 32) ≡ b → (if b then Ok octets else Err causes.Range) ≡ Ok selector → length selector ≤ 32
@@ -52,11 +52,11 @@ new_selector_short : (names : Declared) (system : ℕ) (field selector : List �
 unfolding new_selector
 new_selector_short names system field selector is = selector_short field selector (then_by (selector_of field) _ causes.Repeat selector is).read_is
 
-put_short : {A : Type 0} (read : Result A LineCause) (put : A → Parts) (more : Parts) → into read put ≡ Ok more → ((value : A) → read ≡ Ok value → AreShort (put value)) → AreShort more
+put_short : {A : Type 0} (read : Result A LineCause) (put : A → FieldValues) (more : FieldValues) → into read put ≡ Ok more → ((value : A) → read ≡ Ok value → AreShort (put value)) → AreShort more
 put_short (Err cause) put more is short = absurd (cc)
 put_short (Ok value) put more is short = let same : put value ≡ more = cc in subst AreShort same (short value refl)
 
-short_field : (names : Declared) (form : Form) (parts more : Parts) (field : List ℕ) → field_read names parts form field ≡ Ok more → AreShort parts → AreShort more
+short_field : (names : Declared) (form : FieldKind) (parts more : FieldValues) (field : List ℕ) → field_read names parts form field ≡ Ok more → AreShort parts → AreShort more
 short_field names (forms.Named named.System) parts more field is s = put_short _ _ more is (λ value read. s)
 short_field names (forms.Named named.EndSystem) parts more field is s = put_short _ _ more is (λ value read. s)
 short_field names (forms.Named named.To) parts more field is s = put_short _ _ more is (λ value read. s)
@@ -89,13 +89,13 @@ short_field names forms.NewSelector parts more field is s = put_short _ _ more i
 short_field names forms.Selector parts more field is s = put_short _ _ more is (λ value read. (selector_short field value read, s.1))
 short_field names forms.Called parts more field is s = put_short _ _ more is (λ value read. (s.0, selector_short field value read))
 
-short_fields : (names : Declared) (forms : List Form) (fields : List (List ℕ)) (column : ℕ) (parts out : Parts) → fields_read names parts column forms fields ≡ Ok out → AreShort parts → AreShort out
+short_fields : (names : Declared) (forms : List FieldKind) (fields : List (List ℕ)) (column : ℕ) (parts out : FieldValues) → fields_read names parts column forms fields ≡ Ok out → AreShort parts → AreShort out
 short_fields names [] fields column parts out is s = subst AreShort (same_parts parts out is) s
 short_fields names (form ∷ forms) [] column parts out is s = subst AreShort (same_parts parts out is) s
 short_fields names (form ∷ forms) (field ∷ fields) column parts out is s =
     by (λ more i short. short_fields names forms fields (next_column column field) more out i short) (field_read names parts form field) refl is
   where
-    by : ((more : Parts) → fields_read names more (next_column column field) forms fields ≡ Ok out → AreShort more → AreShort out) → (read : Result Parts LineCause) → field_read names parts form field ≡ read
+    by : ((more : FieldValues) → fields_read names more (next_column column field) forms fields ≡ Ok out → AreShort more → AreShort out) → (read : Result FieldValues LineCause) → field_read names parts form field ≡ read
         → at_column column read (λ more. fields_read names more (next_column column field) forms fields) ≡ Ok out → AreShort out
     by rest (Err cause) here i = absurd (cc)
     by rest (Ok more) here i = rest more i (short_field names form parts more field here s)
@@ -107,7 +107,7 @@ abbrev HasShort : Line → Type 0
 HasShort (lines.Connect system selector to called options octets) = (length selector ≤ 32) × (length called ≤ 32)
 HasShort line = Unit {0}
 
-word_short : (number : ℕ) (word : Word) (parts : Parts) → AreShort parts → HasShort (line_for number word parts)
+word_short : (number : ℕ) (word : Word) (parts : FieldValues) → AreShort parts → HasShort (line_for number word parts)
 word_short number words.Set parts s = tt
 word_short number words.Lan parts s = tt
 word_short number words.Es parts s = tt

@@ -2,11 +2,11 @@
 use Rattle.std.proofs.Common.{◌≡◌, ℕ, Bool, true, false, List, [], ◌∷◌, length, None, Result, Ok, Err, refl, subst, arith}
 use Rattle.std.specs.Prelude.{◌&&◌, if◌then◌else◌, nat_le, not, slice_get}
 use Rattle.std.proofs.lemmas.Bool.Decides.{nat_tests}
-use Rattle.osi_script.specs.declared.fault.LineCause.{LineCause}
-use Rattle.osi_script.specs.declared.fault.LineCause.TheVariants as causes
-use Rattle.osi_script.specs.declared.form.Form.TheVariants as forms
-use Rattle.osi_script.specs.declared.form.Named.TheVariants as named
-use Rattle.osi_script.specs.declared.parts.Parts.{Parts}
+use Rattle.osi_script.specs.declared.cause.LineCause.{LineCause}
+use Rattle.osi_script.specs.declared.cause.LineCause.TheVariants as causes
+use Rattle.osi_script.specs.declared.words.FieldKind.TheVariants as forms
+use Rattle.osi_script.specs.declared.words.NameKind.TheVariants as named
+use Rattle.osi_script.specs.declared.field_values.FieldValues.{FieldValues}
 use Rattle.osi_script.specs.Field.{octets_of, within}
 use Rattle.osi_script.specs.Gives.{then_read}
 use Rattle.osi_script.specs.Grammar.{count_fault, fields_read, next_column}
@@ -44,7 +44,7 @@ pub record RelayRead (names : Declared) (system : ℕ) (selector called : List �
   pub called_is : IsSelector called
   pub fresh : is_among (selectors_of (slice_get names.systems system)) selector ≡ false
 
-pub relay_values : (names : Declared) (past column : ℕ) (fields : List (List ℕ)) (out : Parts)
+pub relay_values : (names : Declared) (past column : ℕ) (fields : List (List ℕ)) (out : FieldValues)
     → count_fault past column (forms.Named named.EndSystem ∷ forms.NewSelector ∷ forms.Named named.Other ∷ forms.Called ∷ []) fields ≡ None
     → fields_read names no_parts column (forms.Named named.EndSystem ∷ forms.NewSelector ∷ forms.Named named.Other ∷ forms.Called ∷ []) fields ≡ Ok out
     → RelayRead names out.system out.selector out.called
@@ -63,14 +63,14 @@ relay_values names past column (first ∷ second ∷ third ∷ fourth ∷ []) ou
     let d = step (next_column (next_column (next_column column first) second) third) (selector_of fourth)
     (λ called. record no_parts { system = a.value; selector = b.value; other = c.value; called = called }) (λ more. Ok more) out c.rest in
     let new = new_selector_read names a.value second b.value b.read_is in
-    subst (λ (p : Parts). RelayRead names p.system p.selector p.called) (same_parts _ out d.rest)
+    subst (λ (p : FieldValues). RelayRead names p.system p.selector p.called) (same_parts _ out d.rest)
     (record { selector_is = new.fits; called_is = is_selector fourth d.value d.read_is; fresh = new.fresh })
 
 pub record SendRead (selector called : List ℕ) : Type 0 where
   pub selector_is : IsSelector selector
   pub called_is : IsSelector called
 
-pub send_values : (names : Declared) (past column : ℕ) (fields : List (List ℕ)) (out : Parts)
+pub send_values : (names : Declared) (past column : ℕ) (fields : List (List ℕ)) (out : FieldValues)
     → count_fault past column (forms.Named named.EndSystem ∷ forms.Selector ∷ forms.Named named.To ∷ forms.Called ∷ forms.Octets ∷ []) fields ≡ None
     → fields_read names no_parts column (forms.Named named.EndSystem ∷ forms.Selector ∷ forms.Named named.To ∷ forms.Called ∷ forms.Octets ∷ []) fields ≡ Ok out
     → SendRead out.selector out.called
@@ -92,5 +92,5 @@ send_values names past column (first ∷ second ∷ third ∷ fourth ∷ fifth �
     (λ more. fields_read names more (next_column (next_column (next_column (next_column column first) second) third) fourth) (forms.Octets ∷ []) (fifth ∷ [])) out c.rest in
     let e = step (next_column (next_column (next_column (next_column column first) second) third) fourth) (octets_of fifth)
     (λ octets. record no_parts { system = a.value; selector = b.value; other = c.value; called = d.value; octets = octets }) (λ more. Ok more) out d.rest in
-    subst (λ (p : Parts). SendRead p.selector p.called) (same_parts _ out e.rest)
+    subst (λ (p : FieldValues). SendRead p.selector p.called) (same_parts _ out e.rest)
     (record { selector_is = is_selector second b.value b.read_is; called_is = is_selector fourth d.value d.read_is })

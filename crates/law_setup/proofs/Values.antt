@@ -11,13 +11,13 @@ use Rattle.nsap.specs.Text.{address_of_text, snpa_of_text}
 use Rattle.nsap.specs.declared.text.NsapFault.{NsapFault}
 use Rattle.clnp_system.specs.Setting.{is_group}
 use Rattle.lan_bag.specs.Rows.{IsLan}
-use Rattle.osi_script.specs.declared.fault.LineCause.{LineCause}
-use Rattle.osi_script.specs.declared.fault.LineCause.TheVariants as causes
-use Rattle.osi_script.specs.declared.fault.LineFault.{LineFault}
-use Rattle.osi_script.specs.declared.form.Form.TheVariants as forms
-use Rattle.osi_script.specs.declared.form.Named.TheVariants as named
-use Rattle.osi_script.specs.declared.form.Plain.TheVariants as plain
-use Rattle.osi_script.specs.declared.parts.Parts.{Parts}
+use Rattle.osi_script.specs.declared.cause.LineCause.{LineCause}
+use Rattle.osi_script.specs.declared.cause.LineCause.TheVariants as causes
+use Rattle.osi_script.specs.declared.cause.LineFault.{LineFault}
+use Rattle.osi_script.specs.declared.words.FieldKind.TheVariants as forms
+use Rattle.osi_script.specs.declared.words.NameKind.TheVariants as named
+use Rattle.osi_script.specs.declared.words.WordKind.TheVariants as plain
+use Rattle.osi_script.specs.declared.field_values.FieldValues.{FieldValues}
 use Rattle.osi_script.specs.declared.settings.Key.{Key}
 use Rattle.osi_script.specs.Field.{is_name, is_number, number_of, as_title, title_of, as_station, station_of, prefix_of}
 use Rattle.osi_script.specs.Gives.{into, then_read}
@@ -31,20 +31,20 @@ use Rattle.law_setup.proofs.InOctets.{station_octets, title_octets}
 
 -- ---- one field after another
 
-pub record Step {A : Type 0} (read : Result A LineCause) (put : A → Parts) (next : Parts → Result Parts LineFault) (out : Parts) : Type 0 where
+pub record Step {A : Type 0} (read : Result A LineCause) (put : A → FieldValues) (next : FieldValues → Result FieldValues LineFault) (out : FieldValues) : Type 0 where
   pub value : A
   pub read_is : read ≡ Ok value
   pub rest : next (put value) ≡ Ok out
 
-pub step : {A : Type 0} (column : ℕ) (read : Result A LineCause) (put : A → Parts) (next : Parts → Result Parts LineFault) (out : Parts)
+pub step : {A : Type 0} (column : ℕ) (read : Result A LineCause) (put : A → FieldValues) (next : FieldValues → Result FieldValues LineFault) (out : FieldValues)
     → at_column column (into read put) next ≡ Ok out → Step read put next out
 step column (Ok value) put next out is = record { value = value; read_is = refl; rest = is }
 step column (Err cause) put next out is = absurd (cc)
 
-abbrev pub done : Parts → Result Parts LineFault
+abbrev pub done : FieldValues → Result FieldValues LineFault
 done parts = Ok parts
 
-pub same_parts : (first second : Parts) → done first ≡ done second → first ≡ second
+pub same_parts : (first second : FieldValues) → done first ≡ done second → first ≡ second
 same_parts first second is = cc
 
 passed : {A : Type 0} (test : Bool) (cause : LineCause) (value other : A) → passing test cause value ≡ Ok other → (test ≡ true) × (value ≡ other)
@@ -86,7 +86,7 @@ unfolding value_of
 value_within names key field value is =
     number_within (least_of key) (most_of key) field value (then_by (number_of (least_of key) (most_of key) field) (λ v. keeps_order (with_setting names.settings key v)) causes.Range value is).read_is
 
-pub set_values : (names : Declared) (past column : ℕ) (fields : List (List ℕ)) (out : Parts) → count_fault past column (forms.Plain plain.Key ∷ forms.Plain plain.Value ∷ []) fields ≡ None
+pub set_values : (names : Declared) (past column : ℕ) (fields : List (List ℕ)) (out : FieldValues) → count_fault past column (forms.Plain plain.Key ∷ forms.Plain plain.Value ∷ []) fields ≡ None
     → fields_read names no_parts column (forms.Plain plain.Key ∷ forms.Plain plain.Value ∷ []) fields ≡ Ok out → IsWithin (least_of out.key) (most_of out.key) out.number
 set_values names past column [] out count is = absurd (cc)
 set_values names past column (first ∷ []) out count is = absurd (cc)
@@ -95,9 +95,9 @@ set_values names past column (first ∷ second ∷ []) out count is =
     let a = step column (unset_key names.settings (key_of first)) (λ key. record no_parts { key = key })
     (λ more. fields_read names more (next_column column first) (forms.Plain plain.Value ∷ []) (second ∷ [])) out is in
     let b = step (next_column column first) (value_of names.settings a.value second) (λ value. record no_parts { key = a.value; number = value }) (λ more. Ok more) out a.rest in
-    subst (λ (p : Parts). IsWithin (least_of p.key) (most_of p.key) p.number) (same_parts _ out b.rest) (value_within names a.value second b.value b.read_is)
+    subst (λ (p : FieldValues). IsWithin (least_of p.key) (most_of p.key) p.number) (same_parts _ out b.rest) (value_within names a.value second b.value b.read_is)
 
-pub lan_values : (names : Declared) (past column : ℕ) (fields : List (List ℕ)) (out : Parts)
+pub lan_values : (names : Declared) (past column : ℕ) (fields : List (List ℕ)) (out : FieldValues)
     → count_fault past column (forms.NewLan ∷ forms.Plain (plain.Number 1 16) ∷ forms.Plain (plain.Amount 264 1497) ∷ []) fields ≡ None
     → fields_read names no_parts column (forms.NewLan ∷ forms.Plain (plain.Number 1 16) ∷ forms.Plain (plain.Amount 264 1497) ∷ []) fields ≡ Ok out
     → IsLan (record { bound = out.number; room = out.amount })
@@ -113,7 +113,7 @@ lan_values names past column (first ∷ second ∷ third ∷ []) out count is =
     let c = step (next_column (next_column column first) second) (number_of 264 1497 third) (λ amount. record no_parts { name = a.value; number = b.value; amount = amount }) (λ more. Ok more) out b.rest in
     let bound = number_within 1 16 second b.value b.read_is in
     let room = number_within 264 1497 third c.value c.read_is in
-    subst (λ (p : Parts). IsLan (record { bound = p.number; room = p.amount })) (same_parts _ out c.rest) (bound.least_is, bound.most_is, room.least_is, room.most_is)
+    subst (λ (p : FieldValues). IsLan (record { bound = p.number; room = p.amount })) (same_parts _ out c.rest) (bound.least_is, bound.most_is, room.least_is, room.most_is)
 
 -- ---- titles
 
@@ -146,7 +146,7 @@ title_read names field title is =
     let fits = is_title field title both.read_is in
     record { fits = fits; octets = title_octets field title fits.some both.read_is; fresh = not_true (list_any (λ system. pointwise nat_eq system.title title) names.systems) both.passes }
 
-pub title_values : (names : Declared) (past column : ℕ) (fields : List (List ℕ)) (out : Parts) → count_fault past column (forms.NewSystem ∷ forms.Title ∷ []) fields ≡ None
+pub title_values : (names : Declared) (past column : ℕ) (fields : List (List ℕ)) (out : FieldValues) → count_fault past column (forms.NewSystem ∷ forms.Title ∷ []) fields ≡ None
     → fields_read names no_parts column (forms.NewSystem ∷ forms.Title ∷ []) fields ≡ Ok out → TitleRead names (given_title out)
 title_values names past column [] out count is = absurd (cc)
 title_values names past column (first ∷ []) out count is = absurd (cc)
@@ -155,7 +155,7 @@ title_values names past column (first ∷ second ∷ []) out count is =
     let a = step column (new_name (system_at names.systems first) first) (λ name. record no_parts { name = name })
     (λ more. fields_read names more (next_column column first) (forms.Title ∷ []) (second ∷ [])) out is in
     let b = step (next_column column first) (new_title names second) (λ title. record no_parts { name = a.value; title = Some title }) (λ more. Ok more) out a.rest in
-    subst (λ (p : Parts). TitleRead names (given_title p)) (same_parts _ out b.rest) (title_read names second b.value b.read_is)
+    subst (λ (p : FieldValues). TitleRead names (given_title p)) (same_parts _ out b.rest) (title_read names second b.value b.read_is)
 
 -- ---- ports
 
@@ -187,7 +187,7 @@ port_lan_read : (names : Declared) (system : ℕ) (field : List ℕ) (lan : ℕ)
 unfolding port_lan_of
 port_lan_read names system field lan is = not_true (has_port names system lan) (then_by (lan_of names field) (λ l. not (has_port names system l)) causes.Repeat lan is).passes
 
-pub port_values : (names : Declared) (past column : ℕ) (fields : List (List ℕ)) (out : Parts)
+pub port_values : (names : Declared) (past column : ℕ) (fields : List (List ℕ)) (out : FieldValues)
     → count_fault past column (forms.Named named.System ∷ forms.Named named.PortLan ∷ forms.Station ∷ []) fields ≡ None
     → fields_read names no_parts column (forms.Named named.System ∷ forms.Named named.PortLan ∷ forms.Station ∷ []) fields ≡ Ok out → PortRead names out.system out.lan (given_station out)
 port_values names past column [] out count is = absurd (cc)
@@ -201,7 +201,7 @@ port_values names past column (first ∷ second ∷ third ∷ []) out count is =
     (λ more. fields_read names more (next_column (next_column column first) second) (forms.Station ∷ []) (third ∷ [])) out a.rest in
     let c = step (next_column (next_column column first) second) (new_station names third) (λ station. record no_parts { system = a.value; lan = b.value; station = Some station }) (λ more. Ok more) out b.rest in
     let station = station_read names third c.value c.read_is in
-    subst (λ (p : Parts). PortRead names p.system p.lan (given_station p)) (same_parts _ out c.rest)
+    subst (λ (p : FieldValues). PortRead names p.system p.lan (given_station p)) (same_parts _ out c.rest)
     (record { single = station.0; octets = station.2; fresh = station.1; lan_fresh = port_lan_read names a.value second b.value b.read_is })
 
 -- ---- routes
@@ -227,7 +227,7 @@ unfolding route_lan_of
 route_lan_read names system next field lan is =
     both_true (has_port names system lan) (has_port names next lan) (then_by (lan_of names field) (λ l. has_port names system l && has_port names next l) causes.Unknown lan is).passes
 
-pub route_values : (names : Declared) (past column : ℕ) (fields : List (List ℕ)) (out : Parts)
+pub route_values : (names : Declared) (past column : ℕ) (fields : List (List ℕ)) (out : FieldValues)
     → count_fault past column (forms.Named named.System ∷ forms.Prefix ∷ forms.Named named.Next ∷ forms.Named named.RouteLan ∷ []) fields ≡ None
     → fields_read names no_parts column (forms.Named named.System ∷ forms.Prefix ∷ forms.Named named.Next ∷ forms.Named named.RouteLan ∷ []) fields ≡ Ok out
     → RouteRead names out.system (given_prefix out) out.other out.lan
@@ -246,7 +246,7 @@ route_values names past column (first ∷ second ∷ third ∷ fourth ∷ []) ou
     let d = step (next_column (next_column (next_column column first) second) third) (route_lan_of names a.value c.value fourth)
     (λ lan. record no_parts { system = a.value; prefix = Some b.value; other = c.value; lan = lan }) (λ more. Ok more) out c.rest in
     let lan = route_lan_read names a.value c.value fourth d.value d.read_is in
-    subst (λ (p : Parts). RouteRead names p.system (given_prefix p) p.other p.lan) (same_parts _ out d.rest)
+    subst (λ (p : FieldValues). RouteRead names p.system (given_prefix p) p.other p.lan) (same_parts _ out d.rest)
     (record { fresh = prefix_read names a.value second b.value b.read_is; here = lan.0; there = lan.1 })
 
 -- ---- source routes
@@ -283,7 +283,7 @@ hops_read names field hops is =
     let some = some_listed field in
     record { least_is = omega (arith, by.0); most_is = omega (arith, by.0, by.1) }
 
-pub path_values : (names : Declared) (past column : ℕ) (fields : List (List ℕ)) (out : Parts)
+pub path_values : (names : Declared) (past column : ℕ) (fields : List (List ℕ)) (out : FieldValues)
     → count_fault past column (forms.NewPath ∷ forms.Plain plain.PathKind ∷ forms.Hops ∷ []) fields ≡ None
     → fields_read names no_parts column (forms.NewPath ∷ forms.Plain plain.PathKind ∷ forms.Hops ∷ []) fields ≡ Ok out → IsWithin 1 4 (length out.hops)
 path_values names past column [] out count is = absurd (cc)
@@ -296,7 +296,7 @@ path_values names past column (first ∷ second ∷ third ∷ []) out count is =
     let b = step (next_column column first) (path_kind_of second) (λ kind. record no_parts { name = a.value; kind = kind })
     (λ more. fields_read names more (next_column (next_column column first) second) (forms.Hops ∷ []) (third ∷ [])) out a.rest in
     let c = step (next_column (next_column column first) second) (hops_of names third) (λ hops. record no_parts { name = a.value; kind = b.value; hops = hops }) (λ more. Ok more) out b.rest in
-    subst (λ (p : Parts). IsWithin 1 4 (length p.hops)) (same_parts _ out c.rest) (hops_read names third c.value c.read_is)
+    subst (λ (p : FieldValues). IsWithin 1 4 (length p.hops)) (same_parts _ out c.rest) (hops_read names third c.value c.read_is)
 
 -- ---- selectors
 
@@ -306,7 +306,7 @@ selector_read names system field selector is =
     not_true (is_among (selectors_of (slice_get names.systems system)) selector)
     (then_by (given_selector field) (λ s. not (is_among (selectors_of (slice_get names.systems system)) s)) causes.Repeat selector is).passes
 
-pub selector_values : (names : Declared) (past column : ℕ) (fields : List (List ℕ)) (out : Parts)
+pub selector_values : (names : Declared) (past column : ℕ) (fields : List (List ℕ)) (out : FieldValues)
     → count_fault past column (forms.Named named.EndSystem ∷ forms.NewSelector ∷ []) fields ≡ None
     → fields_read names no_parts column (forms.Named named.EndSystem ∷ forms.NewSelector ∷ []) fields ≡ Ok out → is_among (selectors_of (slice_get names.systems out.system)) out.selector ≡ false
 selector_values names past column [] out count is = absurd (cc)
@@ -316,7 +316,7 @@ selector_values names past column (first ∷ second ∷ []) out count is =
     let a = step column (end_system_of names first) (λ system. record no_parts { system = system })
     (λ more. fields_read names more (next_column column first) (forms.NewSelector ∷ []) (second ∷ [])) out is in
     let b = step (next_column column first) (new_selector names a.value second) (λ selector. record no_parts { system = a.value; selector = selector }) (λ more. Ok more) out a.rest in
-    subst (λ (p : Parts). is_among (selectors_of (slice_get names.systems p.system)) p.selector ≡ false) (same_parts _ out b.rest) (selector_read names a.value second b.value b.read_is)
+    subst (λ (p : FieldValues). is_among (selectors_of (slice_get names.systems p.system)) p.selector ≡ false) (same_parts _ out b.rest) (selector_read names a.value second b.value b.read_is)
 
 -- ---- limits
 

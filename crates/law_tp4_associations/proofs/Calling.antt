@@ -3,13 +3,13 @@ use Rattle.std.proofs.Common.{◌≡◌, ℕ, ◌≤◌, true, List, [], ◌∷�
 use Rattle.tp4_flow.specs.declared.rules.Options.{Options}
 use Rattle.tp4_flow.specs.declared.step.Sent.{Sent}
 use Rattle.tp4_number.specs.Number.{whole}
-use Rattle.tp4_conn.specs.declared.base.Base.{Base}
+use Rattle.tp4_conn.specs.declared.end_record.EndRecord.{EndRecord}
 use Rattle.tp4_conn.specs.declared.call.UserCall.{UserCall}
 use Rattle.tp4_conn.specs.declared.call.UserCall.TheVariants.{Accept, Refuse, Normal, Urgent, Window, Disconnect}
-use Rattle.tp4_conn.specs.declared.stage.Parting.{Parting}
-use Rattle.tp4_conn.specs.declared.stage.Requesting.{Requesting}
-use Rattle.tp4_conn.specs.declared.stage.Stage.{Stage}
-use Rattle.tp4_conn.specs.declared.stage.Stage.TheVariants.{CrWait, WaitBeforeClose, UserWait, AkWait, Opened, Closing, Frozen}
+use Rattle.tp4_conn.specs.declared.states.InWaitBeforeClose.{InWaitBeforeClose}
+use Rattle.tp4_conn.specs.declared.states.InCrWait.{InCrWait}
+use Rattle.tp4_conn.specs.declared.states.StateData.{StateData}
+use Rattle.tp4_conn.specs.declared.states.StateData.TheVariants.{CrWait, WaitBeforeClose, UserWait, AkWait, Opened, Closing, Frozen}
 use Rattle.tp4_conn.specs.declared.timers.Timers.{Timers}
 use Rattle.tp4_conn.specs.Agreeing.{agreed_by, is_confirmed}
 use Rattle.tp4_conn.specs.Calls.{IsCall, call_refusal}
@@ -23,7 +23,7 @@ use Rattle.tp4_conn.proofs.Agreed.{agreed_within}
 use Rattle.tp4_conn.proofs.Sizes.{proposal_by}
 use Rattle.law_tp4_pair.proofs.Resting.{accepts_stands}
 use Rattle.law_tp4_associations.specs.Association.{Association}
-use Rattle.law_tp4_associations.specs.Phase.{AreAll, AreParting, Answered, Asking, Asks, IsAsking, IsConfirming, IsFrozen, IsHeld, IsIndicated, IsPaired, IsRefusal, Late, Leaving, Over, Paired, Phase, Refused, Rejected, Waiting, WillFreeze}
+use Rattle.law_tp4_associations.specs.Phase.{AreAll, AreParting, Answered, Asking, Asks, IsAsking, IsConfirming, IsFrozen, IsInUse, IsIndicated, IsPaired, IsRefusal, Late, Leaving, Over, Paired, Phase, Refused, Rejected, Waiting, WillFreeze}
 use Rattle.law_tp4_associations.specs.Standing.{IsAssociation}
 use Rattle.law_tp4_associations.proofs.Handing.{both_frozen, called_moved, caller_moved, not_agreed, paired_held}
 use Rattle.law_tp4_associations.proofs.Holding.{held_on, held_so}
@@ -36,7 +36,7 @@ some_first : {A : Type 0} (x : Sent) (l : List Sent) → [] ≡ x ∷ l → A
 some_first x l e = absurd (cc e)
 
 -- a frozen end refuses each call
-frozen_refuses : {A : Type 0} (b : Base) (stage : Stage) (call : UserCall) → IsFrozen stage → call_refusal b stage call ≡ None → A
+frozen_refuses : {A : Type 0} (b : EndRecord) (stage : StateData) (call : UserCall) → IsFrozen stage → call_refusal b stage call ≡ None → A
 frozen_refuses b (Frozen when) call f e = absurd (cc e)
 frozen_refuses b other call f e = absurd f
 
@@ -44,7 +44,7 @@ frozen_refuses b other call f e = absurd f
 pub idle_frozen : (z w : End) (here there : List ℕ) → AreParting z w here there [] [] → IsFrozen z.stage × IsFrozen w.stage
 idle_frozen z w here there p = by z.stage w.stage p.one.freezes p.next.freezes
   where
-    by : (mine theirs : Stage) → WillFreeze z.base.own w.base.own mine theirs [] [] → WillFreeze w.base.own z.base.own theirs mine [] [] → IsFrozen mine × IsFrozen theirs
+    by : (mine theirs : StateData) → WillFreeze z.base.own w.base.own mine theirs [] [] → WillFreeze w.base.own z.base.own theirs mine [] [] → IsFrozen mine × IsFrozen theirs
     by (Frozen t) (Frozen u) f g = (tt, tt)
     by (Frozen t) (Opened o) f g = absurd g
     by (Frozen t) (AkWait a) f (inl g) = absurd g
@@ -71,12 +71,12 @@ idle_frozen z w here there p = by z.stage w.stage p.one.freezes p.next.freezes
     by mine theirs f g = absurd f
 
 -- an end without an answer to its CR: its user can only disconnect
-record StillAsks (b : Base) (m : Moved) : Type 0 where
+record StillAsks (b : EndRecord) (m : Moved) : Type 0 where
   base : m.base ≡ b
   stage : IsAsking m.stage
   tpdus : m.tpdus ≡ []
 
-asking_call : (b : Base) (stage : Stage) (call : UserCall) → IsAsking stage → call_refusal b stage call ≡ None → (c : Base) → StillAsks c (on_call c stage call)
+asking_call : (b : EndRecord) (stage : StateData) (call : UserCall) → IsAsking stage → call_refusal b stage call ≡ None → (c : EndRecord) → StillAsks c (on_call c stage call)
 asking_call b (CrWait r) (Disconnect octets) asking allowed c = record { base = refl; stage = tt; tpdus = refl }
 asking_call b (CrWait r) (Accept asked octets) asking allowed c = absurd (cc allowed)
 asking_call b (CrWait r) (Refuse octets) asking allowed c = absurd (cc allowed)
@@ -112,13 +112,13 @@ module _ (timers : Timers) (own : ℕ → List ℕ) (now : ℕ) (a : Association
     waiting_on y since called asks indicated =
         let s = asking_call x.base x.stage call asks.stage allowed (at now x.base) in
         subst (λ (l : List Sent). Phase timers here there now (record a { calling = Some (end_of m) }) l []) (sym s.tpdus)
-        (Waiting (end_of m) y since refl called (record { stage = s.stage; unagreed = ap (λ (d : Base). d.agreed) s.base ∙ asks.unagreed })
+        (Waiting (end_of m) y since refl called (record { stage = s.stage; unagreed = ap (λ (d : EndRecord). d.agreed) s.base ∙ asks.unagreed })
         (record {
           stage = indicated.stage;
           past = indicated.past;
           in_time = indicated.in_time;
-          proposed = indicated.proposed ∙ sym (ap (λ (d : Base). d.proposed) s.base);
-          credit = indicated.credit ∙ sym (ap (λ (d : Base). d.timers.credit) s.base);
+          proposed = indicated.proposed ∙ sym (ap (λ (d : EndRecord). d.proposed) s.base);
+          credit = indicated.credit ∙ sym (ap (λ (d : EndRecord). d.timers.credit) s.base);
           unagreed = indicated.unagreed;
         }) tt refl)
 
@@ -178,15 +178,15 @@ module _ (timers : Timers) (own : ℕ → List ℕ) (now : ℕ) (a : Association
         → n ≡ accepted (record (at now y.base) { agreed = Some (agreed_by y.base.proposed asked) }) (agreed_by y.base.proposed asked) octets
     unfolding user_wait_accept
     accept_row since asked octets stage call_is =
-        ap (λ (s : Stage). on_call (at now y.base) s call) stage ∙ ap (λ (u : UserCall). on_call (at now y.base) (UserWait since) u) call_is
+        ap (λ (s : StateData). on_call (at now y.base) s call) stage ∙ ap (λ (u : UserCall). on_call (at now y.base) (UserWait since) u) call_is
 
     refuse_row : (since : ℕ) (octets : List ℕ) → y.stage ≡ UserWait since → call ≡ Refuse octets → n ≡ frozen (at now y.base) [] (refusing (at now y.base) octets ∷ [])
     unfolding user_wait_refuse
     refuse_row since octets stage call_is =
-        ap (λ (s : Stage). on_call (at now y.base) s call) stage ∙ ap (λ (u : UserCall). on_call (at now y.base) (UserWait since) u) call_is
+        ap (λ (s : StateData). on_call (at now y.base) s call) stage ∙ ap (λ (u : UserCall). on_call (at now y.base) (UserWait since) u) call_is
 
     answers : (since : ℕ) → y.stage ≡ UserWait since → Answer
-    answers since stage = by call refl (subst (λ (s : Stage). call_refusal y.base s call ≡ None) stage allowed) proper
+    answers since stage = by call refl (subst (λ (s : StateData). call_refusal y.base s call ≡ None) stage allowed) proper
       where
         by : (c : UserCall) → call ≡ c → call_refusal y.base (UserWait since) c ≡ None → IsCall c → Answer
         by (Accept asked octets) same ok fit = Accepts_it asked octets same fit (accept_row since asked octets stage same)
@@ -197,7 +197,7 @@ module _ (timers : Timers) (own : ℕ → List ℕ) (now : ℕ) (a : Association
         by (Disconnect octets) same ok fit = absurd (cc ok)
 
     -- the user accepts
-    pair_begun : (x : End) (r : Requesting) (since : ℕ) (asked : Options) (octets : List ℕ) → a.calling ≡ Some x → x.stage ≡ CrWait r → y.stage ≡ UserWait since → y.base.proposed ≡ x.base.proposed → IsSized asked
+    pair_begun : (x : End) (r : InCrWait) (since : ℕ) (asked : Options) (octets : List ℕ) → a.calling ≡ Some x → x.stage ≡ CrWait r → y.stage ≡ UserWait since → y.base.proposed ≡ x.base.proposed → IsSized asked
         → call ≡ Accept asked octets
         → n ≡ accepted (record (at now y.base) { agreed = Some (agreed_by y.base.proposed asked) }) (agreed_by y.base.proposed asked) octets → Then
     pair_begun x r since asked octets calling waits stage proposed size call_is row =
@@ -219,13 +219,13 @@ module _ (timers : Timers) (own : ℕ → List ℕ) (now : ℕ) (a : Association
             ap (is_confirmed x.base.proposed) o ∙ ap (λ (d : Proposed). is_confirmed x.base.proposed (agreed_by d asked)) proposed
             ∙ agreed_within x.base.proposed asked (subst (λ (d : Proposed). IsProposal d) (sym (i.caller x calling).proposed) (proposal_by x.base.proposed.options (i.caller x calling).size)) size
 
-    answered_late : (x : End) (w : Parting) (asked : Options) (octets : List ℕ) → a.calling ≡ Some x → Asks x → x.stage ≡ WaitBeforeClose w
+    answered_late : (x : End) (w : InWaitBeforeClose) (asked : Options) (octets : List ℕ) → a.calling ≡ Some x → Asks x → x.stage ≡ WaitBeforeClose w
         → n ≡ accepted (record (at now y.base) { agreed = Some (agreed_by y.base.proposed asked) }) (agreed_by y.base.proposed asked) octets → Then
     answered_late x w asked octets calling asks stage row =
         Answered x (end_of n) w calling refl asks stage
         (subst (λ (m : Moved). IsConfirming (end_of m) m.tpdus) (sym row) (record { answering = _; stage = refl; options = agreed_by y.base.proposed asked; agreed = refl; octets = octets; back_is = refl })) refl
 
-    asking_answered : (x : End) (stage : Stage) (since : ℕ) (asked : Options) (octets : List ℕ) → a.calling ≡ Some x → Asks x → x.stage ≡ stage → IsAsking stage → y.stage ≡ UserWait since → y.base.proposed ≡ x.base.proposed
+    asking_answered : (x : End) (stage : StateData) (since : ℕ) (asked : Options) (octets : List ℕ) → a.calling ≡ Some x → Asks x → x.stage ≡ stage → IsAsking stage → y.stage ≡ UserWait since → y.base.proposed ≡ x.base.proposed
         → IsSized asked → call ≡ Accept asked octets → n ≡ accepted (record (at now y.base) { agreed = Some (agreed_by y.base.proposed asked) }) (agreed_by y.base.proposed asked) octets → Then
     asking_answered x (CrWait r) since asked octets calling asks at asking stage proposed size call_is row = pair_begun x r since asked octets calling at stage proposed size call_is row
     asking_answered x (WaitBeforeClose w) since asked octets calling asks at asking stage proposed size call_is row = answered_late x w asked octets calling asks at row
@@ -253,16 +253,16 @@ module _ (timers : Timers) (own : ℕ → List ℕ) (now : ℕ) (a : Association
         named : y.base.partner ≡ x.base.own
         named = (i.called y is).partner ∙ sym (i.caller x calling).own_is
 
-        held_x : IsHeld now x
+        held_x : IsInUse now x
         held_x = late_held timers now x when since stage (i.caller x calling).timers_are before indicated.in_time
 
-        held_y : IsHeld now (end_of n)
+        held_y : IsInUse now (end_of n)
         held_y = held_on now y (Called call) (held_so now y (UserWait since) indicated.stage refl)
 
         frozen_x : record { base = x.base; stage = Frozen when } ≡ x
         frozen_x = λ j. record x { stage = sym stage j }
 
-        confirmed : (b : Base) (o : Options) (octets : List ℕ) → b.agreed ≡ Some o → b.to ≡ here → b.partner ≡ x.base.own
+        confirmed : (b : EndRecord) (o : Options) (octets : List ℕ) → b.agreed ≡ Some o → b.to ≡ here → b.partner ≡ x.base.own
             → AreParting (record { base = x.base; stage = Frozen when }) (end_of (accepted b o octets)) here there (accepted b o octets).tpdus []
         confirmed b o octets agreed to partner = record {
           one = record {

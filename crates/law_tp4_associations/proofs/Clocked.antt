@@ -11,12 +11,12 @@ use Rattle.tp4_number.proofs.Past.{if_kept}
 use Rattle.tp4_number.specs.Number.{whole}
 use Rattle.tp4_sending.specs.FlowSender.{due_of}
 use Rattle.tp4_sending.specs.Pieces.{sooner}
-use Rattle.tp4_conn.specs.declared.base.Base.{Base}
-use Rattle.tp4_conn.specs.declared.stage.Open.{Open}
-use Rattle.tp4_conn.specs.declared.stage.Parting.{Parting}
-use Rattle.tp4_conn.specs.declared.stage.Requesting.{Requesting}
-use Rattle.tp4_conn.specs.declared.stage.Stage.{Stage}
-use Rattle.tp4_conn.specs.declared.stage.Stage.TheVariants.{CrWait, WaitBeforeClose, UserWait, AkWait, Opened, Closing, Frozen}
+use Rattle.tp4_conn.specs.declared.end_record.EndRecord.{EndRecord}
+use Rattle.tp4_conn.specs.declared.states.InOpened.{InOpened}
+use Rattle.tp4_conn.specs.declared.states.InWaitBeforeClose.{InWaitBeforeClose}
+use Rattle.tp4_conn.specs.declared.states.InCrWait.{InCrWait}
+use Rattle.tp4_conn.specs.declared.states.StateData.{StateData}
+use Rattle.tp4_conn.specs.declared.states.StateData.TheVariants.{CrWait, WaitBeforeClose, UserWait, AkWait, Opened, Closing, Frozen}
 use Rattle.tp4_conn.specs.declared.timers.Timers.{Timers}
 use Rattle.tp4_conn.specs.CrWait.{cr_wait_tick}
 use Rattle.tp4_conn.specs.End.{End, Moved, end_of, frozen, frozen_for, gone, span}
@@ -31,7 +31,7 @@ use Rattle.law_tp4_pair.specs.steps.Standing.{Both, Confirming, First, HasLeft, 
 use Rattle.law_tp4_pair.proofs.Pairs.{stands_on}
 use Rattle.tp4_world.specs.declared.place.EndAt.{EndAt}
 use Rattle.law_tp4_associations.specs.Association.{Association, party as party_of}
-use Rattle.law_tp4_associations.specs.Phase.{AreAll, AreParting, Asks, IsRefusal, IsAsking, IsFrozen, IsHeld, IsIndicated, IsOver, IsPaired, IsRequest, Answered, Asking, Late, Leaving, Over, Paired, Phase, Refused, Rejected, Waiting, WillFreeze}
+use Rattle.law_tp4_associations.specs.Phase.{AreAll, AreParting, Asks, IsRefusal, IsAsking, IsFrozen, IsInUse, IsIndicated, IsOver, IsPaired, IsRequest, Answered, Asking, Late, Leaving, Over, Paired, Phase, Refused, Rejected, Waiting, WillFreeze}
 use Rattle.law_tp4_associations.specs.Standing.{IsAssociation, IsCalled, IsCaller}
 use Rattle.law_tp4_associations.specs.Ticking.{ticked_end, ticked_tpdus}
 use Rattle.law_tp4_associations.proofs.Holding.{not_late}
@@ -46,7 +46,7 @@ some_sooner : (tick : ℕ) (other : Option ℕ) → (least : ℕ) × (sooner (So
 some_sooner tick None = (tick, refl)
 some_sooner tick (Some other) = (min tick other, refl)
 
-has_due : (b : Base) (stage : Stage) → (IsFrozen stage → ⊥) → (tick : ℕ) × (due b stage ≡ Some tick)
+has_due : (b : EndRecord) (stage : StateData) → (IsFrozen stage → ⊥) → (tick : ℕ) × (due b stage ≡ Some tick)
 has_due b (CrWait w) live = (_, refl)
 has_due b (WaitBeforeClose w) live = (_, refl)
 has_due b (UserWait since) live = (_, refl)
@@ -59,13 +59,13 @@ kept_live : (m : Moved) → (IsFrozen m.stage → ⊥) → kept_end m (due m.bas
 kept_live m live = ap (kept_end m) (has_due m.base m.stage live).1
 
 -- one that has just frozen is kept too
-kept_now : (b : Base) (events : List EndEvent) (tpdus : List Sent) → let m = frozen b events tpdus in kept_end m (due m.base m.stage) ≡ Some (end_of m)
+kept_now : (b : EndRecord) (events : List EndEvent) (tpdus : List Sent) → let m = frozen b events tpdus in kept_end m (due m.base m.stage) ≡ Some (end_of m)
 kept_now b events tpdus = ap (λ (late : Bool). kept_end (frozen b events tpdus) (if late then None else Some (b.clock + frozen_for b.timers + 1))) (not_late b.clock (frozen_for b.timers))
 
-held_live : (now : ℕ) (end : End) → (IsFrozen end.stage → ⊥) → IsHeld now end
+held_live : (now : ℕ) (end : End) → (IsFrozen end.stage → ⊥) → IsInUse now end
 held_live now end live = by end.stage live
   where
-    by : (stage : Stage) → (IsFrozen stage → ⊥) → was_frozen now (frozen_for end.base.timers) stage ≡ false
+    by : (stage : StateData) → (IsFrozen stage → ⊥) → was_frozen now (frozen_for end.base.timers) stage ≡ false
     by (Frozen when) live = absurd (live tt)
     by stage live = refl
 
@@ -87,26 +87,26 @@ ticked_from true now (Some was) end is = by (due (stepped whole now was Ticked).
 
 -- ---- an end without an answer to its CR
 
-data AsksTick (b : Base) (now : ℕ) (after : Option End) (tpdus : List Sent) : Type 0 where
-  Asks_on : (clock : ℕ) (stage : Stage) → IsAsking stage → after ≡ Some (record { base = record b { clock = clock }; stage = stage }) → AreAll (IsRequest b.own) b.to tpdus → AsksTick b now after tpdus
+data AsksTick (b : EndRecord) (now : ℕ) (after : Option End) (tpdus : List Sent) : Type 0 where
+  Asks_on : (clock : ℕ) (stage : StateData) → IsAsking stage → after ≡ Some (record { base = record b { clock = clock }; stage = stage }) → AreAll (IsRequest b.own) b.to tpdus → AsksTick b now after tpdus
   Gives_up : after ≡ Some (record { base = at now b; stage = Frozen now }) → tpdus ≡ [] → AsksTick b now after tpdus
 
-abbrev AsksMoved : Base → ℕ → Moved → Type 0
+abbrev AsksMoved : EndRecord → ℕ → Moved → Type 0
 AsksMoved b now m = AsksTick b now (kept_end m (due m.base m.stage)) m.tpdus
 
-asks_again : (b : Base) (now : ℕ) (w : Requesting) → AsksMoved b now (cr_wait_tick (at now b) w)
+asks_again : (b : EndRecord) (now : ℕ) (w : InCrWait) → AsksMoved b now (cr_wait_tick (at now b) w)
 unfolding cr_wait_tick
 asks_again b now w =
     either (AsksMoved b now) (nat_lt now (w.tries.last + b.timers.t1)) _ _ (Asks_on now (CrWait w) tt refl tt)
     (either (AsksMoved b now) (nat_lt w.tries.count b.timers.sendings) _ _ (Asks_on now _ tt refl (refl, refl, tt)) (Gives_up (kept_now (at now b) (gone (at now b) Exhausted []) []) refl))
 
-parts_again : (b : Base) (now : ℕ) (w : Parting) → AsksMoved b now (wait_before_close_tick (at now b) w)
+parts_again : (b : EndRecord) (now : ℕ) (w : InWaitBeforeClose) → AsksMoved b now (wait_before_close_tick (at now b) w)
 unfolding wait_before_close_tick
 parts_again b now w =
     either (AsksMoved b now) (nat_lt now (w.request.tries.last + b.timers.t1)) _ _ (Asks_on now (WaitBeforeClose w) tt refl tt)
     (either (AsksMoved b now) (nat_lt w.request.tries.count b.timers.sendings) _ _ (Asks_on now _ tt refl (refl, refl, tt)) (Gives_up (kept_now (at now b) [] []) refl))
 
-asks_ticked : (ticked : Bool) (now : ℕ) (b : Base) (stage : Stage) → IsAsking stage
+asks_ticked : (ticked : Bool) (now : ℕ) (b : EndRecord) (stage : StateData) → IsAsking stage
     → AsksTick b now (ticked_end ticked now (Some (record { base = b; stage = stage }))) (ticked_tpdus ticked now (Some (record { base = b; stage = stage })))
 asks_ticked false now b stage asking = Asks_on b.clock stage asking refl tt
 asks_ticked true now b (CrWait w) asking = asks_again b now w
@@ -115,21 +115,21 @@ asks_ticked true now b stage asking = absurd asking
 
 -- ---- one whose user has not answered
 
-data UserTick (b : Base) (since now : ℕ) (after : Option End) (tpdus : List Sent) : Type 0 where
+data UserTick (b : EndRecord) (since now : ℕ) (after : Option End) (tpdus : List Sent) : Type 0 where
   Waits_on : (clock : ℕ) → now < since + b.timers.inactive → after ≡ Some (record { base = record b { clock = clock }; stage = UserWait since }) → tpdus ≡ [] → UserTick b since now after tpdus
   Refuses : after ≡ Some (record { base = at now b; stage = Frozen now }) → tpdus ≡ refusing (at now b) [] ∷ [] → UserTick b since now after tpdus
 
-abbrev UserMoved : Base → ℕ → ℕ → Moved → Type 0
+abbrev UserMoved : EndRecord → ℕ → ℕ → Moved → Type 0
 UserMoved b since now m = UserTick b since now (kept_end m (due m.base m.stage)) m.tpdus
 
-user_waits : (b : Base) (since now : ℕ) → UserMoved b since now (user_wait_tick (at now b) since)
+user_waits : (b : EndRecord) (since now : ℕ) → UserMoved b since now (user_wait_tick (at now b) since)
 unfolding user_wait_tick
 user_waits b since now =
     if_kept (UserMoved b since now) (nat_lt now (since + b.timers.inactive)) _ _ (λ early. Waits_on now (ltb-true now (since + b.timers.inactive) early) refl refl)
     (λ _. Refuses (kept_now (at now b) (gone (at now b) AnswerTime []) (refusing (at now b) [] ∷ [])) refl)
 
 -- where it is not due then, it has waited, or refused
-user_ticked : (ticked : Bool) (now : ℕ) (b : Base) (since : ℕ) → ((z : End) → ticked_end ticked now (Some (record { base = b; stage = UserWait since })) ≡ Some z → is_due now (Some z) ≡ false)
+user_ticked : (ticked : Bool) (now : ℕ) (b : EndRecord) (since : ℕ) → ((z : End) → ticked_end ticked now (Some (record { base = b; stage = UserWait since })) ≡ Some z → is_due now (Some z) ≡ false)
     → UserTick b since now (ticked_end ticked now (Some (record { base = b; stage = UserWait since }))) (ticked_tpdus ticked now (Some (record { base = b; stage = UserWait since })))
 user_ticked false now b since quiet = Waits_on b.clock (leb-false (since + b.timers.inactive) now (quiet _ refl)) refl refl
 user_ticked true now b since quiet = user_waits b since now
@@ -145,7 +145,7 @@ over_ticked ticked now None over = tt
 over_ticked false now (Some end) over = over
 over_ticked true now (Some end) over = by end.stage over
   where
-    by : (stage : Stage) → IsFrozen stage → let m = on_tick (at now end.base) stage in IsOver (kept_end m (due m.base m.stage))
+    by : (stage : StateData) → IsFrozen stage → let m = on_tick (at now end.base) stage in IsOver (kept_end m (due m.base m.stage))
     by (Frozen when) f = kept_over (on_tick (at now end.base) (Frozen when)) (due (at now end.base) (Frozen when)) tt
     by other f = absurd f
 
@@ -154,17 +154,17 @@ over_silent ticked now None over = refl
 over_silent false now (Some end) over = refl
 over_silent true now (Some end) over = by end.stage over
   where
-    by : (stage : Stage) → IsFrozen stage → (on_tick (at now end.base) stage).tpdus ≡ []
+    by : (stage : StateData) → IsFrozen stage → (on_tick (at now end.base) stage).tpdus ≡ []
     by (Frozen when) f = refl
     by other f = absurd f
 
 -- one that is held stays
-record IsFrozenOn (b : Base) (when : ℕ) (after : Option End) (tpdus : List Sent) : Type 0 where
+record IsFrozenOn (b : EndRecord) (when : ℕ) (after : Option End) (tpdus : List Sent) : Type 0 where
   clock : ℕ
   after_is : after ≡ Some (record { base = record b { clock = clock }; stage = Frozen when })
   none : tpdus ≡ []
 
-frozen_ticked : (ticked : Bool) (now : ℕ) (b : Base) (when : ℕ) → IsHeld now (record { base = b; stage = Frozen when })
+frozen_ticked : (ticked : Bool) (now : ℕ) (b : EndRecord) (when : ℕ) → IsInUse now (record { base = b; stage = Frozen when })
     → IsFrozenOn b when (ticked_end ticked now (Some (record { base = b; stage = Frozen when }))) (ticked_tpdus ticked now (Some (record { base = b; stage = Frozen when })))
 frozen_ticked false now b when held = record { clock = b.clock; after_is = refl; none = refl }
 frozen_ticked true now b when held = record {
@@ -179,7 +179,7 @@ not_agreed : (agreed : Option Options) → agreed ≡ None → sum_agreed agreed
 not_agreed None e is = cc is
 not_agreed (Some o) e is = cc e
 
-two_frozen : (b c : Base) (when now : ℕ) (here there : List ℕ) → b.to ≡ there → c.to ≡ here → b.agreed ≡ None → c.agreed ≡ None → c.partner ≡ b.own
+two_frozen : (b c : EndRecord) (when now : ℕ) (here there : List ℕ) → b.to ≡ there → c.to ≡ here → b.agreed ≡ None → c.agreed ≡ None → c.partner ≡ b.own
     → AreParting (record { base = b; stage = Frozen when }) (record { base = at now c; stage = Frozen now }) here there (refusing (at now c) [] ∷ []) []
 two_frozen b c when now here there to to_back unagreed none partner = record {
   one = record {
@@ -195,7 +195,7 @@ two_frozen b c when now here there to to_back unagreed none partner = record {
 }
 
 -- where nothing waits, two ends of which one has left are frozen
-both_over : (one other : ℕ) (u v : Stage) → WillFreeze one other u v [] [] → WillFreeze other one v u [] [] → IsFrozen u × IsFrozen v
+both_over : (one other : ℕ) (u v : StateData) → WillFreeze one other u v [] [] → WillFreeze other one v u [] [] → IsFrozen u × IsFrozen v
 both_over one other (Frozen s) (Frozen t) f g = (tt, tt)
 both_over one other (Frozen s) (Opened o) f g = absurd g
 both_over one other (Frozen s) (AkWait a) f g = absurd (elim g [ inl h ↦ h | inr h ↦ elim h [ inl k ↦ k | inr k ↦ k ] ])
@@ -217,7 +217,7 @@ both_over one other u v f g = absurd f
 -- ---- a pair
 
 -- the clock of an end that has a tick, or has none
-abbrev clocked_by : Bool → ℕ → Base → Base
+abbrev clocked_by : Bool → ℕ → EndRecord → EndRecord
 clocked_by ticked now b = record b { clock = if ticked then now else b.clock }
 
 ticked_live : (ticked : Bool) (now : ℕ) (end : End) → (IsFrozen (tick_of ticked now end).stage → ⊥) → ticked_end ticked now (Some end) ≡ Some (end_of (tick_of ticked now end))
@@ -228,15 +228,15 @@ ticked_sent : (ticked : Bool) (now : ℕ) (end : End) → ticked_tpdus ticked no
 ticked_sent true now end = refl
 ticked_sent false now end = refl
 
-stays_tick : (rules : FlowRules) (b : Base) (o : Open) (stage : Stage) → stage ≡ Opened o → AreBy rules o.halves → (ticked : Bool) (now : ℕ) → Stays rules (clocked_by ticked now b) (tick_of ticked now (record { base = b; stage = stage }))
-stays_tick rules b o stage is h true now = subst (λ (s : Stage). Stays rules (at now b) (on_tick (at now b) s)) (sym is) (ticks rules (at now b) o h)
+stays_tick : (rules : FlowRules) (b : EndRecord) (o : InOpened) (stage : StateData) → stage ≡ Opened o → AreBy rules o.halves → (ticked : Bool) (now : ℕ) → Stays rules (clocked_by ticked now b) (tick_of ticked now (record { base = b; stage = stage }))
+stays_tick rules b o stage is h true now = subst (λ (s : StateData). Stays rules (at now b) (on_tick (at now b) s)) (sym is) (ticks rules (at now b) o h)
 stays_tick rules b o stage is h false now = Open_on o refl is h.sending_by h.receiving_by tt
 
-stays_live : (rules : FlowRules) (b : Base) (m : Moved) → Stays rules b m → IsFrozen m.stage → ⊥
+stays_live : (rules : FlowRules) (b : EndRecord) (m : Moved) → Stays rules b m → IsFrozen m.stage → ⊥
 stays_live rules b m (Open_on o base stage s r d) f = subst IsFrozen stage f
 stays_live rules b m (Closes c before reason octets base stage d tpdus) f = subst IsFrozen stage f
 
-stays_past : (rules : FlowRules) (b : Base) (m : Moved) (r : Requesting) → Stays rules b m → m.stage ≡ CrWait r → ⊥
+stays_past : (rules : FlowRules) (b : EndRecord) (m : Moved) (r : InCrWait) → Stays rules b m → m.stage ≡ CrWait r → ⊥
 stays_past rules b m r (Open_on o base stage s t d) is = cc (stage, is)
 stays_past rules b m r (Closes c before reason octets base stage d tpdus) is = cc (stage, is)
 
@@ -309,11 +309,11 @@ after_tick ticked now a = record { from = a.from; to = a.to; calling = ticked_en
 
 clocked_caller : (timers : Timers) (reference : ℕ) (address : List ℕ) (old end : End) (clock : ℕ) → end.base ≡ record old.base { clock = clock } → IsCaller timers reference address old → IsCaller timers reference address end
 clocked_caller timers reference address old end clock is c =
-    subst (λ (b : Base). IsCaller timers reference address (record { base = b; stage = end.stage })) (sym is) (record { own_is = c.own_is; to = c.to; is_called = c.is_called; timers_are = c.timers_are; size = c.size; proposed = c.proposed })
+    subst (λ (b : EndRecord). IsCaller timers reference address (record { base = b; stage = end.stage })) (sym is) (record { own_is = c.own_is; to = c.to; is_called = c.is_called; timers_are = c.timers_are; size = c.size; proposed = c.proposed })
 
 clocked_called : (timers : Timers) (reference : ℕ) (address : List ℕ) (old end : End) (clock : ℕ) → end.base ≡ record old.base { clock = clock } → IsCalled timers reference address old → IsCalled timers reference address end
 clocked_called timers reference address old end clock is c =
-    subst (λ (b : Base). IsCalled timers reference address (record { base = b; stage = end.stage })) (sym is) (record { partner = c.partner; to = c.to; is_called = c.is_called; timers_are = c.timers_are })
+    subst (λ (b : EndRecord). IsCalled timers reference address (record { base = b; stage = end.stage })) (sym is) (record { partner = c.partner; to = c.to; is_called = c.is_called; timers_are = c.timers_are })
 
 module _ (timers : Timers) (own : ℕ → List ℕ) (now : ℕ) (a : Association) (i : IsAssociation timers own now a [] []) (ticked : Bool → Bool)
     (quiet : (by : Bool) (z : End) → ticked_end (ticked by) (now + 1) (party_of a by) ≡ Some z → is_due (now + 1) (Some z) ≡ false) where
@@ -385,8 +385,8 @@ module _ (timers : Timers) (own : ℕ → List ℕ) (now : ℕ) (a : Association
   user_quiet : (y : End) (since : ℕ) → a.called ≡ Some y → y.stage ≡ UserWait since
       → UserTick y.base since (now + 1) (ticked_end (ticked false) (now + 1) (Some y)) (ticked_tpdus (ticked false) (now + 1) (Some y))
   user_quiet y since called stage =
-      subst (λ (s : Stage). UserTick y.base since (now + 1) (ticked_end (ticked false) (now + 1) (Some (record { base = y.base; stage = s }))) (ticked_tpdus (ticked false) (now + 1) (Some (record { base = y.base; stage = s })))) (sym stage)
-      (user_ticked (ticked false) (now + 1) y.base since (λ z is. quiet false z (ap (ticked_end (ticked false) (now + 1)) (called ∙ ap (λ (s : Stage). Some (record { base = y.base; stage = s })) stage) ∙ is)))
+      subst (λ (s : StateData). UserTick y.base since (now + 1) (ticked_end (ticked false) (now + 1) (Some (record { base = y.base; stage = s }))) (ticked_tpdus (ticked false) (now + 1) (Some (record { base = y.base; stage = s })))) (sym stage)
+      (user_ticked (ticked false) (now + 1) y.base since (λ z is. quiet false z (ap (ticked_end (ticked false) (now + 1)) (called ∙ ap (λ (s : StateData). Some (record { base = y.base; stage = s })) stage) ∙ is)))
 
   phase_ticks : Phase timers here there now a [] [] → Ticked_on a.calling a.called
   phase_ticks (Asking x r calling called asks stage forth_is back_is) = absurd (cc forth_is)
@@ -399,7 +399,7 @@ module _ (timers : Timers) (own : ℕ → List ℕ) (now : ℕ) (a : Association
       let held : was_frozen (now + 1) (frozen_for x.base.timers) (Frozen when) ≡ false = subst (λ (t : Timers). was_frozen (now + 1) (frozen_for t) (Frozen when) ≡ false) (sym c.timers_are) (held_later when since before indicated.in_time) in
       subst (λ (o : Option End). Ticked_on o a.called) (sym calling) (subst (Ticked_on (Some x)) (sym called)
       (late_ticks x y when since calling called unagreed indicated before _ _ _ _
-      (subst (λ (s : Stage). IsFrozenOn x.base when (ticked_end (ticked true) (now + 1) (Some (record { base = x.base; stage = s }))) (ticked_tpdus (ticked true) (now + 1) (Some (record { base = x.base; stage = s })))) (sym stage)
+      (subst (λ (s : StateData). IsFrozenOn x.base when (ticked_end (ticked true) (now + 1) (Some (record { base = x.base; stage = s }))) (ticked_tpdus (ticked true) (now + 1) (Some (record { base = x.base; stage = s })))) (sym stage)
       (frozen_ticked (ticked true) (now + 1) x.base when held)) held (user_quiet y since called indicated.stage)))
     where
       longer : (when since n m : ℕ) → since ≤ when → now < since + timers.inactive → nat_lt (when + (n + timers.inactive + m)) (now + 1) ≡ false

@@ -65,12 +65,12 @@ append_placing at_place all blank no_calling no_called p = record {
 
 module _ (timers : Timers) (own : ℕ → List ℕ) where
   pub connects : Connected timers own
-  connects now entities all system e reference call to f st proper here free is_call to_is there_is =
+  connects now entities all system e reference request to f st proper here free is_call to_is there_is =
       let l = least_is now e reference free in
-      let new : Association = requested_by timers own now e system reference call to in
-      let z : End = end_of (made_by now (call_of e reference call)) in
+      let new : Association = requested_by timers own now e system reference request to in
+      let z : End = end_of (made_by now (call_of e reference request)) in
       let blank : Association = record new { calling = None } in
-      let acted = connecting now e reference call in
+      let acted = connecting now e reference request in
       let others : List Association = map (cleared system reference) all in
       let k : ℕ = length others in
       let k_is : k ≡ length all = map_count (cleared system reference) all in
@@ -120,6 +120,6 @@ module _ (timers : Timers) (own : ℕ → List ℕ) where
       ])
       (all_post (length (others ++ new ∷ [])) (length all) true acted.tpdus (let n = count_last others new in omega (arith, n, k_is)))
     where
-      by_side : (d : Bool) (e f : Entity) → entity_at entities system ≡ Some e → entity_at entities to ≡ Some f → (y : Entity) × (entity_at entities (system_of (requested_by timers own now e system reference call to) d) ≡ Some y)
+      by_side : (d : Bool) (e f : Entity) → entity_at entities system ≡ Some e → entity_at entities to ≡ Some f → (y : Entity) × (entity_at entities (system_of (requested_by timers own now e system reference request to) d) ≡ Some y)
       by_side true e f one other = (e, one)
       by_side false e f one other = (f, other)

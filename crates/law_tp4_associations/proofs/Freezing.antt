@@ -5,9 +5,9 @@ use Rattle.tpdu.specs.declared.tpdu.Tpdu.{Tpdu}
 use Rattle.tpdu.specs.declared.tpdu.Tpdu.TheVariants.{Cr, Cc, Dr, Dc, Dt, Ed, Ak, Ea, Er}
 use Rattle.tp4_flow.specs.declared.rules.FlowRules.{FlowRules}
 use Rattle.tp4_flow.specs.declared.step.Sent.{Sent}
-use Rattle.tp4_conn.specs.declared.base.Base.{Base}
-use Rattle.tp4_conn.specs.declared.stage.Stage.{Stage}
-use Rattle.tp4_conn.specs.declared.stage.Stage.TheVariants.{AkWait, Opened, Closing, Frozen}
+use Rattle.tp4_conn.specs.declared.end_record.EndRecord.{EndRecord}
+use Rattle.tp4_conn.specs.declared.states.StateData.{StateData}
+use Rattle.tp4_conn.specs.declared.states.StateData.TheVariants.{AkWait, Opened, Closing, Frozen}
 use Rattle.tp4_conn.specs.End.{End, agreed_sum, release, send}
 use Rattle.tp4_conn.specs.Matching.{fits, sum_agreed}
 use Rattle.tp4_entity.specs.Association.{answer, refusal}
@@ -60,12 +60,12 @@ may_come_on end next other (Ak destination number credit subsequence confirmatio
 may_come_on end next other (Ea destination number) own partner called hears frozen m = (m.0 ∙ sym own, hears m.1)
 may_come_on end next other (Er destination cause rejected) own partner called hears frozen m = m
 
-module _ (b : Base) (other : ℕ) (address : List ℕ) where
+module _ (b : EndRecord) (other : ℕ) (address : List ℕ) where
   -- the end at another tick, in another state
-  abbrev on : ℕ → Stage → End
+  abbrev on : ℕ → StateData → End
   on clock stage = record { base = record b { clock = clock }; stage = stage }
 
-  pub come_on : (old new : Stage) (clock : ℕ) (l : List Sent) → (HearsData old → HearsData new) → (IsFrozen old → IsFrozen new)
+  pub come_on : (old new : StateData) (clock : ℕ) (l : List Sent) → (HearsData old → HearsData new) → (IsFrozen old → IsFrozen new)
       → AllCome (record { base = b; stage = old }) other address l → AllCome (on clock new) other address l
   come_on old new clock [] hears frozen a = tt
   come_on old new clock (sent ∷ l) hears frozen a = (
@@ -117,8 +117,8 @@ refused_comes w own there source reason is = record { kind = (is, inr refl); to 
 -- ---- an end takes what waits first, or leaves it to its entity
 
 -- the two after the first that waits was handed to an end: at another tick, in another state, with more that waits for the other one
-module _ (b : Base) (stage : Stage) (w : End) (here there : List ℕ) (sent : Sent) (rest out : List Sent) (p : AreParting (record { base = b; stage = stage }) w here there (sent ∷ rest) out) where
-  pub rebuilt : (clock : ℕ) (new : Stage) (more : List Sent) → (HearsData stage → HearsData new) → (IsFrozen stage → IsFrozen new) → AllCome w b.own there more → Writes new w there
+module _ (b : EndRecord) (stage : StateData) (w : End) (here there : List ℕ) (sent : Sent) (rest out : List Sent) (p : AreParting (record { base = b; stage = stage }) w here there (sent ∷ rest) out) where
+  pub rebuilt : (clock : ℕ) (new : StateData) (more : List Sent) → (HearsData stage → HearsData new) → (IsFrozen stage → IsFrozen new) → AllCome w b.own there more → Writes new w there
       → WillFreeze b.own w.base.own new w.stage rest (out ++ more) → WillFreeze w.base.own b.own w.stage new (out ++ more) rest
       → AreParting (record { base = record b { clock = clock }; stage = new }) w here there rest (out ++ more)
   rebuilt clock new more hears frozen come writes one next = record {
@@ -138,7 +138,7 @@ module _ (b : Base) (stage : Stage) (w : End) (here there : List ℕ) (sent : Se
       known (inl is) = inl (frozen is)
       known (inr is) = inr is
 
-      written : (s : Stage) → Writes s (record { base = b; stage = stage }) here → Writes s (record { base = record b { clock = clock }; stage = new }) here
+      written : (s : StateData) → Writes s (record { base = b; stage = stage }) here → Writes s (record { base = record b { clock = clock }; stage = new }) here
       written (Opened o) a = record { rules = a.rules; sending = a.sending; receiving = a.receiving; fits = record { to = a.fits.to; partner = a.fits.partner; format = a.fits.format; sum = a.fits.sum } }
       written other a = tt
 
@@ -146,23 +146,23 @@ module _ (b : Base) (stage : Stage) (w : End) (here there : List ℕ) (sent : Se
 
 module _ (own other : ℕ) (low : 0 < other) where
   -- the end is frozen by the DR, and answers it; or by one with source 0
-  pub open_freezes : (o : _) (v : Stage) (when : ℕ) (into out more rest : List Sent) → WillFreeze other own v (Opened o) out into → Has IsDone more → WillFreeze other own v (Frozen when) (out ++ more) rest
+  pub open_freezes : (o : _) (v : StateData) (when : ℕ) (into out more rest : List Sent) → WillFreeze other own v (Opened o) out into → Has IsDone more → WillFreeze other own v (Frozen when) (out ++ more) rest
   open_freezes o (Closing c) when into out more rest f done = inr (inl (has_right IsDone out more done))
   open_freezes o (Frozen t) when into out more rest f done = tt
   open_freezes o v when into out more rest f done = absurd f
 
-  pub waiting_freezes : (a : _) (v : Stage) (when : ℕ) (into out more rest : List Sent) → WillFreeze other own v (AkWait a) out into → Has IsDone more → WillFreeze other own v (Frozen when) (out ++ more) rest
+  pub waiting_freezes : (a : _) (v : StateData) (when : ℕ) (into out more rest : List Sent) → WillFreeze other own v (AkWait a) out into → Has IsDone more → WillFreeze other own v (Frozen when) (out ++ more) rest
   waiting_freezes a (Closing c) when into out more rest f done = inr (inl (has_right IsDone out more done))
   waiting_freezes a (Frozen t) when into out more rest f done = tt
   waiting_freezes a v when into out more rest f done = absurd f
 
-  pub waiting_refused : (a : _) (v : Stage) (when : ℕ) (sent : Sent) (out more rest : List Sent) → IsReleaseOf 0 sent.tpdu → WillFreeze own other (AkWait a) v (sent ∷ rest) out → WillFreeze other own v (AkWait a) out (sent ∷ rest)
+  pub waiting_refused : (a : _) (v : StateData) (when : ℕ) (sent : Sent) (out more rest : List Sent) → IsReleaseOf 0 sent.tpdu → WillFreeze own other (AkWait a) v (sent ∷ rest) out → WillFreeze other own v (AkWait a) out (sent ∷ rest)
       → WillFreeze other own v (Frozen when) (out ++ more) rest
   waiting_refused a (Closing c) when sent out more rest none one f = inr (inr (has_rest (IsReleaseOf other) sent rest (other_release other own sent.tpdu low none) one))
   waiting_refused a (Frozen t) when sent out more rest none one f = tt
   waiting_refused a v when sent out more rest none one f = absurd f
 
-  pub closing_freezes : (c : _) (v : Stage) (when : ℕ) (into out rest : List Sent) → WillFreeze other own v (Closing c) out into → WillFreeze other own v (Frozen when) (out ++ []) rest
+  pub closing_freezes : (c : _) (v : StateData) (when : ℕ) (into out rest : List Sent) → WillFreeze other own v (Closing c) out into → WillFreeze other own v (Frozen when) (out ++ []) rest
   closing_freezes c (Closing d) when into out rest f = inl (has_left (IsReleaseOf own) out [] f)
   closing_freezes c (Opened o) when into out rest f = has_left (IsReleaseOf own) out [] f
   closing_freezes c (AkWait a) when into out rest f = inl (has_left (IsReleaseOf own) out [] f)
@@ -170,27 +170,27 @@ module _ (own other : ℕ) (low : 0 < other) where
   closing_freezes c v when into out rest f = absurd f
 
   -- the end goes on: neither a DR of the other one nor its DC came
-  pub open_waits : (o q : _) (v : Stage) (sent : Sent) (out more rest : List Sent) → (IsReleaseOf other sent.tpdu → ⊥) → WillFreeze own other (Opened o) v (sent ∷ rest) out → WillFreeze own other (Opened q) v rest (out ++ more)
+  pub open_waits : (o q : _) (v : StateData) (sent : Sent) (out more rest : List Sent) → (IsReleaseOf other sent.tpdu → ⊥) → WillFreeze own other (Opened o) v (sent ∷ rest) out → WillFreeze own other (Opened q) v rest (out ++ more)
   open_waits o q (Closing c) sent out more rest never f = has_rest (IsReleaseOf other) sent rest never f
   open_waits o q (Frozen t) sent out more rest never f = has_rest (IsReleaseOf other) sent rest never f
   open_waits o q v sent out more rest never f = absurd f
 
-  pub open_waits_back : (o q : _) (v : Stage) (into out more rest : List Sent) → WillFreeze other own v (Opened o) out into → WillFreeze other own v (Opened q) (out ++ more) rest
+  pub open_waits_back : (o q : _) (v : StateData) (into out more rest : List Sent) → WillFreeze other own v (Opened o) out into → WillFreeze other own v (Opened q) (out ++ more) rest
   open_waits_back o q (Closing c) into out more rest f = tt
   open_waits_back o q (Frozen t) into out more rest f = tt
   open_waits_back o q v into out more rest f = absurd f
 
-  pub open_closes : (o c : _) (v : Stage) (sent : Sent) (out more rest : List Sent) → (IsReleaseOf other sent.tpdu → ⊥) → WillFreeze own other (Opened o) v (sent ∷ rest) out → WillFreeze own other (Closing c) v rest (out ++ more)
+  pub open_closes : (o c : _) (v : StateData) (sent : Sent) (out more rest : List Sent) → (IsReleaseOf other sent.tpdu → ⊥) → WillFreeze own other (Opened o) v (sent ∷ rest) out → WillFreeze own other (Closing c) v rest (out ++ more)
   open_closes o c (Closing d) sent out more rest never f = has_rest (IsReleaseOf other) sent rest never f
   open_closes o c (Frozen t) sent out more rest never f = inl (has_rest (IsReleaseOf other) sent rest never f)
   open_closes o c v sent out more rest never f = absurd f
 
-  pub open_closes_back : (o c : _) (v : Stage) (into out more rest : List Sent) → Has (IsReleaseOf own) more → WillFreeze other own v (Opened o) out into → WillFreeze other own v (Closing c) (out ++ more) rest
+  pub open_closes_back : (o c : _) (v : StateData) (into out more rest : List Sent) → Has (IsReleaseOf own) more → WillFreeze other own v (Opened o) out into → WillFreeze other own v (Closing c) (out ++ more) rest
   open_closes_back o c (Closing d) into out more rest dr f = has_right (IsReleaseOf own) out more dr
   open_closes_back o c (Frozen t) into out more rest dr f = tt
   open_closes_back o c v into out more rest dr f = absurd f
 
-  pub waiting_waits : (a d : _) (v : Stage) (sent : Sent) (out rest : List Sent) → (IsReleaseOf other sent.tpdu → ⊥) → (IsReleaseOf 0 sent.tpdu → ⊥) → WillFreeze own other (AkWait a) v (sent ∷ rest) out
+  pub waiting_waits : (a d : _) (v : StateData) (sent : Sent) (out rest : List Sent) → (IsReleaseOf other sent.tpdu → ⊥) → (IsReleaseOf 0 sent.tpdu → ⊥) → WillFreeze own other (AkWait a) v (sent ∷ rest) out
       → WillFreeze own other (AkWait d) v rest (out ++ [])
   waiting_waits a d (Closing c) sent out rest never none f = has_rest (IsReleaseOf other) sent rest never f
   waiting_waits a d (Frozen t) sent out rest never none (inl f) = inl (has_rest (IsReleaseOf other) sent rest never f)
@@ -198,12 +198,12 @@ module _ (own other : ℕ) (low : 0 < other) where
   waiting_waits a d (Frozen t) sent out rest never none (inr (inr f)) = inr (inr (has_left IsConfirm out [] f))
   waiting_waits a d v sent out rest never none f = absurd f
 
-  pub waiting_waits_back : (a d : _) (v : Stage) (into out rest : List Sent) → WillFreeze other own v (AkWait a) out into → WillFreeze other own v (AkWait d) (out ++ []) rest
+  pub waiting_waits_back : (a d : _) (v : StateData) (into out rest : List Sent) → WillFreeze other own v (AkWait a) out into → WillFreeze other own v (AkWait d) (out ++ []) rest
   waiting_waits_back a d (Closing c) into out rest f = tt
   waiting_waits_back a d (Frozen t) into out rest f = tt
   waiting_waits_back a d v into out rest f = absurd f
 
-  pub closing_waits : (c d : _) (v : Stage) (sent : Sent) (out rest : List Sent) → (IsReleaseOf other sent.tpdu → ⊥) → (IsDone sent.tpdu → ⊥) → WillFreeze own other (Closing c) v (sent ∷ rest) out
+  pub closing_waits : (c d : _) (v : StateData) (sent : Sent) (out rest : List Sent) → (IsReleaseOf other sent.tpdu → ⊥) → (IsDone sent.tpdu → ⊥) → WillFreeze own other (Closing c) v (sent ∷ rest) out
       → WillFreeze own other (Closing d) v rest (out ++ [])
   closing_waits c d (Closing e) sent out rest never done f = has_rest (IsReleaseOf other) sent rest never f
   closing_waits c d (Frozen t) sent out rest never done (inl f) = inl (has_rest (IsReleaseOf other) sent rest never f)
@@ -213,7 +213,7 @@ module _ (own other : ℕ) (low : 0 < other) where
   closing_waits c d (AkWait a) sent out rest never done f = tt
   closing_waits c d v sent out rest never done f = absurd f
 
-  pub closing_waits_back : (c d : _) (v : Stage) (into out rest : List Sent) → WillFreeze other own v (Closing c) out into → WillFreeze other own v (Closing d) (out ++ []) rest
+  pub closing_waits_back : (c d : _) (v : StateData) (into out rest : List Sent) → WillFreeze other own v (Closing c) out into → WillFreeze other own v (Closing d) (out ++ []) rest
   closing_waits_back c d (Closing e) into out rest f = has_left (IsReleaseOf own) out [] f
   closing_waits_back c d (Frozen t) into out rest f = tt
   closing_waits_back c d (Opened o) into out rest f = has_left (IsReleaseOf own) out [] f
@@ -221,7 +221,7 @@ module _ (own other : ℕ) (low : 0 < other) where
   closing_waits_back c d v into out rest f = absurd f
 
   -- a frozen end: what its entity answers to a DR and to a CC is what the other end waits for
-  pub frozen_answers : (t : ℕ) (v : Stage) (sent : Sent) (out more rest : List Sent) → (IsReleaseOf other sent.tpdu → Has IsDone more) → (IsConfirm sent.tpdu → Has (IsReleaseOf 0) more)
+  pub frozen_answers : (t : ℕ) (v : StateData) (sent : Sent) (out more rest : List Sent) → (IsReleaseOf other sent.tpdu → Has IsDone more) → (IsConfirm sent.tpdu → Has (IsReleaseOf 0) more)
       → WillFreeze other own v (Frozen t) out (sent ∷ rest) → WillFreeze other own v (Frozen t) (out ++ more) rest
   frozen_answers t (Frozen u) sent out more rest dr cc_ f = tt
   frozen_answers t (Opened o) sent out more rest dr cc_ f = has_left (IsReleaseOf own) out more f

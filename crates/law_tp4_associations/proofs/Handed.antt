@@ -5,8 +5,8 @@ use Rattle.std.specs.Cmp.Lexicographic.{pointwise, same_text}
 use Rattle.std.proofs.lemmas.Bool.{cases_eq, eqb-true}
 use Rattle.tp4_flow.specs.declared.step.Sent.{Sent}
 use Rattle.tp4_number.specs.Number.{whole}
-use Rattle.tp4_conn.specs.declared.stage.Stage.{Stage}
-use Rattle.tp4_conn.specs.declared.stage.Stage.TheVariants.{Frozen}
+use Rattle.tp4_conn.specs.declared.states.StateData.{StateData}
+use Rattle.tp4_conn.specs.declared.states.StateData.TheVariants.{Frozen}
 use Rattle.tp4_conn.specs.declared.timers.Timers.{Timers}
 use Rattle.tp4_conn.specs.End.{End, Moved, end_of, frozen_for}
 use Rattle.tp4_conn.specs.Making.{indicated}
@@ -306,7 +306,7 @@ and_both : (a b : Bool) → (a && b) ≡ true → (a ≡ true) × (b ≡ true)
 and_both true b e = (refl, e)
 and_both false b e = absurd (cc e)
 
-not_frozen : (stage : Stage) → not (is_frozen stage) ≡ true → IsFrozen stage → ⊥
+not_frozen : (stage : StateData) → not (is_frozen stage) ≡ true → IsFrozen stage → ⊥
 not_frozen (Frozen when) e f = cc e
 not_frozen other e f = f
 

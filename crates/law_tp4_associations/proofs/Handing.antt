@@ -10,13 +10,13 @@ use Rattle.tp4_flow.specs.declared.rules.Options.{Options}
 use Rattle.tp4_conn.specs.declared.proposed.Proposed.{Proposed}
 use Rattle.tp4_flow.specs.declared.step.Sent.{Sent}
 use Rattle.tp4_number.specs.Number.{whole}
-use Rattle.tp4_conn.specs.declared.base.Base.{Base}
+use Rattle.tp4_conn.specs.declared.end_record.EndRecord.{EndRecord}
 use Rattle.tp4_conn.specs.declared.call.ConnectCall.{ConnectCall}
-use Rattle.tp4_conn.specs.declared.stage.Answering.{Answering}
-use Rattle.tp4_conn.specs.declared.stage.Parting.{Parting}
-use Rattle.tp4_conn.specs.declared.stage.Requesting.{Requesting}
-use Rattle.tp4_conn.specs.declared.stage.Stage.{Stage}
-use Rattle.tp4_conn.specs.declared.stage.Stage.TheVariants.{CrWait, WaitBeforeClose, UserWait, AkWait, Frozen}
+use Rattle.tp4_conn.specs.declared.states.InAkWait.{InAkWait}
+use Rattle.tp4_conn.specs.declared.states.InWaitBeforeClose.{InWaitBeforeClose}
+use Rattle.tp4_conn.specs.declared.states.InCrWait.{InCrWait}
+use Rattle.tp4_conn.specs.declared.states.StateData.{StateData}
+use Rattle.tp4_conn.specs.declared.states.StateData.TheVariants.{CrWait, WaitBeforeClose, UserWait, AkWait, Frozen}
 use Rattle.tp4_conn.specs.declared.timers.Timers.{Timers}
 use Rattle.tp4_conn.specs.Agreeing.{confirm, extra_of, proposed_by, request}
 use Rattle.tp4_conn.specs.End.{End, IsSized, Moved, agreed_sum, closing, confirms, end_of, send}
@@ -35,7 +35,7 @@ use Rattle.law_tp4_pair.proofs.Opening.{confirm_sum}
 use Rattle.law_tp4_pair.proofs.Meeting.{back_met, forth_met}
 use Rattle.law_tp4_associations.specs.Association.{Association, party, with_party}
 use Rattle.law_tp4_associations.specs.Laws.{IsBetweenOpen, TellsOfNoEnd}
-use Rattle.law_tp4_associations.specs.Phase.{AllCome, AreAll, AreParting, Asking, Asks, Answered, IsAsking, IsConfirming, IsFrozen, IsHeld, IsIndicated, IsOver, IsPaired, IsRefusal, IsRequest, Late, MayCome, Leaving, Over, Paired, Phase, Refused, Rejected, Waiting, WillFreeze, Writes}
+use Rattle.law_tp4_associations.specs.Phase.{AllCome, AreAll, AreParting, Asking, Asks, Answered, IsAsking, IsConfirming, IsFrozen, IsInUse, IsIndicated, IsOver, IsPaired, IsRefusal, IsRequest, Late, MayCome, Leaving, Over, Paired, Phase, Refused, Rejected, Waiting, WillFreeze, Writes}
 use Rattle.law_tp4_associations.specs.Standing.{IsAssociation, IsCalled, IsCaller}
 use Rattle.law_tp4_associations.proofs.Freezing.{release_comes}
 use Rattle.law_tp4_associations.proofs.Holding.{held_on, held_so}
@@ -55,7 +55,7 @@ pub data Deals (own : ℕ → List ℕ) (now : ℕ) (e : Entity) (by : Bool) (se
   Takes_one : (end : End) → party a (not by) ≡ Some end → acted ≡ moved e end.base.own (stepped whole now end (Took sent.tpdu sent.sum))
       → b ≡ with_party a (not by) (Some (end_of (stepped whole now end (Took sent.tpdu sent.sum)))) → Deals own now e by sent acted a b
   Leaves_it : acted.entity ≡ e → TellsOfNoEnd acted.events → b ≡ a → (IsBetweenOpen a → ⊥) → Deals own now e by sent acted a b
-  Begins_one : (reference : ℕ) (base : Base) (octets : List ℕ) → by ≡ true → a.called ≡ None → least_free now e ≡ Some reference → base.own ≡ reference → base.to ≡ own a.from.system
+  Begins_one : (reference : ℕ) (base : EndRecord) (octets : List ℕ) → by ≡ true → a.called ≡ None → least_free now e ≡ Some reference → base.own ≡ reference → base.to ≡ own a.from.system
       → base.partner ≡ a.from.reference → acted ≡ moved e reference (indicated base octets) → b ≡ record a { called = Some (end_of (indicated base octets)) } → Deals own now e by sent acted a b
 
 -- the ends keep what they keep
@@ -85,7 +85,7 @@ calling_left a x is left o = o.stays (inl (subst (λ (z : End). HasLeft z.stage)
 called_left : (a : Association) (y : End) → a.called ≡ Some y → HasLeft y.stage → IsBetweenOpen a → ⊥
 called_left a y is left o = o.stays (inr (subst (λ (z : End). HasLeft z.stage) (same_some y o.y (sym is ∙ o.called)) left))
 
-frozen_left : (stage : Stage) → IsFrozen stage → HasLeft stage
+frozen_left : (stage : StateData) → IsFrozen stage → HasLeft stage
 frozen_left (Frozen when) f = tt
 frozen_left other f = absurd f
 
@@ -97,32 +97,32 @@ not_agreed None e is = cc is
 not_agreed (Some o) e is = cc e
 
 -- the end is frozen, and sends nothing
-record IsEnded (b : Base) (m : Moved) : Type 0 where
+record IsEnded (b : EndRecord) (m : Moved) : Type 0 where
   base : m.base ≡ b
   stage : m.stage ≡ Frozen b.clock
   tpdus : m.tpdus ≡ []
 
-no_answer : (b : Base) (source : ℕ) → source ≡ 0 → confirms b source ≡ []
+no_answer : (b : EndRecord) (source : ℕ) → source ≡ 0 → confirms b source ≡ []
 no_answer b source is = ap (λ (z : Bool). if z then [] else send b (Dc source b.own) ∷ []) (eq-eqb source 0 is)
 
 -- an end that has not left is held, and so is one that had no answer to its CR after a row
-pub paired_held : (now : ℕ) (x : End) → (HasLeft x.stage → ⊥) → IsHeld now x
+pub paired_held : (now : ℕ) (x : End) → (HasLeft x.stage → ⊥) → IsInUse now x
 paired_held now x stay = by x.stage refl stay
   where
-    by : (stage : Stage) → x.stage ≡ stage → (HasLeft stage → ⊥) → IsHeld now x
+    by : (stage : StateData) → x.stage ≡ stage → (HasLeft stage → ⊥) → IsInUse now x
     by (Frozen when) is s = absurd (s tt)
     by stage is s = held_so now x stage is refl
 
-pub asking_held : (now : ℕ) (x : End) → IsAsking x.stage → IsHeld now x
+pub asking_held : (now : ℕ) (x : End) → IsAsking x.stage → IsInUse now x
 asking_held now x asking = by x.stage refl asking
   where
-    by : (stage : Stage) → x.stage ≡ stage → IsAsking stage → IsHeld now x
+    by : (stage : StateData) → x.stage ≡ stage → IsAsking stage → IsInUse now x
     by (CrWait r) is a = held_so now x (CrWait r) is refl
     by (WaitBeforeClose w) is a = held_so now x (WaitBeforeClose w) is refl
     by stage is a = absurd a
 
 -- two frozen ends that never agreed
-pub both_frozen : (mine theirs : List ℕ) (b : Base) (when : ℕ) (y : End) (into out : List Sent) → b.to ≡ theirs → y.base.to ≡ mine → b.agreed ≡ None → y.base.agreed ≡ None → IsFrozen y.stage
+pub both_frozen : (mine theirs : List ℕ) (b : EndRecord) (when : ℕ) (y : End) (into out : List Sent) → b.to ≡ theirs → y.base.to ≡ mine → b.agreed ≡ None → y.base.agreed ≡ None → IsFrozen y.stage
     → AllCome (record { base = b; stage = Frozen when }) y.base.own mine into → AllCome y b.own theirs out → AreParting (record { base = b; stage = Frozen when }) y mine theirs into out
 both_frozen mine theirs b when y into out to to_back unagreed none frozen come back = record {
   one = record { into_are = come; knows = record { partner = inl tt; to = to; sum = λ is. absurd (not_agreed y.base.agreed none is); writes = tt }; freezes = tt };
@@ -133,11 +133,11 @@ both_frozen mine theirs b when y into out to to_back unagreed none frozen come b
   };
 }
   where
-    writes : (stage : Stage) → IsFrozen stage → Writes stage (record { base = b; stage = Frozen when }) mine
+    writes : (stage : StateData) → IsFrozen stage → Writes stage (record { base = b; stage = Frozen when }) mine
     writes (Frozen t) f = tt
     writes other f = absurd f
 
-    freezes : (stage : Stage) → IsFrozen stage → WillFreeze y.base.own b.own stage (Frozen when) out into
+    freezes : (stage : StateData) → IsFrozen stage → WillFreeze y.base.own b.own stage (Frozen when) out into
     freezes (Frozen t) f = tt
     freezes other f = absurd f
 
@@ -214,17 +214,22 @@ module _ (timers : Timers) (own : ℕ → List ℕ) (now : ℕ) (a : Association
   }
 
   -- the CR
-  abbrev call_of_request : (x : End) (r : Requesting) → ConnectCall
-  call_of_request x r = record { own = x.base.own; from = []; to = x.base.to; from_selector = x.base.calling; to_selector = x.base.called; options = x.base.proposed.options; octets = r.octets; rules = x.base.timers }
+  abbrev call_of_request : (x : End) (r : InCrWait) → ConnectCall
+  call_of_request x r = record {
+    own = x.base.own;
+    from = [];
+    request = record { from_selector = x.base.calling; to = x.base.to; to_selector = x.base.called; options = x.base.proposed.options; octets = r.octets };
+    rules = x.base.timers;
+  }
 
-  asked : (x : End) (r : Requesting) → a.calling ≡ Some x → a.called ≡ None → Asks x → x.stage ≡ CrWait r → rest ≡ [] → back ≡ []
+  asked : (x : End) (r : InCrWait) → a.calling ≡ Some x → a.called ≡ None → Asks x → x.stage ≡ CrWait r → rest ≡ [] → back ≡ []
       → (acted : Acted) → Asked now e here x.base.own x.base.called (request x.base r.octets).tpdu acted → Dealt acted
   asked x r calling called asks stage rest_none back_none acted (Answers reason is) =
       stays acted (ap (λ (y : Acted). y.entity) is) (inl (ap (λ (y : Acted). y.events) is)) (no_called a called)
       (Rejected x (refusal here x.base.own reason) calling called asks rest_none (ap (λ (l : List Sent). l ++ acted.tpdus) back_none ∙ ap (λ (y : Acted). y.tpdus) is) refl (refl, refl))
   asked x r calling called asks stage rest_none back_none acted (Makes reference free is) =
       let c = i.caller x calling in
-      let base : Base = called_end now reference here e.timers x.base.timers.credit x.base.own x.base.calling x.base.called x.base.proposed in
+      let base : EndRecord = called_end now reference here e.timers x.base.timers.credit x.base.own x.base.calling x.base.called x.base.proposed in
       let m : Moved = indicated base r.octets in
       let is_indicated : on_cr now reference here e.timers (request x.base r.octets).tpdu ≡ Some m =
       subst (λ (p : Proposed). on_cr now reference here e.timers (request (record x.base { proposed = p }) r.octets).tpdu
@@ -259,7 +264,7 @@ module _ (timers : Timers) (own : ℕ → List ℕ) (now : ℕ) (a : Association
       stays _ (ap (λ (y : Acted). y.entity) is) (inl (ap (λ (y : Acted). y.events) is)) (unanswered a y since called indicated.stage)
       (Waiting x y since calling called asks indicated requests.2 (ap (λ (l : List Sent). l ++ (requested now e here x.base.own selector sent.tpdu).tpdus) none_back ∙ ap (λ (y : Acted). y.tpdus) is)))
 
-  forth_refused : (x y : End) (first : Sent) (others : List Sent) → a.calling ≡ Some x → a.called ≡ Some y → Asks x → IsFrozen y.stage → IsHeld now y → y.base.agreed ≡ None → AreAll (IsRequest x.base.own) there (sent ∷ rest)
+  forth_refused : (x y : End) (first : Sent) (others : List Sent) → a.calling ≡ Some x → a.called ≡ Some y → Asks x → IsFrozen y.stage → IsInUse now y → y.base.agreed ≡ None → AreAll (IsRequest x.base.own) there (sent ∷ rest)
       → back ≡ first ∷ others → AreAll (IsRefusal x.base.own) here back → Dealt (met whole now e here (sent.tpdu, sent.sum))
   forth_refused x y first others calling called asks frozen held unagreed requests back_is refusals =
       let c = i.called y called in
@@ -277,7 +282,7 @@ module _ (timers : Timers) (own : ℕ → List ℕ) (now : ℕ) (a : Association
       more n [] false all = tt
       more n (one ∷ l) answered all = (all.0, all.1, more n l answered all.2)
 
-  forth_leaving : (x y : End) → a.calling ≡ Some x → a.called ≡ Some y → AreParting x y here there back (sent ∷ rest) → IsHeld now x → IsHeld now y → (acted : Acted) → IsHeard now e y x there here sent rest back acted → Dealt acted
+  forth_leaving : (x y : End) → a.calling ≡ Some x → a.called ≡ Some y → AreParting x y here there back (sent ∷ rest) → IsInUse now x → IsInUse now y → (acted : Acted) → IsHeard now e y x there here sent rest back acted → Dealt acted
   forth_leaving x y calling called p held_x held_y acted (Takes_it is after) =
       taken y called (parts_no_asking y x there here (sent ∷ rest) back p.next) acted is
       (Leaving x _ calling refl (swap _ x there here rest _ (subst (λ (l : List Sent). AreParting (end_of (stepped whole now y (Took sent.tpdu sent.sum))) x there here rest (back ++ l)) (ap (λ (z : Acted). z.tpdus) is) after)) held_x (held_on now y (Took sent.tpdu sent.sum) held_y))
@@ -356,7 +361,7 @@ module _ (timers : Timers) (own : ℕ → List ℕ) (now : ℕ) (a : Association
   }
 
   -- a refusal freezes the calling end, which sends nothing
-  refused_row : (b : Base) (stage : Stage) (tpdu : Tpdu) → IsAsking stage → IsRefusal b.own tpdu → (wants_sum b stage tpdu ≡ false) × (fits b stage tpdu ≡ true) × IsEnded (at now b) (on_tpdu whole (at now b) stage tpdu)
+  refused_row : (b : EndRecord) (stage : StateData) (tpdu : Tpdu) → IsAsking stage → IsRefusal b.own tpdu → (wants_sum b stage tpdu ≡ false) × (fits b stage tpdu ≡ true) × IsEnded (at now b) (on_tpdu whole (at now b) stage tpdu)
   unfolding cr_wait_tpdu wait_before_close_tpdu
   refused_row b (CrWait r) (Dr destination source reason info text) asking is = (refl, refl, record { base = refl; stage = refl; tpdus = no_answer (at now b) source is.1 })
   refused_row b (WaitBeforeClose w) (Dr destination source reason info text) asking is = (refl, refl, record { base = refl; stage = refl; tpdus = no_answer (at now b) source is.1 })
@@ -388,7 +393,7 @@ module _ (timers : Timers) (own : ℕ → List ℕ) (now : ℕ) (a : Association
       (ap (λ (l : List Sent). l ++ (stepped whole now x (Took sent.tpdu sent.sum)).tpdus) forth_none ∙ d.tpdus) rest_none)
 
   -- what is left of the refusals and of the copies of the CR comes to frozen ends
-  refusals_come : (b : Base) (when other : ℕ) (l : List Sent) → b.agreed ≡ None → AreAll (IsRefusal b.own) mine l → AllCome (record { base = b; stage = Frozen when }) other mine l
+  refusals_come : (b : EndRecord) (when other : ℕ) (l : List Sent) → b.agreed ≡ None → AreAll (IsRefusal b.own) mine l → AllCome (record { base = b; stage = Frozen when }) other mine l
   refusals_come b when other [] unagreed all = tt
   refusals_come b when other (one ∷ l) unagreed all = (
     record {
@@ -428,7 +433,7 @@ module _ (timers : Timers) (own : ℕ → List ℕ) (now : ℕ) (a : Association
       unnumbered (Cr credit source width calling called_one size preferred extra version classes ack_time text) is e = cc e
       unnumbered tpdu is e = is
 
-  back_refused : (x y : End) → a.calling ≡ Some x → a.called ≡ Some y → Asks x → IsFrozen y.stage → IsHeld now y → y.base.agreed ≡ None → AreAll (IsRequest x.base.own) theirs forth
+  back_refused : (x y : End) → a.calling ≡ Some x → a.called ≡ Some y → Asks x → IsFrozen y.stage → IsInUse now y → y.base.agreed ≡ None → AreAll (IsRequest x.base.own) theirs forth
       → AreAll (IsRefusal x.base.own) mine (sent ∷ rest) → Back (met whole now e theirs (sent.tpdu, sent.sum))
   back_refused x y calling called asks frozen held unagreed requests refusals =
       let c = i.caller x calling in
@@ -445,7 +450,7 @@ module _ (timers : Timers) (own : ℕ → List ℕ) (now : ℕ) (a : Association
       (held_on now x (Took sent.tpdu sent.sum) (asking_held now x asks.stage)) held)
 
   -- the CC comes to an end whose user has disconnected: DR 128, and Closing
-  parting_row : (b c : Base) (w : Parting) (options : Options) (octets : List ℕ) → c.agreed ≡ Some options
+  parting_row : (b c : EndRecord) (w : InWaitBeforeClose) (options : Options) (octets : List ℕ) → c.agreed ≡ Some options
       → takes whole now b (WaitBeforeClose w) (confirm c options octets).tpdu (confirm c options octets).sum ≡ closing (record b { partner = c.own; clock = now }) [] 128 w.octets now
   unfolding wait_before_close_tpdu
   parting_row b c w options octets agreed =
@@ -454,7 +459,7 @@ module _ (timers : Timers) (own : ℕ → List ℕ) (now : ℕ) (a : Association
       ap (λ (s : Bool). (extra_of options / 2 % 2 == 0) && not s) sum ∙ confirm_sum options in
       ap (λ (wants : Bool). if wants then untaken b (WaitBeforeClose w) else on_tpdu whole (at now b) (WaitBeforeClose w) (confirm c options octets).tpdu) taken
 
-  parts_at_once : (b : Base) (y : End) (answering : Answering) (w : Parting) → b.agreed ≡ None → b.to ≡ theirs → y.base.to ≡ mine → y.base.partner ≡ b.own → y.stage ≡ AkWait answering
+  parts_at_once : (b : EndRecord) (y : End) (answering : InAkWait) (w : InWaitBeforeClose) → b.agreed ≡ None → b.to ≡ theirs → y.base.to ≡ mine → y.base.partner ≡ b.own → y.stage ≡ AkWait answering
       → let m = closing (record b { partner = y.base.own; clock = now }) [] 128 w.octets now in AreParting (end_of m) y mine theirs [] m.tpdus
   parts_at_once b y answering w unagreed to to_back partner stage =
       let m : Moved = closing (record b { partner = y.base.own; clock = now }) [] 128 w.octets now in
@@ -462,16 +467,16 @@ module _ (timers : Timers) (own : ℕ → List ℕ) (now : ℕ) (a : Association
         one = record {
           into_are = tt;
           knows = record { partner = inr refl; to = to; sum = λ is. ap agreed_sum unagreed; writes = tt };
-          freezes = subst (λ (s : Stage). WillFreeze b.own y.base.own m.stage s [] m.tpdus) (sym stage) tt;
+          freezes = subst (λ (s : StateData). WillFreeze b.own y.base.own m.stage s [] m.tpdus) (sym stage) tt;
         };
         next = record {
           into_are = (release_comes (end_of m) y theirs 128 w.octets refl to (λ is. ap agreed_sum unagreed), tt);
-          knows = record { partner = inr partner; to = to_back; sum = λ is. absurd (not_agreed b.agreed unagreed is); writes = subst (λ (s : Stage). Writes s (end_of m) mine) (sym stage) tt };
-          freezes = subst (λ (s : Stage). WillFreeze y.base.own b.own s m.stage m.tpdus []) (sym stage) (inl refl);
+          knows = record { partner = inr partner; to = to_back; sum = λ is. absurd (not_agreed b.agreed unagreed is); writes = subst (λ (s : StateData). Writes s (end_of m) mine) (sym stage) tt };
+          freezes = subst (λ (s : StateData). WillFreeze y.base.own b.own s m.stage m.tpdus []) (sym stage) (inl refl);
         };
       }
 
-  back_answered : (x y : End) (w : Parting) → a.calling ≡ Some x → a.called ≡ Some y → Asks x → x.stage ≡ WaitBeforeClose w → IsConfirming y (sent ∷ rest) → forth ≡ [] → Back (met whole now e theirs (sent.tpdu, sent.sum))
+  back_answered : (x y : End) (w : InWaitBeforeClose) → a.calling ≡ Some x → a.called ≡ Some y → Asks x → x.stage ≡ WaitBeforeClose w → IsConfirming y (sent ∷ rest) → forth ≡ [] → Back (met whole now e theirs (sent.tpdu, sent.sum))
   back_answered x y w calling called asks stage confirming forth_none =
       let c = i.caller x calling in
       let d = i.called y called in
@@ -479,9 +484,9 @@ module _ (timers : Timers) (own : ℕ → List ℕ) (now : ℕ) (a : Association
       let is : confirm y.base confirming.options confirming.octets ≡ sent = sym (first_is sent (confirm y.base confirming.options confirming.octets) rest [] confirming.back_is) in
       let row : stepped whole now x (Took sent.tpdu sent.sum) ≡ closing (record x.base { partner = y.base.own; clock = now }) [] 128 w.octets now =
       ap (λ (s : Sent). takes whole now x.base x.stage s.tpdu s.sum) (sym is)
-      ∙ ap (λ (s : Stage). takes whole now x.base s (confirm y.base confirming.options confirming.octets).tpdu (confirm y.base confirming.options confirming.octets).sum) stage
+      ∙ ap (λ (s : StateData). takes whole now x.base s (confirm y.base confirming.options confirming.octets).tpdu (confirm y.base confirming.options confirming.octets).sum) stage
       ∙ parting_row x.base y.base w confirming.options confirming.octets confirming.agreed in
-      let fit : fits x.base x.stage sent.tpdu ≡ true = ap (λ (s : Sent). fits x.base x.stage s.tpdu) (sym is) ∙ ap (λ (s : Stage). fits x.base s (confirm y.base confirming.options confirming.octets).tpdu) stage in
+      let fit : fits x.base x.stage sent.tpdu ≡ true = ap (λ (s : Sent). fits x.base x.stage s.tpdu) (sym is) ∙ ap (λ (s : StateData). fits x.base s (confirm y.base confirming.options confirming.octets).tpdu) stage in
       let named : IsFor x.base.own sent.tpdu = subst (λ (s : Sent). IsFor x.base.own s.tpdu) is (d.partner ∙ sym c.own_is) in
       back_taken x calling _ (taken_by now e theirs sent.sum x sent.tpdu (stands x calling) named c.to fit)
       (Leaving (end_of (stepped whole now x (Took sent.tpdu sent.sum))) y refl called
@@ -507,7 +512,7 @@ module _ (timers : Timers) (own : ℕ → List ℕ) (now : ℕ) (a : Association
       by acted_is (Pairs q one other on) = back_taken p.calling calling _ acted_is (Paired q (ap Some (sym one)) (called ∙ ap Some (sym other)) on)
       by acted_is (Parts parting) = back_taken p.calling calling _ acted_is (Leaving _ p.called refl called parting (held_on now p.calling (Took sent.tpdu sent.sum) (paired_held now p.calling (λ l. paired.stays (inl l)))) (paired_held now p.called (λ l. paired.stays (inr l))))
 
-  back_leaving : (x y : End) → a.calling ≡ Some x → a.called ≡ Some y → AreParting x y mine theirs (sent ∷ rest) forth → IsHeld now x → IsHeld now y → (acted : Acted) → IsHeard now e x y mine theirs sent rest forth acted → Back acted
+  back_leaving : (x y : End) → a.calling ≡ Some x → a.called ≡ Some y → AreParting x y mine theirs (sent ∷ rest) forth → IsInUse now x → IsInUse now y → (acted : Acted) → IsHeard now e x y mine theirs sent rest forth acted → Back acted
   back_leaving x y calling called p held_x held_y acted (Takes_it is after) =
       back_taken x calling acted is
       (Leaving _ y refl called (subst (λ (l : List Sent). AreParting (end_of (stepped whole now x (Took sent.tpdu sent.sum))) y mine theirs rest (forth ++ l)) (ap (λ (z : Acted). z.tpdus) is) after) (held_on now x (Took sent.tpdu sent.sum) held_x) held_y)

@@ -3,12 +3,12 @@ use Rattle.std.proofs.Common.{◌≡◌, ◌⊎◌, ℕ, true, List, [], ◌∷�
 use Rattle.tp4_flow.specs.declared.rules.FlowRules.{FlowRules}
 use Rattle.tp4_flow.specs.declared.rules.Options.{Options}
 use Rattle.tp4_flow.specs.declared.step.Sent.{Sent}
-use Rattle.tp4_conn.specs.declared.base.Base.{Base}
+use Rattle.tp4_conn.specs.declared.end_record.EndRecord.{EndRecord}
 use Rattle.tp4_conn.specs.declared.halves.Halves.{Halves}
-use Rattle.tp4_conn.specs.declared.stage.Open.{Open}
-use Rattle.tp4_conn.specs.declared.stage.Releasing.{Releasing}
-use Rattle.tp4_conn.specs.declared.stage.Stage.{Stage}
-use Rattle.tp4_conn.specs.declared.stage.Stage.TheVariants.{Opened, Closing}
+use Rattle.tp4_conn.specs.declared.states.InOpened.{InOpened}
+use Rattle.tp4_conn.specs.declared.states.InClosing.{InClosing}
+use Rattle.tp4_conn.specs.declared.states.StateData.{StateData}
+use Rattle.tp4_conn.specs.declared.states.StateData.TheVariants.{Opened, Closing}
 use Rattle.tp4_conn.specs.End.{Moved, agreed_format, agreed_sum, release}
 use Rattle.tp4_conn.specs.Matching.{sum_agreed}
 use Rattle.law_tp4_pair.specs.Pair.{Account}
@@ -20,7 +20,7 @@ use Rattle.law_tp4_associations.proofs.Freezing.{come_then, data_come, has_right
 use Rattle.law_tp4_associations.proofs.Writing.{Closes, Open_on, Stays}
 
 -- what two ends that agreed know of each other
-pub record AreJoined (b c : Base) (here there : List ℕ) (one other : FlowRules) : Type 0 where
+pub record AreJoined (b c : EndRecord) (here there : List ℕ) (one other : FlowRules) : Type 0 where
   pub options : Options
   pub mine : b.agreed ≡ Some options
   pub theirs : c.agreed ≡ Some options
@@ -37,7 +37,7 @@ pub record AreJoined (b c : Base) (here there : List ℕ) (one other : FlowRules
   pub back_format : other.format ≡ options.format
   pub back_sum : other.sum ≡ options.sum
 
-turned : (b c : Base) (here there : List ℕ) (one other : FlowRules) → AreJoined b c here there one other → AreJoined c b there here other one
+turned : (b c : EndRecord) (here there : List ℕ) (one other : FlowRules) → AreJoined b c here there one other → AreJoined c b there here other one
 turned b c here there one other j = record {
   options = j.options;
   mine = j.theirs;
@@ -56,7 +56,7 @@ turned b c here there one other j = record {
   back_sum = j.rules_sum;
 }
 
-pub joined : (b c : Base) (here there : List ℕ) (h k : Halves) (forth back : List Sent) (u v : Account) (both : AreBoth (party b) (party c) h k forth back u v) → b.to ≡ there → c.to ≡ here
+pub joined : (b c : EndRecord) (here there : List ℕ) (h k : Halves) (forth back : List Sent) (u v : Account) (both : AreBoth (party b) (party c) h k forth back u v) → b.to ≡ there → c.to ≡ here
     → AreJoined b c here there both.one_rules both.other_rules
 joined b c here there h k forth back u v both to to_back = record {
   options = both.options;
@@ -77,11 +77,11 @@ joined b c here there h k forth back u v both to to_back = record {
 }
 
 -- one end after a row that leaves it Opened or has it close: its base but for the clock, its state and what waits from it
-pub data IsSide (rules : FlowRules) (b : Base) (stage : Stage) (from : List Sent) : Type 0 where
-  Still : (o : Open) → stage ≡ Opened o → o.halves.sending.rules ≡ rules → o.halves.receiving.rules ≡ rules → AreData rules from → IsSide rules b stage from
-  Parted : (c : Releasing) (before : List Sent) (reason : ℕ) (octets : List ℕ) → stage ≡ Closing c → AreData rules before → from ≡ before ++ release b reason octets ∷ [] → IsSide rules b stage from
+pub data IsSide (rules : FlowRules) (b : EndRecord) (stage : StateData) (from : List Sent) : Type 0 where
+  Still : (o : InOpened) → stage ≡ Opened o → o.halves.sending.rules ≡ rules → o.halves.receiving.rules ≡ rules → AreData rules from → IsSide rules b stage from
+  Parted : (c : InClosing) (before : List Sent) (reason : ℕ) (octets : List ℕ) → stage ≡ Closing c → AreData rules before → from ≡ before ++ release b reason octets ∷ [] → IsSide rules b stage from
 
-pub side : (rules : FlowRules) (b : Base) (m : Moved) (before : List Sent) → AreData rules before → Stays rules b m → IsSide rules b m.stage (before ++ m.tpdus)
+pub side : (rules : FlowRules) (b : EndRecord) (m : Moved) (before : List Sent) → AreData rules before → Stays rules b m → IsSide rules b m.stage (before ++ m.tpdus)
 side rules b m before data_are (Open_on o base stage s r d) = Still o stage s r (data_then rules before m.tpdus data_are d)
 side rules b m before data_are (Closes c sent reason octets base stage d tpdus) =
     Parted c (before ++ sent) reason octets stage (data_then rules before sent data_are d) (ap (λ (l : List Sent). before ++ l) tpdus ∙ sym (append_assoc before sent (release b reason octets ∷ [])))
@@ -90,7 +90,7 @@ some_sum : (options : Options) (agreed other : Option Options) → agreed ≡ So
 some_sum options agreed other a o is = ap agreed_sum a ∙ sym (ap sum_agreed o) ∙ is
 
 -- the terms fit the other end, whatever it does
-sends_for : (b c : Base) (stage : Stage) (here there : List ℕ) (one other : FlowRules) → AreJoined b c here there one other → SendsFor (record { base = c; stage = stage }) there one
+sends_for : (b c : EndRecord) (stage : StateData) (here there : List ℕ) (one other : FlowRules) → AreJoined b c here there one other → SendsFor (record { base = c; stage = stage }) there one
 sends_for b c stage here there one other j = record {
   to = j.rules_to;
   partner = j.rules_partner;
@@ -98,12 +98,12 @@ sends_for b c stage here there one other j = record {
   sum = λ is. j.rules_sum ∙ sym (ap sum_agreed j.theirs) ∙ is;
 }
 
-knows_it : (b c : Base) (mine theirs : Stage) (here there : List ℕ) (one other : FlowRules) → AreJoined b c here there one other
+knows_it : (b c : EndRecord) (mine theirs : StateData) (here there : List ℕ) (one other : FlowRules) → AreJoined b c here there one other
     → Writes mine (record { base = c; stage = theirs }) there → Knows (record { base = b; stage = mine }) (record { base = c; stage = theirs }) there
 knows_it b c mine theirs here there one other j writes = record { partner = inr j.partner; to = j.to; sum = some_sum j.options b.agreed c.agreed j.mine j.theirs; writes = writes }
 
 -- what waits from a side comes to the other one
-from_side : (b c : Base) (mine theirs : Stage) (here there : List ℕ) (one other : FlowRules) (l : List Sent) → AreJoined b c here there one other → HearsData theirs → IsSide one b mine l
+from_side : (b c : EndRecord) (mine theirs : StateData) (here there : List ℕ) (one other : FlowRules) (l : List Sent) → AreJoined b c here there one other → HearsData theirs → IsSide one b mine l
     → AllCome (record { base = c; stage = theirs }) b.own there l
 from_side b c mine theirs here there one other l j hears (Still o is s r d) = data_come (record { base = c; stage = theirs }) b.own there one l (sends_for b c theirs here there one other j) hears d
 from_side b c mine theirs here there one other l j hears (Parted k before reason octets is d from) =
@@ -112,28 +112,28 @@ from_side b c mine theirs here there one other l j hears (Parted k before reason
     (data_come (record { base = c; stage = theirs }) b.own there one before (sends_for b c theirs here there one other j) hears d)
     (release_comes (record { base = b; stage = mine }) (record { base = c; stage = theirs }) there reason octets j.partner j.to (some_sum j.options b.agreed c.agreed j.mine j.theirs), tt))
 
-hears_side : (rules : FlowRules) (b : Base) (stage : Stage) (l : List Sent) → IsSide rules b stage l → HearsData stage
+hears_side : (rules : FlowRules) (b : EndRecord) (stage : StateData) (l : List Sent) → IsSide rules b stage l → HearsData stage
 hears_side rules b stage l (Still o is s r d) = subst HearsData (sym is) tt
 hears_side rules b stage l (Parted c before reason octets is d from) = subst HearsData (sym is) tt
 
-writes_side : (b c : Base) (mine theirs : Stage) (here there : List ℕ) (one other : FlowRules) (l : List Sent) → AreJoined b c here there one other → IsSide one b mine l
+writes_side : (b c : EndRecord) (mine theirs : StateData) (here there : List ℕ) (one other : FlowRules) (l : List Sent) → AreJoined b c here there one other → IsSide one b mine l
     → Writes mine (record { base = c; stage = theirs }) there
 writes_side b c mine theirs here there one other l j (Still o is s r d) =
-    subst (λ (v : Stage). Writes v (record { base = c; stage = theirs }) there) (sym is) (record { rules = one; sending = s; receiving = r; fits = sends_for b c theirs here there one other j })
-writes_side b c mine theirs here there one other l j (Parted k before reason octets is d from) = subst (λ (v : Stage). Writes v (record { base = c; stage = theirs }) there) (sym is) tt
+    subst (λ (v : StateData). Writes v (record { base = c; stage = theirs }) there) (sym is) (record { rules = one; sending = s; receiving = r; fits = sends_for b c theirs here there one other j })
+writes_side b c mine theirs here there one other l j (Parted k before reason octets is d from) = subst (λ (v : StateData). Writes v (record { base = c; stage = theirs }) there) (sym is) tt
 
 -- the first end of the two freezes: `into` is from the other side
-freezes_side : (one other : FlowRules) (b c : Base) (mine theirs : Stage) (into out : List Sent) → HasLeft mine ⊎ HasLeft theirs → IsSide one b mine out → IsSide other c theirs into
+freezes_side : (one other : FlowRules) (b c : EndRecord) (mine theirs : StateData) (into out : List Sent) → HasLeft mine ⊎ HasLeft theirs → IsSide one b mine out → IsSide other c theirs into
     → WillFreeze b.own c.own mine theirs into out
 freezes_side one other b c mine theirs into out left (Still o is s r d) (Still q was t u e) =
     absurd (elim left [ inl l ↦ subst HasLeft is l | inr l ↦ subst HasLeft was l ])
 freezes_side one other b c mine theirs into out left (Still o is s r d) (Parted k before reason octets was e from) =
-    subst (λ (v : Stage). WillFreeze b.own c.own v theirs into out) (sym is) (subst (λ (v : Stage). WillFreeze b.own c.own (Opened o) v into out) (sym was)
+    subst (λ (v : StateData). WillFreeze b.own c.own v theirs into out) (sym is) (subst (λ (v : StateData). WillFreeze b.own c.own (Opened o) v into out) (sym was)
     (subst (Has (IsReleaseOf c.own)) (sym from) (has_right (IsReleaseOf c.own) before (release c reason octets ∷ []) (inl refl))))
 freezes_side one other b c mine theirs into out left (Parted k before reason octets is d from) (Still q was t u e) =
-    subst (λ (v : Stage). WillFreeze b.own c.own v theirs into out) (sym is) (subst (λ (v : Stage). WillFreeze b.own c.own (Closing k) v into out) (sym was) tt)
+    subst (λ (v : StateData). WillFreeze b.own c.own v theirs into out) (sym is) (subst (λ (v : StateData). WillFreeze b.own c.own (Closing k) v into out) (sym was) tt)
 freezes_side one other b c mine theirs into out left (Parted k before reason octets is d from) (Parted m sent why text was e comes) =
-    subst (λ (v : Stage). WillFreeze b.own c.own v theirs into out) (sym is) (subst (λ (v : Stage). WillFreeze b.own c.own (Closing k) v into out) (sym was)
+    subst (λ (v : StateData). WillFreeze b.own c.own v theirs into out) (sym is) (subst (λ (v : StateData). WillFreeze b.own c.own (Closing k) v into out) (sym was)
     (subst (Has (IsReleaseOf c.own)) (sym comes) (has_right (IsReleaseOf c.own) sent (release c why text ∷ []) (inl refl))))
 
 swapped : {A B : Type 0} → A ⊎ B → B ⊎ A
@@ -141,7 +141,7 @@ swapped (inl a) = inr a
 swapped (inr b) = inl b
 
 -- two ends that agreed, one of which has just left
-pub parted : (b c : Base) (mine theirs : Stage) (here there : List ℕ) (one other : FlowRules) (forth back : List Sent) → AreJoined b c here there one other → HasLeft mine ⊎ HasLeft theirs
+pub parted : (b c : EndRecord) (mine theirs : StateData) (here there : List ℕ) (one other : FlowRules) (forth back : List Sent) → AreJoined b c here there one other → HasLeft mine ⊎ HasLeft theirs
     → IsSide one b mine forth → IsSide other c theirs back → AreParting (record { base = b; stage = mine }) (record { base = c; stage = theirs }) here there back forth
 parted b c mine theirs here there one other forth back j left x y = record {
   one = record {

@@ -7,8 +7,8 @@ use Rattle.tpdu.specs.declared.tpdu.Tpdu.{Tpdu}
 use Rattle.tpdu.specs.declared.tpdu.Tpdu.TheVariants.{Cr, Cc, Dr, Dc, Dt, Ed, Ak, Ea, Er}
 use Rattle.tp4_flow.specs.declared.step.Sent.{Sent}
 use Rattle.tp4_number.specs.Number.{whole}
-use Rattle.tp4_conn.specs.declared.stage.Stage.{Stage}
-use Rattle.tp4_conn.specs.declared.stage.Stage.TheVariants.{UserWait, Frozen}
+use Rattle.tp4_conn.specs.declared.states.StateData.{StateData}
+use Rattle.tp4_conn.specs.declared.states.StateData.TheVariants.{UserWait, Frozen}
 use Rattle.tp4_conn.specs.End.{End, end_of}
 use Rattle.tp4_conn.specs.Matching.{fits, is_called_by, is_match}
 use Rattle.tp4_conn.specs.Table.{Took, stepped}
@@ -114,7 +114,7 @@ called_there e from source reference z frozen stands to partner called is = any_
 is_by : (z : End) (from : List ℕ) (source : ℕ) → z.base.to ≡ from → z.base.partner ≡ source → z.base.is_called ≡ true → is_called_by z.base from source ≡ true
 is_by z from source to partner called = λ i. called i && (same_address z.base.to from to i && eq-eqb z.base.partner source partner i)
 
-frozen_is : (stage : Stage) → IsFrozen stage → is_frozen stage ≡ true
+frozen_is : (stage : StateData) → IsFrozen stage → is_frozen stage ≡ true
 frozen_is (Frozen when) f = refl
 frozen_is other f = absurd f
 
@@ -194,10 +194,10 @@ module _ (now : ℕ) (e : Entity) (z w : End) (here there : List ℕ) (sent : Se
       let r = copy_refused now e there source called (Cr credit source width calling called size preferred extra version classes ack_time text) z stands p.one.knows.to (m.1 ∙ sym m.0) m.2 m.3 in
       subst (IsHeard now e z w here there sent rest out) (sym r.1) (Answered_so refl refl (by z.stage m.3 refl r.0))
     where
-      by : (stage : Stage) → IsFrozen stage → z.stage ≡ stage → (answered : Bool) → AreParting z w here there rest (out ++ (if answered then refusal there source 131 ∷ [] else []))
+      by : (stage : StateData) → IsFrozen stage → z.stage ≡ stage → (answered : Bool) → AreParting z w here there rest (out ++ (if answered then refusal there source 131 ∷ [] else []))
       by (Frozen t) f same answered =
-          subst (λ (s : Stage). AreParting (record { base = z.base; stage = s }) w here there rest (out ++ (if answered then refusal there source 131 ∷ [] else []))) (sym same)
-          (ignores_it z.base w here there now sent rest out low mine t (subst (λ (s : Stage). AreParting (record { base = z.base; stage = s }) w here there (sent ∷ rest) out) same p) source m.0
+          subst (λ (s : StateData). AreParting (record { base = z.base; stage = s }) w here there rest (out ++ (if answered then refusal there source 131 ∷ [] else []))) (sym same)
+          (ignores_it z.base w here there now sent rest out low mine t (subst (λ (s : StateData). AreParting (record { base = z.base; stage = s }) w here there (sent ∷ rest) out) same p) source m.0
           (λ r. subst (IsReleaseOf w.base.own) is r) (λ c. subst IsConfirm is c) answered)
       by other f same answered = absurd f
   a_request other is m = subst (λ (t : Tpdu). IsHeard now e z w here there sent rest out (met whole now e there (t, sent.sum))) is (by_reference (subst IsNoRequest (sym is) tt))

@@ -4,14 +4,14 @@ use Rattle.tp4_flow.specs.Half.{ak}
 use Rattle.tp4_flow.specs.declared.rules.FlowRules.{FlowRules}
 use Rattle.tp4_flow.specs.declared.step.Sent.{Sent}
 use Rattle.tp4_number.specs.Number.{whole}
-use Rattle.tp4_conn.specs.declared.base.Base.{Base}
+use Rattle.tp4_conn.specs.declared.end_record.EndRecord.{EndRecord}
 use Rattle.tp4_conn.specs.declared.call.UserCall.{UserCall}
 use Rattle.tp4_conn.specs.declared.halves.Halves.{Halves}
-use Rattle.tp4_conn.specs.declared.stage.Answering.{Answering}
-use Rattle.tp4_conn.specs.declared.stage.Open.{Open}
-use Rattle.tp4_conn.specs.declared.stage.Requesting.{Requesting}
-use Rattle.tp4_conn.specs.declared.stage.Stage.{Stage}
-use Rattle.tp4_conn.specs.declared.stage.Stage.TheVariants.{CrWait, WaitBeforeClose, UserWait, AkWait, Opened, Closing, Frozen}
+use Rattle.tp4_conn.specs.declared.states.InAkWait.{InAkWait}
+use Rattle.tp4_conn.specs.declared.states.InOpened.{InOpened}
+use Rattle.tp4_conn.specs.declared.states.InCrWait.{InCrWait}
+use Rattle.tp4_conn.specs.declared.states.StateData.{StateData}
+use Rattle.tp4_conn.specs.declared.states.StateData.TheVariants.{CrWait, WaitBeforeClose, UserWait, AkWait, Opened, Closing, Frozen}
 use Rattle.tp4_conn.specs.Agreeing.{confirm}
 use Rattle.tp4_conn.specs.AkWait.{ak_wait_tpdu}
 use Rattle.tp4_conn.specs.Opened.{hearing, opened_tpdu}
@@ -30,7 +30,7 @@ use Rattle.law_tp4_associations.proofs.Leaving.{joined, parted, side}
 use Rattle.law_tp4_associations.proofs.Writing.{AreBy, Closes, Open_on, Stays, asks, hears_data, ticks}
 
 -- whether an end has left
-pub left_or_not : (stage : Stage) → HasLeft stage ⊎ (HasLeft stage → ⊥)
+pub left_or_not : (stage : StateData) → HasLeft stage ⊎ (HasLeft stage → ⊥)
 left_or_not (WaitBeforeClose w) = inl tt
 left_or_not (Closing c) = inl tt
 left_or_not (Frozen when) = inl tt
@@ -48,11 +48,11 @@ paired_no_asking p (Both o q mine theirs both) stay asking = subst IsAsking thei
 
 -- ---- rows of an Opened end
 
-stays_base : (rules : FlowRules) (b : Base) (m : Moved) → Stays rules b m → m.base ≡ b
+stays_base : (rules : FlowRules) (b : EndRecord) (m : Moved) → Stays rules b m → m.base ≡ b
 stays_base rules b m (Open_on o base stage s r d) = base
 stays_base rules b m (Closes c sent reason octets base stage d tpdus) = base
 
-took_by : (rules : FlowRules) (b : Base) (q : Open) (now : ℕ) (sent : Sent) (rest : List Sent) (from : FlowRules) → AreBy rules q.halves → AreData from (sent ∷ rest) → (sum_agreed b.agreed && not sent.sum) ≡ false
+took_by : (rules : FlowRules) (b : EndRecord) (q : InOpened) (now : ℕ) (sent : Sent) (rest : List Sent) (from : FlowRules) → AreBy rules q.halves → AreData from (sent ∷ rest) → (sum_agreed b.agreed && not sent.sum) ≡ false
     → Stays rules (at now b) (takes whole now b (Opened q) sent.tpdu sent.sum)
 took_by rules b q now sent rest from h d sum =
     subst (λ (x : Bool). Stays rules (at now b) (if x then untaken b (Opened q) else on_tpdu whole (at now b) (Opened q) sent.tpdu)) (sym sum)
@@ -61,7 +61,7 @@ took_by rules b q now sent rest from h d sum =
 -- ---- the first AK
 
 -- an end in AkWait that takes the first AK is Opened
-ak_opens : (c : Base) (w : Answering) (now : ℕ) (h : _) → (sum_agreed c.agreed && not (ak h).sum) ≡ false → HasLeft (takes whole now c (AkWait w) (ak h).tpdu (ak h).sum).stage → ⊥
+ak_opens : (c : EndRecord) (w : InAkWait) (now : ℕ) (h : _) → (sum_agreed c.agreed && not (ak h).sum) ≡ false → HasLeft (takes whole now c (AkWait w) (ak h).tpdu (ak h).sum).stage → ⊥
 unfolding ak_wait_tpdu opened_tpdu
 ak_opens c w now h sum left =
     subst (λ (x : Bool). HasLeft (if x then untaken c (AkWait w) else on_tpdu whole (at now c) (AkWait w) (ak h).tpdu).stage) sum left
@@ -69,12 +69,12 @@ ak_opens c w now h sum left =
 -- ---- one end has left
 
 -- both ends after a row of one or both of them, the one that was Opened with the other
-module _ (b c : Base) (h k : Halves) (forth back : List Sent) (u v : Account) (both : AreBoth (party b) (party c) h k forth back u v) (here there : List ℕ) (to : b.to ≡ there) (to_back : c.to ≡ here) where
+module _ (b c : EndRecord) (h k : Halves) (forth back : List Sent) (u v : Account) (both : AreBoth (party b) (party c) h k forth back u v) (here there : List ℕ) (to : b.to ≡ there) (to_back : c.to ≡ here) where
   pub left_parts : (m n : Moved) (forth_left back_left : List Sent) → AreData both.one_rules forth_left → AreData both.other_rules back_left → Stays both.one_rules b m → Stays both.other_rules c n
       → HasLeft m.stage ⊎ HasLeft n.stage → AreParting (end_of m) (end_of n) here there (back_left ++ n.tpdus) (forth_left ++ m.tpdus)
   left_parts m n forth_left back_left forth_are back_are x y left =
-      subst (λ (d : Base). AreParting (record { base = d; stage = m.stage }) (end_of n) here there (back_left ++ n.tpdus) (forth_left ++ m.tpdus)) (sym (stays_base both.one_rules b m x))
-      (subst (λ (d : Base). AreParting (record { base = b; stage = m.stage }) (record { base = d; stage = n.stage }) here there (back_left ++ n.tpdus) (forth_left ++ m.tpdus)) (sym (stays_base both.other_rules c n y))
+      subst (λ (d : EndRecord). AreParting (record { base = d; stage = m.stage }) (end_of n) here there (back_left ++ n.tpdus) (forth_left ++ m.tpdus)) (sym (stays_base both.one_rules b m x))
+      (subst (λ (d : EndRecord). AreParting (record { base = b; stage = m.stage }) (record { base = d; stage = n.stage }) here there (back_left ++ n.tpdus) (forth_left ++ m.tpdus)) (sym (stays_base both.other_rules c n y))
       (parted b c m.stage n.stage here there both.one_rules both.other_rules (forth_left ++ m.tpdus) (back_left ++ n.tpdus) (joined b c here there h k forth back u v both to to_back) left
       (side both.one_rules b m forth_left forth_are x) (side both.other_rules c n back_left back_are y)))
 
@@ -85,10 +85,10 @@ module _ (b c : Base) (h k : Halves) (forth back : List Sent) (u v : Account) (b
   called_by = record { sending_by = both.other.sending; receiving_by = both.other.receiving }
 
 -- nothing happens to an end
-none_stays : (rules : FlowRules) (b : Base) (stage : Stage) (o : Open) → stage ≡ Opened o → AreBy rules o.halves → Stays rules b (stays b stage)
+none_stays : (rules : FlowRules) (b : EndRecord) (stage : StateData) (o : InOpened) → stage ≡ Opened o → AreBy rules o.halves → Stays rules b (stays b stage)
 none_stays rules b stage o is h = Open_on o refl is h.sending_by h.receiving_by tt
 
-not_both_stages : (o : Open) (r : Requesting) (stage : Stage) → stage ≡ Opened o → stage ≡ CrWait r → ⊥
+not_both_stages : (o : InOpened) (r : InCrWait) (stage : StateData) → stage ≡ Opened o → stage ≡ CrWait r → ⊥
 not_both_stages o r stage is was = cc (is, was)
 
 first_one : (x y : Sent) (l m : List Sent) → x ∷ l ≡ y ∷ m → x ≡ y
@@ -112,7 +112,7 @@ module _ (p : Pair) (here there : List ℕ) (to : p.calling.base.to ≡ there) (
     stands_forth : Stands (comes_forth p (sent ∷ rest))
     stands_forth = subst (λ (l : List Sent). Stands (comes_forth p l)) i.forth_is (stands_on p Comes_forth i.stands tt)
 
-    calling_open : (r : Requesting) → p.calling.stage ≡ CrWait r → ⊥
+    calling_open : (r : InCrWait) → p.calling.stage ≡ CrWait r → ⊥
     calling_open r was = by i.stands
       where
         by : Stands p → ⊥
@@ -132,12 +132,12 @@ module _ (p : Pair) (here there : List ℕ) (to : p.calling.base.to ≡ there) (
             let both = f.both p.clock in
             let all : AreData both.one_rules (ak o.halves.receiving ∷ []) = subst (AreData both.one_rules) f.forth_is both.forth_are in
             absurd (ak_opens p.called.base w p.clock o.halves.receiving (has_sum both.options p.called.base.agreed (ak o.halves.receiving).sum both.other.agreed_is (all.0.sum ∙ both.one.sum))
-            (subst (λ (stage : Stage). HasLeft (takes whole p.clock p.called.base stage (ak o.halves.receiving).tpdu (ak o.halves.receiving).sum).stage) theirs
+            (subst (λ (stage : StateData). HasLeft (takes whole p.clock p.called.base stage (ak o.halves.receiving).tpdu (ak o.halves.receiving).sum).stage) theirs
             (subst (λ (s : Sent). HasLeft (takes whole p.clock p.called.base p.called.stage s.tpdu s.sum).stage) (sym is) left)))
         by (Both o q mine theirs both) =
             let data_are : AreData both.one_rules (sent ∷ rest) = subst (AreData both.one_rules) i.forth_is both.forth_are in
             let row : Stays both.other_rules (at p.clock p.called.base) m =
-            subst (λ (stage : Stage). Stays both.other_rules (at p.clock p.called.base) (takes whole p.clock p.called.base stage sent.tpdu sent.sum)) (sym theirs)
+            subst (λ (stage : StateData). Stays both.other_rules (at p.clock p.called.base) (takes whole p.clock p.called.base stage sent.tpdu sent.sum)) (sym theirs)
             (took_by both.other_rules p.called.base q p.clock sent rest both.one_rules (record { sending_by = both.other.sending; receiving_by = both.other.receiving }) data_are
             (has_sum both.options p.called.base.agreed sent.sum both.other.agreed_is (data_are.0.sum ∙ both.one.sum))) in
             subst (λ (l : List Sent). AreParting p.calling (end_of m) here there (back ++ m.tpdus) l) (append-nil rest)
@@ -169,7 +169,7 @@ module _ (p : Pair) (here there : List ℕ) (to : p.calling.base.to ≡ there) (
 
     -- what the row leads to: Opened, or two ends of which one has left
     pub data Backs : Type 0 where
-      Opens_so : (o : Open) → n.stage ≡ Opened o → Backs
+      Opens_so : (o : InOpened) → n.stage ≡ Opened o → Backs
       Parts_so : HasLeft n.stage → AreParting (end_of n) p.called here there rest (forth ++ n.tpdus) → Backs
 
     back_row : Backs
@@ -183,18 +183,18 @@ module _ (p : Pair) (here there : List ℕ) (to : p.calling.base.to ≡ there) (
             let row = confirms p.calling.base p.called.base r c.options c.octets p.clock c.agreed c.size (i.within r c.options mine c.agreed) in
             let opens : n.stage ≡ Opened _ =
             ap (λ (s : Sent). (takes whole p.clock p.calling.base p.calling.stage s.tpdu s.sum).stage) (sym is)
-            ∙ ap (λ (stage : Stage). (takes whole p.clock p.calling.base stage (confirm p.called.base c.options c.octets).tpdu (confirm p.called.base c.options c.octets).sum).stage) mine
+            ∙ ap (λ (stage : StateData). (takes whole p.clock p.calling.base stage (confirm p.called.base c.options c.octets).tpdu (confirm p.called.base c.options c.octets).sum).stage) mine
             ∙ ap (λ (x : Moved). x.stage) row in
             Opens_so _ opens
         by (Both o q mine theirs both) =
             let data_are : AreData both.other_rules (sent ∷ rest) = subst (AreData both.other_rules) i.back_is both.back_are in
             let row : Stays both.one_rules (at p.clock p.calling.base) n =
-            subst (λ (stage : Stage). Stays both.one_rules (at p.clock p.calling.base) (takes whole p.clock p.calling.base stage sent.tpdu sent.sum)) (sym mine)
+            subst (λ (stage : StateData). Stays both.one_rules (at p.clock p.calling.base) (takes whole p.clock p.calling.base stage sent.tpdu sent.sum)) (sym mine)
             (took_by both.one_rules p.calling.base o p.clock sent rest both.other_rules (record { sending_by = both.one.sending; receiving_by = both.one.receiving }) data_are
             (has_sum both.options p.calling.base.agreed sent.sum both.one.agreed_is (data_are.0.sum ∙ both.other.sum))) in
             on o q mine theirs both data_are row row
           where
-            on : (o q : Open) → p.calling.stage ≡ Opened o → p.called.stage ≡ Opened q → (both : AreBoth (party p.calling.base) (party p.called.base) o.halves q.halves p.forth p.back (forth_units p) (back_units p)) → AreData both.other_rules (sent ∷ rest)
+            on : (o q : InOpened) → p.calling.stage ≡ Opened o → p.called.stage ≡ Opened q → (both : AreBoth (party p.calling.base) (party p.called.base) o.halves q.halves p.forth p.back (forth_units p) (back_units p)) → AreData both.other_rules (sent ∷ rest)
                 → Stays both.one_rules (at p.clock p.calling.base) n → Stays both.one_rules (at p.clock p.calling.base) n → Backs
             on o q mine theirs both data_are row (Open_on a base stage s r d) = Opens_so a stage
             on o q mine theirs both data_are row (Closes a before reason octets base stage d tpdus) =
@@ -226,8 +226,8 @@ not_none x l e f = cc (e, f)
 
 -- both are Opened then
 pub record IsOpenPair (p : Pair) : Type 0 where
-  pub o : Open
-  pub q : Open
+  pub o : InOpened
+  pub q : InOpened
   pub mine : p.calling.stage ≡ Opened o
   pub theirs : p.called.stage ≡ Opened q
   pub both : AreBoth (party p.calling.base) (party p.called.base) o.halves q.halves p.forth p.back (forth_units p) (back_units p)
@@ -241,7 +241,7 @@ open_where_idle p i = by i.stands
     by (First o w mine theirs f) = absurd (not_none (ak o.halves.receiving) p.forth f.forth_is i.forth_is)
     by (Both o q mine theirs both) = record { o = o; q = q; mine = mine; theirs = theirs; both = both }
 
-opened_stays : (o : Open) (stage : Stage) → stage ≡ Opened o → HasLeft stage → ⊥
+opened_stays : (o : InOpened) (stage : StateData) → stage ≡ Opened o → HasLeft stage → ⊥
 opened_stays o stage is left = subst HasLeft is left
 
 module _ (p : Pair) (here there : List ℕ) (to : p.calling.base.to ≡ there) (to_back : p.called.base.to ≡ here) (i : IsPaired p.clock p [] []) where
@@ -251,10 +251,10 @@ module _ (p : Pair) (here there : List ℕ) (to : p.calling.base.to ≡ there) (
   abbrev open_pair : IsOpenPair p
   open_pair = open_where_idle p i
 
-  abbrev b : Base
+  abbrev b : EndRecord
   b = p.calling.base
 
-  abbrev c : Base
+  abbrev c : EndRecord
   c = p.called.base
 
   abbrev both : AreBoth (party p.calling.base) (party p.called.base) open_pair.o.halves open_pair.q.halves p.forth p.back (forth_units p) (back_units p)
@@ -267,10 +267,10 @@ module _ (p : Pair) (here there : List ℕ) (to : p.calling.base.to ≡ there) (
   theirs_by = record { sending_by = both.other.sending; receiving_by = both.other.receiving }
 
   calling_row : (call : UserCall) → Stays both.one_rules (at p.clock b) (stepped whole p.clock p.calling (Called call))
-  calling_row call = subst (λ (stage : Stage). Stays both.one_rules (at p.clock b) (on_call (at p.clock b) stage call)) (sym open_pair.mine) (asks both.one_rules (at p.clock b) open_pair.o call mine_by)
+  calling_row call = subst (λ (stage : StateData). Stays both.one_rules (at p.clock b) (on_call (at p.clock b) stage call)) (sym open_pair.mine) (asks both.one_rules (at p.clock b) open_pair.o call mine_by)
 
   called_row : (call : UserCall) → Stays both.other_rules (at p.clock c) (stepped whole p.clock p.called (Called call))
-  called_row call = subst (λ (stage : Stage). Stays both.other_rules (at p.clock c) (on_call (at p.clock c) stage call)) (sym open_pair.theirs) (asks both.other_rules (at p.clock c) open_pair.q call theirs_by)
+  called_row call = subst (λ (stage : StateData). Stays both.other_rules (at p.clock c) (on_call (at p.clock c) stage call)) (sym open_pair.theirs) (asks both.other_rules (at p.clock c) open_pair.q call theirs_by)
 
   pub calling_asks : (call : UserCall) → call_refusal p.calling.base p.calling.stage call ≡ None
       → GoesOn p.clock (end_of (stepped whole p.clock p.calling (Called call))) p.called here there (stepped whole p.clock p.calling (Called call)).tpdus []
@@ -312,16 +312,16 @@ module _ (p : Pair) (here there : List ℕ) (to : p.calling.base.to ≡ there) (
 
   -- ---- a tick
 
-  abbrev base_at : Bool → Base → Base
+  abbrev base_at : Bool → EndRecord → EndRecord
   base_at true d = at (p.clock + 1) d
   base_at false d = d
 
   calling_tick : (ticked : Bool) → Stays both.one_rules (base_at ticked b) (tick_of ticked (p.clock + 1) p.calling)
-  calling_tick true = subst (λ (stage : Stage). Stays both.one_rules (at (p.clock + 1) b) (on_tick (at (p.clock + 1) b) stage)) (sym open_pair.mine) (ticks both.one_rules (at (p.clock + 1) b) open_pair.o mine_by)
+  calling_tick true = subst (λ (stage : StateData). Stays both.one_rules (at (p.clock + 1) b) (on_tick (at (p.clock + 1) b) stage)) (sym open_pair.mine) (ticks both.one_rules (at (p.clock + 1) b) open_pair.o mine_by)
   calling_tick false = none_stays both.one_rules b p.calling.stage open_pair.o open_pair.mine mine_by
 
   called_tick : (ticked : Bool) → Stays both.other_rules (base_at ticked c) (tick_of ticked (p.clock + 1) p.called)
-  called_tick true = subst (λ (stage : Stage). Stays both.other_rules (at (p.clock + 1) c) (on_tick (at (p.clock + 1) c) stage)) (sym open_pair.theirs) (ticks both.other_rules (at (p.clock + 1) c) open_pair.q theirs_by)
+  called_tick true = subst (λ (stage : StateData). Stays both.other_rules (at (p.clock + 1) c) (on_tick (at (p.clock + 1) c) stage)) (sym open_pair.theirs) (ticks both.other_rules (at (p.clock + 1) c) open_pair.q theirs_by)
   called_tick false = none_stays both.other_rules c p.called.stage open_pair.q open_pair.theirs theirs_by
 
   tick_parts : (one other : Bool) → HasLeft (tick_of one (p.clock + 1) p.calling).stage ⊎ HasLeft (tick_of other (p.clock + 1) p.called).stage

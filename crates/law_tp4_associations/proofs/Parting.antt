@@ -7,12 +7,12 @@ use Rattle.tp4_flow.specs.declared.rules.FlowRules.{FlowRules}
 use Rattle.tp4_flow.specs.declared.step.GoneCause.TheVariants.{Reason}
 use Rattle.tp4_flow.specs.declared.step.Sent.{Sent}
 use Rattle.tp4_number.specs.Number.{whole}
-use Rattle.tp4_conn.specs.declared.base.Base.{Base}
-use Rattle.tp4_conn.specs.declared.stage.Open.{Open}
-use Rattle.tp4_conn.specs.declared.stage.Answering.{Answering}
-use Rattle.tp4_conn.specs.declared.stage.Releasing.{Releasing}
-use Rattle.tp4_conn.specs.declared.stage.Stage.{Stage}
-use Rattle.tp4_conn.specs.declared.stage.Stage.TheVariants.{CrWait, WaitBeforeClose, UserWait, AkWait, Opened, Closing, Frozen}
+use Rattle.tp4_conn.specs.declared.end_record.EndRecord.{EndRecord}
+use Rattle.tp4_conn.specs.declared.states.InOpened.{InOpened}
+use Rattle.tp4_conn.specs.declared.states.InAkWait.{InAkWait}
+use Rattle.tp4_conn.specs.declared.states.InClosing.{InClosing}
+use Rattle.tp4_conn.specs.declared.states.StateData.{StateData}
+use Rattle.tp4_conn.specs.declared.states.StateData.TheVariants.{CrWait, WaitBeforeClose, UserWait, AkWait, Opened, Closing, Frozen}
 use Rattle.tp4_conn.specs.End.{End, Moved, confirms, end_of, frozen, gone, release, send}
 use Rattle.tp4_conn.specs.Closing.{closing_tpdu}
 use Rattle.tp4_conn.specs.AkWait.{ak_wait_tpdu}
@@ -42,7 +42,7 @@ or_false false b e = (refl, e)
 not_both : (b : Bool) → b ≡ true → b ≡ false → ⊥
 not_both b t f = cc (t, f)
 
-opened_hears : (own other : ℕ) (o : Open) (v : Stage) (into out : List Sent) → WillFreeze other own v (Opened o) into out → HearsData v
+opened_hears : (own other : ℕ) (o : InOpened) (v : StateData) (into out : List Sent) → WillFreeze other own v (Opened o) into out → HearsData v
 opened_hears own other o (Closing c) into out f = tt
 opened_hears own other o (Frozen t) into out f = tt
 opened_hears own other o v into out f = absurd f
@@ -50,7 +50,7 @@ opened_hears own other o v into out f = absurd f
 is_zero_not : (n m : ℕ) → n ≡ m → 0 < m → (n == 0) ≡ false
 is_zero_not n m e low = grind arith
 
-module _ (b : Base) (stage : Stage) (w : End) (here there : List ℕ) (now : ℕ) (sent : Sent) (rest out : List Sent) (low : 0 < w.base.own) (mine : 0 < b.own)
+module _ (b : EndRecord) (stage : StateData) (w : End) (here there : List ℕ) (now : ℕ) (sent : Sent) (rest out : List Sent) (low : 0 < w.base.own) (mine : 0 < b.own)
     (p : AreParting (record { base = b; stage = stage }) w here there (sent ∷ rest) out) where
   abbrev After : Moved → Type 0
   After m = AreParting (end_of m) w here there rest (out ++ m.tpdus)
@@ -65,14 +65,14 @@ module _ (b : Base) (stage : Stage) (w : End) (here there : List ℕ) (now : ℕ
   done_comes_back : (source : ℕ) → source ≡ w.base.own → AllCome w b.own there (send (at now b) (Dc source b.own) ∷ [])
   done_comes_back source is = (done_comes (record { base = at now b; stage = stage }) w there source is p.one.knows.to p.one.knows.sum, tt)
 
-  rebuild : (clock : ℕ) (new : Stage) (more : List Sent) → (HearsData stage → HearsData new) → (IsFrozen stage → IsFrozen new) → AllCome w b.own there more → Writes new w there
+  rebuild : (clock : ℕ) (new : StateData) (more : List Sent) → (HearsData stage → HearsData new) → (IsFrozen stage → IsFrozen new) → AllCome w b.own there more → Writes new w there
       → WillFreeze b.own w.base.own new w.stage rest (out ++ more) → WillFreeze w.base.own b.own w.stage new (out ++ more) rest
       → AreParting (record { base = record b { clock = clock }; stage = new }) w here there rest (out ++ more)
   rebuild = rebuilt b stage w here there sent rest out p
 
 -- ---- Opened
 
-module _ (b : Base) (o : Open) (w : End) (here there : List ℕ) (now : ℕ) (sent : Sent) (rest out : List Sent) (low : 0 < w.base.own) (mine : 0 < b.own)
+module _ (b : EndRecord) (o : InOpened) (w : End) (here there : List ℕ) (now : ℕ) (sent : Sent) (rest out : List Sent) (low : 0 < w.base.own) (mine : 0 < b.own)
     (p : AreParting (record { base = b; stage = Opened o }) w here there (sent ∷ rest) out) where
   abbrev Goes_on : Moved → Type 0
   Goes_on m = After b (Opened o) w here there now sent rest out low mine p m
@@ -84,7 +84,7 @@ module _ (b : Base) (o : Open) (w : End) (here there : List ℕ) (now : ℕ) (se
       (done_comes_back b (Opened o) w here there now sent rest out low mine p source is) tt tt
       (open_freezes b.own w.base.own low o w.stage now (sent ∷ rest) out (send (at now b) (Dc source b.own) ∷ []) rest p.next.freezes (inl tt)))
 
-  opened_stays : (q : Open) (more : List Sent) → AreWriting w there q.halves → AllCome w b.own there more → (IsReleaseOf w.base.own sent.tpdu → ⊥)
+  opened_stays : (q : InOpened) (more : List Sent) → AreWriting w there q.halves → AllCome w b.own there more → (IsReleaseOf w.base.own sent.tpdu → ⊥)
       → AreParting (record { base = at now b; stage = Opened q }) w here there rest (out ++ more)
   opened_stays q more writing come never =
       rebuild b (Opened o) w here there now sent rest out low mine p now (Opened q) more (λ h. h) (λ f. f) come writing
@@ -105,13 +105,13 @@ module _ (b : Base) (o : Open) (w : End) (here there : List ℕ) (now : ℕ) (se
 
       by : (m : Moved) → Stays p.one.knows.writes.rules (at now b) m → Goes_on m
       by m (Open_on q base stage s r d) =
-          subst (λ (c : Base). AreParting (record { base = c; stage = m.stage }) w here there rest (out ++ m.tpdus)) (sym base)
-          (subst (λ (v : Stage). AreParting (record { base = at now b; stage = v }) w here there rest (out ++ m.tpdus)) (sym stage)
+          subst (λ (c : EndRecord). AreParting (record { base = c; stage = m.stage }) w here there rest (out ++ m.tpdus)) (sym base)
+          (subst (λ (v : StateData). AreParting (record { base = at now b; stage = v }) w here there rest (out ++ m.tpdus)) (sym stage)
           (opened_stays q m.tpdus (record { rules = rules; sending = s; receiving = r; fits = a.fits }) (data_come w b.own there rules m.tpdus a.fits hears d) never))
       by m (Closes c before reason octets base stage d tpdus) =
           let dr : Sent = release (at now b) reason octets in
-          subst (λ (x : Base). AreParting (record { base = x; stage = m.stage }) w here there rest (out ++ m.tpdus)) (sym base)
-          (subst (λ (v : Stage). AreParting (record { base = at now b; stage = v }) w here there rest (out ++ m.tpdus)) (sym stage)
+          subst (λ (x : EndRecord). AreParting (record { base = x; stage = m.stage }) w here there rest (out ++ m.tpdus)) (sym base)
+          (subst (λ (v : StateData). AreParting (record { base = at now b; stage = v }) w here there rest (out ++ m.tpdus)) (sym stage)
           (subst (λ (l : List Sent). AreParting (record { base = at now b; stage = Closing c }) w here there rest (out ++ l)) (sym tpdus)
           (rebuild b (Opened o) w here there now sent rest out low mine p now (Closing c) (before ++ dr ∷ []) (λ h. tt) (λ f. f)
           (come_then w b.own there before (dr ∷ []) (data_come w b.own there rules before a.fits hears d)
@@ -133,7 +133,7 @@ module _ (b : Base) (o : Open) (w : End) (here there : List ℕ) (now : ℕ) (se
 
 -- ---- AkWait
 
-module _ (b : Base) (a : Answering) (w : End) (here there : List ℕ) (now : ℕ) (sent : Sent) (rest out : List Sent) (low : 0 < w.base.own) (mine : 0 < b.own)
+module _ (b : EndRecord) (a : InAkWait) (w : End) (here there : List ℕ) (now : ℕ) (sent : Sent) (rest out : List Sent) (low : 0 < w.base.own) (mine : 0 < b.own)
     (p : AreParting (record { base = b; stage = AkWait a }) w here there (sent ∷ rest) out) where
   abbrev Answers_on : Moved → Type 0
   Answers_on m = After b (AkWait a) w here there now sent rest out low mine p m
@@ -172,7 +172,7 @@ module _ (b : Base) (a : Answering) (w : End) (here there : List ℕ) (now : ℕ
 
 -- ---- Closing
 
-module _ (b : Base) (c : Releasing) (w : End) (here there : List ℕ) (now : ℕ) (sent : Sent) (rest out : List Sent) (low : 0 < w.base.own) (mine : 0 < b.own)
+module _ (b : EndRecord) (c : InClosing) (w : End) (here there : List ℕ) (now : ℕ) (sent : Sent) (rest out : List Sent) (low : 0 < w.base.own) (mine : 0 < b.own)
     (p : AreParting (record { base = b; stage = Closing c }) w here there (sent ∷ rest) out) where
   closing_ends : AreParting (record { base = at now b; stage = Frozen now }) w here there rest (out ++ [])
   closing_ends = rebuild b (Closing c) w here there now sent rest out low mine p now (Frozen now) [] (λ h. tt) (λ f. tt) tt tt tt
@@ -196,15 +196,15 @@ module _ (b : Base) (c : Releasing) (w : End) (here there : List ℕ) (now : ℕ
 
 -- ---- a TPDU that the end takes
 
-module _ (b : Base) (w : End) (here there : List ℕ) (now : ℕ) (sent : Sent) (rest out : List Sent) (low : 0 < w.base.own) (mine : 0 < b.own) where
+module _ (b : EndRecord) (w : End) (here there : List ℕ) (now : ℕ) (sent : Sent) (rest out : List Sent) (low : 0 < w.base.own) (mine : 0 < b.own) where
   -- a TPDU with the checksum that is agreed is taken
-  summed : (stage : Stage) (m : Moved) → (wants_sum b stage sent.tpdu ≡ sum_agreed b.agreed) → Comes (record { base = b; stage = stage }) w.base.own here sent
+  summed : (stage : StateData) (m : Moved) → (wants_sum b stage sent.tpdu ≡ sum_agreed b.agreed) → Comes (record { base = b; stage = stage }) w.base.own here sent
       → (if wants_sum b stage sent.tpdu && not sent.sum then untaken b stage else m) ≡ m
   summed stage m wants comes =
       ap (λ (x : Bool). if x && not sent.sum then untaken b stage else m) wants
       ∙ ap (λ (x : Bool). if x then untaken b stage else m) (taken_sum (sum_agreed b.agreed) sent.sum comes.summed)
 
-  pub takes_it : (stage : Stage) → AreParting (record { base = b; stage = stage }) w here there (sent ∷ rest) out → fits b stage sent.tpdu ≡ true
+  pub takes_it : (stage : StateData) → AreParting (record { base = b; stage = stage }) w here there (sent ∷ rest) out → fits b stage sent.tpdu ≡ true
       → AreParting (end_of (stepped whole now (record { base = b; stage = stage }) (Took sent.tpdu sent.sum))) w here there rest (out ++ (stepped whole now (record { base = b; stage = stage }) (Took sent.tpdu sent.sum)).tpdus)
   takes_it (Opened o) p fit =
       subst (λ (m : Moved). AreParting (end_of m) w here there rest (out ++ m.tpdus)) (sym (summed (Opened o) (opened_tpdu whole (at now b) (hearing (at now b) o) sent.tpdu) refl p.one.into_are.0))
@@ -222,13 +222,13 @@ module _ (b : Base) (w : End) (here there : List ℕ) (now : ℕ) (sent : Sent) 
 
   -- ---- a TPDU that it leaves
 
-  stays_so : (stage : Stage) (more : List Sent) → AreParting (record { base = b; stage = stage }) w here there (sent ∷ rest) out → AllCome w b.own there more
+  stays_so : (stage : StateData) (more : List Sent) → AreParting (record { base = b; stage = stage }) w here there (sent ∷ rest) out → AllCome w b.own there more
       → WillFreeze b.own w.base.own stage w.stage rest (out ++ more) → WillFreeze w.base.own b.own w.stage stage (out ++ more) rest
       → AreParting (record { base = b; stage = stage }) w here there rest (out ++ more)
   stays_so stage more p come one next = rebuild b stage w here there now sent rest out low mine p b.clock stage more (λ h. h) (λ f. f) come p.one.knows.writes one next
 
   -- a DR with source 0 in Opened or Closing
-  left_open : (o : Open) (tpdu : Tpdu) → sent.tpdu ≡ tpdu → AreParting (record { base = b; stage = Opened o }) w here there (sent ∷ rest) out → MayCome (record { base = b; stage = Opened o }) w.base.own tpdu
+  left_open : (o : InOpened) (tpdu : Tpdu) → sent.tpdu ≡ tpdu → AreParting (record { base = b; stage = Opened o }) w here there (sent ∷ rest) out → MayCome (record { base = b; stage = Opened o }) w.base.own tpdu
       → is_source b tpdu ≡ false → AreParting (record { base = b; stage = Opened o }) w here there rest (out ++ stateless there tpdu)
   left_open o (Dr destination source reason info text) e p m unfit = elim m.1 [
     | inl is ↦ absurd (not_both (source == b.partner) (eq-eqb source b.partner (is ∙ sym (partner_is b (Opened o) w here there now sent rest out low mine p (λ f. f)))) unfit)
@@ -243,7 +243,7 @@ module _ (b : Base) (w : End) (here there : List ℕ) (now : ℕ) (sent : Sent) 
   left_open o (Cr credit source width calling called size preferred extra version classes ack_time text) e p m unfit = absurd m.3
   left_open o other e p m unfit = absurd (cc unfit)
 
-  left_closing : (c : Releasing) (tpdu : Tpdu) → sent.tpdu ≡ tpdu → AreParting (record { base = b; stage = Closing c }) w here there (sent ∷ rest) out → MayCome (record { base = b; stage = Closing c }) w.base.own tpdu
+  left_closing : (c : InClosing) (tpdu : Tpdu) → sent.tpdu ≡ tpdu → AreParting (record { base = b; stage = Closing c }) w here there (sent ∷ rest) out → MayCome (record { base = b; stage = Closing c }) w.base.own tpdu
       → is_source b tpdu ≡ false → AreParting (record { base = b; stage = Closing c }) w here there rest (out ++ stateless there tpdu)
   left_closing c (Dr destination source reason info text) e p m unfit = elim m.1 [
     | inl is ↦ absurd (not_both (source == b.partner) (eq-eqb source b.partner (is ∙ sym (partner_is b (Closing c) w here there now sent rest out low mine p (λ f. f)))) unfit)
@@ -258,7 +258,7 @@ module _ (b : Base) (w : End) (here there : List ℕ) (now : ℕ) (sent : Sent) 
   left_closing c (Cr credit source width calling called size preferred extra version classes ack_time text) e p m unfit = absurd m.3
   left_closing c other e p m unfit = absurd (cc unfit)
 
-  left_waiting : (a : Answering) (tpdu : Tpdu) → AreParting (record { base = b; stage = AkWait a }) w here there (sent ∷ rest) out → MayCome (record { base = b; stage = AkWait a }) w.base.own tpdu
+  left_waiting : (a : InAkWait) (tpdu : Tpdu) → AreParting (record { base = b; stage = AkWait a }) w here there (sent ∷ rest) out → MayCome (record { base = b; stage = AkWait a }) w.base.own tpdu
       → (is_source b tpdu || is_refusal tpdu) ≡ false → ⊥
   left_waiting a (Dr destination source reason info text) p m unfit =
       let f = or_false (source == b.partner) (source == 0) unfit in
@@ -296,7 +296,7 @@ module _ (b : Base) (w : End) (here there : List ℕ) (now : ℕ) (sent : Sent) 
   left_frozen t (Ea destination number) e p m = stays_frozen t [] p tt (λ r. absurd (subst (IsReleaseOf w.base.own) e r)) (λ c. absurd (subst IsConfirm e c))
   left_frozen t (Er destination cause rejected) e p m = absurd m
 
-  pub leaves_it : (stage : Stage) → AreParting (record { base = b; stage = stage }) w here there (sent ∷ rest) out → fits b stage sent.tpdu ≡ false
+  pub leaves_it : (stage : StateData) → AreParting (record { base = b; stage = stage }) w here there (sent ∷ rest) out → fits b stage sent.tpdu ≡ false
       → AreParting (record { base = b; stage = stage }) w here there rest (out ++ stateless there sent.tpdu)
   leaves_it (Opened o) p unfit = left_open o sent.tpdu refl p p.one.into_are.0.kind unfit
   leaves_it (Closing c) p unfit = left_closing c sent.tpdu refl p p.one.into_are.0.kind unfit
@@ -316,7 +316,7 @@ module _ (b : Base) (w : End) (here there : List ℕ) (now : ℕ) (sent : Sent) 
 pub parts_no_asking : (z w : End) (here there : List ℕ) (into out : List Sent) → ArePartingFrom z w here there into out → IsAsking z.stage → ⊥
 parts_no_asking z w here there into out p asking = by z.stage w.stage asking p.freezes
   where
-    by : (mine theirs : Stage) → IsAsking mine → WillFreeze z.base.own w.base.own mine theirs into out → ⊥
+    by : (mine theirs : StateData) → IsAsking mine → WillFreeze z.base.own w.base.own mine theirs into out → ⊥
     by (CrWait r) theirs k f = f
     by (WaitBeforeClose r) theirs k f = f
     by other theirs k f = k
@@ -325,7 +325,7 @@ parts_no_asking z w here there into out p asking = by z.stage w.stage asking p.f
 pub parting_has_left : (z w : End) (here there : List ℕ) (into out : List Sent) → AreParting z w here there into out → HasLeft z.stage ⊎ HasLeft w.stage
 parting_has_left z w here there into out p = by z.stage w.stage p.one.freezes
   where
-    by : (mine theirs : Stage) → WillFreeze z.base.own w.base.own mine theirs into out → HasLeft mine ⊎ HasLeft theirs
+    by : (mine theirs : StateData) → WillFreeze z.base.own w.base.own mine theirs into out → HasLeft mine ⊎ HasLeft theirs
     by (Frozen when) theirs f = inl tt
     by (Closing c) theirs f = inl tt
     by (Opened o) (Closing c) f = inr tt

@@ -2,12 +2,12 @@
 use Rattle.std.proofs.Common.{◌≡◌, ◌⊎◌, ℕ, ◌+◌, ◌*◌, ◌<◌, ◌≤◌, ◌==◌, nat_lt, Bool, true, false, if◌then◌else◌, List, [], ◌∷◌, Option, Some, None, refl, sym, ◌∙◌, subst, inl, inr, arith}
 use Rattle.std.proofs.lemmas.Bool.{eqb-true}
 use Rattle.tp4_flow.specs.declared.step.Sent.{Sent}
-use Rattle.tp4_conn.specs.declared.stage.Stage.TheVariants.{AkWait, Frozen, UserWait}
+use Rattle.tp4_conn.specs.declared.states.StateData.TheVariants.{AkWait, Frozen, UserWait}
 use Rattle.tp4_conn.specs.declared.timers.Timers.{Timers}
 use Rattle.tp4_conn.specs.End.{End, frozen_for, span}
 use Rattle.tp4_entity.specs.References.{was_frozen}
 use Rattle.law_tp4_associations.specs.Association.{Association, cleared, party, system_of, without}
-use Rattle.law_tp4_associations.specs.Phase.{Answered, Asking, IsFrozen, IsHeld, IsOver, Late, Leaving, Over, Paired, Phase, Refused, Rejected, Waiting}
+use Rattle.law_tp4_associations.specs.Phase.{Answered, Asking, IsFrozen, IsInUse, IsOver, Late, Leaving, Over, Paired, Phase, Refused, Rejected, Waiting}
 use Rattle.law_tp4_associations.specs.Standing.{IsAssociation}
 use Rattle.law_tp4_associations.proofs.Handing.{asking_held, paired_held}
 use Rattle.law_tp4_associations.proofs.Holding.{held_so}
@@ -52,19 +52,19 @@ pub record IsEnded (a : Association) (forth back : List Sent) : Type 0 where
   pub back_is : back ≡ []
 
 -- an end that gave up since the indication is held as long as the user may answer: it is frozen for longer
-pub late_held : (timers : Timers) (now : ℕ) (x : End) (when since : ℕ) → x.stage ≡ Frozen when → x.base.timers ≡ timers → since ≤ when → now < since + timers.inactive → IsHeld now x
+pub late_held : (timers : Timers) (now : ℕ) (x : End) (when since : ℕ) → x.stage ≡ Frozen when → x.base.timers ≡ timers → since ≤ when → now < since + timers.inactive → IsInUse now x
 late_held timers now x when since stage same before late =
     held_so now x (Frozen when) stage (subst (λ (t : Timers). was_frozen now (frozen_for t) (Frozen when) ≡ false) (sym same) (longer (2 * timers.life) (span timers)))
   where
     longer : (a b : ℕ) → nat_lt (when + (a + timers.inactive + b)) now ≡ false
     longer a b = let low : now ≤ when + (a + timers.inactive + b) = omega (arith, before, late) in grind arith
 
-free_not_held : (now : ℕ) (z x : End) → Some z ≡ Some x → IsHeld now x → was_frozen now (frozen_for z.base.timers) z.stage ≡ true → ⊥
-free_not_held now z x same held free = let h : was_frozen now (frozen_for z.base.timers) z.stage ≡ false = subst (IsHeld now) (sym (same_some z x same)) held in cc (h, free)
+free_not_held : (now : ℕ) (z x : End) → Some z ≡ Some x → IsInUse now x → was_frozen now (frozen_for z.base.timers) z.stage ≡ true → ⊥
+free_not_held now z x same held free = let h : was_frozen now (frozen_for z.base.timers) z.stage ≡ false = subst (IsInUse now) (sym (same_some z x same)) held in cc (h, free)
 
 module _ (timers : Timers) (own : ℕ → List ℕ) (now : ℕ) (a : Association) (forth back : List Sent) (i : IsAssociation timers own now a forth back) (z : End) (free : was_frozen now (frozen_for z.base.timers) z.stage ≡ true) where
   -- an end of the association is held
-  held_party : (x : End) (o : Option End) → o ≡ Some z → o ≡ Some x → IsHeld now x → ⊥
+  held_party : (x : End) (o : Option End) → o ≡ Some z → o ≡ Some x → IsInUse now x → ⊥
   held_party x o is other held = free_not_held now z x (sym is ∙ other) held free
 
   none_party : (o : Option End) → o ≡ Some z → o ≡ None → ⊥

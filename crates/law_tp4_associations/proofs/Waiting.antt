@@ -7,9 +7,9 @@ use Rattle.tpdu.specs.declared.tpdu.Tpdu.{Tpdu}
 use Rattle.tpdu.specs.declared.tpdu.Tpdu.TheVariants.{Cr, Cc, Dr, Dc, Dt, Ed, Ak, Ea, Er}
 use Rattle.tp4_flow.specs.declared.rules.Options.{Options}
 use Rattle.tp4_flow.specs.declared.step.Sent.{Sent}
-use Rattle.tp4_conn.specs.declared.stage.Requesting.{Requesting}
-use Rattle.tp4_conn.specs.declared.stage.Stage.{Stage}
-use Rattle.tp4_conn.specs.declared.stage.Stage.TheVariants.{CrWait, WaitBeforeClose, UserWait, Frozen}
+use Rattle.tp4_conn.specs.declared.states.InCrWait.{InCrWait}
+use Rattle.tp4_conn.specs.declared.states.StateData.{StateData}
+use Rattle.tp4_conn.specs.declared.states.StateData.TheVariants.{CrWait, WaitBeforeClose, UserWait, Frozen}
 use Rattle.tp4_conn.specs.declared.timers.Timers.{Timers}
 use Rattle.tp4_conn.specs.Agreeing.{confirm, request}
 use Rattle.tp4_conn.specs.declared.proposed.Proposed.{Proposed}
@@ -173,15 +173,15 @@ module _ (timers : Timers) (own : ℕ → List ℕ) (now : ℕ) (a : Association
 abbrev pub Fits : End → End → Type 0
 Fits z w = (w.base.proposed ≡ z.base.proposed) × (w.base.credit ≡ z.base.timers.credit)
 
-abbrev pub MayAnswer : Stage → Type 0
-MayAnswer stage = HasLeft stage ⊎ ((r : Requesting) × (stage ≡ CrWait r))
+abbrev pub MayAnswer : StateData → Type 0
+MayAnswer stage = HasLeft stage ⊎ ((r : InCrWait) × (stage ≡ CrWait r))
 
-asking_answers : (stage : Stage) → IsAsking stage → MayAnswer stage
+asking_answers : (stage : StateData) → IsAsking stage → MayAnswer stage
 asking_answers (CrWait r) a = inr (r, refl)
 asking_answers (WaitBeforeClose w) a = inl tt
 asking_answers other a = absurd a
 
-frozen_not : (since : ℕ) (stage : Stage) → stage ≡ UserWait since → IsFrozen stage → ⊥
+frozen_not : (since : ℕ) (stage : StateData) → stage ≡ UserWait since → IsFrozen stage → ⊥
 frozen_not since (Frozen when) e f = cc e
 frozen_not since other e f = f
 
@@ -191,8 +191,8 @@ no_user_wait p since (Confirming r w mine theirs new c) stay is = cc (theirs, is
 no_user_wait p since (First o w mine theirs f) stay is = cc (theirs, is)
 no_user_wait p since (Both o q mine theirs both) stay is = cc (theirs, is)
 
-parting_not : (since own other : ℕ) (mine theirs : Stage) (into out : List Sent) → mine ≡ UserWait since → WillFreeze own other mine theirs into out → ⊥
-parting_not since own other mine theirs into out is f = subst (λ (s : Stage). WillFreeze own other s theirs into out) is f
+parting_not : (since own other : ℕ) (mine theirs : StateData) (into out : List Sent) → mine ≡ UserWait since → WillFreeze own other mine theirs into out → ⊥
+parting_not since own other mine theirs into out is f = subst (λ (s : StateData). WillFreeze own other s theirs into out) is f
 
 module _ (timers : Timers) (own : ℕ → List ℕ) (now : ℕ) (a : Association) (forth back : List Sent) (x y : End) (since : ℕ) (is_x : a.calling ≡ Some x) (is_y : a.called ≡ Some y) (stage : y.stage ≡ UserWait since)
     (i : IsAssociation timers own now a forth back) where
@@ -217,7 +217,7 @@ module _ (timers : Timers) (own : ℕ → List ℕ) (now : ℕ) (a : Association
       by (Over calling called forth_is back_is) = absurd (frozen_not since y.stage stage (frozen_called a.called y is_y called))
 
   -- an accept of the called end's user
-  pub may_accept : (r : Requesting) (asked : Options) → x.stage ≡ CrWait r → IsTimed timers → IsSized asked
+  pub may_accept : (r : InCrWait) (asked : Options) → x.stage ≡ CrWait r → IsTimed timers → IsSized asked
       → Accepts (record { clock = now; calling = x; called = y; forth = []; back = []; calling_gave = []; called_gave = []; calling_showed = []; called_showed = []; calling_told = []; called_told = [] }) asked
   may_accept r asked waits timed size = by i.phase
     where

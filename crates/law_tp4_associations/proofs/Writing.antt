@@ -16,13 +16,13 @@ use Rattle.tp4_number.specs.Number.{near, whole}
 use Rattle.tp4_sending.specs.FlowSender.{FlowSender, Sendings, acknowledged, acknowledged_to, all_dts, at, block_in, dts, dts_of, due_numbers, eds, has_next, is_noted, is_outstanding, is_taken, is_urgent, life_of, new_sends, normals, normals_where, nothing, one_urgent, resends, resends_urgent, resends_urgent_as, rule_allows, sent_normal, submitted, then_sends, ticked, ticked_as, urged, urgent_done}
 use Rattle.tp4_sending.specs.Pieces.{cut_at, is_due}
 use Rattle.tp4_sending.specs.declared.tries.Tries.{Tries}
-use Rattle.tp4_conn.specs.declared.base.Base.{Base}
+use Rattle.tp4_conn.specs.declared.end_record.EndRecord.{EndRecord}
 use Rattle.tp4_conn.specs.declared.call.UserCall.{UserCall}
 use Rattle.tp4_conn.specs.declared.call.UserCall.TheVariants.{Accept, Refuse, Normal, Urgent, Window, Disconnect}
 use Rattle.tp4_conn.specs.declared.halves.Halves.{Halves}
-use Rattle.tp4_conn.specs.declared.stage.Open.{Open}
-use Rattle.tp4_conn.specs.declared.stage.Releasing.{Releasing}
-use Rattle.tp4_conn.specs.declared.stage.Stage.TheVariants.{Closing, Opened}
+use Rattle.tp4_conn.specs.declared.states.InOpened.{InOpened}
+use Rattle.tp4_conn.specs.declared.states.InClosing.{InClosing}
+use Rattle.tp4_conn.specs.declared.states.StateData.TheVariants.{Closing, Opened}
 use Rattle.tp4_conn.specs.End.{Moved, closing, release}
 use Rattle.tp4_conn.specs.Opened.{acking, dt_as, granting, is_expedited, opened_as, opened_goes, opened_tick, opened_tpdu, receiving, sending}
 use Rattle.tp4_conn.specs.Table.{on_call}
@@ -115,21 +115,21 @@ module _ (rules : FlowRules) where
   -- ---- the end
 
   -- it goes on, or closes
-  pub data Stays (b : Base) (m : Moved) : Type 0 where
-    Open_on : (o : Open) → m.base ≡ b → m.stage ≡ Opened o → o.halves.sending.rules ≡ rules → o.halves.receiving.rules ≡ rules → AreData rules m.tpdus → Stays b m
-    Closes : (c : Releasing) (data_before : List Sent) (reason : ℕ) (octets : List ℕ) → m.base ≡ b → m.stage ≡ Closing c → AreData rules data_before → m.tpdus ≡ data_before ++ release b reason octets ∷ [] → Stays b m
+  pub data Stays (b : EndRecord) (m : Moved) : Type 0 where
+    Open_on : (o : InOpened) → m.base ≡ b → m.stage ≡ Opened o → o.halves.sending.rules ≡ rules → o.halves.receiving.rules ≡ rules → AreData rules m.tpdus → Stays b m
+    Closes : (c : InClosing) (data_before : List Sent) (reason : ℕ) (octets : List ℕ) → m.base ≡ b → m.stage ≡ Closing c → AreData rules data_before → m.tpdus ≡ data_before ++ release b reason octets ∷ [] → Stays b m
 
   pub record AreBy (h : Halves) : Type 0 where
     pub sending_by : h.sending.rules ≡ rules
     pub receiving_by : h.receiving.rules ≡ rules
 
-  sends_by : (b : Base) (o : Open) (s : Sendings) → AreBy o.halves → SendsBy s → Stays b (sending b o s)
+  sends_by : (b : EndRecord) (o : InOpened) (s : Sendings) → AreBy o.halves → SendsBy s → Stays b (sending b o s)
   sends_by b o s h x = Open_on (record o { halves = record o.halves { sending = s.sender } }) refl refl x.rules_are h.receiving_by x.tpdus
 
-  receives_by : (b : Base) (o : Open) (r : Received) → AreBy o.halves → r.half.rules ≡ rules → AreData rules r.tpdus → Stays b (receiving b o r)
+  receives_by : (b : EndRecord) (o : InOpened) (r : Received) → AreBy o.halves → r.half.rules ≡ rules → AreData rules r.tpdus → Stays b (receiving b o r)
   receives_by b o r h is d = Open_on (record o { halves = record o.halves { receiving = r.half } }) refl refl h.sending_by is d
 
-  closes_by : (b : Base) (events : List EndEvent) (reason : ℕ) (octets : List ℕ) (from : ℕ) → Stays b (closing b events reason octets from)
+  closes_by : (b : EndRecord) (events : List EndEvent) (reason : ℕ) (octets : List ℕ) (from : ℕ) → Stays b (closing b events reason octets from)
   closes_by b events reason octets from = Closes (record { reason = reason; octets = octets; from = from; last = b.clock }) [] reason octets refl refl tt refl
 
   ak_by : (h : Half) → h.rules ≡ rules → AreData rules (ak h ∷ [])
@@ -141,20 +141,20 @@ module _ (rules : FlowRules) where
   aks_by Outside h is = ak_by h is
   aks_by TooLarge h is = tt
 
-  dt_as_by : (got : Got) (b : Base) (o : Open) (r : Received) → AreBy o.halves → r.half.rules ≡ rules → AreData rules r.tpdus → Stays b (dt_as got b o r)
+  dt_as_by : (got : Got) (b : EndRecord) (o : InOpened) (r : Received) → AreBy o.halves → r.half.rules ≡ rules → AreData rules r.tpdus → Stays b (dt_as got b o r)
   dt_as_by TooLarge b o r h is d = Closes (record { reason = 133; octets = []; from = b.clock; last = b.clock }) r.tpdus 133 [] refl refl d refl
   dt_as_by Kept b o r h is d = receives_by b (acking b o) r h is d
   dt_as_by Old b o r h is d = receives_by b (acking b o) r h is d
   dt_as_by Outside b o r h is d = receives_by b (acking b o) r h is d
 
-  ed_by : (b : Base) (o : Open) (w : ℕ) (octets : List ℕ) → AreBy o.halves → Stays b (receiving b o (taken_ed whole o.halves.receiving w octets))
+  ed_by : (b : EndRecord) (o : InOpened) (w : ℕ) (octets : List ℕ) → AreBy o.halves → Stays b (receiving b o (taken_ed whole o.halves.receiving w octets))
   ed_by b o w octets h =
       receives_by b o (taken_ed whole o.halves.receiving w octets) h (either (λ (k : Half). k.rules ≡ rules) (is_next o.halves.receiving w) _ _ h.receiving_by h.receiving_by)
       (either (AreData rules) (is_next o.halves.receiving w || is_before o.halves.receiving w) _ _
       (by_rules o.halves.receiving.rules (ea o.halves.receiving w ∷ []) h.receiving_by (record { to = refl; format = refl; sum = refl; kind = refl }, tt)) tt)
 
   -- data come
-  pub hears_data : (b : Base) (o : Open) (to : ℕ) (tpdu : Tpdu) → AreBy o.halves → IsDataFor to tpdu → Stays b (opened_tpdu whole b o tpdu)
+  pub hears_data : (b : EndRecord) (o : InOpened) (to : ℕ) (tpdu : Tpdu) → AreBy o.halves → IsDataFor to tpdu → Stays b (opened_tpdu whole b o tpdu)
   unfolding opened_tpdu
   hears_data b o to (Dt destination last number text) h k =
       let a = dt_arrival o.halves.receiving number (record { last = last; octets = text }) in
@@ -165,12 +165,12 @@ module _ (rules : FlowRules) where
   hears_data b o to (Ea destination number) h k = sends_by b o _ h (done_by (at b.clock o.halves.sending) number h.sending_by)
   hears_data b o to other h k = absurd k
 
-  grants_by : (b : Base) (o : Open) (new : Half) → AreBy o.halves → new.rules ≡ rules → Stays b (granting b o new)
+  grants_by : (b : EndRecord) (o : InOpened) (new : Half) → AreBy o.halves → new.rules ≡ rules → Stays b (granting b o new)
   grants_by b o new h is =
       either (Stays b) (new.receiver.inbox.credit == o.halves.receiving.receiver.inbox.credit) _ _ (receives_by b o _ h is tt) (receives_by b (acking b o) _ h is (ak_by new is))
 
   -- a user asks
-  pub asks : (b : Base) (o : Open) (call : UserCall) → AreBy o.halves → Stays b (on_call b (Opened o) call)
+  pub asks : (b : EndRecord) (o : InOpened) (call : UserCall) → AreBy o.halves → Stays b (on_call b (Opened o) call)
   asks b o (Normal unit) h = sends_by b o _ h (submitted_by (at b.clock o.halves.sending) unit h.sending_by)
   asks b o (Urgent unit) h = sends_by b o _ h (urged_by (at b.clock o.halves.sending) unit h.sending_by)
   asks b o (Window credit) h = grants_by b o (half_granted o.halves.receiving credit) h h.receiving_by
@@ -178,18 +178,18 @@ module _ (rules : FlowRules) where
   asks b o (Accept asked octets) h = Open_on o refl refl h.sending_by h.receiving_by tt
   asks b o (Refuse octets) h = Open_on o refl refl h.sending_by h.receiving_by tt
 
-  goes_by : (b : Base) (o : Open) (s : Sendings) → AreBy o.halves → SendsBy s → Stays b (opened_goes b o s)
+  goes_by : (b : EndRecord) (o : InOpened) (s : Sendings) → AreBy o.halves → SendsBy s → Stays b (opened_goes b o s)
   goes_by b o s h x =
       either (Stays b) (nat_le (o.acked + b.timers.window) b.clock) _ _
       (Open_on (acking b (record o { halves = record o.halves { sending = s.sender } })) refl refl x.rules_are h.receiving_by (data_then rules s.tpdus (ak o.halves.receiving ∷ []) x.tpdus (ak_by o.halves.receiving h.receiving_by)))
       (sends_by b o s h x)
 
-  as_by : (life : Life) (b : Base) (o : Open) → AreBy o.halves → Stays b (opened_as life b o)
+  as_by : (life : Life) (b : EndRecord) (o : InOpened) → AreBy o.halves → Stays b (opened_as life b o)
   as_by Exhausted b o h = closes_by b _ 128 [] b.clock
   as_by Goes b o h = goes_by b o (ticked (at b.clock o.halves.sending)) h (ticked_by (at b.clock o.halves.sending) (life_of (at b.clock o.halves.sending)) h.sending_by)
 
   -- a tick
-  pub ticks : (b : Base) (o : Open) → AreBy o.halves → Stays b (opened_tick b o)
+  pub ticks : (b : EndRecord) (o : InOpened) → AreBy o.halves → Stays b (opened_tick b o)
   unfolding opened_tick
   ticks b o h =
       either (Stays b) (nat_le (o.took + b.timers.inactive) b.clock) _ _ (closes_by b _ 128 [] b.clock) (as_by (life_of (at b.clock o.halves.sending)) b o h)

@@ -14,11 +14,11 @@ use Rattle.tp4_conn.specs.End.{End, IsSized, agreed_format, end_of}
 use Rattle.tp4_conn.specs.Making.{connected, indicated}
 use Rattle.tp4_conn.specs.Proper.{IsProper, IsProperCall}
 use Rattle.tp4_conn.specs.Table.{Called, Ticked, Took, due, stepped}
-use Rattle.tp4_conn.specs.declared.base.Base.{Base}
-use Rattle.tp4_conn.specs.declared.call.ConnectCall.{ConnectCall}
+use Rattle.tp4_conn.specs.declared.end_record.EndRecord.{EndRecord}
+use Rattle.tp4_conn.specs.declared.call.ConnectRequest.{ConnectRequest}
 use Rattle.tp4_conn.specs.declared.call.UserCall.{UserCall}
-use Rattle.tp4_conn.specs.declared.stage.Requesting.{Requesting}
-use Rattle.tp4_conn.specs.declared.stage.Stage.TheVariants.{CrWait, UserWait}
+use Rattle.tp4_conn.specs.declared.states.InCrWait.{InCrWait}
+use Rattle.tp4_conn.specs.declared.states.StateData.TheVariants.{CrWait, UserWait}
 use Rattle.tp4_conn.specs.declared.timers.Timers.{Timers}
 use Rattle.tp4_entity.specs.Association.{met}
 use Rattle.tp4_entity.specs.Entity.{Acted, Entity, at, end_at, moved}
@@ -57,7 +57,7 @@ pub data Takes (own : ℕ → List ℕ) (now : ℕ) (e : Entity) (posted : Poste
   -- no end does: one of the two has left, or its user has not answered
   Aside : acted.entity ≡ e → TellsOfNoEnd acted.events → b ≡ a → others ≡ all → (IsBetweenOpen a → ⊥) → Takes own now e posted acted all others a b
   -- it is the CR, and the called end is made
-  Begins : (reference : ℕ) (base : Base) (octets : List ℕ) → posted.by ≡ true → a.called ≡ None → least_free now e ≡ Some reference → base.own ≡ reference → base.to ≡ own a.from.system
+  Begins : (reference : ℕ) (base : EndRecord) (octets : List ℕ) → posted.by ≡ true → a.called ≡ None → least_free now e ≡ Some reference → base.own ≡ reference → base.to ≡ own a.from.system
       → base.partner ≡ a.from.reference → acted ≡ moved e reference (indicated base octets) → b ≡ record a { called = Some (end_of (indicated base octets)) }
       → others ≡ map (cleared a.to reference) all → Takes own now e posted acted all others a b
 
@@ -92,21 +92,21 @@ module _ (timers : Timers) (own : ℕ → List ℕ) where
       → has_number (kind_for posted.sent.tpdu) ≡ true → IsFormatted e posted
 
   -- the association of a connect request
-  abbrev pub requested_by : ℕ → Entity → ℕ → ℕ → ConnectCall → ℕ → Association
-  requested_by now e system reference call to = record {
+  abbrev pub requested_by : ℕ → Entity → ℕ → ℕ → ConnectRequest → ℕ → Association
+  requested_by now e system reference request to = record {
     from = record { system = system; reference = reference };
     to = to;
-    calling = Some (end_of (connected now (call_of e reference call)));
+    calling = Some (end_of (connected now (call_of e reference request)));
     called = None;
   }
 
   -- a connect request, where nothing waits
   abbrev pub Connected : Type 0
-  Connected = (now : ℕ) (entities : List Placed) (all : List Association) (system : ℕ) (e : Entity) (reference : ℕ) (call : ConnectCall) (to : ℕ) (f : Entity)
-      → Standing timers own now entities all [] → AreProperEnds entities → entity_at entities system ≡ Some e → least_free now e ≡ Some reference → IsProperCall (call_of e reference call)
-      → call.to ≡ own to → entity_at entities to ≡ Some f
-      → Standing timers own now (with_entity entities system (connecting now e reference call).entity) (map (cleared system reference) all ++ requested_by now e system reference call to ∷ [])
-      (post (length all) true (connecting now e reference call).tpdus)
+  Connected = (now : ℕ) (entities : List Placed) (all : List Association) (system : ℕ) (e : Entity) (reference : ℕ) (request : ConnectRequest) (to : ℕ) (f : Entity)
+      → Standing timers own now entities all [] → AreProperEnds entities → entity_at entities system ≡ Some e → least_free now e ≡ Some reference → IsProperCall (call_of e reference request)
+      → request.to ≡ own to → entity_at entities to ≡ Some f
+      → Standing timers own now (with_entity entities system (connecting now e reference request).entity) (map (cleared system reference) all ++ requested_by now e system reference request to ∷ [])
+      (post (length all) true (connecting now e reference request).tpdus)
 
   -- a call on an end, where nothing waits
   abbrev pub WasCalled : Type 0
@@ -131,10 +131,10 @@ module _ (timers : Timers) (own : ℕ → List ℕ) where
   -- where nothing waits, a called end whose user has not answered has a calling end that waits for the answer, or has left
   abbrev pub Answerable : Type 0
   Answerable = (now : ℕ) (entities : List Placed) (all : List Association) (k : ℕ) (a : Association) (x y : End) (since : ℕ) → Standing timers own now entities all [] → slice_get all k ≡ Some a
-      → a.calling ≡ Some x → a.called ≡ Some y → y.stage ≡ UserWait since → HasLeft x.stage ⊎ ((r : Requesting) × (x.stage ≡ CrWait r))
+      → a.calling ≡ Some x → a.called ≡ Some y → y.stage ≡ UserWait since → HasLeft x.stage ⊎ ((r : InCrWait) × (x.stage ≡ CrWait r))
 
   abbrev pub MayAccept : Type 0
-  MayAccept = (now : ℕ) (entities : List Placed) (all : List Association) (k : ℕ) (a : Association) (x y : End) (since : ℕ) (r : Requesting) (asked : Options) → Standing timers own now entities all []
+  MayAccept = (now : ℕ) (entities : List Placed) (all : List Association) (k : ℕ) (a : Association) (x y : End) (since : ℕ) (r : InCrWait) (asked : Options) → Standing timers own now entities all []
       → AreProperEnds entities → slice_get all k ≡ Some a → a.calling ≡ Some x → a.called ≡ Some y → y.stage ≡ UserWait since → x.stage ≡ CrWait r → IsSized asked
       → Accepts (record { clock = now; calling = x; called = y; forth = []; back = []; calling_gave = []; called_gave = []; calling_showed = []; called_showed = []; calling_told = []; called_told = [] }) asked
 

@@ -9,11 +9,11 @@ use Rattle.tp4_flow.specs.declared.rules.FlowRules.{FlowRules}
 use Rattle.tp4_flow.specs.declared.rules.Options.{Options}
 use Rattle.tp4_flow.specs.declared.step.Sent.{Sent}
 use Rattle.tp4_conn.specs.declared.halves.Halves.{Halves}
-use Rattle.tp4_conn.specs.declared.stage.Answering.{Answering}
-use Rattle.tp4_conn.specs.declared.stage.Parting.{Parting}
-use Rattle.tp4_conn.specs.declared.stage.Requesting.{Requesting}
-use Rattle.tp4_conn.specs.declared.stage.Stage.{Stage}
-use Rattle.tp4_conn.specs.declared.stage.Stage.TheVariants.{CrWait, WaitBeforeClose, UserWait, AkWait, Opened, Closing, Frozen}
+use Rattle.tp4_conn.specs.declared.states.InAkWait.{InAkWait}
+use Rattle.tp4_conn.specs.declared.states.InWaitBeforeClose.{InWaitBeforeClose}
+use Rattle.tp4_conn.specs.declared.states.InCrWait.{InCrWait}
+use Rattle.tp4_conn.specs.declared.states.StateData.{StateData}
+use Rattle.tp4_conn.specs.declared.states.StateData.TheVariants.{CrWait, WaitBeforeClose, UserWait, AkWait, Opened, Closing, Frozen}
 use Rattle.tp4_conn.specs.declared.timers.Timers.{Timers}
 use Rattle.tp4_conn.specs.Agreeing.{confirm, is_confirmed, request}
 use Rattle.tp4_conn.specs.End.{End, agreed_format, agreed_sum, frozen_for}
@@ -25,16 +25,16 @@ use Rattle.law_tp4_associations.specs.Association.{Association}
 
 -- ---- ends
 
-abbrev pub IsFrozen : Stage → Type 0
+abbrev pub IsFrozen : StateData → Type 0
 IsFrozen (Frozen when) = Unit {0}
 IsFrozen stage = ⊥
 
 -- its reference is not free: it is not frozen, or not for long enough
-abbrev pub IsHeld : ℕ → End → Type 0
-IsHeld now end = was_frozen now (frozen_for end.base.timers) end.stage ≡ false
+abbrev pub IsInUse : ℕ → End → Type 0
+IsInUse now end = was_frozen now (frozen_for end.base.timers) end.stage ≡ false
 
 -- no answer to its CR came yet
-abbrev pub IsAsking : Stage → Type 0
+abbrev pub IsAsking : StateData → Type 0
 IsAsking (CrWait w) = Unit {0}
 IsAsking (WaitBeforeClose w) = Unit {0}
 IsAsking stage = ⊥
@@ -82,7 +82,7 @@ AreAll P to (sent ∷ tpdus) = (sent.to ≡ to) × P sent.tpdu × AreAll P to tp
 -- ---- where one has left
 
 -- data come only to an end that was open
-abbrev pub HearsData : Stage → Type 0
+abbrev pub HearsData : StateData → Type 0
 HearsData (Opened o) = Unit {0}
 HearsData (Closing c) = Unit {0}
 HearsData (Frozen when) = Unit {0}
@@ -124,7 +124,7 @@ pub record AreWriting (other : End) (address : List ℕ) (h : Halves) : Type 0 w
   pub receiving : h.receiving.rules ≡ rules
   pub fits : SendsFor other address rules
 
-abbrev pub Writes : Stage → End → List ℕ → Type 0
+abbrev pub Writes : StateData → End → List ℕ → Type 0
 Writes (Opened o) other address = AreWriting other address o.halves
 Writes stage other address = Unit {0}
 
@@ -137,7 +137,7 @@ pub record Knows (end other : End) (address : List ℕ) : Type 0 where
 
 -- An end that is not frozen will be, by its state and that of the other one: a DR waits for it, where the other one has left; in Closing a DC does too, or
 -- its own DR waits for the other one
-abbrev pub WillFreeze : ℕ → ℕ → Stage → Stage → List Sent → List Sent → Type 0
+abbrev pub WillFreeze : ℕ → ℕ → StateData → StateData → List Sent → List Sent → Type 0
 WillFreeze own other (Frozen when) stage into out = Unit {0}
 WillFreeze own other (Opened o) (Closing c) into out = Has (IsReleaseOf other) into
 WillFreeze own other (Opened o) (Frozen when) into out = Has (IsReleaseOf other) into
@@ -172,7 +172,7 @@ pub record IsPaired (now : ℕ) (p : Pair) (forth back : List Sent) : Type 0 whe
   pub forth_is : p.forth ≡ forth
   pub back_is : p.back ≡ back
   pub stands : Stands p
-  pub within : (r : Requesting) (options : Options) → p.calling.stage ≡ CrWait r → p.called.base.agreed ≡ Some options → is_confirmed p.calling.base.proposed options ≡ true
+  pub within : (r : InCrWait) (options : Options) → p.calling.stage ≡ CrWait r → p.called.base.agreed ≡ Some options → is_confirmed p.calling.base.proposed options ≡ true
   pub stays : HasLeft p.calling.stage ⊎ HasLeft p.called.stage → ⊥
 
 -- the CR was indicated, and the user may still answer
@@ -186,7 +186,7 @@ pub record IsIndicated (timers : Timers) (now : ℕ) (x y : End) (since : ℕ) :
 
 -- it was accepted, and the CC waits
 pub record IsConfirming (y : End) (back : List Sent) : Type 0 where
-  pub answering : Answering
+  pub answering : InAkWait
   pub stage : y.stage ≡ AkWait answering
   pub options : Options
   pub agreed : y.base.agreed ≡ Some options
@@ -196,7 +196,7 @@ pub record IsConfirming (y : End) (back : List Sent) : Type 0 where
 -- `here` is the address of the calling end's system, `there` that of the called one; `forth` waits for the called end, `back` for the calling one
 pub data Phase (timers : Timers) (here there : List ℕ) (now : ℕ) (a : Association) (forth back : List Sent) : Type 0 where
   -- the CR waits, and no end was made for it yet
-  Asking : (x : End) (r : Requesting) → a.calling ≡ Some x → a.called ≡ None → Asks x → x.stage ≡ CrWait r → forth ≡ request x.base r.octets ∷ [] → back ≡ [] → Phase timers here there now a forth back
+  Asking : (x : End) (r : InCrWait) → a.calling ≡ Some x → a.called ≡ None → Asks x → x.stage ≡ CrWait r → forth ≡ request x.base r.octets ∷ [] → back ≡ [] → Phase timers here there now a forth back
   -- its refusal waits
   Rejected : (x : End) (refusal : Sent) → a.calling ≡ Some x → a.called ≡ None → Asks x → forth ≡ [] → back ≡ refusal ∷ [] → refusal.to ≡ here → IsRefusal x.base.own refusal.tpdu
       → Phase timers here there now a forth back
@@ -207,13 +207,13 @@ pub data Phase (timers : Timers) (here there : List ℕ) (now : ℕ) (a : Associ
   Late : (x y : End) (when since : ℕ) → a.calling ≡ Some x → a.called ≡ Some y → x.stage ≡ Frozen when → x.base.agreed ≡ None → IsIndicated timers now x y since → since ≤ when → forth ≡ [] → back ≡ []
       → Phase timers here there now a forth back
   -- it was refused after the indication
-  Refused : (x y : End) (first : Sent) (others : List Sent) → a.calling ≡ Some x → a.called ≡ Some y → Asks x → IsFrozen y.stage → IsHeld now y → y.base.agreed ≡ None → AreAll (IsRequest x.base.own) there forth
+  Refused : (x y : End) (first : Sent) (others : List Sent) → a.calling ≡ Some x → a.called ≡ Some y → Asks x → IsFrozen y.stage → IsInUse now y → y.base.agreed ≡ None → AreAll (IsRequest x.base.own) there forth
       → back ≡ first ∷ others → AreAll (IsRefusal x.base.own) here back → Phase timers here there now a forth back
   -- it was accepted, and the calling end's user had disconnected
-  Answered : (x y : End) (w : Parting) → a.calling ≡ Some x → a.called ≡ Some y → Asks x → x.stage ≡ WaitBeforeClose w → IsConfirming y back → forth ≡ [] → Phase timers here there now a forth back
+  Answered : (x y : End) (w : InWaitBeforeClose) → a.calling ≡ Some x → a.called ≡ Some y → Asks x → x.stage ≡ WaitBeforeClose w → IsConfirming y back → forth ≡ [] → Phase timers here there now a forth back
   -- it was accepted, and no end has left
   Paired : (p : Pair) → a.calling ≡ Some p.calling → a.called ≡ Some p.called → IsPaired now p forth back → Phase timers here there now a forth back
   -- one has left
-  Leaving : (x y : End) → a.calling ≡ Some x → a.called ≡ Some y → AreParting x y here there back forth → IsHeld now x → IsHeld now y → Phase timers here there now a forth back
+  Leaving : (x y : End) → a.calling ≡ Some x → a.called ≡ Some y → AreParting x y here there back forth → IsInUse now x → IsInUse now y → Phase timers here there now a forth back
   -- both have, and nothing waits
   Over : IsOver a.calling → IsOver a.called → forth ≡ [] → back ≡ [] → Phase timers here there now a forth back

@@ -14,13 +14,13 @@ use Rattle.tp4_number.specs.declared.blocks.Blocks.{Blocks}
 use Rattle.tp4_number.specs.Window.{Held, placed, slid}
 use Rattle.tp4_number.specs.Receiver.{Inbox, Receiver, judged, in_order, arrived_as, arrival, after_dt, granted}
 use Rattle.tp4_sending.specs.Pieces.{count_in, cut_at}
-use Rattle.tp4_number.specs.Traffic.{Rules, IsFit, World, Event, Tick, Open, Send, Resend, Dt_comes, Grant, Acknowledge, Ak_comes, May, after, Leads, start}
-use Rattle.tp4_number.specs.Expedited.{Urgent, UrgentEvent, Ticks, Sends_ed, Resends_ed, Ed_comes, Ea_comes, MayUrgent, urgently, LeadsUrgently, quiet, IsAlone, ed_taken, ea_taken}
+use Rattle.tp4_number.specs.Traffic.{Rules, IsFit, Traffic, Event, Tick, Open, Send, Resend, Dt_comes, Grant, Acknowledge, Ak_comes, May, after, Leads, start}
+use Rattle.tp4_number.specs.Expedited.{Urgent, UrgentEvent, Ticks, Sends_ed, Resends_ed, Ed_comes, Ea_comes, MayUrgent, urgently, LeadsUrgently, quiet, IsAlone, ObeysRule, ed_taken, ea_taken}
 use Rattle.tp4_number.proofs.Accounts.{marked_high}
 use Rattle.tp4_number.proofs.Sound.{Sound, reads}
 use Rattle.tp4_number.proofs.Steps.{all_sound, leads_more}
 use Rattle.tp4_number.proofs.Past.{if_kept, kept_low}
-use Rattle.tp4_number.proofs.Expedited.{all_alone}
+use Rattle.tp4_number.proofs.Expedited.{all_alone, all_obey}
 use Rattle.osi_journal.specs.Lawful.{Marked, Normal, Expedited, normals, expediteds, befores, IsQueue}
 use Rattle.law_tp4_history.specs.Line.{all_normal, Line, Happening, Submit, Clock, Flows, Expedites, IsUnit, CarriesPiece, CarriesUnit, urged_by, Can, next, Runs, empty}
 use Rattle.law_tp4_history.proofs.Complete.{AllFull, Complete, unit_at, front, complete_more, full_more, cut_more, shown_whole, unit_low, Joins, joins}
@@ -58,7 +58,7 @@ pub record Shows (size : ℕ) (units : List (List ℕ)) (shown new : List (List 
   pub complete : Complete size units r.expected (shown ++ new) r.inbox.held.begun
   pub at : (k : ℕ) → length shown ≤ k → k < length (shown ++ new) → (m : ℕ) × (m < r.expected) × (unit_at size units m ≡ k)
 
-module _ (rules : Rules) (fit : IsFit rules) (size : ℕ) (some : 0 < size) (units : List (List ℕ)) (w : World) (s : Sound rules w) (shown : List (List ℕ)) (f : Filled size units w.sender.blocks.high w.receiver shown) where
+module _ (rules : Rules) (fit : IsFit rules) (size : ℕ) (some : 0 < size) (units : List (List ℕ)) (w : Traffic) (s : Sound rules w) (shown : List (List ℕ)) (f : Filled size units w.sender.blocks.high w.receiver shown) where
   shows_none : Shows size units shown [] (record w.receiver { expected = w.receiver.expected + 0 })
   shows_none =
       let same : w.receiver.expected ≡ w.receiver.expected + 0 = omega arith in
@@ -416,6 +416,11 @@ module _ (rules : Rules) (fit : IsFit rules) (size : ℕ) (some : 0 < size) (tic
   line_alone happenings l r =
       let f = fine_runs (empty tick credit places room) l happenings r fine_empty in
       all_alone rules tick f.expedites l.urgent fit f.expedites_lead
+
+  pub line_obeys : (happenings : List Happening) (l : Line) → Runs rules size (empty tick credit places room) happenings l → ObeysRule rules l.urgent
+  line_obeys happenings l r =
+      let f = fine_runs (empty tick credit places room) l happenings r fine_empty in
+      all_obey rules tick f.expedites l.urgent fit f.expedites_lead
 
   -- a normal unit all of whose pieces are below the number expected was shown
   pub line_whole : (happenings : List Happening) (l : Line) → Runs rules size (empty tick credit places room) happenings l

@@ -23,7 +23,7 @@ use Rattle.law_tp4_history.proofs.Steps.{sound_step, step_later, sound_start}
 use Rattle.law_tp4_history.proofs.Agreed.{no_sender, Agreed, Stay, step_stay, agreed_step, agreed_start}
 use Rattle.law_tp4_history.proofs.Complete.{cut_more}
 use Rattle.law_tp4_history.proofs.Marks.{normals-append, expediteds-append}
-use Rattle.law_tp4_history.proofs.Lines.{lawful, line_sound, line_alone}
+use Rattle.law_tp4_history.proofs.Lines.{lawful, line_sound, line_alone, line_obeys}
 use Rattle.law_tp4_history.specs.Laws.{Reached}
 use Rattle.tp4_number.proofs.Rule.{keeps}
 use Rattle.tp4_number.proofs.Sound.{Sound as LineSound, reads}
@@ -491,6 +491,7 @@ module _ (times : Times) (w : Whole) (s : Sound times w.base) (t : Tracked times
     read = λ x begun. (let r = t.run x begun in reads (w.track x).rules (w.track x).line.world r.long (flows x begun));
     kept = λ x begun. (let r = t.run x begun in keeps (w.track x).rules (w.track x).line.world r.long (flows x begun));
     alone = λ x begun. (let r = t.run x begun in line_alone (w.track x).rules r.long (w.track x).size r.some (w.track x).tick (w.track x).credit (w.track x).places (w.track x).room r.credit_low r.room_low r.happenings (w.track x).line r.runs);
+    obeys = λ x begun. (let r = t.run x begun in line_obeys (w.track x).rules r.long (w.track x).size r.some (w.track x).tick (w.track x).credit (w.track x).places (w.track x).room r.credit_low r.room_low r.happenings (w.track x).line r.runs);
     noted = t.noted;
   }
     where

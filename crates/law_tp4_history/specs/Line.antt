@@ -4,7 +4,7 @@ use Rattle.osi_journal.specs.Lawful.{Marked, Normal, Expedited, normals, expedit
 use Rattle.tp4_number.specs.declared.piece.Piece.{Piece}
 use Rattle.tp4_number.specs.Number.{wire}
 use Rattle.tp4_number.specs.Receiver.{arrival}
-use Rattle.tp4_number.specs.Traffic.{Rules, World, Event, Tick, Open, Send, Resend, Dt_comes, Grant, Acknowledge, Ak_comes, May, after, start}
+use Rattle.tp4_number.specs.Traffic.{Rules, Traffic, Event, Tick, Open, Send, Resend, Dt_comes, Grant, Acknowledge, Ak_comes, May, after, start}
 use Rattle.tp4_number.specs.Expedited.{Urgent, UrgentEvent, Ticks, Sends_ed, Resends_ed, Ed_comes, Ea_comes, MayUrgent, urgently, quiet}
 use Rattle.tp4_sending.specs.Pieces.{cut_at}
 
@@ -15,7 +15,7 @@ all_normal (octets ∷ units) = Normal octets ∷ all_normal units
 
 -- the numbers of both kinds, with the units that one side submitted and that the other showed
 pub record Line : Type 0 where
-  pub world : World
+  pub world : Traffic
   pub urgent : Urgent
   pub submitted : List Marked
   pub shown : List Marked
@@ -52,7 +52,7 @@ CarriesUnit l (Ed_comes n tick) = record {}
 CarriesUnit l (Ea_comes n tick) = record {}
 
 -- what a DT shows
-abbrev pub shown_by : Rules → World → Event → List (List ℕ)
+abbrev pub shown_by : Rules → Traffic → Event → List (List ℕ)
 shown_by rules w Tick = []
 shown_by rules w (Open credit) = []
 shown_by rules w Send = []

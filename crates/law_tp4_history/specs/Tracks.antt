@@ -1,8 +1,8 @@
 -- A history with the line of each end towards its partner: the units, and both halves between them (X.224, class 4: data transfer).
 use Rattle.std.specs.Prelude.{◌≡◌, ℕ, ◌<◌, Bool, true, false, ◌==◌, if◌then◌else◌, List, [], ◌∷◌, length, get_or, Option, Some, None, Contains}
 use Rattle.tp4_number.specs.declared.piece.Piece.{Piece}
-use Rattle.tp4_number.specs.Traffic.{Rules, IsFit as IsLong, Event, Tick as Ticks_on, Open, Send, Resend, Dt_comes, Grant, Acknowledge, Ak_comes, May as MayFlow, IsRead, IsKept}
-use Rattle.tp4_number.specs.Expedited.{UrgentEvent, Ticks, Sends_ed, Resends_ed, Ed_comes, Ea_comes, MayUrgent, IsAlone}
+use Rattle.tp4_number.specs.Traffic.{Rules, IsFit as IsLong, Event, Tick as Ticks_on, Open, Send, Resend, Dt_comes, Grant, Acknowledge, Ak_comes, May as MayFlow, ReadsRightly, KeepsRule}
+use Rattle.tp4_number.specs.Expedited.{UrgentEvent, Ticks, Sends_ed, Resends_ed, Ed_comes, Ea_comes, MayUrgent, IsAlone, ObeysRule}
 use Rattle.tp4_sending.specs.Pieces.{cut_at}
 use Rattle.osi_journal.specs.Lawful.{normals, expediteds, IsQueue}
 use Rattle.law_tp4_history.specs.Ends.{Times, Terms, Flow, Body, Plain, Dt, Ed, Ak, Ea, Sent, Offer, End}
@@ -197,10 +197,11 @@ pub record IsTold (times : Times) (w : Whole) : Type 0 where
   pub ed : (x n : ℕ) (octets : List ℕ) (o : Offer) → Contains w.base.offers o → o.origin ≡ Sent x → o.tpdu.body ≡ Ed n octets → octets ≡ get_or (expediteds (w.track x).line.submitted) n []
 
 -- of each line: it has the clock of the history; each DT, AK, ED and EA afloat is read for the number that it was sent with; what the sender keeps of
--- blocks says what the number rule says. And each flow TPDU that an end offered stands in the lines
+-- blocks, of DTs and of EDs, says what the number rule says. And each flow TPDU that an end offered stands in the lines
 pub record IsNumbered (times : Times) (w : Whole) : Type 0 where
   pub clock : (x : ℕ) → (w.track x).is_begun ≡ true → ((w.track x).line.world.clock ≡ w.base.clock) × ((w.track x).line.urgent.clock ≡ w.base.clock) × ((w.track x).rules.life ≡ times.life)
-  pub read : (x : ℕ) → (w.track x).is_begun ≡ true → IsRead (w.track x).rules (w.track x).line.world
-  pub kept : (x : ℕ) → (w.track x).is_begun ≡ true → IsKept (w.track x).rules (w.track x).line.world
+  pub read : (x : ℕ) → (w.track x).is_begun ≡ true → ReadsRightly (w.track x).rules (w.track x).line.world
+  pub kept : (x : ℕ) → (w.track x).is_begun ≡ true → KeepsRule (w.track x).rules (w.track x).line.world
   pub alone : (x : ℕ) → (w.track x).is_begun ≡ true → IsAlone (w.track x).rules (w.track x).line.urgent
+  pub obeys : (x : ℕ) → (w.track x).is_begun ≡ true → ObeysRule (w.track x).rules (w.track x).line.urgent
   pub noted : (o : Offer) (x : ℕ) → Contains w.base.offers o → o.origin ≡ Sent x → Noted w.base w.track x o.tick o.tpdu.body

@@ -8,10 +8,10 @@ use Rattle.tp4_number.specs.Number.{whole}
 use Rattle.tp4_flow.specs.declared.rules.FlowRules.{FlowRules}
 use Rattle.tp4_flow.specs.declared.step.EndEvent.{EndEvent}
 use Rattle.tp4_flow.specs.declared.step.Sent.{Sent}
-use Rattle.tp4_conn.specs.declared.base.Base.{Base}
+use Rattle.tp4_conn.specs.declared.end_record.EndRecord.{EndRecord}
 use Rattle.tp4_conn.specs.declared.call.UserCall.{UserCall}
-use Rattle.tp4_conn.specs.declared.stage.Stage.{Stage}
-use Rattle.tp4_conn.specs.declared.stage.Stage.TheVariants as stages
+use Rattle.tp4_conn.specs.declared.states.StateData.{StateData}
+use Rattle.tp4_conn.specs.declared.states.StateData.TheVariants as stages
 use Rattle.tp4_conn.specs.declared.timers.Timers.{Timers}
 use Rattle.tp4_conn.specs.Calls.{call_refusal}
 use Rattle.tp4_conn.specs.End.{End as ConnEnd, Moved, end_of}
@@ -140,7 +140,7 @@ same_frames h = record {
 }
 
 -- the halves are of the reference of the end
-stage_of : (birth : Birth) (took last : ℕ) (b : Base) (stage : Stage) → IsSeenIn birth took last b stage → IsStageOf b.own stage
+stage_of : (birth : Birth) (took last : ℕ) (b : EndRecord) (stage : StateData) → IsSeenIn birth took last b stage → IsStageOf b.own stage
 stage_of birth took last b (stages.AkWait w) at = (ap (λ (r : FlowRules). r.own) at.halves.sending, ap (λ (r : FlowRules). r.own) at.halves.receiving)
 stage_of birth took last b (stages.Opened o) at = (ap (λ (r : FlowRules). r.own) at.halves.sending, ap (λ (r : FlowRules). r.own) at.halves.receiving)
 stage_of birth took last b (stages.CrWait w) at = tt
@@ -276,14 +276,14 @@ module _ (titles : List (List ℕ)) (timers : Timers) (w : Whole) (journal : Lis
       at = kn.at;
       sees = subst (λ (t : Timers). Sees (times_of t) w.base.clock (w.base.end kn.k) (end_of m)) (sym ((step_leaves whole w.base.clock e event).timers ∙ timed)) rests.0;
       proper = (step_row whole w.base.clock e event kn.proper proper).proper;
-      stands = λ z terms p are. subst (λ (stage : Stage). Stands terms m.base stage (w.track kn.k) (w.track z)) (sym (frozen_since (times_of timers) w.base.clock when (w.base.end kn.k) (end_of m) rests.0 over)) tt;
+      stands = λ z terms p are. subst (λ (stage : StateData). Stands terms m.base stage (w.track kn.k) (w.track z)) (sym (frozen_since (times_of timers) w.base.clock when (w.base.end kn.k) (end_of m) rests.0 over)) tt;
     }
 
     no_first : (ev : Event) → IsProperEvent e ev → first_of (kn.k + 1) ev ≡ []
     no_first (Called call) may = absurd (no_call e.base e.stage call (frozen_since (times_of timers) w.base.clock when (w.base.end kn.k) e sees over) may.0)
       where
-        no_call : (b : Base) (stage : Stage) (call : UserCall) → stage ≡ stages.Frozen when → call_refusal b stage call ≡ None → ⊥
-        no_call b stage call is none = let h = subst (λ (s : Stage). call_refusal b s call ≡ None) is none in cc h
+        no_call : (b : EndRecord) (stage : StateData) (call : UserCall) → stage ≡ stages.Frozen when → call_refusal b stage call ≡ None → ⊥
+        no_call b stage call is none = let h = subst (λ (s : StateData). call_refusal b s call ≡ None) is none in cc h
     no_first (Took tpdu sum) may = refl
     no_first Ticked may = refl
 

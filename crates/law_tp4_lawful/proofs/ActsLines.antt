@@ -11,10 +11,10 @@ use Rattle.tp4_number.specs.Number.{whole}
 use Rattle.tp4_flow.specs.declared.rules.FlowRules.{FlowRules}
 use Rattle.tp4_flow.specs.declared.rules.Options.{Options}
 use Rattle.tp4_flow.specs.declared.step.Sent.{Sent}
-use Rattle.tp4_conn.specs.declared.base.Base.{Base}
+use Rattle.tp4_conn.specs.declared.end_record.EndRecord.{EndRecord}
 use Rattle.tp4_conn.specs.declared.halves.Halves.{Halves}
-use Rattle.tp4_conn.specs.declared.stage.Stage.{Stage}
-use Rattle.tp4_conn.specs.declared.stage.Stage.TheVariants as stages
+use Rattle.tp4_conn.specs.declared.states.StateData.{StateData}
+use Rattle.tp4_conn.specs.declared.states.StateData.TheVariants as stages
 use Rattle.tp4_conn.specs.declared.timers.Timers.{Timers}
 use Rattle.tp4_conn.specs.Agreeing.{header_of}
 use Rattle.tp4_conn.specs.End.{End as ConnEnd, Moved}
@@ -41,8 +41,8 @@ pub record Flowing : Type 0 where
       → IsProper old.base old.stage → IsProperEvent old event → Stands terms old.base old.stage own theirs → IsKnownEvent terms old.base old.stage taken event own theirs
       → IsTimely now own → IsTimely now theirs → Flowed times terms now taken old.stage event (stepped whole now old event) own theirs
   pub partner : (taken : Option Offer) (own theirs new_own new_theirs : Track) → GoesOn (CanOut taken) own new_own → GoesOn (CanIn taken) theirs new_theirs
-      → (terms : Terms) (b : Base) (stage : Stage) → Stands terms b stage theirs own → Stands terms b stage new_theirs new_own
-  pub later : (terms : Terms) (b : Base) (stage : Stage) (own theirs : Track) → Stands terms b stage own theirs → Stands terms b stage (clocked own) (clocked theirs)
+      → (terms : Terms) (b : EndRecord) (stage : StateData) → Stands terms b stage theirs own → Stands terms b stage new_theirs new_own
+  pub later : (terms : Terms) (b : EndRecord) (stage : StateData) (own theirs : Track) → Stands terms b stage own theirs → Stands terms b stage (clocked own) (clocked theirs)
   pub offered : (own theirs : Track) (now number : ℕ) (address : List ℕ) (tpdus : List Sent) → AreSentIn own theirs now tpdus → AreOffered now number address tpdus (IsIn own theirs now)
   pub plain : (now number : ℕ) (address : List ℕ) (tpdus : List Sent) → ArePlain tpdus → AreOffered now number address tpdus (λ body. body ≡ Plain)
   pub noted : (h : History) (track : ℕ → Track) (y z : ℕ) (own theirs : Track) (now : ℕ) (body : Body) → IsPartner h y z → y ≢ z → IsIn own theirs now body
@@ -70,7 +70,7 @@ terms_in None = no_terms
 terms_in (Some terms) = terms
 
 -- halves stand on any terms, where the line has not begun
-any_terms : (b : Base) (stage : Stage) (terms other : Terms) (own theirs : Track) → (own.is_begun ≡ true → ⊥) → Stands terms b stage own theirs → Stands other b stage own theirs
+any_terms : (b : EndRecord) (stage : StateData) (terms other : Terms) (own theirs : Track) → (own.is_begun ≡ true → ⊥) → Stands terms b stage own theirs → Stands other b stage own theirs
 any_terms b (stages.CrWait w) terms other own theirs none stands = λ begun. absurd (none begun)
 any_terms b (stages.WaitBeforeClose w) terms other own theirs none stands = stands
 any_terms b (stages.UserWait since) terms other own theirs none stands = stands
@@ -80,7 +80,7 @@ any_terms b (stages.Closing c) terms other own theirs none stands = stands
 any_terms b (stages.Frozen when) terms other own theirs none stands = stands
 
 -- halves stand in a line that has begun
-begun_in : (b : Base) (stage : Stage) (terms : Terms) (own theirs : Track) → HasHalves stage → Stands terms b stage own theirs → own.is_begun ≡ true
+begun_in : (b : EndRecord) (stage : StateData) (terms : Terms) (own theirs : Track) → HasHalves stage → Stands terms b stage own theirs → own.is_begun ≡ true
 begun_in b (stages.AkWait w) terms own theirs has stands = stands.sending.begun
 begun_in b (stages.Opened o) terms own theirs has stands = stands.sending.begun
 begun_in b (stages.CrWait w) terms own theirs has stands = absurd has
@@ -90,11 +90,11 @@ begun_in b (stages.Closing c) terms own theirs has stands = absurd has
 begun_in b (stages.Frozen when) terms own theirs has stands = absurd has
 
 -- with pieces of the size agreed on
-size_at : (b : Base) (h : Halves) (options : Options) (own : Track) → AreOwn b h → b.agreed ≡ Some options → IsSendingAt h.sending own → own.size ≡ options.size - header_of options
+size_at : (b : EndRecord) (h : Halves) (options : Options) (own : Track) → AreOwn b h → b.agreed ≡ Some options → IsSendingAt h.sending own → own.size ≡ options.size - header_of options
 size_at b h options own are agreed stands =
     stands.size ∙ ap (λ (r : FlowRules). r.piece) are.sending ∙ ap (λ (o : Options). o.size - header_of o) (same_Some _ _ (sym are.agreed ∙ agreed))
 
-size_in : (birth : Birth) (took latest : ℕ) (b : Base) (stage : Stage) (terms : Terms) (own theirs : Track) (options : Options) → HasHalves stage → Stands terms b stage own theirs
+size_in : (birth : Birth) (took latest : ℕ) (b : EndRecord) (stage : StateData) (terms : Terms) (own theirs : Track) (options : Options) → HasHalves stage → Stands terms b stage own theirs
     → IsSeenIn birth took latest b stage → b.agreed ≡ Some options → own.size ≡ options.size - header_of options
 size_in birth took latest b (stages.AkWait w) terms own theirs options has stands seen_ agreed = size_at b w.halves options own seen_.halves agreed stands.sending
 size_in birth took latest b (stages.Opened o) terms own theirs options has stands seen_ agreed = size_at b o.halves options own seen_.halves agreed stands.sending
@@ -105,7 +105,7 @@ size_in birth took latest b (stages.Closing c) terms own theirs options has stan
 size_in birth took latest b (stages.Frozen when) terms own theirs options has stands seen_ agreed = absurd has
 
 -- an end that has not agreed
-unagreed_in : (birth : Birth) (took latest : ℕ) (b : Base) (stage : Stage) → IsUnagreed stage → IsSeenIn birth took latest b stage → b.agreed ≡ None
+unagreed_in : (birth : Birth) (took latest : ℕ) (b : EndRecord) (stage : StateData) → IsUnagreed stage → IsSeenIn birth took latest b stage → b.agreed ≡ None
 unagreed_in birth took latest b (stages.CrWait w) un seen_ = seen_.unagreed
 unagreed_in birth took latest b (stages.UserWait since) un seen_ = seen_.unagreed
 unagreed_in birth took latest b (stages.WaitBeforeClose w) un seen_ = absurd un
@@ -145,7 +145,7 @@ module _ (times : Times) (w : Whole) (s : Sound times w.base) (t : Tracked times
     pub tells : MayTell w k doing made
     pub own : (z : ℕ) (terms : Terms) → IsPartner w.base k z → AreTerms (acted w.base k mv.new offers) k z terms
         → Stands terms (stepped whole w.base.clock e event).base (stepped whole w.base.clock e event).stage (done w.track k doing k) (done w.track k doing z)
-    pub others : (x z : ℕ) (terms : Terms) (b : Base) (stage : Stage) → x ≢ k → IsPartner w.base x z → b.timers ≡ timers → AreTerms (acted w.base k mv.new offers) x z terms
+    pub others : (x z : ℕ) (terms : Terms) (b : EndRecord) (stage : StateData) → x ≢ k → IsPartner w.base x z → b.timers ≡ timers → AreTerms (acted w.base k mv.new offers) x z terms
         → (AreTerms w.base x z terms → Stands terms b stage (w.track x) (w.track z)) → Stands terms b stage (done w.track k doing x) (done w.track k doing z)
     pub begun : (a : ℕ) (terms : Terms) → IsCaller w.base a k → (mv.new).agreed ≡ Some terms → ((w.base.end k).agreed ≡ Some terms) ⊎ (HasBegun (done w.track k doing a) terms × HasBegun (done w.track k doing k) terms)
 
@@ -323,7 +323,7 @@ module _ (times : Times) (w : Whole) (s : Sound times w.base) (t : Tracked times
           }
         where
           asked : IsAsked (w.base.end k).birth (w.base.end k).latest e.base l.since
-          asked = subst (λ (stage : Stage). IsSeenIn (w.base.end k).birth (w.base.end k).took (w.base.end k).latest e.base stage) l.waited sees.state
+          asked = subst (λ (stage : StateData). IsSeenIn (w.base.end k).birth (w.base.end k).took (w.base.end k).latest e.base stage) l.waited sees.state
 
           called : (w.base.end k).birth.is_called ≡ true
           called = sees.is_called ∙ asked.called
@@ -352,7 +352,7 @@ module _ (times : Times) (w : Whole) (s : Sound times w.base) (t : Tracked times
             ];
           }
 
-          other_end : (x y : ℕ) (terms : Terms) (b : Base) (stage : Stage) → x ≡ z → b.timers ≡ timers → terms_of l.options ≡ terms → Stands terms b stage (w.track x) (w.track y) → Stands terms b stage l.theirs l.own
+          other_end : (x y : ℕ) (terms : Terms) (b : EndRecord) (stage : StateData) → x ≡ z → b.timers ≡ timers → terms_of l.options ≡ terms → Stands terms b stage (w.track x) (w.track y) → Stands terms b stage l.theirs l.own
           other_end x y terms b (stages.CrWait r) same timed_ is old =
               λ begun. subst (λ (to : Terms). AreUntouched to b l.theirs l.own) is (l.untouched b (timed_ ∙ sym timed ∙ sym (step_leaves whole now e event).timers))
           other_end x y terms b (stages.UserWait since) same timed_ is old = old
@@ -420,7 +420,7 @@ module _ (times : Times) (w : Whole) (s : Sound times w.base) (t : Tracked times
     not_known : e.base.partner ≢ 0 → ⊥
     not_known some = let p = (s.own k low).known (λ zero_. some (sym sees.known ∙ zero_)) in none p.0 p.1
 
-    no_halves : (b : Base) (stage : Stage) → (b.is_called ≡ true → ⊥) → (b.partner ≢ 0 → ⊥) → IsSeenIn (w.base.end k).birth (w.base.end k).took (w.base.end k).latest b stage → Stands no_terms b stage (w.track k) (w.track k)
+    no_halves : (b : EndRecord) (stage : StateData) → (b.is_called ≡ true → ⊥) → (b.partner ≢ 0 → ⊥) → IsSeenIn (w.base.end k).birth (w.base.end k).took (w.base.end k).latest b stage → Stands no_terms b stage (w.track k) (w.track k)
     no_halves b (stages.CrWait r) calls unknown at = λ begun. absurd (no_line begun)
     no_halves b (stages.UserWait since) calls unknown at = absurd (calls at.called)
     no_halves b (stages.AkWait r) calls unknown at = absurd (calls at.called)
@@ -438,7 +438,7 @@ module _ (times : Times) (w : Whole) (s : Sound times w.base) (t : Tracked times
       no_confirm : o.tpdu.kind ≡ Cc → ⊥
       no_confirm = no_sender (meets times w.base s k o taken_is.y_low taken_is.is_held taken_is.offered taken_is.fresh taken_is.no_request taken_is.address (sym taken_is.reading.target ∙ taken_is.target))
 
-    knows_tpdu : (b : Base) (stage : Stage) (n : ℕ) (o : Offer) (tpdu : WireTpdu) → (b.is_called ≡ true → ⊥) → (b.partner ≢ 0 → ⊥) → IsSeenIn (w.base.end k).birth (w.base.end k).took (w.base.end k).latest b stage
+    knows_tpdu : (b : EndRecord) (stage : StateData) (n : ℕ) (o : Offer) (tpdu : WireTpdu) → (b.is_called ≡ true → ⊥) → (b.partner ≢ 0 → ⊥) → IsSeenIn (w.base.end k).birth (w.base.end k).took (w.base.end k).latest b stage
         → IsTaken times w.base k o (seen n tpdu) → IsKnownTpdu no_terms b stage taken tpdu (w.track k) (w.track k)
     knows_tpdu b (stages.CrWait r) n o (wires.Cc credit destination source width calling called size preferred extra version classes ack_time text) calls unknown at is =
         absurd (no_confirm n o (wires.Cc credit destination source width calling called size preferred extra version classes ack_time text) is (sym is.reading.kind))
@@ -472,7 +472,7 @@ module _ (times : Times) (w : Whole) (s : Sound times w.base) (t : Tracked times
 
     by_alone : Flowed times no_terms now taken e.stage event m (w.track k) (w.track k) → Did
     by_alone (Still l) = alone l
-    by_alone (Begun l) = absurd (not_called (subst (λ (stage : Stage). IsSeenIn (w.base.end k).birth (w.base.end k).took (w.base.end k).latest e.base stage) l.waited sees.state).called)
+    by_alone (Begun l) = absurd (not_called (subst (λ (stage : StateData). IsSeenIn (w.base.end k).birth (w.base.end k).took (w.base.end k).latest e.base stage) l.waited sees.state).called)
     by_alone (Going l) = absurd (no_line l.own_goes.begun)
 
     pub did_alone : (n : ℕ) → times.life ≡ e.base.timers.life → IsProper e.base e.stage → IsProperEvent e event → Comes times w.base k n event taken → Did

@@ -20,17 +20,17 @@ use Rattle.tp4_flow.specs.declared.step.What.TheVariants as whats
 use Rattle.tp4_sending.specs.FlowSender.{FlowSender, Sendings, acknowledged, acknowledged_to, at, block_in, has_next, is_noted, is_outstanding, is_taken, is_urgent, life_of, new_sends, normals, normals_where, one_urgent, opened, resends, resends_urgent, resends_urgent_as, rule_allows, sent_normal, submitted, then_sends, ticked, ticked_as, urged, urgent_done}
 use Rattle.tp4_sending.specs.Pieces.{end_of as end_in, is_due}
 use Rattle.tp4_sending.specs.declared.tries.Tries.{Tries}
-use Rattle.tp4_conn.specs.declared.base.Base.{Base}
+use Rattle.tp4_conn.specs.declared.end_record.EndRecord.{EndRecord}
 use Rattle.tp4_conn.specs.declared.call.UserCall.{UserCall}
 use Rattle.tp4_conn.specs.declared.call.UserCall.TheVariants as calls
 use Rattle.tp4_conn.specs.declared.halves.Halves.{Halves}
-use Rattle.tp4_conn.specs.declared.stage.Answering.{Answering}
-use Rattle.tp4_conn.specs.declared.stage.Open.{Open}
-use Rattle.tp4_conn.specs.declared.stage.Parting.{Parting}
-use Rattle.tp4_conn.specs.declared.stage.Releasing.{Releasing}
-use Rattle.tp4_conn.specs.declared.stage.Requesting.{Requesting}
-use Rattle.tp4_conn.specs.declared.stage.Stage.{Stage}
-use Rattle.tp4_conn.specs.declared.stage.Stage.TheVariants as stages
+use Rattle.tp4_conn.specs.declared.states.InAkWait.{InAkWait}
+use Rattle.tp4_conn.specs.declared.states.InOpened.{InOpened}
+use Rattle.tp4_conn.specs.declared.states.InWaitBeforeClose.{InWaitBeforeClose}
+use Rattle.tp4_conn.specs.declared.states.InClosing.{InClosing}
+use Rattle.tp4_conn.specs.declared.states.InCrWait.{InCrWait}
+use Rattle.tp4_conn.specs.declared.states.StateData.{StateData}
+use Rattle.tp4_conn.specs.declared.states.StateData.TheVariants as stages
 use Rattle.tp4_conn.specs.Agreeing.{halves_of, is_within, options_in}
 use Rattle.tp4_conn.specs.AkWait.{ak_wait_tick, ak_wait_tpdu, opening, queueing}
 use Rattle.tp4_conn.specs.Closing.{closing_tick, closing_tpdu}
@@ -116,25 +116,25 @@ module _ (own : ℕ) where
     pub stage : IsStageOf own m.stage
     pub told : AreTold own m.events
 
-  module _ (wrap : ℕ → ℕ → ℕ) (b : Base) (is : b.own ≡ own) where
-    sending_of : (o : Open) (x : Sendings) → AreHalvesOf own o.halves → IsOf x → IsRowOf (sending b o x)
+  module _ (wrap : ℕ → ℕ → ℕ) (b : EndRecord) (is : b.own ≡ own) where
+    sending_of : (o : InOpened) (x : Sendings) → AreHalvesOf own o.halves → IsOf x → IsRowOf (sending b o x)
     sending_of o x halves h = record { base = is; stage = (h.0, halves.1); told = h.1 }
 
-    dt_of : (got : Got) (o : Open) (w : ℕ) (piece : Piece) → AreHalvesOf own o.halves → IsRowOf (dt_as got b o (taken_dt wrap o.halves.receiving w piece))
+    dt_of : (got : Got) (o : InOpened) (w : ℕ) (piece : Piece) → AreHalvesOf own o.halves → IsRowOf (dt_as got b o (taken_dt wrap o.halves.receiving w piece))
     dt_of TooLarge o w piece halves =
         record { base = is; stage = tt; told = told_appended (taken_dt wrap o.halves.receiving w piece).events _ (gots_told _ (dt_arrival o.halves.receiving w piece).units halves.1) (is, tt) }
     dt_of Kept o w piece halves = record { base = is; stage = halves; told = gots_told _ _ halves.1 }
     dt_of Old o w piece halves = record { base = is; stage = halves; told = gots_told _ _ halves.1 }
     dt_of Outside o w piece halves = record { base = is; stage = halves; told = gots_told _ _ halves.1 }
 
-    ed_of : (o : Open) (w : ℕ) (octets : List ℕ) → AreHalvesOf own o.halves → IsRowOf (receiving b o (taken_ed wrap o.halves.receiving w octets))
+    ed_of : (o : InOpened) (w : ℕ) (octets : List ℕ) → AreHalvesOf own o.halves → IsRowOf (receiving b o (taken_ed wrap o.halves.receiving w octets))
     ed_of o w octets halves = record {
       base = is;
       stage = (halves.0, if_kept (λ (h : Half). h.rules.own ≡ own) (is_next o.halves.receiving w) _ _ (λ _. halves.1) (λ _. halves.1));
       told = if_kept (AreTold own) (is_next o.halves.receiving w) _ _ (λ _. (halves.1, tt)) (λ _. tt);
     }
 
-    opened_of : (o : Open) (tpdu : Tpdu) → AreHalvesOf own o.halves → IsRowOf (opened_tpdu wrap b o tpdu)
+    opened_of : (o : InOpened) (tpdu : Tpdu) → AreHalvesOf own o.halves → IsRowOf (opened_tpdu wrap b o tpdu)
     unfolding opened_tpdu
     opened_of o (wires.Dr destination source reason info text) halves = record { base = is; stage = tt; told = (is, tt) }
     opened_of o (wires.Er destination cause rejected) halves = record { base = is; stage = tt; told = (is, tt) }
@@ -153,16 +153,16 @@ module _ (own : ℕ) where
     opens_of : (h : Halves) (tpdu : Tpdu) → AreHalvesOf own h → IsRowOf (opening wrap b h tpdu)
     opens_of h tpdu halves =
         let first : IsOf (opened (at b.clock h.sending)) = new_of (record (at b.clock h.sending) { is_open = true }) halves.0 in
-        let o : Open = record { took = b.clock; acked = b.clock; halves = record h { sending = (opened (at b.clock h.sending)).sender } } in
+        let o : InOpened = record { took = b.clock; acked = b.clock; halves = record h { sending = (opened (at b.clock h.sending)).sender } } in
         let row : IsRowOf (opened_tpdu wrap b o tpdu) = opened_of o tpdu (first.0, halves.1) in
         record { base = row.base; stage = row.stage; told = told_appended (opened (at b.clock h.sending)).events (opened_tpdu wrap b o tpdu).events first.1 row.told }
 
-    confirmed_of : (c : Base) (o : Options) (octets : List ℕ) → c.own ≡ own → IsRowOf (confirmed c o octets)
+    confirmed_of : (c : EndRecord) (o : Options) (octets : List ℕ) → c.own ≡ own → IsRowOf (confirmed c o octets)
     confirmed_of c o octets e =
         let first : IsOf (opened (at c.clock (halves_of c o).sending)) = new_of (record (at c.clock (halves_of c o).sending) { is_open = true }) e in
         record { base = e; stage = (first.0, e); told = (e, first.1) }
 
-    cr_of : (w : Requesting) (tpdu : Tpdu) → IsRowOf (cr_wait_tpdu b w tpdu)
+    cr_of : (w : InCrWait) (tpdu : Tpdu) → IsRowOf (cr_wait_tpdu b w tpdu)
     unfolding cr_wait_tpdu
     cr_of w (wires.Cc credit destination source width calling called size preferred extra version classes ack_time text) =
         if_kept IsRowOf (is_within b.proposed width size preferred extra) _ _
@@ -171,13 +171,13 @@ module _ (own : ℕ) where
     cr_of w (wires.Dr destination source reason info text) = record { base = is; stage = tt; told = (is, tt) }
     cr_of w other = record { base = is; stage = tt; told = tt }
 
-    wait_of : (w : Parting) (tpdu : Tpdu) → IsRowOf (wait_before_close_tpdu b w tpdu)
+    wait_of : (w : InWaitBeforeClose) (tpdu : Tpdu) → IsRowOf (wait_before_close_tpdu b w tpdu)
     unfolding wait_before_close_tpdu
     wait_of w (wires.Cc credit destination source width calling called size preferred extra version classes ack_time text) = record { base = is; stage = tt; told = tt }
     wait_of w (wires.Dr destination source reason info text) = record { base = is; stage = tt; told = tt }
     wait_of w other = record { base = is; stage = tt; told = tt }
 
-    ak_of : (w : Answering) (tpdu : Tpdu) → AreHalvesOf own w.halves → IsRowOf (ak_wait_tpdu wrap b w tpdu)
+    ak_of : (w : InAkWait) (tpdu : Tpdu) → AreHalvesOf own w.halves → IsRowOf (ak_wait_tpdu wrap b w tpdu)
     unfolding ak_wait_tpdu
     ak_of w (wires.Ak destination number credit subsequence confirmation) halves = opens_of w.halves (wires.Ak destination number credit subsequence confirmation) halves
     ak_of w (wires.Dt destination last number text) halves = opens_of w.halves (wires.Dt destination last number text) halves
@@ -187,13 +187,13 @@ module _ (own : ℕ) where
     ak_of w (wires.Er destination cause rejected) halves = record { base = is; stage = tt; told = (is, tt) }
     ak_of w other halves = record { base = is; stage = halves; told = tt }
 
-    closing_of : (c : Releasing) (tpdu : Tpdu) → IsRowOf (closing_tpdu b c tpdu)
+    closing_of : (c : InClosing) (tpdu : Tpdu) → IsRowOf (closing_tpdu b c tpdu)
     unfolding closing_tpdu
     closing_of c (wires.Dc destination source) = record { base = is; stage = tt; told = tt }
     closing_of c (wires.Dr destination source cause info text) = record { base = is; stage = tt; told = tt }
     closing_of c other = record { base = is; stage = tt; told = tt }
 
-    tpdu_of : (stage : Stage) (tpdu : Tpdu) → IsStageOf own stage → IsRowOf (on_tpdu wrap b stage tpdu)
+    tpdu_of : (stage : StateData) (tpdu : Tpdu) → IsStageOf own stage → IsRowOf (on_tpdu wrap b stage tpdu)
     tpdu_of (stages.CrWait w) tpdu halves = cr_of w tpdu
     tpdu_of (stages.WaitBeforeClose w) tpdu halves = wait_of w tpdu
     tpdu_of (stages.UserWait since) tpdu halves = record { base = is; stage = tt; told = tt }
@@ -202,13 +202,13 @@ module _ (own : ℕ) where
     tpdu_of (stages.Closing c) tpdu halves = closing_of c tpdu
     tpdu_of (stages.Frozen when) tpdu halves = record { base = is; stage = tt; told = tt }
 
-    cr_tick_of : (w : Requesting) → IsRowOf (cr_wait_tick b w)
+    cr_tick_of : (w : InCrWait) → IsRowOf (cr_wait_tick b w)
     unfolding cr_wait_tick
     cr_tick_of w =
         if_kept IsRowOf (nat_lt b.clock (w.tries.last + b.timers.t1)) _ _ (λ _. record { base = is; stage = tt; told = tt })
         (λ _. if_kept IsRowOf (nat_lt w.tries.count b.timers.sendings) _ _ (λ _. record { base = is; stage = tt; told = tt }) (λ _. record { base = is; stage = tt; told = (is, tt) }))
 
-    wait_tick_of : (w : Parting) → IsRowOf (wait_before_close_tick b w)
+    wait_tick_of : (w : InWaitBeforeClose) → IsRowOf (wait_before_close_tick b w)
     unfolding wait_before_close_tick
     wait_tick_of w =
         if_kept IsRowOf (nat_lt b.clock (w.request.tries.last + b.timers.t1)) _ _ (λ _. record { base = is; stage = tt; told = tt })
@@ -219,32 +219,32 @@ module _ (own : ℕ) where
     user_tick_of since =
         if_kept IsRowOf (nat_lt b.clock (since + b.timers.inactive)) _ _ (λ _. record { base = is; stage = tt; told = tt }) (λ _. record { base = is; stage = tt; told = (is, tt) })
 
-    ak_tick_of : (w : Answering) → AreHalvesOf own w.halves → IsRowOf (ak_wait_tick b w)
+    ak_tick_of : (w : InAkWait) → AreHalvesOf own w.halves → IsRowOf (ak_wait_tick b w)
     unfolding ak_wait_tick
     ak_tick_of w halves =
         if_kept IsRowOf (nat_lt b.clock (w.tries.last + b.timers.t1)) _ _ (λ _. record { base = is; stage = halves; told = tt })
         (λ _. if_kept IsRowOf (nat_lt w.tries.count b.timers.sendings) _ _ (λ _. record { base = is; stage = halves; told = tt }) (λ _. record { base = is; stage = tt; told = (is, tt) }))
 
-    goes_of : (o : Open) (x : Sendings) → AreHalvesOf own o.halves → IsOf x → IsRowOf (opened_goes b o x)
+    goes_of : (o : InOpened) (x : Sendings) → AreHalvesOf own o.halves → IsOf x → IsRowOf (opened_goes b o x)
     goes_of o x halves h =
         if_kept IsRowOf (nat_le (o.acked + b.timers.window) b.clock) _ _ (λ _. record { base = is; stage = (h.0, halves.1); told = told_appended x.events [] h.1 tt }) (λ _. sending_of o x halves h)
 
-    opened_as_of : (life : Life) (o : Open) → AreHalvesOf own o.halves → IsRowOf (opened_as life b o)
+    opened_as_of : (life : Life) (o : InOpened) → AreHalvesOf own o.halves → IsRowOf (opened_as life b o)
     opened_as_of Exhausted o halves = record { base = is; stage = tt; told = (is, tt) }
     opened_as_of Goes o halves = goes_of o (ticked (at b.clock o.halves.sending)) halves (ticked_of (life_of (at b.clock o.halves.sending)) (at b.clock o.halves.sending) halves.0)
 
-    opened_tick_of : (o : Open) → AreHalvesOf own o.halves → IsRowOf (opened_tick b o)
+    opened_tick_of : (o : InOpened) → AreHalvesOf own o.halves → IsRowOf (opened_tick b o)
     unfolding opened_tick
     opened_tick_of o halves =
         if_kept IsRowOf (nat_le (o.took + b.timers.inactive) b.clock) _ _ (λ _. record { base = is; stage = tt; told = (is, tt) }) (λ _. opened_as_of (life_of (at b.clock o.halves.sending)) o halves)
 
-    closing_tick_of : (c : Releasing) → IsRowOf (closing_tick b c)
+    closing_tick_of : (c : InClosing) → IsRowOf (closing_tick b c)
     unfolding closing_tick
     closing_tick_of c =
         if_kept IsRowOf (nat_le (c.from + span b.timers) b.clock) _ _ (λ _. record { base = is; stage = tt; told = tt })
         (λ _. if_kept IsRowOf (nat_lt b.clock (c.last + b.timers.t1)) _ _ (λ _. record { base = is; stage = tt; told = tt }) (λ _. record { base = is; stage = tt; told = tt }))
 
-    tick_of : (stage : Stage) → IsStageOf own stage → IsRowOf (on_tick b stage)
+    tick_of : (stage : StateData) → IsStageOf own stage → IsRowOf (on_tick b stage)
     tick_of (stages.CrWait w) halves = cr_tick_of w
     tick_of (stages.WaitBeforeClose w) halves = wait_tick_of w
     tick_of (stages.UserWait since) halves = user_tick_of since
@@ -261,14 +261,14 @@ module _ (own : ℕ) where
     unfolding user_wait_refuse
     refuse_of octets = record { base = is; stage = tt; told = tt }
 
-    window_of : (o : Open) (credit : ℕ) → AreHalvesOf own o.halves → IsRowOf (opened_window b o credit)
+    window_of : (o : InOpened) (credit : ℕ) → AreHalvesOf own o.halves → IsRowOf (opened_window b o credit)
     window_of o credit halves =
         if_kept IsRowOf ((half_granted o.halves.receiving credit).receiver.inbox.credit == o.halves.receiving.receiver.inbox.credit) _ _ (λ _. record { base = is; stage = halves; told = (is, tt) }) (λ _. record { base = is; stage = halves; told = (is, tt) })
 
-    queueing_of : (w : Answering) (x : Sendings) → AreHalvesOf own w.halves → IsOf x → IsRowOf (queueing b w x)
+    queueing_of : (w : InAkWait) (x : Sendings) → AreHalvesOf own w.halves → IsOf x → IsRowOf (queueing b w x)
     queueing_of w x halves h = record { base = is; stage = (h.0, halves.1); told = h.1 }
 
-    call_of : (stage : Stage) (call : UserCall) → IsStageOf own stage → IsRowOf (on_call b stage call)
+    call_of : (stage : StateData) (call : UserCall) → IsStageOf own stage → IsRowOf (on_call b stage call)
     call_of (stages.CrWait w) (calls.Disconnect octets) halves = record { base = is; stage = tt; told = tt }
     call_of (stages.UserWait since) (calls.Accept asked octets) halves = accept_of asked octets
     call_of (stages.UserWait since) (calls.Refuse octets) halves = refuse_of octets

@@ -1,3 +1,5 @@
+pub mod CalledLines
+pub mod CalledStarts
 pub mod Frames
 pub mod FramesKnown
 pub mod FramesLines
@@ -24,7 +26,6 @@ pub mod ReferencesSizes
 pub mod ReferencesRuns
 pub mod ReferencesLater
 pub mod ReferencesSince
-pub mod ReferencesStarts
 pub mod ReferencesStays
 pub mod Restarts
 pub mod SilenceSteps

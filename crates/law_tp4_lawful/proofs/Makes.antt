@@ -5,8 +5,9 @@ use Rattle.std.proofs.lemmas.List.Elements.{Contains-append_left, Contains-appen
 use Rattle.osi_journal.specs.declared.event.Event.{Event}
 use Rattle.tp4_flow.specs.declared.step.Sent.{Sent}
 use Rattle.tp4_conn.specs.declared.call.ConnectCall.{ConnectCall}
+use Rattle.tp4_conn.specs.declared.call.ConnectRequest.{ConnectRequest}
 use Rattle.tp4_conn.specs.declared.timers.Timers.{Timers}
-use Rattle.tp4_conn.specs.Agreeing.{is_extended, request}
+use Rattle.tp4_conn.specs.Agreeing.{is_extended, request as cr_of}
 use Rattle.tp4_conn.specs.End.{end_of, frozen_for}
 use Rattle.tp4_conn.specs.Making.{caller, connected}
 use Rattle.tp4_conn.specs.Proper.{IsProperCall}
@@ -50,26 +51,26 @@ freed_audible titles timers w journal entities ends system reference entity know
     (subst (λ (rs : List (List ℕ × ℕ)). AreBegan f.new.base.clock rs entity) (sym f.restarts) (subst (λ (n : ℕ). AreBegan n w.base.restarts entity) (sym f.clock) (known.restarts system entity there)))
     (subst (λ (n : ℕ). is_silent n entity ≡ false) (sym f.clock) quiet)
 
-module _ (titles : List (List ℕ)) (timers : Timers) (w : Whole) (journal : List Event) (entities : List Placed) (ends : List EndAt) (system : ℕ) (entity : Entity) (call : ConnectCall) (reference : ℕ)
-    (known : Known titles timers w journal entities ends) (there : entity_at entities system ≡ Some entity) (quiet : is_silent w.base.clock entity ≡ false) (proper : IsProperCall (call_of entity reference call))
+module _ (titles : List (List ℕ)) (timers : Timers) (w : Whole) (journal : List Event) (entities : List Placed) (ends : List EndAt) (system : ℕ) (entity : Entity) (request : ConnectRequest) (reference : ℕ)
+    (known : Known titles timers w journal entities ends) (there : entity_at entities system ≡ Some entity) (quiet : is_silent w.base.clock entity ≡ false) (proper : IsProperCall (call_of entity reference request))
     (free : Free w.base.clock reference entity) (f : Freed titles timers w journal entities ends system reference entity.own) where
   abbrev h : History
   h = f.new.base
 
   abbrev set : ConnectCall
-  set = call_of entity reference call
+  set = call_of entity reference request
 
   abbrev e : Seen
   e = begun h entity.own set
 
   abbrev cr : Sent
-  cr = request (caller h.clock set) set.octets
+  cr = cr_of (caller h.clock set) request.octets
 
   abbrev offer : Offer
-  offer = record { tick = h.clock; from = entity.own; to = set.to; tpdu = seen 0 cr.tpdu; is_extended = is_extended cr.format; origin = SentBy h.count }
+  offer = record { tick = h.clock; from = entity.own; to = request.to; tpdu = seen 0 cr.tpdu; is_extended = is_extended cr.format; origin = SentBy h.count }
 
   abbrev made : List Event
-  made = connect_event (length ends + 1) system reference entity.own call ∷ []
+  made = connect_event (length ends + 1) system reference entity.own request ∷ []
 
   abbrev moment : Moment
   moment = record { step = Connect e (offer ∷ []); doing = Nothing }
@@ -92,10 +93,10 @@ module _ (titles : List (List ℕ)) (timers : Timers) (w : Whole) (journal : Lis
         system = system;
         reference = reference;
         calling = entity.own;
-        calling_selector = call.from_selector;
-        called = call.to;
-        called_selector = call.to_selector;
-        octets = call.octets;
+        calling_selector = request.from_selector;
+        called = request.to;
+        called_selector = request.to_selector;
+        octets = request.octets;
       };
       rest = [];
       is = refl;
@@ -139,7 +140,7 @@ module _ (titles : List (List ℕ)) (timers : Timers) (w : Whole) (journal : Lis
       (ends ++ record { system = system; reference = reference } ∷ [])
   known_after = known_base
 
-  connects : Follows titles timers w journal entities (ends ++ record { system = system; reference = reference } ∷ []) system entity.own made (connecting w.base.clock entity reference call)
+  connects : Follows titles timers w journal entities (ends ++ record { system = system; reference = reference } ∷ []) system entity.own made (connecting w.base.clock entity reference request)
   connects = record {
     new = onward (times_of timers) f.new moment;
     goes_on = record { clock = f.clock; offers = λ o c. Contains-append_left h.offers (offer ∷ []) o (subst (λ (os : List Offer). Contains os o) (sym f.offers) c) };
@@ -164,7 +165,7 @@ module _ (titles : List (List ℕ)) (timers : Timers) (w : Whole) (journal : Lis
   }
 
 pub after_connect : (titles : List (List ℕ)) (timers : Timers) → AfterConnect titles timers
-after_connect titles timers w journal entities ends system entity call reference known there quiet proper least =
+after_connect titles timers w journal entities ends system entity request reference known there quiet proper least =
     let free = free_least w.base.clock reference entity least in
-    connects titles timers w journal entities ends system entity call reference known there quiet proper free
+    connects titles timers w journal entities ends system entity request reference known there quiet proper free
     (freed titles timers w journal entities ends known system reference entity there (free_at w.base.clock (end_at entity reference) free.free))

@@ -6,8 +6,8 @@ use Rattle.nsap.specs.Address.{is_same_system}
 use Rattle.osi_journal.specs.declared.event.Event.{Event}
 use Rattle.std.specs.Prelude.{option_map}
 use Rattle.tp4_flow.specs.declared.rules.Options.{Options}
-use Rattle.tp4_conn.specs.declared.stage.Stage.{Stage}
-use Rattle.tp4_conn.specs.declared.stage.Stage.TheVariants.{CrWait, WaitBeforeClose, UserWait, AkWait, Opened, Closing, Frozen}
+use Rattle.tp4_conn.specs.declared.states.StateData.{StateData}
+use Rattle.tp4_conn.specs.declared.states.StateData.TheVariants.{CrWait, WaitBeforeClose, UserWait, AkWait, Opened, Closing, Frozen}
 use Rattle.tp4_conn.specs.declared.timers.Timers.{Timers}
 use Rattle.tp4_conn.specs.End.{End, Moved, end_of}
 use Rattle.tp4_conn.specs.Proper.{IsProper}
@@ -44,7 +44,7 @@ pub waits_still : (terms : Terms) (birth : Birth) (took latest : ℕ) (e : End) 
     → Stands terms e.base e.stage own theirs
 waits_still terms birth took latest e own theirs seen calls none idle = by e.stage seen
   where
-    by : (stage : Stage) → IsSeenIn birth took latest e.base stage → Stands terms e.base stage own theirs
+    by : (stage : StateData) → IsSeenIn birth took latest e.base stage → Stands terms e.base stage own theirs
     by (CrWait w) s = λ begun. absurd (cc (begun, idle))
     by (WaitBeforeClose w) s = tt
     by (UserWait since) s = absurd (cc (s.called, calls))

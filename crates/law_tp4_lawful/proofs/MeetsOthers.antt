@@ -17,8 +17,8 @@ use Rattle.tp4_flow.specs.declared.rules.Options.{Options}
 use Rattle.tp4_flow.specs.declared.step.EndEvent.{EndEvent}
 use Rattle.tp4_flow.specs.declared.step.Sent.{Sent}
 use Rattle.tp4_flow.specs.declared.step.What.TheVariants.{Unknown}
-use Rattle.tp4_conn.specs.declared.base.Base.{Base}
-use Rattle.tp4_conn.specs.declared.stage.Stage.{Stage}
+use Rattle.tp4_conn.specs.declared.end_record.EndRecord.{EndRecord}
+use Rattle.tp4_conn.specs.declared.states.StateData.{StateData}
 use Rattle.tp4_conn.specs.declared.timers.Timers.{Timers}
 use Rattle.tp4_conn.specs.Agreeing.{is_extended}
 use Rattle.tp4_conn.specs.End.{End, agreed_format}
@@ -54,7 +54,7 @@ use Rattle.law_tp4_lawful.proofs.MeetsAside.{noted, replied}
 
 -- what an end has to know of an offer that it takes
 abbrev pub KnowsTaken : Type 0
-KnowsTaken = (times : Times) (w : Whole) (terms : Terms) (b : Base) (stage : Stage) (tpdu : WireTpdu) (sum : Bool) (x n : ℕ) (o : Offer) (own : Track) → IsTold times w
+KnowsTaken = (times : Times) (w : Whole) (terms : Terms) (b : EndRecord) (stage : StateData) (tpdu : WireTpdu) (sum : Bool) (x n : ℕ) (o : Offer) (own : Track) → IsTold times w
     → Contains w.base.offers o → o.tpdu ≡ seen n tpdu → (o.tpdu.kind ≡ Flow → IsNumbered (block_of (agreed_format b.agreed)) n tpdu) → (o.tpdu.kind ≡ Flow → o.origin ≡ SentBy x)
     → (o.tpdu.kind ≡ Cc → (own.is_begun ≡ true) × (o.tpdu.terms ≡ terms)) → IsKnownEvent terms b stage (Some o) (Took tpdu sum) own (w.track x)
 

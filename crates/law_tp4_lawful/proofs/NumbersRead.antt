@@ -2,7 +2,7 @@
 use Rattle.std.proofs.Common.{◌≡◌, [], ◌∷◌, ◌++◌, ℕ, ◌+◌, ◌-◌, ◌<◌, ◌≤◌, true, List, length, take, Option, Some, refl, sym, ap, subst, ◌∙◌, arith, Contains}
 use Rattle.std.specs.List.{sum_by}
 use Rattle.osi_base.specs.Link.{Link}
-use Rattle.osi_journal.specs.Lawful.{Marked, expediteds, normals, shown, submitted}
+use Rattle.osi_journal.specs.Lawful.{ArePartners, Marked, expediteds, normals, shown, submitted}
 use Rattle.osi_journal.specs.declared.event.Event.{Event}
 use Rattle.tpdu.specs.declared.tpdu.Format.{Format}
 use Rattle.tpdu.specs.declared.tpdu.Tpdu.{Tpdu as WireTpdu}
@@ -34,8 +34,8 @@ use Rattle.law_tp4_moves.specs.Lines.{AreHalvesAt}
 use Rattle.law_tp4_moves.specs.Moves.{times_of}
 use Rattle.law_tp4_moves.specs.Seen.{IsNumbered as HasNumber, seen}
 use Rattle.tp4_world.specs.World.{World}
-use Rattle.law_tp4_lawful.specs.Numbers.{AcknowledgesShown, AreRead, IsNumber, IsOpen, IsRead, IsReadAsAk, IsReadAsDt, IsReadAsEd, IsSentBy}
-use Rattle.law_tp4_lawful.specs.References.{ArePartners, ComesTo, halves_at}
+use Rattle.law_tp4_lawful.specs.Numbers.{AcknowledgesShown, AreRead, IsNumber, IsOpenEnd, IsReadAsNumber, IsReadAsAk, IsReadAsDt, IsReadAsEd, IsSentBy}
+use Rattle.law_tp4_lawful.specs.References.{ComesTo, halves_at}
 use Rattle.law_tp4_lawful.specs.steps.Worlds.{Explains, OneInUnit}
 use Rattle.law_tp4_lawful.proofs.FramesKnown.{keeps}
 use Rattle.law_tp4_lawful.proofs.ReferencesHalves.{are_there, known_at}
@@ -146,7 +146,7 @@ module _ {C : Type 0} (link : C → Link (List ℕ)) (titles : List (List ℕ)) 
         subst (λ (j : ℕ). AreHalvesAt (agreed_format c.end.base.agreed) halves (w.track k) (w.track j)) (one_partner (times_of timers) w.base kept.sound k there.z other there.partner are) there.halves
 
     -- both halves of x, where it is open
-    theirs_at : (theirs : Halves) → IsOpen world x theirs → (format : Format) × AreHalvesAt format theirs (w.track other) (w.track k)
+    theirs_at : (theirs : Halves) → IsOpenEnd world x theirs → (format : Format) × AreHalvesAt format theirs (w.track other) (w.track k)
     theirs_at theirs is =
         let kn = known_at link titles timers w journal world explains x is.system is.entity is.reference is.end is.is_end in
         let there = are_there link titles timers w journal world explains is.entity.own is.reference is.end kn.0 theirs is.has in
@@ -186,7 +186,7 @@ module _ {C : Type 0} (link : C → Link (List ℕ)) (titles : List (List ℕ)) 
     live : w.base.clock ≤ met.offer.tick + timers.life
     live = met.taken.fresh
 
-    read_by : (u : WireTpdu) → t ≡ u → IsRead (block_of (agreed_format c.end.base.agreed)) halves met.n u
+    read_by : (u : WireTpdu) → t ≡ u → IsReadAsNumber (block_of (agreed_format c.end.base.agreed)) halves met.n u
     read_by (wires.Dt destination last number text) is =
         let n = noted_as (wires.Dt destination last number text) is refl in
         dt_read timers w numbers other met.n met.offer.tick _ _ n.0 n.1 live own.their_block own.receiving.expected
@@ -205,7 +205,7 @@ module _ {C : Type 0} (link : C → Link (List ℕ)) (titles : List (List ℕ)) 
         (number_is, ea_read timers w numbers k met.n met.offer.tick _ number halves.sending.urgent n.0 n.1 live own.own_block own.sending.next own.sending.base number_is)
     read_by other_kind is = tt
 
-    sent_by : (theirs : Halves) → IsOpen world x theirs → (u : WireTpdu) → t ≡ u → IsSentBy theirs met.n u
+    sent_by : (theirs : Halves) → IsOpenEnd world x theirs → (u : WireTpdu) → t ≡ u → IsSentBy theirs met.n u
     sent_by theirs open_ (wires.Dt destination last number text) is =
         let n = noted_as (wires.Dt destination last number text) is refl in
         subst (λ (s : Sender). met.n < s.blocks.high) (theirs_at theirs open_).1.sending.numbers ((numbers.kept other n.0).sent met.n met.offer.tick n.1)

@@ -4,10 +4,10 @@ use Rattle.std.specs.Prelude.{option_map}
 use Rattle.std.proofs.lemmas.Option.{none-some, same_Some}
 use Rattle.osi_base.specs.Link.{Link}
 use Rattle.osi_journal.specs.declared.event.Event.{Event}
-use Rattle.tp4_conn.specs.declared.base.Base.{Base}
+use Rattle.tp4_conn.specs.declared.end_record.EndRecord.{EndRecord}
 use Rattle.tp4_conn.specs.declared.halves.Halves.{Halves}
-use Rattle.tp4_conn.specs.declared.stage.Stage.{Stage}
-use Rattle.tp4_conn.specs.declared.stage.Stage.TheVariants as stages
+use Rattle.tp4_conn.specs.declared.states.StateData.{StateData}
+use Rattle.tp4_conn.specs.declared.states.StateData.TheVariants as stages
 use Rattle.tp4_conn.specs.declared.timers.Timers.{Timers}
 use Rattle.tp4_conn.specs.End.{End, agreed_format}
 use Rattle.tp4_entity.specs.Entity.{Entity}
@@ -24,18 +24,18 @@ use Rattle.law_tp4_lawful.specs.steps.Known.{AreTerms, IsKnown, IsThere}
 use Rattle.law_tp4_lawful.specs.steps.Worlds.{Explains}
 use Rattle.law_tp4_lawful.proofs.FramesKnown.{keeps, number_at}
 
-own_in : (birth : Birth) (took latest : ℕ) (b : Base) (stage : Stage) (h : Halves) → halves_at stage ≡ Some h → IsSeenIn birth took latest b stage → AreOwn b h × (b.partner ≢ 0)
+own_in : (birth : Birth) (took latest : ℕ) (b : EndRecord) (stage : StateData) (h : Halves) → halves_at stage ≡ Some h → IsSeenIn birth took latest b stage → AreOwn b h × (b.partner ≢ 0)
 own_in birth took latest b (stages.AkWait w) h is at = (subst (AreOwn b) (same_Some _ _ is) at.halves, at.known)
 own_in birth took latest b (stages.Opened o) h is at = (subst (AreOwn b) (same_Some _ _ is) at.halves, at.known)
 own_in birth took latest b other h is at = absurd (none-some _ is)
 
-stand_in : (terms : Terms) (b : Base) (stage : Stage) (h : Halves) (own theirs : Track) → halves_at stage ≡ Some h → Stands terms b stage own theirs → AreHalvesAt (agreed_format b.agreed) h own theirs
+stand_in : (terms : Terms) (b : EndRecord) (stage : StateData) (h : Halves) (own theirs : Track) → halves_at stage ≡ Some h → Stands terms b stage own theirs → AreHalvesAt (agreed_format b.agreed) h own theirs
 stand_in terms b (stages.AkWait w) h own theirs is at = subst (λ (x : Halves). AreHalvesAt (agreed_format b.agreed) x own theirs) (same_Some _ _ is) at
 stand_in terms b (stages.Opened o) h own theirs is at = subst (λ (x : Halves). AreHalvesAt (agreed_format b.agreed) x own theirs) (same_Some _ _ is) at
 stand_in terms b other h own theirs is at = absurd (none-some _ is)
 
 -- an end that is open has a partner, and both lines
-pub record AreThere (w : Whole) (k : ℕ) (b : Base) (h : Halves) : Type 0 where
+pub record AreThere (w : Whole) (k : ℕ) (b : EndRecord) (h : Halves) : Type 0 where
   pub z : ℕ
   pub partner : IsPartner w.base k z
   pub own : AreOwn b h

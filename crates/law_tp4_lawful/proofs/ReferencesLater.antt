@@ -1,17 +1,16 @@
--- A unit that floats before an end is made is for an end that was made before: the line that makes the new end keeps all offers, and there the older end
+-- A unit that floats before an end is made is for an end that was made before: the call that makes the new end keeps all offers, and there the older end
 -- is long gone. So what comes to an end was offered at the tick of its event, or later.
-use Rattle.std.proofs.Common.{◌≡◌, ◌≢◌, inl, inr, ℕ, zero, suc, ◌+◌, ◌<◌, ◌≤◌, List, [], ◌∷◌, ◌++◌, length, slice_get, Some, refl, sym, ◌∙◌, ap, subst, arith, append-nil, append_assoc, length-append, Contains}
+use Rattle.std.proofs.Common.{◌≡◌, ◌≢◌, inl, inr, true, ℕ, zero, suc, ◌+◌, ◌<◌, ◌≤◌, List, [], ◌∷◌, ◌++◌, length, slice_get, Some, refl, sym, ◌∙◌, ap, subst, arith, append_assoc, length-append, Contains}
 use Rattle.std.specs.List.{AllByRecursion}
 use Rattle.std.proofs.lemmas.Bool.{cases_Bool, cases_lt}
 use Rattle.std.proofs.lemmas.Option.{none-some, slice_get_within}
 use Rattle.osi_base.specs.Link.{Link}
 use Rattle.osi_base.specs.Calls.{Call, Keeps}
-use Rattle.osi_journal.specs.Lawful.{AreEnds, IsLatest}
+use Rattle.osi_journal.specs.Lawful.{AreEnds, ArePartners, IsLatest, Makes}
 use Rattle.osi_journal.specs.RawLawful.{clock_after, clock_from, tick_after}
 use Rattle.osi_journal.specs.declared.event.Event.{Event}
 use Rattle.osi_journal.specs.declared.event.Event.TheVariants as events
 use Rattle.osi_journal.specs.declared.event.Request.{Request}
-use Rattle.osi_script.specs.declared.line.Line.{Line}
 use Rattle.tpdu.specs.Values.{TpduAndSum, destination_of}
 use Rattle.tpdu.specs.declared.tpdu.Tpdu.{Tpdu as WireTpdu}
 use Rattle.tp4_number.specs.Number.{whole}
@@ -28,11 +27,11 @@ use Rattle.law_tp4_history.proofs.Places.{asking, incoming}
 use Rattle.law_tp4_history.proofs.Sound.{Until, one_partner, partner_low}
 use Rattle.law_tp4_history.proofs.Written.{Kept}
 use Rattle.law_tp4_moves.specs.Moves.{times_of}
-use Rattle.tp4_world.specs.Laws.{IsNoInjection}
-use Rattle.tp4_world.specs.Run.{RunsLine, RunsLines}
+use Rattle.tp4_world.proofs.Lined.{all_did_back}
+use Rattle.tp4_world.specs.Called.{Did, DidAll, KeepsLimits, WorldCall}
 use Rattle.tp4_world.specs.World.{World}
-use Rattle.law_tp4_lawful.specs.Headline.{IsProperLine}
-use Rattle.law_tp4_lawful.specs.References.{ArePartners, ComesTo, IsMadeBy, IsNotBefore, Makes, OnRuns}
+use Rattle.law_tp4_lawful.specs.Called.{OnCalls}
+use Rattle.law_tp4_lawful.specs.References.{ComesTo, IsMadeBy, IsNotBefore}
 use Rattle.law_tp4_lawful.specs.steps.Worlds.{Explains, Followed, IsBacked, OneInUnit, Outcomes, Rests}
 use Rattle.law_tp4_proper.specs.Rest.{AreInTime, AreProper}
 use Rattle.law_tp4_lawful.proofs.ActsLines.{Flowing}
@@ -40,10 +39,10 @@ use Rattle.law_tp4_lawful.proofs.FramesKnown.{keeps}
 use Rattle.law_tp4_lawful.proofs.MeetsOthers.{KnowsTaken}
 use Rattle.law_tp4_lawful.proofs.ReferencesMet.{IsMet, met, no_request, none, only, target_of}
 use Rattle.law_tp4_lawful.proofs.ReferencesOwn.{are_partners, partners_are}
-use Rattle.law_tp4_lawful.proofs.ReferencesSince.{AreUpTo, LineGoes, SinceBy, line_goes, lines_go, told_up, up_append, up_more}
-use Rattle.law_tp4_lawful.proofs.ReferencesStarts.{followed_by}
-use Rattle.law_tp4_lawful.proofs.ReferencesStays.{line_stays}
-use Rattle.law_tp4_lawful.proofs.WorldCalls.{lines_hold}
+use Rattle.law_tp4_lawful.proofs.ReferencesSince.{AreUpTo, CallGoes, SinceBy, calls_go, did_goes, told_up, up_append, up_more}
+use Rattle.law_tp4_lawful.proofs.CalledStarts.{followed_by}
+use Rattle.law_tp4_lawful.proofs.ReferencesStays.{did_stays}
+use Rattle.law_tp4_lawful.proofs.WorldCalls.{calls_hold, did_holds}
 use Rattle.law_tp4_lawful.proofs.WorldStarts.{started}
 use Rattle.law_tp4_lawful.proofs.WorldOutcomes.{one_unit, outcomes}
 
@@ -145,7 +144,7 @@ module _ (titles : List (List ℕ)) (timers : Timers) (w : Whole) (journal : Lis
     | inr calls ↦ (let i = kept.placed.calling k low calls in (events.Connect i.asked, i.is, i.asks.end))
   ]
 
--- ---- a line that makes an end
+-- ---- a call that makes an end
 
 module _ {C : Type 0} (link : C → Link (List ℕ)) (titles : List (List ℕ)) (timers : Timers) (w next : Whole) (journal made : List Event) (old new : World C)
     (before : Explains link titles timers w journal old) (after : Explains link titles timers next (journal ++ made) new) (one : OneInUnit) where
@@ -233,62 +232,62 @@ module _ (titles : List (List ℕ)) (timers : Timers) (timed : IsTimed timers) {
         other = λ request. no_request b.sent.tpdu b.offered.n c.reference target (sym (ap (λ (x : Tpdu). x.kind) b.offered.seen_as) ∙ request);
       }
 
-  up_after : (line : Line) (first mid : World C) (journal made : List Event) → AreUpTo (link first.carrier).clock journal → LineGoes link steps law first made mid → AreUpTo (link mid.carrier).clock (journal ++ made)
-  up_after line first mid journal made up goes =
+  up_after : (first mid : World C) (journal made : List Event) → AreUpTo (link first.carrier).clock journal → CallGoes link steps law first made mid → AreUpTo (link mid.carrier).clock (journal ++ made)
+  up_after first mid journal made up goes =
       up_append (link mid.carrier).clock journal made (up_more (link first.carrier).clock (link mid.carrier).clock journal (omega (arith, goes.since.clock)) up) goes.since.ticks
 
-  -- of an event of the next line
-  in_line : (line : Line) (script : List Line) (first mid : World C) (journal made rest : List Event) → IsNoInjection line → AllByRecursion IsNoInjection script → IsProperLine line
-      → Rests link Sound titles timers journal first → AreUpTo (link first.carrier).clock journal → RunsLine link steps whole titles first line made mid → RunsLines link steps whole titles mid script rest last
+  -- of an event of the next call
+  in_call : (call : WorldCall) (calls : List WorldCall) (first mid : World C) (journal made rest : List Event) → (link mid.carrier).honest ≡ true → KeepsLimits call
+      → Rests link Sound titles timers journal first → AreUpTo (link first.carrier).clock journal → Did link steps whole first call made mid → DidAll link steps whole mid calls rest last
       → (front back : List Event) (event : Event) → journal ++ made ≡ front ++ event ∷ back → length journal ≤ length front → Makes y event → address_in event ≡ c.unit.to → reference_in event ≡ c.reference
       → tick_after front ≤ c.tick
-  in_line line script first mid journal made rest none_here none_left proper h up step run front back event is past makes own reference =
+  in_call call calls first mid journal made rest honest limits h up step run front back event is past makes own reference =
       elim (cases_lt c.tick (link mid.carrier).clock) [ inl early ↦ absurd (impossible early) | inr on_time ↦ omega (arith, bound, on_time) ]
     where
-      goes : LineGoes link steps law first made mid
-      goes = line_goes link steps law whole titles line first mid made none_here step
+      goes : CallGoes link steps law first made mid
+      goes = did_goes link steps law whole call first mid made step
 
       bound : tick_after front ≤ (link mid.carrier).clock
-      bound = front_up (link mid.carrier).clock 0 front (event ∷ back) (omega arith) (subst (AreUpTo (link mid.carrier).clock) is (up_after line first mid journal made up goes))
+      bound = front_up (link mid.carrier).clock 0 front (event ∷ back) (omega arith) (subst (AreUpTo (link mid.carrier).clock) is (up_after first mid journal made up goes))
 
       on : (by : ℕ) × SinceBy link steps law by mid.carrier rest last.carrier
-      on = lines_go link steps law whole titles script mid last rest none_left run
+      on = calls_go link steps law whole calls mid last rest run
 
       impossible : c.tick < (link mid.carrier).clock → ⊥
       impossible early =
           let at_mid : Contains (link mid.carrier).floating (c.tick, c.unit) = elim (on.1.grows (c.tick, c.unit) c.floats) [ inl before ↦ before | inr now ↦ absurd (omega (arith, now, early)) ] in
           let at_first : Contains (link first.carrier).floating (c.tick, c.unit) = goes.late (c.tick, c.unit) at_mid early in
           let o = offered h.w journal first h.explains at_first in
-          let s = line_stays titles timers timed link steps law followed one Sound InTime outcomes line h.w first mid journal made none_here proper h.explains h.rest step in
+          let s = did_stays titles timers timed link steps law followed one Sound InTime outcomes call h.w first mid journal made limits honest h.explains h.rest step in
           let kept = kept_after link titles timers h.w s.next journal made first mid h.explains s.explains one in
           let m = made_at titles timers s.next (journal ++ made) kept (length front) y event (ap (λ (xs : List Event). slice_get xs (length front)) is ∙ get_at front back event) makes in
           made_late link titles timers h.w s.next journal made first mid h.explains s.explains one (length front) y event o.offer m past o.there (s.keeps o.offer o.there) o.other
           (omega (arith, s.explains.carries.clock, on.1.clock, live, o.tick_is)) (own ∙ sym o.to) (reference ∙ sym o.target)
 
-  -- of an event of the lines that are left
-  pub later_in : (script : List Line) (first : World C) (journal rest : List Event) → AllByRecursion IsNoInjection script → AllByRecursion IsProperLine script → Rests link Sound titles timers journal first
-      → AreUpTo (link first.carrier).clock journal → RunsLines link steps whole titles first script rest last → (front back : List Event) (event : Event) → journal ++ rest ≡ front ++ event ∷ back
+  -- of an event of the calls that are left
+  pub later_in : (calls : List WorldCall) (first : World C) (journal rest : List Event) → (link last.carrier).honest ≡ true → AllByRecursion KeepsLimits calls → Rests link Sound titles timers journal first
+      → AreUpTo (link first.carrier).clock journal → DidAll link steps whole first calls rest last → (front back : List Event) (event : Event) → journal ++ rest ≡ front ++ event ∷ back
       → length journal ≤ length front → Makes y event → address_in event ≡ c.unit.to → reference_in event ≡ c.reference → tick_after front ≤ c.tick
-  later_in [] first journal rest no_injection proper h up run front back event is past makes own reference =
+  later_in [] first journal rest honest limits h up run front back event is past makes own reference =
       absurd (omega (arith, past, ap length is, length-append journal rest, length-append front (event ∷ back), ap length run.0))
-  later_in (line ∷ script) first journal rest no_injection proper h up run front back event is past makes own reference =
+  later_in (call ∷ calls) first journal rest honest limits h up run front back event is past makes own reference =
       let made : List Event = run.1 in
+      let honest_then : (link run.0.carrier).honest ≡ true = all_did_back link steps law whole calls run.0 last run.2 run.5 honest in
       let all : (journal ++ made) ++ run.2 ≡ front ++ event ∷ back = append_assoc journal made run.2 ∙ ap (λ (xs : List Event). journal ++ xs) (sym run.4) ∙ is in
       elim (cases_lt (length front) (length (journal ++ made))) [
         | inl within ↦
             (let split = split_within (journal ++ made) run.2 front back event all within in
-            in_line line script first run.0 journal made run.2 no_injection.0 no_injection.1 proper.0 h up run.3 run.5 front split.0 event split.1 past makes own reference)
+            in_call call calls first run.0 journal made run.2 honest_then limits.0 h up run.3 run.5 front split.0 event split.1 past makes own reference)
         | inr beyond ↦
-            later_in script run.0 (journal ++ made) run.2 no_injection.1 proper.1
-            (lines_hold titles timers timed link steps law followed one Sound InTime outcomes (line ∷ []) first run.0 journal made (no_injection.0, tt) (proper.0, tt) h
-            (run.0, made, [], run.3, sym (append-nil made), (refl, refl)))
-            (up_after line first run.0 journal made up (line_goes link steps law whole titles line first run.0 made no_injection.0 run.3)) run.5 front back event all beyond makes own reference
+            later_in calls run.0 (journal ++ made) run.2 honest limits.1
+            (did_holds titles timers timed link steps law followed one Sound InTime outcomes call first run.0 journal made limits.0 honest_then h run.3)
+            (up_after first run.0 journal made up (did_goes link steps law whole call first run.0 made run.3)) run.5 front back event all beyond makes own reference
       ]
 
-  -- and of every event, where no end was made before the lines
-  pub made_by : (script : List Line) (first : World C) (journal rest : List Event) (w : Whole) → AllByRecursion IsNoInjection script → AllByRecursion IsProperLine script → Rests link Sound titles timers journal first
-      → first.ends ≡ [] → AreUpTo (link first.carrier).clock journal → RunsLines link steps whole titles first script rest last → Explains link titles timers w (journal ++ rest) last → IsMadeBy (journal ++ rest) y c.tick
-  made_by script first journal rest w no_injection proper h no_ends up run e =
+  -- and of every event, where no end was made before the calls
+  pub made_by : (calls : List WorldCall) (first : World C) (journal rest : List Event) (w : Whole) → (link last.carrier).honest ≡ true → AllByRecursion KeepsLimits calls → Rests link Sound titles timers journal first
+      → first.ends ≡ [] → AreUpTo (link first.carrier).clock journal → DidAll link steps whole first calls rest last → Explains link titles timers w (journal ++ rest) last → IsMadeBy (journal ++ rest) y c.tick
+  made_by calls first journal rest w honest limits h no_ends up run e =
       let m : IsMet timers w y c.entity.own c.reference c.end c.tick c.unit.from t = met link titles timers w (journal ++ rest) last e one y t c in
       let kept : Kept (times_of timers) titles w (journal ++ rest) = keeps titles timers w (journal ++ rest) last.entities last.ends e.known in
       let made = event_of titles timers w (journal ++ rest) kept m.known.k m.known.at.low in
@@ -302,7 +301,7 @@ module _ (titles : List (List ℕ)) (timers : Timers) (timed : IsTimed timers) {
         later = λ front back other is makes.
             (let i = made_at titles timers w (journal ++ rest) kept (length front) y other (ap (λ (xs : List Event). slice_get xs (length front)) is ∙ get_at front back other) makes in
             let same : i.k ≡ m.known.k = omega (arith, i.number, m.number) in
-            later_in script first journal rest no_injection proper h up run front back other is (past front back other is makes) makes
+            later_in calls first journal rest honest limits h up run front back other is (past front back other is makes) makes
             (i.address ∙ ap (λ (k : ℕ). (w.base.end k).birth.address) same ∙ m.known.at.address ∙ sym c.to)
             (i.reference ∙ ap (λ (k : ℕ). (w.base.end k).birth.reference) same ∙ m.known.at.reference_is));
       }
@@ -320,13 +319,17 @@ module _ (titles : List (List ℕ)) (timers : Timers) (timed : IsTimed timers) {
 -- over whole numbers
 pub not_before : {C : Type 0} (link : C → Link (List ℕ)) (steps : C → Call (List ℕ) → C → Type 0) (law : (old : C) (call : Call (List ℕ)) (new : C) → steps old call new → Keeps (link old) call (link new))
     (flowing : Flowing) (knows : KnowsTaken) (begins : (times : Times) (titles : List (List ℕ)) (w : Whole) → IsNothing w → Written times titles w [])
-    → OnRuns link steps whole (IsNotBefore link)
-not_before {C} link steps law flowing knows begins titles timers made placed begun journal script first last timed inactive distinct is untouched start no_injection proper run y t c =
+    → OnCalls link steps whole (IsNotBefore link)
+not_before {C} link steps law flowing knows begins titles timers journal last a y t c =
+    let r = a.run in
     let followed : Followed titles timers = followed_by flowing knows titles timers in
-    let rests : Rests link AreProper titles timers begun first =
-    started titles timers timed inactive distinct placed is.entities untouched begins link steps law followed AreProper AreInTime outcomes made begun first is start in
-    let all : Rests link AreProper titles timers (begun ++ journal) last = lines_hold titles timers timed link steps law followed one_unit AreProper AreInTime outcomes script first last begun journal no_injection proper rests run in
+    let rests : Rests link AreProper titles timers r.begun r.first =
+    started titles timers a.timed a.timed.inactive_least a.distinct r.placed r.is_first.entities r.untouched begins link steps law followed AreProper AreInTime outcomes r.made r.begun r.first r.is_first r.starts in
+    let all : Rests link AreProper titles timers (r.begun ++ r.later) last =
+    calls_hold titles timers a.timed link steps law followed one_unit AreProper AreInTime outcomes r.calls r.first last r.begun r.later a.honest a.limits rests r.did in
     let live : (link last.carrier).clock ≤ c.tick + timers.life = omega (arith, c.live, all.explains.carries.bounds c.unit.to) in
-    let up : AreUpTo (link first.carrier).clock begun = subst (AreUpTo (link first.carrier).clock) (sym start.made_is) (λ now low. omega arith, told_up (link first.carrier).clock start.ups) in
-    made_by titles timers timed link steps law followed one_unit AreProper AreInTime outcomes last y t c live script first begun journal all.w no_injection proper rests
-    (ap (λ (x : World C). x.ends) start.becomes) up run all.explains
+    let up : AreUpTo (link r.first.carrier).clock r.begun =
+    subst (AreUpTo (link r.first.carrier).clock) (sym r.starts.made_is) (λ now low. omega arith, told_up (link r.first.carrier).clock r.starts.ups) in
+    subst (λ (xs : List Event). IsMadeBy xs y c.tick) (sym r.journal_is)
+    (made_by titles timers a.timed link steps law followed one_unit AreProper AreInTime outcomes last y t c live r.calls r.first r.begun r.later all.w a.honest a.limits rests
+    (ap (λ (x : World C). x.ends) r.starts.becomes) up r.did all.explains)

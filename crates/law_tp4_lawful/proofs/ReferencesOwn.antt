@@ -3,7 +3,7 @@ use Rattle.std.proofs.Common.{◌≡◌, ◌⊎◌, inl, inr, ℕ, ◌+◌, ◌-
 use Rattle.std.specs.Prelude.{get_or, slice_get}
 use Rattle.std.proofs.lemmas.Option.{slice_get-get_or}
 use Rattle.osi_base.specs.Link.{Link}
-use Rattle.osi_journal.specs.Lawful.{Marked, expediteds, normals, submitted}
+use Rattle.osi_journal.specs.Lawful.{ArePartners, Marked, expediteds, normals, submitted}
 use Rattle.osi_journal.specs.declared.event.Event.{Event}
 use Rattle.tpdu.specs.declared.tpdu.Tpdu.{Tpdu as WireTpdu}
 use Rattle.tpdu.specs.declared.tpdu.Tpdu.TheVariants as wires
@@ -23,7 +23,7 @@ use Rattle.law_tp4_moves.specs.Moves.{times_of}
 use Rattle.law_tp4_moves.specs.Seen.{IsNumbered, seen}
 use Rattle.tp4_world.specs.World.{World, end_numbered}
 use Rattle.tp4_world.specs.declared.place.EndAt.{EndAt}
-use Rattle.law_tp4_lawful.specs.References.{ArePartners, Carries, ComesTo, HasPartnerAt, IsAnswer}
+use Rattle.law_tp4_lawful.specs.References.{Carries, ComesTo, HasPartnerAt, IsAnswer}
 use Rattle.law_tp4_lawful.specs.steps.Worlds.{Explains, OneInUnit}
 use Rattle.law_tp4_lawful.proofs.FramesKnown.{keeps}
 use Rattle.law_tp4_lawful.proofs.ReferencesMet.{IsMet, met}

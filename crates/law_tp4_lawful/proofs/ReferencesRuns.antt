@@ -9,9 +9,9 @@ use Rattle.osi_journal.specs.declared.event.Event.{Event}
 use Rattle.tpdu.specs.declared.tpdu.Tpdu.{Tpdu}
 use Rattle.tp4_number.specs.Formats.{block_of}
 use Rattle.tp4_flow.specs.declared.rules.Options.{Options}
-use Rattle.tp4_conn.specs.declared.base.Base.{Base}
-use Rattle.tp4_conn.specs.declared.stage.Stage.{Stage}
-use Rattle.tp4_conn.specs.declared.stage.Stage.TheVariants as stages
+use Rattle.tp4_conn.specs.declared.end_record.EndRecord.{EndRecord}
+use Rattle.tp4_conn.specs.declared.states.StateData.{StateData}
+use Rattle.tp4_conn.specs.declared.states.StateData.TheVariants as stages
 use Rattle.tp4_conn.specs.declared.timers.Timers.{Timers}
 use Rattle.tp4_conn.specs.End.{End, agreed_format}
 use Rattle.tp4_conn.specs.Matching.{fits, is_match}
@@ -54,7 +54,7 @@ upper_end e reference lower is = by (end_at e reference) refl (sym (end_on e ref
     by None at same = absurd (none-some _ same)
     by (Some end) at same = record { end = end; stands = at; is = sym (same_Some _ _ same) }
 
-fits_on : (b : Base) (stage : Stage) (tpdu : Tpdu) → fits b (stage_on_wire stage) tpdu ≡ fits b stage tpdu
+fits_on : (b : EndRecord) (stage : StateData) (tpdu : Tpdu) → fits b (stage_on_wire stage) tpdu ≡ fits b stage tpdu
 fits_on b (stages.CrWait w) tpdu = refl
 fits_on b (stages.WaitBeforeClose w) tpdu = refl
 fits_on b (stages.UserWait since) tpdu = refl
@@ -161,11 +161,11 @@ module _ {C : Type 0} (link : C → Link (List ℕ)) (world : World C) where
     each = λ x y tpdu comes partners.
         (let l = lifted y tpdu comes in
         let n = holds.each x y tpdu l.up partners in
-        (n.0, subst (λ (b : Base). Carries (holds.size x) (block_of (agreed_format b.agreed)) (submitted x journal) n.0 tpdu) l.base n.1));
+        (n.0, subst (λ (b : EndRecord). Carries (holds.size x) (block_of (agreed_format b.agreed)) (submitted x journal) n.0 tpdu) l.base n.1));
     agreed = λ x y tpdu comes partners number.
         (let l = lifted y tpdu comes in
         let o = holds.agreed x y tpdu l.up partners number in
-        (o.0, ap (λ (b : Base). b.agreed) (sym l.base) ∙ o.1, o.2));
+        (o.0, ap (λ (b : EndRecord). b.agreed) (sym l.base) ∙ o.1, o.2));
   }
 
 -- over whole numbers

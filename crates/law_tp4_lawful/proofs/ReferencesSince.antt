@@ -1,9 +1,10 @@
--- As lines of a script run, the clock does not fall, no unit comes to float that was offered before, and no tick is told that has not come.
+-- By a call of a network the clock does not fall, no unit comes to float that was offered before, and no tick is told that has not come.
 use Rattle.std.proofs.Common.{◌≡◌, ◌⊎◌, inl, inr, ℕ, ◌+◌, ◌<◌, ◌≤◌, Bool, true, false, if◌then◌else◌, List, [], ◌∷◌, ◌++◌, length, Option, Some, None, refl, sym, ◌∙◌, ap, subst, arith, Contains}
 use Rattle.std.specs.Prelude.{◌==◌}
 use Rattle.std.specs.List.{AllByRecursion}
 use Rattle.nsap.specs.Address.{selector_of}
 use Rattle.osi_base.specs.declared.unit.Arrival.{Arrival}
+use Rattle.osi_base.specs.declared.unit.Injected.{Injected}
 use Rattle.osi_base.specs.declared.unit.Offered.{Offered}
 use Rattle.osi_base.specs.declared.unit.Offered.TheVariants.{Taken as WasTaken, Dropped}
 use Rattle.osi_base.specs.declared.unit.Picked.{Picked}
@@ -20,8 +21,6 @@ use Rattle.osi_journal.specs.declared.cause.Refused.TheVariants as refusals
 use Rattle.osi_journal.specs.declared.cause.Standing.TheVariants.{Ended}
 use Rattle.osi_journal.specs.declared.event.Event.{Event}
 use Rattle.osi_journal.specs.declared.event.Event.TheVariants as events
-use Rattle.osi_script.specs.declared.line.Line.{Line}
-use Rattle.osi_script.specs.declared.line.Line.TheVariants as lines
 use Rattle.net_world.specs.Run.{Passes, SendsUnit}
 use Rattle.net_world.specs.Told.{picked_event, sent_event, shown_at, told}
 use Rattle.net_world.proofs.Shown.{IsStill, note_still, picked_still, sent_still}
@@ -29,7 +28,7 @@ use Rattle.tp4_flow.specs.declared.step.EndEvent.{EndEvent}
 use Rattle.tp4_flow.specs.declared.step.Sent.{Sent}
 use Rattle.tp4_flow.specs.declared.step.What.{What}
 use Rattle.tp4_flow.specs.declared.step.What.TheVariants as whats
-use Rattle.tp4_conn.specs.declared.call.ConnectCall.{ConnectCall}
+use Rattle.tp4_conn.specs.declared.call.ConnectRequest.{ConnectRequest}
 use Rattle.tp4_conn.specs.declared.call.UserCall.{UserCall}
 use Rattle.tp4_conn.specs.declared.call.UserCall.TheVariants as asks
 use Rattle.tp4_entity.specs.declared.refusal.ConnectRefusal.{ConnectRefusal}
@@ -37,9 +36,11 @@ use Rattle.tp4_entity.specs.declared.refusal.EntityRefusal.{EntityRefusal}
 use Rattle.tp4_entity.specs.Entity.{Acted, Entity}
 use Rattle.tp4_entity.specs.References.{least_free}
 use Rattle.tp4_entity.specs.Step.{connect_refusal, user_refusal}
-use Rattle.tp4_world.specs.Laws.{IsNoInjection}
-use Rattle.tp4_world.specs.Run.{Acts, BeginsAt, CallsAt, CallsBy, CallsEnd, ConnectsBy, Delivers, HearsAll, HearsIf, IsRefused, NoneDue, NoneLeft, OneDue, OneMore, RunsLine, RunsLines, SendsTpdus, Settles, Ticks, TicksAll, TicksEntity, TooMany, clock_of, has_ended, is_for}
-use Rattle.tp4_world.specs.Telling.{call_events, connect_event, drop_events, ends_with, event_for, events_after}
+use Rattle.tp4_world.proofs.Standing.{inject_still}
+use Rattle.tp4_world.specs.Called.{Did, DidAll, WorldCall}
+use Rattle.tp4_world.specs.Called as requests
+use Rattle.tp4_world.specs.Run.{Acts, BeginsAt, CallsAt, CallsBy, CallsEnd, ConnectsBy, Delivers, HearsAll, HearsIf, Injects, IsRefused, NoneDue, NoneLeft, OneDue, OneMore, SendsTpdus, Settles, Ticks, TicksAll, TicksEntity, TooMany, clock_of, has_ended, is_for}
+use Rattle.tp4_world.specs.Telling.{call_events, connect_event, drop_events, ends_with, event_for, events_after, inject_event}
 use Rattle.tp4_world.specs.World.{World, end_numbered, entity_at, latest}
 use Rattle.tp4_world.specs.declared.place.EndAt.{EndAt}
 use Rattle.tp4_world.specs.declared.place.Placed.{Placed}
@@ -200,13 +201,13 @@ module _ {C : Type 0} (link : C → Link (List ℕ)) (steps : C → Call (List �
   abbrev Goes : World C → List Event → World C → Type 0
   Goes old made new = Since old.carrier made new.carrier
 
-  -- what a line does. What floats after it and was offered at an earlier tick floated before
-  pub record LineGoes (old : World C) (made : List Event) (new : World C) : Type 0 where
+  -- what a call does. What floats after it and was offered at an earlier tick floated before
+  pub record CallGoes (old : World C) (made : List Event) (new : World C) : Type 0 where
     pub by : ℕ
     pub since : SinceBy by old.carrier made new.carrier
     pub late : (entry : ℕ × CarriedUnit (List ℕ)) → Contains (link new.carrier).floating entry → (entry.0 < (link new.carrier).clock) → Contains (link old.carrier).floating entry
 
-  still : (old new : World C) (made : List Event) → Goes old made new → LineGoes old made new
+  still : (old new : World C) (made : List Event) → Goes old made new → CallGoes old made new
   still old new made g = record {
     by = 0;
     since = g;
@@ -225,15 +226,15 @@ module _ {C : Type 0} (link : C → Link (List ℕ)) (steps : C → Call (List �
   refused old new made None s = absurd s
   refused old new made (Some why) s = goes_nowhere old new made _ s.0 s.1 (λ now low. low, tt)
 
-  begun : (old new : World C) (made : List Event) (system : ℕ) (entity : Entity) (call : ConnectCall) (found : Option ℕ) → BeginsAt link steps old system entity call found made new → Goes old made new
-  begun old new made system entity call None s = absurd s
-  begun old new made system entity call (Some reference) s =
-      led old.carrier new.carrier made (connect_event (length old.ends + 1) system reference entity.own call ∷ []) s.0 (λ now low. low, tt)
+  begun : (old new : World C) (made : List Event) (system : ℕ) (entity : Entity) (request : ConnectRequest) (found : Option ℕ) → BeginsAt link steps old system entity request found made new → Goes old made new
+  begun old new made system entity request None s = absurd s
+  begun old new made system entity request (Some reference) s =
+      led old.carrier new.carrier made (connect_event (length old.ends + 1) system reference entity.own request ∷ []) s.0 (λ now low. low, tt)
       (acted (record old { ends = old.ends ++ record { system = system; reference = reference } ∷ [] }) new system entity.own _ s.0 s.1) s.2
 
-  connect_by : (old new : World C) (made : List Event) (system : ℕ) (entity : Entity) (call : ConnectCall) (why : Option ConnectRefusal) → ConnectsBy link steps old system entity call why made new → Goes old made new
-  connect_by old new made system entity call (Some why) s = refused old new made _ s
-  connect_by old new made system entity call None s = begun old new made system entity call (least_free (clock_of link steps old) entity) s
+  connect_by : (old new : World C) (made : List Event) (system : ℕ) (entity : Entity) (request : ConnectRequest) (why : Option ConnectRefusal) → ConnectsBy link steps old system entity request why made new → Goes old made new
+  connect_by old new made system entity request (Some why) s = refused old new made _ s
+  connect_by old new made system entity request None s = begun old new made system entity request (least_free (clock_of link steps old) entity) s
 
   call_by : (wrap : ℕ → ℕ → ℕ) (old new : World C) (made : List Event) (number : ℕ) (end : EndAt) (entity : Entity) (call : UserCall) (why : Option EntityRefusal)
       → CallsBy link steps wrap old number end entity call why made new → Goes old made new
@@ -269,6 +270,12 @@ module _ {C : Type 0} (link : C → Link (List ℕ)) (steps : C → Call (List �
       (then_since old.carrier s.below new.carrier (told s.ups ++ s.later) (told s.ups) s.later (passed old.carrier s.below _ s.ups s.passes)
       (heard_all wrap s.ups (record old { carrier = s.below }) new s.later s.hears) refl) s.made_is
 
+  given : (wrap : ℕ → ℕ → ℕ) (old new : World C) (lan system : ℕ) (octets : List ℕ) (answer : Injected) (made : List Event) → Injects link steps wrap old lan system octets answer made new → Goes old made new
+  given wrap old new lan system octets answer made s =
+      led old.carrier new.carrier made (inject_event system answer ∷ []) (told s.ups ++ s.later) (still_up (link old.carrier).clock _ (inject_still system answer), tt)
+      (then_since old.carrier s.below new.carrier (told s.ups ++ s.later) (told s.ups) s.later (passed old.carrier s.below _ s.ups s.passes)
+      (heard_all wrap s.ups (record old { carrier = s.below }) new s.later s.hears) refl) s.made_is
+
   entity_ticked : (wrap : ℕ → ℕ → ℕ) (system : ℕ) (old : World C) (made : List Event) (new : World C) → TicksEntity link steps wrap system old made new → Goes old made new
   entity_ticked wrap system old made new (NoneDue o m n entity there none made_is becomes) = tells old.carrier new.carrier made [] made_is (ap (λ (w : World C). w.carrier) becomes) tt
   entity_ticked wrap system old made new (OneDue o m n entity reference mid here rest there due acts more made_is) =
@@ -280,7 +287,7 @@ module _ {C : Type 0} (link : C → Link (List ℕ)) (steps : C → Call (List �
       then_since old.carrier s.0.carrier new.carrier made s.1 s.2 (entity_ticked wrap one.system old s.1 s.0 s.3) (all_ticked wrap placed s.0 new s.2 s.4) s.5
 
   -- the tick is told that the clock comes to
-  ticked : (wrap : ℕ → ℕ → ℕ) (old new : World C) (made : List Event) → Ticks link steps wrap old made new → LineGoes old made new
+  ticked : (wrap : ℕ → ℕ → ℕ) (old new : World C) (made : List Event) → Ticks link steps wrap old made new → CallGoes old made new
   ticked wrap old new made s =
       let pass : SinceBy 1 old.carrier (told s.ups) s.below = passed old.carrier s.below Tick s.ups s.passes in
       let first : SinceBy 1 old.carrier (events.Tick ((link old.carrier).clock + 1) ∷ told s.ups) s.below =
@@ -301,41 +308,21 @@ module _ {C : Type 0} (link : C → Link (List ℕ)) (steps : C → Call (List �
   settled wrap count old made new (OneMore n o m l pair mid here rest fresh low delivers settles made_is) =
       then_since old.carrier mid.carrier new.carrier made here rest (delivered wrap old mid pair.0 pair.1 WasPicked here delivers) (settled wrap (count + 1) mid rest new settles) made_is
 
-  pub line_goes : (wrap : ℕ → ℕ → ℕ) (titles : List (List ℕ)) (line : Line) (old new : World C) (made : List Event) → IsNoInjection line → RunsLine link steps wrap titles old line made new → LineGoes old made new
-  line_goes wrap titles lines.Nothing old new made none s = still old new made (goes_nowhere old new made [] s.0 s.1 tt)
-  line_goes wrap titles (lines.Connect system selector to called options octets) old new made none s =
-      let entity = s.4.4.0 in
-      still old new made (connect_by old new made system entity s.1 (connect_refusal (clock_of link steps old) entity s.1.octets) s.4.4.2)
-  line_goes wrap titles (lines.Accept end options octets) old new made none s = still old new made (call_at wrap old new made end _ (end_numbered old.ends end) s)
-  line_goes wrap titles (lines.Refuse end octets) old new made none s = still old new made (call_at wrap old new made end _ (end_numbered old.ends end) s)
-  line_goes wrap titles (lines.Disconnect end octets) old new made none s = still old new made (call_at wrap old new made end _ (end_numbered old.ends end) s)
-  line_goes wrap titles (lines.Data end octets) old new made none s = still old new made (call_at wrap old new made end _ (end_numbered old.ends end) s)
-  line_goes wrap titles (lines.Expedite end octets) old new made none s = still old new made (call_at wrap old new made end _ (end_numbered old.ends end) s)
-  line_goes wrap titles (lines.Window end credit) old new made none s = still old new made (call_at wrap old new made end _ (end_numbered old.ends end) s)
-  line_goes wrap titles (lines.Unit system to wish octets) old new made none s =
-      still old new made (subst (λ (w : World C). Since old.carrier made w.carrier) (sym s.4.2) (raw_sent old.carrier s.4.0 system s.0 s.1 octets wish made s.4.1))
-  line_goes wrap titles lines.Tick old new made none s = ticked wrap old new made s
-  line_goes wrap titles (lines.Deliver number system) old new made none s = still old new made (delivered wrap old new number system s.0 made s.1)
-  line_goes wrap titles lines.Settle old new made none s = still old new made (settled wrap 0 old made new s)
-  line_goes wrap titles (lines.Inject lan system octets) old new made none s = absurd none
-  line_goes wrap titles (lines.Restart system) old new made none s = still old new made (tells old.carrier new.carrier made _ s.2 (ap (λ (w : World C). w.carrier) s.3) (λ now low. low, tt))
-  line_goes wrap titles (lines.Send system selector to called octets) old new made none s = absurd s
-  line_goes wrap titles (lines.Version version) old new made none s = absurd s
-  line_goes wrap titles (lines.Set key value) old new made none s = absurd s
-  line_goes wrap titles (lines.Lan name bound room) old new made none s = absurd s
-  line_goes wrap titles (lines.Es name title) old new made none s = absurd s
-  line_goes wrap titles (lines.Is name title) old new made none s = absurd s
-  line_goes wrap titles (lines.Port system lan snpa) old new made none s = absurd s
-  line_goes wrap titles (lines.Route system prefix hop lan) old new made none s = absurd s
-  line_goes wrap titles (lines.Path name kind systems) old new made none s = absurd s
-  line_goes wrap titles (lines.Tsap system selector) old new made none s = absurd s
-  line_goes wrap titles (lines.Relay system selector to called) old new made none s = absurd s
-  line_goes wrap titles lines.Start old new made none s = absurd s
+  pub did_goes : (wrap : ℕ → ℕ → ℕ) (call : WorldCall) (old new : World C) (made : List Event) → Did link steps wrap old call made new → CallGoes old made new
+  did_goes wrap (requests.Connect system request) old new made s = still old new made (connect_by old new made system s.0 request (connect_refusal (clock_of link steps old) s.0 request.octets) s.2)
+  did_goes wrap (requests.Ask end call) old new made s = still old new made (call_at wrap old new made end call (end_numbered old.ends end) s)
+  did_goes wrap (requests.Raw system sender receiver wish octets) old new made s =
+      still old new made (subst (λ (w : World C). Since old.carrier made w.carrier) (sym s.2) (raw_sent old.carrier s.0 system sender receiver octets wish made s.1))
+  did_goes wrap (requests.Deliver number system answer) old new made s = still old new made (delivered wrap old new number system answer made s)
+  did_goes wrap (requests.Inject lan system octets answer) old new made s = still old new made (given wrap old new lan system octets answer made s)
+  did_goes wrap (requests.Restart system) old new made s = still old new made (tells old.carrier new.carrier made _ s.2 (ap (λ (w : World C). w.carrier) s.3) (λ now low. low, tt))
+  did_goes wrap requests.Pass old new made s = ticked wrap old new made s
+  did_goes wrap requests.Settle old new made s = still old new made (settled wrap 0 old made new s)
 
-  pub lines_go : (wrap : ℕ → ℕ → ℕ) (titles : List (List ℕ)) (script : List Line) (first last : World C) (made : List Event) → AllByRecursion IsNoInjection script
-      → RunsLines link steps wrap titles first script made last → (by : ℕ) × SinceBy by first.carrier made last.carrier
-  lines_go wrap titles [] first last made none s = (0, goes_nowhere first last made [] s.0 s.1 tt)
-  lines_go wrap titles (line ∷ script) first last made none s =
-      let one = line_goes wrap titles line first s.0 s.1 none.0 s.3 in
-      let others = lines_go wrap titles script s.0 last s.2 none.1 s.5 in
+  pub calls_go : (wrap : ℕ → ℕ → ℕ) (calls : List WorldCall) (first last : World C) (made : List Event)
+      → DidAll link steps wrap first calls made last → (by : ℕ) × SinceBy by first.carrier made last.carrier
+  calls_go wrap [] first last made s = (0, goes_nowhere first last made [] s.0 s.1 tt)
+  calls_go wrap (call ∷ calls) first last made s =
+      let one = did_goes wrap call first s.0 s.1 s.3 in
+      let others = calls_go wrap calls s.0 last s.2 s.5 in
       (one.by + others.0, then_by one.by others.0 first.carrier s.0.carrier last.carrier made s.1 s.2 one.since others.1 s.4)

@@ -5,6 +5,7 @@ use Rattle.std.specs.Prelude.{option_map}
 use Rattle.std.proofs.lemmas.Bool.{cases_Bool}
 use Rattle.std.proofs.lemmas.Option.{none-some}
 use Rattle.osi_base.specs.Link.{Link}
+use Rattle.osi_journal.specs.Lawful.{ArePartners}
 use Rattle.osi_journal.specs.declared.event.Event.{Event}
 use Rattle.tpdu.specs.Kinds.{has_number}
 use Rattle.tpdu.specs.Writing.{kind_for}
@@ -20,7 +21,7 @@ use Rattle.law_tp4_history.proofs.Written.{Kept}
 use Rattle.law_tp4_moves.specs.Moves.{times_of}
 use Rattle.law_tp4_moves.specs.Seen.{terms_of}
 use Rattle.tp4_world.specs.World.{World}
-use Rattle.law_tp4_lawful.specs.References.{ArePartners, AreSizes, ComesTo, piece_of}
+use Rattle.law_tp4_lawful.specs.References.{AreSizes, ComesTo, piece_of}
 use Rattle.law_tp4_lawful.specs.steps.Known.{IsKnown, piece_by}
 use Rattle.law_tp4_lawful.specs.steps.Worlds.{Explains, OneInUnit}
 use Rattle.law_tp4_lawful.proofs.FramesKnown.{keeps}

@@ -1,4 +1,4 @@
--- Beside a line of a script a history goes on, and all that was offered in it stays: also past a tick.
+-- Beside a call of a network a history goes on, and all that was offered in it stays: also past a tick.
 use Rattle.std.proofs.Common.{◌≡◌, ℕ, ◌+◌, ◌≤◌, Bool, true, false, List, [], ◌∷◌, ◌++◌, length, Option, Some, None, refl, sym, ◌∙◌, ap, subst, append_assoc, append-nil, Contains}
 use Rattle.osi_base.specs.declared.unit.Picked.TheVariants.{Taken as WasPicked}
 use Rattle.osi_base.specs.Link.{Link}
@@ -9,17 +9,13 @@ use Rattle.osi_journal.specs.declared.cause.Settled.TheVariants.{Settled, Stoppe
 use Rattle.osi_journal.specs.declared.cause.Standing.TheVariants.{Ended}
 use Rattle.osi_journal.specs.declared.event.Event.{Event}
 use Rattle.osi_journal.specs.declared.event.Event.TheVariants as events
-use Rattle.osi_script.specs.declared.line.Line.{Line}
-use Rattle.osi_script.specs.declared.line.Line.TheVariants as lines
 use Rattle.net_world.specs.Told.{told}
 use Rattle.tp4_number.specs.Number.{whole}
-use Rattle.tp4_flow.specs.declared.rules.Options.{Options}
 use Rattle.tp4_conn.specs.Calls.{IsCall}
-use Rattle.tp4_conn.specs.End.{IsSized, IsTimed}
+use Rattle.tp4_conn.specs.End.{IsTimed}
 use Rattle.tp4_conn.specs.Proper.{IsProperCall}
-use Rattle.tp4_conn.specs.declared.call.ConnectCall.{ConnectCall}
+use Rattle.tp4_conn.specs.declared.call.ConnectRequest.{ConnectRequest}
 use Rattle.tp4_conn.specs.declared.call.UserCall.{UserCall}
-use Rattle.tp4_conn.specs.declared.call.UserCall.TheVariants as asks
 use Rattle.tp4_conn.specs.declared.timers.Timers.{Timers}
 use Rattle.tp4_entity.specs.declared.refusal.ConnectRefusal.{ConnectRefusal}
 use Rattle.tp4_entity.specs.declared.refusal.EntityRefusal.{EntityRefusal}
@@ -31,20 +27,21 @@ use Rattle.law_tp4_history.specs.Ends.{Offer}
 use Rattle.law_tp4_history.specs.History.{Tick as HistoryTick}
 use Rattle.law_tp4_history.specs.Tracks.{Nothing, Whole, onward}
 use Rattle.law_tp4_moves.specs.Moves.{times_of}
-use Rattle.tp4_world.specs.Laws.{IsNoInjection}
-use Rattle.tp4_world.specs.Run.{Acts, BeginsAt, Calls, CallsAt, CallsBy, CallsEnd, ConnectsBy, IsRefused, NoneDue, NoneLeft, OneDue, OneMore, RunsLine, Settles, Ticks, TicksAll, TicksEntity, TooMany, clock_of, has_ended}
+use Rattle.tp4_world.proofs.Lined.{injected, not_taken}
+use Rattle.tp4_world.specs.Called.{Did, KeepsLimits, WorldCall}
+use Rattle.tp4_world.specs.Called as requests
+use Rattle.tp4_world.specs.Run.{Acts, BeginsAt, Calls, CallsAt, CallsBy, CallsEnd, ConnectsBy, IsRefused, NoneDue, NoneLeft, OneDue, OneMore, Settles, Ticks, TicksAll, TicksEntity, TooMany, clock_of, has_ended}
 use Rattle.tp4_world.specs.Telling.{call_events, connect_event}
 use Rattle.tp4_world.specs.World.{World, end_numbered, entity_at, with_entity}
 use Rattle.tp4_world.specs.declared.place.EndAt.{EndAt}
 use Rattle.tp4_world.specs.declared.place.Placed.{Placed}
-use Rattle.law_tp4_lawful.specs.Headline.{IsProperLine}
 use Rattle.law_tp4_lawful.specs.steps.Known.{Known}
 use Rattle.law_tp4_lawful.specs.steps.Worlds.{AreAtRest, Explains, Followed, OneInUnit, Outcomes}
 use Rattle.law_tp4_lawful.proofs.WorldActs.{Went, went_aside, went_nowhere, went_on, went_then}
 use Rattle.law_tp4_lawful.proofs.WorldAsides.{AreQuiet, are_aside, told_quiet}
 use Rattle.law_tp4_lawful.proofs.WorldCalls.{IsAsked}
 use Rattle.law_tp4_lawful.proofs.WorldFloats.{raw_goes, tick_goes}
-use Rattle.law_tp4_lawful.proofs.WorldHears.{Ran, delivered}
+use Rattle.law_tp4_lawful.proofs.WorldHears.{Ran, delivered, given_away}
 use Rattle.law_tp4_lawful.proofs.WorldKnown.{known_at}
 use Rattle.law_tp4_lawful.proofs.WorldRestarts.{restart_goes}
 
@@ -86,33 +83,33 @@ module _ (titles : List (List ℕ)) (timers : Timers) (timed : IsTimed timers) {
     refused None step = absurd step
     refused (Some why) step = told_stays (events.No why ∷ []) (record { submits = λ end. refl; shows = λ end. refl; makes = refl }, tt) step.0 step.1
 
-    begun : (system : ℕ) (entity : Entity) (call : ConnectCall) (found : Option ℕ) → entity_at old.entities system ≡ Some entity
-        → is_silent (clock_of link steps old) entity ≡ false → IsAsked call → length call.octets ≤ 32 → least_free (clock_of link steps old) entity ≡ found → BeginsAt link steps old system entity call found made new → Stays w (journal ++ made) new
-    begun system entity call None there still asked octets least step = absurd step
-    begun system entity call (Some reference) there still asked octets least step =
+    begun : (system : ℕ) (entity : Entity) (request : ConnectRequest) (found : Option ℕ) → entity_at old.entities system ≡ Some entity
+        → is_silent (clock_of link steps old) entity ≡ false → IsAsked request → length request.octets ≤ 32 → least_free (clock_of link steps old) entity ≡ found → BeginsAt link steps old system entity request found made new → Stays w (journal ++ made) new
+    begun system entity request None there still asked octets least step = absurd step
+    begun system entity request (Some reference) there still asked octets least step =
         let now = e.carries.clock in
         let quiet : is_silent w.base.clock entity ≡ false = subst (λ (n : ℕ). is_silent n entity ≡ false) now still in
         let free : least_free w.base.clock entity ≡ Some reference = subst (λ (n : ℕ). least_free n entity ≡ Some reference) now least in
-        let event : Event = connect_event (length old.ends + 1) system reference entity.own call in
+        let event : Event = connect_event (length old.ends + 1) system reference entity.own request in
         let with_end : World C = record old { ends = old.ends ++ record { system = system; reference = reference } ∷ [] } in
-        let proper : IsProperCall (call_of entity reference call) = record {
+        let proper : IsProperCall (call_of entity reference request) = record {
           timers = subst IsTimed (sym (e.known.holds system entity there).timers_are) timed;
           size = asked.size;
           calling = asked.calling;
           called = asked.called;
           octets = octets;
         } in
-        let acts : Acts link steps with_end system entity.own (connecting w.base.clock entity reference call) step.0 new =
-        subst (λ (n : ℕ). Acts link steps with_end system entity.own (connecting n entity reference call) step.0 new) now step.1 in
+        let acts : Acts link steps with_end system entity.own (connecting w.base.clock entity reference request) step.0 new =
+        subst (λ (n : ℕ). Acts link steps with_end system entity.own (connecting n entity reference request) step.0 new) now step.1 in
         behind w new journal made (event ∷ []) step.0
         (went_stays w ((journal ++ event ∷ []) ++ step.0) new
-        (went_on titles timers link steps law followed.aside w journal (event ∷ []) step.0 with_end new system entity.own (connecting w.base.clock entity reference call) e.carries
-        (followed.connects w journal old.entities old.ends system entity call reference e.known there quiet proper free) acts)) step.2
+        (went_on titles timers link steps law followed.aside w journal (event ∷ []) step.0 with_end new system entity.own (connecting w.base.clock entity reference request) e.carries
+        (followed.connects w journal old.entities old.ends system entity request reference e.known there quiet proper free) acts)) step.2
 
-    connect_by : (system : ℕ) (entity : Entity) (call : ConnectCall) (why : Option ConnectRefusal) → entity_at old.entities system ≡ Some entity → IsAsked call
-        → connect_refusal (clock_of link steps old) entity call.octets ≡ why → ConnectsBy link steps old system entity call why made new → Stays w (journal ++ made) new
-    connect_by system entity call (Some why) there asked is step = refused _ step
-    connect_by system entity call None there asked is step = begun system entity call (least_free (clock_of link steps old) entity) there (audible (clock_of link steps old) entity call.octets is) asked (short (clock_of link steps old) entity call.octets is) refl step
+    connect_by : (system : ℕ) (entity : Entity) (request : ConnectRequest) (why : Option ConnectRefusal) → entity_at old.entities system ≡ Some entity → IsAsked request
+        → connect_refusal (clock_of link steps old) entity request.octets ≡ why → ConnectsBy link steps old system entity request why made new → Stays w (journal ++ made) new
+    connect_by system entity request (Some why) there asked is step = refused _ step
+    connect_by system entity request None there asked is step = begun system entity request (least_free (clock_of link steps old) entity) there (audible (clock_of link steps old) entity request.octets is) asked (short (clock_of link steps old) entity request.octets is) refl step
 
     call_by : (number : ℕ) (end : EndAt) (entity : Entity) (call : UserCall) (why : Option EntityRefusal) → end_numbered old.ends number ≡ Some end → entity_at old.entities end.system ≡ Some entity
         → IsCall call → has_ended (clock_of link steps old) old.ends number end entity ≡ false → user_refusal entity end.reference call ≡ why
@@ -197,48 +194,26 @@ module _ (titles : List (List ℕ)) (timers : Timers) (timed : IsTimed timers) {
       let all : Goes next ((journal ++ front) ++ step.later) new = all_ticked old.entities next mid new (journal ++ front) step.later explains step.all in
       behind w new journal made front step.later (record { next = all.next; keeps = λ offer there. all.goes_on.offers offer there; explains = all.explains }) step.made_is
 
-  -- ---- the lines
+  -- ---- the calls
 
-  pub line_stays : (line : Line) (w : Whole) (old new : World C) (journal made : List Event) → IsNoInjection line → IsProperLine line → Explains link titles timers w journal old
-      → AreAtRest Sound w.base.clock old.entities → RunsLine link steps whole titles old line made new → Stays w (journal ++ made) new
-  line_stays lines.Nothing w old new journal made none proper e rested step = nowhere w old new journal made e rested step.0 step.1
-  line_stays (lines.Connect system selector to called_selector options octets) w old new journal made none proper e rested step =
-      let asked = step.4 in
-      let connects = asked.4 in
-      connect_by w old new journal made e rested system connects.0 step.1 (connect_refusal (clock_of link steps old) connects.0 step.1.octets) connects.1
-      (record {
-        size = subst (λ (o : Options). IsSized o) (sym step.3) proper.0;
-        calling = subst (λ (o : List ℕ). length o ≤ 32) (sym asked.0) proper.1;
-        called = subst (λ (o : List ℕ). length o ≤ 32) (sym asked.2) proper.2;
-      }) refl connects.2
-  line_stays (lines.Accept end options octets) w old new journal made none proper e rested step = called w old new journal made e rested end _ proper step
-  line_stays (lines.Refuse end octets) w old new journal made none proper e rested step = called w old new journal made e rested end (asks.Refuse octets) tt step
-  line_stays (lines.Disconnect end octets) w old new journal made none proper e rested step = called w old new journal made e rested end (asks.Disconnect octets) tt step
-  line_stays (lines.Data end octets) w old new journal made none proper e rested step = called w old new journal made e rested end (asks.Normal octets) tt step
-  line_stays (lines.Expedite end octets) w old new journal made none proper e rested step = called w old new journal made e rested end (asks.Urgent octets) tt step
-  line_stays (lines.Window end credit) w old new journal made none proper e rested step = called w old new journal made e rested end (asks.Window credit) proper step
-  line_stays (lines.Unit system to wish octets) w old new journal made none proper e rested step =
-      let sends = step.4 in
-      let goes = raw_goes timers.life link steps law w.base old.carrier sends.0 system step.0 step.1 wish octets made e.carries sends.1 in
-      subst (λ (x : World C). Stays w (journal ++ made) x) (sym sends.2)
-      (went_stays w (journal ++ made) (record old { carrier = sends.0 })
-      (went_aside titles timers link steps law followed.aside w journal made old (record old { carrier = sends.0 }) e.known goes.0 goes.1 refl))
-  line_stays lines.Tick w old new journal made none proper e rested step = ticked w old new journal made e rested step
-  line_stays (lines.Deliver number system) w old new journal made none proper e rested step =
-      ran_stays w (journal ++ made) new (delivered titles timers timed link steps law followed.aside followed.meets one Sound InTime outcomes w old new journal made number system step.0 e rested step.1)
-  line_stays lines.Settle w old new journal made none proper e rested step = settled 0 old made new step w journal e rested
-  line_stays (lines.Inject lan system octets) w old new journal made none proper e rested step = absurd none
-  line_stays (lines.Restart system) w old new journal made none proper e rested step =
+  pub did_stays : (call : WorldCall) (w : Whole) (old new : World C) (journal made : List Event) → KeepsLimits call → (link new.carrier).honest ≡ true → Explains link titles timers w journal old
+      → AreAtRest Sound w.base.clock old.entities → Did link steps whole old call made new → Stays w (journal ++ made) new
+  did_stays (requests.Connect system request) w old new journal made limits honest e rested step =
+      connect_by w old new journal made e rested system step.0 request (connect_refusal (clock_of link steps old) step.0 request.octets) step.1
+      (record { size = limits.0; calling = limits.1; called = limits.2 }) refl step.2
+  did_stays (requests.Ask end call) w old new journal made limits honest e rested step = called w old new journal made e rested end call limits step
+  did_stays (requests.Raw system sender receiver wish octets) w old new journal made limits honest e rested step =
+      let goes = raw_goes timers.life link steps law w.base old.carrier step.0 system sender receiver wish octets made e.carries step.1 in
+      subst (λ (x : World C). Stays w (journal ++ made) x) (sym step.2)
+      (went_stays w (journal ++ made) (record old { carrier = step.0 })
+      (went_aside titles timers link steps law followed.aside w journal made old (record old { carrier = step.0 }) e.known goes.0 goes.1 refl))
+  did_stays (requests.Deliver number system answer) w old new journal made limits honest e rested step =
+      ran_stays w (journal ++ made) new (delivered titles timers timed link steps law followed.aside followed.meets one Sound InTime outcomes w old new journal made number system answer e rested step)
+  did_stays (requests.Inject lan system octets answer) w old new journal made limits honest e rested step =
+      ran_stays w (journal ++ made) new
+      (given_away titles timers timed link steps law followed.aside followed.meets one Sound InTime outcomes w old new journal made lan system octets answer
+      (not_taken link steps law old new answer made (injected link steps law whole old new lan system octets answer made step) honest) e rested step)
+  did_stays (requests.Restart system) w old new journal made limits honest e rested step =
       went_stays w (journal ++ made) new (restart_goes titles timers link steps law followed.aside followed.restarts w old new journal made system e step)
-  line_stays (lines.Send system selector to called octets) w old new journal made none proper e rested step = absurd step
-  line_stays (lines.Version version) w old new journal made none proper e rested step = absurd step
-  line_stays (lines.Set key value) w old new journal made none proper e rested step = absurd step
-  line_stays (lines.Lan name bound room) w old new journal made none proper e rested step = absurd step
-  line_stays (lines.Es name title) w old new journal made none proper e rested step = absurd step
-  line_stays (lines.Is name title) w old new journal made none proper e rested step = absurd step
-  line_stays (lines.Port system lan snpa) w old new journal made none proper e rested step = absurd step
-  line_stays (lines.Route system prefix hop lan) w old new journal made none proper e rested step = absurd step
-  line_stays (lines.Path name kind systems) w old new journal made none proper e rested step = absurd step
-  line_stays (lines.Tsap system selector) w old new journal made none proper e rested step = absurd step
-  line_stays (lines.Relay system selector to called) w old new journal made none proper e rested step = absurd step
-  line_stays lines.Start w old new journal made none proper e rested step = absurd step
+  did_stays requests.Pass w old new journal made limits honest e rested step = ticked w old new journal made e rested step
+  did_stays requests.Settle w old new journal made limits honest e rested step = settled 0 old made new step w journal e rested

@@ -10,8 +10,8 @@ use Rattle.tpdu.specs.declared.tpdu.Tpdu.TheVariants as wires
 use Rattle.tp4_flow.specs.declared.step.EndEvent.{EndEvent}
 use Rattle.tp4_flow.specs.declared.step.What.{What}
 use Rattle.tp4_flow.specs.declared.step.What.TheVariants as whats
-use Rattle.tp4_conn.specs.declared.base.Base.{Base}
-use Rattle.tp4_conn.specs.declared.call.ConnectCall.{ConnectCall}
+use Rattle.tp4_conn.specs.declared.end_record.EndRecord.{EndRecord}
+use Rattle.tp4_conn.specs.declared.call.ConnectRequest.{ConnectRequest}
 use Rattle.tp4_conn.specs.declared.call.UserCall.{UserCall}
 use Rattle.tp4_conn.specs.Agreeing.{proposed_in}
 use Rattle.tp4_conn.specs.End.{End, Moved, end_of, frozen_for}
@@ -273,7 +273,7 @@ module _ (frozen : ℕ) (system : ℕ) (address : List ℕ) where
     }
 
     -- an indication makes an end
-    did_indicate : (e : Entity) (b : Base) (text : List ℕ) → AreOf e → 1 ≤ b.own → IsLongAgo frozen now e.restarted → Did e (moved e b.own (indicated b text)).entity (indicated b text).events
+    did_indicate : (e : Entity) (b : EndRecord) (text : List ℕ) → AreOf e → 1 ≤ b.own → IsLongAgo frozen now e.restarted → Did e (moved e b.own (indicated b text)).entity (indicated b text).events
     did_indicate e b text all least past =
         let m : Moved = indicated b text in
         let new : Entity = with_end e b.own (Some (end_of m)) in
@@ -294,15 +294,15 @@ module _ (frozen : ℕ) (system : ℕ) (address : List ℕ) where
     -- ---- a user asks
 
     -- for a connection
-    pub record Connected (e : Entity) (reference : ℕ) (call : ConnectCall) : Type 0 where
-      pub of : AreOf (connecting now e reference call).entity
+    pub record Connected (e : Entity) (reference : ℕ) (request : ConnectRequest) : Type 0 where
+      pub of : AreOf (connecting now e reference request).entity
       pub runs : (entities : List Placed) (ends : List EndAt) → entity_at entities system ≡ Some e
           → Runs frozen (record { clock = now; entities = entities; ends = ends }) (Makes (length ends + 1) system ∷ [])
-          (record { clock = now; entities = with_entity entities system (connecting now e reference call).entity; ends = ends ++ record { system = system; reference = reference } ∷ [] })
+          (record { clock = now; entities = with_entity entities system (connecting now e reference request).entity; ends = ends ++ record { system = system; reference = reference } ∷ [] })
 
-    pub did_connect : (e : Entity) (reference : ℕ) (call : ConnectCall) → AreOf e → 1 ≤ reference → IsLongAgo frozen now e.restarted → Connected e reference call
-    did_connect e reference call all least past =
-        let m : Moved = connected now (call_of e reference call) in
+    pub did_connect : (e : Entity) (reference : ℕ) (request : ConnectRequest) → AreOf e → 1 ≤ reference → IsLongAgo frozen now e.restarted → Connected e reference request
+    did_connect e reference request all least past =
+        let m : Moved = connected now (call_of e reference request) in
         let new : Entity = with_end (at now e) reference (Some (end_of m)) in
         record {
           of = placed_of (at now e) reference (Some (end_of m)) least all (λ end h. only_end reference (end_of m) end (refl, tt) h);

@@ -26,14 +26,12 @@ use Rattle.osi_journal.specs.declared.cause.Settled.TheVariants.{Settled, Stoppe
 use Rattle.osi_journal.specs.declared.cause.Standing.TheVariants.{Ended}
 use Rattle.osi_journal.specs.declared.event.Event.{Event}
 use Rattle.osi_journal.specs.declared.event.Event.TheVariants as events
-use Rattle.osi_script.specs.declared.line.Line.{Line}
-use Rattle.osi_script.specs.declared.line.Line.TheVariants as lines
 use Rattle.net_world.specs.Run.{SendsUnit}
 use Rattle.net_world.specs.Told.{note_event, picked_event, sent_event, shown_at, told}
 use Rattle.tp4_flow.specs.declared.step.EndEvent.{EndEvent}
 use Rattle.tp4_flow.specs.declared.step.Sent.{Sent}
 use Rattle.tp4_number.specs.Number.{wire}
-use Rattle.tp4_conn.specs.declared.call.ConnectCall.{ConnectCall}
+use Rattle.tp4_conn.specs.declared.call.ConnectRequest.{ConnectRequest}
 use Rattle.tp4_conn.specs.declared.call.UserCall.{UserCall}
 use Rattle.tp4_conn.specs.declared.call.UserCall.TheVariants as asks
 use Rattle.tp4_conn.specs.declared.timers.Timers.{Timers}
@@ -46,14 +44,17 @@ use Rattle.tp4_entity.specs.Step.{calling, connect_refusal, connecting, end_refu
 use Rattle.tp4_entity.proofs.Beginning.{audible}
 use Rattle.tp4_entity.proofs.Restarts.{none_stands}
 use Rattle.tp4_entity.proofs.Standings.{free_least}
+use Rattle.tp4_world.specs.Called.{Did as DoesCall, DidAll, WorldCall}
+use Rattle.tp4_world.specs.Called as requests
 use Rattle.tp4_world.specs.Laws.{IsFirst, IsNew}
-use Rattle.tp4_world.specs.Run.{Acts, Arrives, BeginsAt, CallsAt, CallsBy, CallsEnd, ConnectsBy, Delivers, HearsAll, HearsIf, IsRefused, NoneDue, NoneLeft, OneDue, OneMore, Restarts, RunsLine, RunsLines, SendsTpdus, Settles, Starts, Ticks, TicksAll, TicksEntity, TooMany, clock_of, has_ended, is_for}
+use Rattle.tp4_world.specs.Run.{Acts, Arrives, BeginsAt, CallsAt, CallsBy, CallsEnd, ConnectsBy, Delivers, HearsAll, HearsIf, IsRefused, NoneDue, NoneLeft, OneDue, OneMore, Restarts, SendsTpdus, Settles, Starts, Ticks, TicksAll, TicksEntity, TooMany, clock_of, has_ended, is_for}
 use Rattle.tp4_world.specs.Telling.{call_events, drop_events, ends_after, events_after, inject_event}
 use Rattle.tp4_world.specs.World.{World, end_numbered, entity_at, latest, with_entity}
 use Rattle.tp4_world.specs.declared.place.EndAt.{EndAt}
 use Rattle.tp4_world.specs.declared.place.Placed.{Placed}
 use Rattle.tp4_world.proofs.Having.{with_any}
-use Rattle.law_tp4_lawful.specs.Headline.{IsUntouched, StaysSilent}
+use Rattle.law_tp4_lawful.specs.Called.{CallsAreSilent}
+use Rattle.law_tp4_lawful.specs.Headline.{IsUntouched}
 use Rattle.law_tp4_lawful.specs.steps.Silence.{Begins, BeginsAgain, Clock, Goes, IsStanding, IsUnused, Kind, Makes, Noting, Of, Other, Restarting, Runs, Seen, Stays, Stops, Telling, Ticking, kind_of, kinds_of, last_restart}
 use Rattle.law_tp4_lawful.proofs.Frames.{entity_other, entity_set}
 use Rattle.law_tp4_lawful.proofs.ReferencesSince.{passed, raw_sent, sent_all}
@@ -227,25 +228,25 @@ module _ (timers : Timers) {C : Type 0} (link : C → Link (List ℕ)) (steps : 
   refused old new made None sound s = absurd s
   refused old new made (Some why) sound s = ran_told old new made (events.No why ∷ []) sound (refl, tt) s.0 s.1
 
-  begun : (old new : World C) (made : List Event) (system : ℕ) (entity : Entity) (call : ConnectCall) (found_at : Option ℕ) → AreSound old.entities → entity_at old.entities system ≡ Some entity
-      → is_silent (clock_of link steps old) entity ≡ false → least_free (clock_of link steps old) entity ≡ found_at → BeginsAt link steps old system entity call found_at made new → Ran old made new
-  begun old new made system entity call None sound there still least s = absurd s
-  begun old new made system entity call (Some reference) sound there still least s =
+  begun : (old new : World C) (made : List Event) (system : ℕ) (entity : Entity) (request : ConnectRequest) (found_at : Option ℕ) → AreSound old.entities → entity_at old.entities system ≡ Some entity
+      → is_silent (clock_of link steps old) entity ≡ false → least_free (clock_of link steps old) entity ≡ found_at → BeginsAt link steps old system entity request found_at made new → Ran old made new
+  begun old new made system entity request None sound there still least s = absurd s
+  begun old new made system entity request (Some reference) sound there still least s =
       let now : ℕ = (link old.carrier).clock in
       let of = sound system entity there in
       let base : World C = record old { ends = old.ends ++ record { system = system; reference = reference } ∷ [] } in
-      let acted : Acted = connecting now entity reference call in
-      let did : Connected frozen system entity.own now entity reference call =
-      did_connect frozen system entity.own now entity reference call of.1 (free_least now reference entity least).least (past_by now frozen entity (fits entity of.0) still) in
+      let acted : Acted = connecting now entity reference request in
+      let did : Connected frozen system entity.own now entity reference request =
+      did_connect frozen system entity.own now entity reference request of.1 (free_least now reference entity least).least (past_by now frozen entity (fits entity of.0) still) in
       acts_ran old base new (Makes (length old.ends + 1) system ∷ []) system entity.own acted made s.0 refl
       (with_sound old.entities system acted.entity sound of.0 did.of) s.1
       (did.runs old.entities old.ends there) (ap kinds_of s.2 ∙ ap (λ (later : List Event). Makes (length old.ends + 1) system ∷ kinds_of later) s.1.made_is)
 
-  connect_by : (old new : World C) (made : List Event) (system : ℕ) (entity : Entity) (call : ConnectCall) (why : Option ConnectRefusal) → AreSound old.entities → entity_at old.entities system ≡ Some entity
-      → connect_refusal (clock_of link steps old) entity call.octets ≡ why → ConnectsBy link steps old system entity call why made new → Ran old made new
-  connect_by old new made system entity call (Some why) sound there is s = refused old new made _ sound s
-  connect_by old new made system entity call None sound there is s =
-      begun old new made system entity call (least_free (clock_of link steps old) entity) sound there (audible (clock_of link steps old) entity call.octets is) refl s
+  connect_by : (old new : World C) (made : List Event) (system : ℕ) (entity : Entity) (request : ConnectRequest) (why : Option ConnectRefusal) → AreSound old.entities → entity_at old.entities system ≡ Some entity
+      → connect_refusal (clock_of link steps old) entity request.octets ≡ why → ConnectsBy link steps old system entity request why made new → Ran old made new
+  connect_by old new made system entity request (Some why) sound there is s = refused old new made _ sound s
+  connect_by old new made system entity request None sound there is s =
+      begun old new made system entity request (least_free (clock_of link steps old) entity) sound there (audible (clock_of link steps old) entity request.octets is) refl s
 
   -- a system begins again
   began_again : (old new : World C) (made : List Event) (system : ℕ) → AreSound old.entities → Restarts link steps old system made new → Ran old made new
@@ -393,43 +394,23 @@ module _ (timers : Timers) {C : Type 0} (link : C → Link (List ℕ)) (steps : 
         let first : Ran old here mid = delivered old mid here pair.0 pair.1 picks.Taken sound delivers in
         ran_then old mid new made here rest first (settled (count + 1) mid rest new first.sound settles) made_is
 
-    -- ---- the lines
+    -- ---- the calls
 
-    line_ran : (titles : List (List ℕ)) (line : Line) (old new : World C) (made : List Event) → AreSound old.entities → RunsLine link steps wrap titles old line made new → Ran old made new
-    line_ran titles lines.Nothing old new made sound s = ran_told old new made [] sound tt s.0 s.1
-    line_ran titles (lines.Connect system selector to called options octets) old new made sound s =
-        let connects = s.4.4 in
-        connect_by old new made system connects.0 s.1 (connect_refusal (clock_of link steps old) connects.0 s.1.octets) sound connects.1 refl connects.2
-    line_ran titles (lines.Accept end options octets) old new made sound s = call_at old new made end _ (end_numbered old.ends end) sound s
-    line_ran titles (lines.Refuse end octets) old new made sound s = call_at old new made end _ (end_numbered old.ends end) sound s
-    line_ran titles (lines.Disconnect end octets) old new made sound s = call_at old new made end _ (end_numbered old.ends end) sound s
-    line_ran titles (lines.Data end octets) old new made sound s = call_at old new made end _ (end_numbered old.ends end) sound s
-    line_ran titles (lines.Expedite end octets) old new made sound s = call_at old new made end _ (end_numbered old.ends end) sound s
-    line_ran titles (lines.Window end credit) old new made sound s = call_at old new made end _ (end_numbered old.ends end) sound s
-    line_ran titles (lines.Unit system to wish octets) old new made sound s = raw_ran old new s.4.0 made system s.0 s.1 octets wish sound s.4.1 s.4.2
-    line_ran titles lines.Tick old new made sound s = ticked old new made sound s
-    line_ran titles (lines.Deliver number system) old new made sound s = delivered old new made number system s.0 sound s.1
-    line_ran titles lines.Settle old new made sound s = settled 0 old made new sound s
-    line_ran titles (lines.Inject lan system octets) old new made sound s = injected old new made lan system octets s.0 sound s.1
-    line_ran titles (lines.Restart system) old new made sound s = began_again old new made system sound s
-    line_ran titles (lines.Send system selector to called octets) old new made sound s = absurd s
-    line_ran titles (lines.Version version) old new made sound s = absurd s
-    line_ran titles (lines.Set key value) old new made sound s = absurd s
-    line_ran titles (lines.Lan name bound room) old new made sound s = absurd s
-    line_ran titles (lines.Es name title) old new made sound s = absurd s
-    line_ran titles (lines.Is name title) old new made sound s = absurd s
-    line_ran titles (lines.Port system lan snpa) old new made sound s = absurd s
-    line_ran titles (lines.Route system prefix hop lan) old new made sound s = absurd s
-    line_ran titles (lines.Path name kind systems) old new made sound s = absurd s
-    line_ran titles (lines.Tsap system selector) old new made sound s = absurd s
-    line_ran titles (lines.Relay system selector to called) old new made sound s = absurd s
-    line_ran titles lines.Start old new made sound s = absurd s
+    call_ran : (call : WorldCall) (old new : World C) (made : List Event) → AreSound old.entities → DoesCall link steps wrap old call made new → Ran old made new
+    call_ran (requests.Connect system request) old new made sound s = connect_by old new made system s.0 request (connect_refusal (clock_of link steps old) s.0 request.octets) sound s.1 refl s.2
+    call_ran (requests.Ask end call) old new made sound s = call_at old new made end call (end_numbered old.ends end) sound s
+    call_ran (requests.Raw system sender receiver wish octets) old new made sound s = raw_ran old new s.0 made system sender receiver octets wish sound s.1 s.2
+    call_ran (requests.Deliver number system answer) old new made sound s = delivered old new made number system answer sound s
+    call_ran (requests.Inject lan system octets answer) old new made sound s = injected old new made lan system octets answer sound s
+    call_ran (requests.Restart system) old new made sound s = began_again old new made system sound s
+    call_ran requests.Pass old new made sound s = ticked old new made sound s
+    call_ran requests.Settle old new made sound s = settled 0 old made new sound s
 
-    lines_ran : (titles : List (List ℕ)) (script : List Line) (first last : World C) (made : List Event) → AreSound first.entities → RunsLines link steps wrap titles first script made last → Ran first made last
-    lines_ran titles [] first last made sound s = ran_told first last made [] sound tt s.0 s.1
-    lines_ran titles (line ∷ script) first last made sound s =
-        let one : Ran first s.1 s.0 = line_ran titles line first s.0 s.1 sound s.3 in
-        ran_then first s.0 last made s.1 s.2 one (lines_ran titles script s.0 last s.2 one.sound s.5) s.4
+    calls_ran : (calls : List WorldCall) (first last : World C) (made : List Event) → AreSound first.entities → DidAll link steps wrap first calls made last → Ran first made last
+    calls_ran [] first last made sound s = ran_told first last made [] sound tt s.0 s.1
+    calls_ran (call ∷ calls) first last made sound s =
+        let one : Ran first s.1 s.0 = call_ran call first s.0 s.1 sound s.3 in
+        ran_then first s.0 last made s.1 s.2 one (calls_ran calls s.0 last s.2 one.sound s.5) s.4
 
   -- ---- the start
 
@@ -468,18 +449,19 @@ module _ (timers : Timers) {C : Type 0} (link : C → Link (List ℕ)) (steps : 
         (subst (λ (s : Seen). Runs frozen unused (Clock 0 ∷ kinds_of others) s)
         (sym (ap seen_of start.becomes ∙ seen_same (record { clock = (link start.below).clock; entities = placed; ends = [] }) unused clock refl refl)) runs)
 
-    silent_from : (made : C) (begun_by journal : List Event) (script : List Line) (first last : World C) → IsFirst timers.life titles (link made) placed
-        → Starts link steps made placed begun_by first → RunsLines link steps wire titles first script journal last → KeepsSilence frozen (begun_by ++ journal)
-    silent_from made begun_by journal script first last is start run =
+    silent_from : (made : C) (begun_by journal : List Event) (calls : List WorldCall) (first last : World C) → IsFirst timers.life titles (link made) placed
+        → Starts link steps made placed begun_by first → DidAll link steps wire first calls journal last → KeepsSilence frozen (begun_by ++ journal)
+    silent_from made begun_by journal calls first last is start did =
         let sound : AreSound first.entities = subst (λ (w : World C). AreSound w.entities) (sym start.becomes) first_sound in
-        let ran : Ran first journal last = lines_ran wire titles script first last journal sound run in
+        let ran : Ran first journal last = calls_ran wire calls first last journal sound did in
         let runs : Runs frozen unused (kinds_of (begun_by ++ journal)) (seen_of last) =
         subst (λ (ks : List Kind). Runs frozen unused ks (seen_of last)) (sym (map_append begun_by journal))
         (runs_then frozen unused (seen_of first) (seen_of last) (kinds_of begun_by) (kinds_of journal) (started made begun_by first is start) ran.runs) in
         keeps_silent frozen (begun_by ++ journal) (keeps_silence frozen unused (seen_of last) (kinds_of (begun_by ++ journal)) is_unused runs)
 
 -- after a system began again nothing is told of the ends that it had, and it makes none for as long as references are frozen
-pub stays_silent : {C : Type 0} (link : C → Link (List ℕ)) (steps : C → Call (List ℕ) → C → Type 0) → ((old : C) (call : Call (List ℕ)) (new : C) → steps old call new → Keeps (link old) call (link new))
-    → StaysSilent link steps
-stays_silent link steps law titles timers made placed begun journal script first last is untouched start run =
-    silent_from timers link steps law titles placed is.entities untouched made begun journal script first last is start run
+pub calls_silent : {C : Type 0} (link : C → Link (List ℕ)) (steps : C → Call (List ℕ) → C → Type 0) → ((old : C) (call : Call (List ℕ)) (new : C) → steps old call new → Keeps (link old) call (link new))
+    → CallsAreSilent link steps
+calls_silent link steps law titles timers journal last a =
+    subst (KeepsSilence (frozen_for timers)) (sym a.journal_is)
+    (silent_from timers link steps law titles a.placed a.is_first.entities a.untouched a.made a.begun a.later a.calls a.first last a.is_first a.starts a.did)

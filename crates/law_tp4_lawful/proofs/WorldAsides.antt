@@ -8,6 +8,8 @@ use Rattle.osi_base.specs.declared.note.Note.{Note}
 use Rattle.osi_base.specs.declared.note.Note.TheVariants as notes
 use Rattle.osi_base.specs.declared.unit.Offered.{Offered}
 use Rattle.osi_base.specs.declared.unit.Offered.TheVariants.{Taken as WasTaken, Dropped}
+use Rattle.osi_base.specs.declared.unit.Injected.{Injected}
+use Rattle.osi_base.specs.declared.unit.Injected.TheVariants as injects
 use Rattle.osi_base.specs.declared.unit.Picked.{Picked}
 use Rattle.osi_base.specs.declared.unit.Picked.TheVariants as picks
 use Rattle.osi_base.specs.declared.unit.Up.{Up}
@@ -18,7 +20,7 @@ use Rattle.osi_journal.specs.declared.event.Event.TheVariants as events
 use Rattle.net_world.specs.Told.{note_event, picked_event, sent_event, shown_at, told}
 use Rattle.law_tp4_history.specs.Journals.{IsAside, makes_end}
 use Rattle.law_tp4_history.proofs.Appended.{shown-append, submitted-append}
-use Rattle.tp4_world.specs.Telling.{drop_events}
+use Rattle.tp4_world.specs.Telling.{drop_events, inject_event}
 
 -- the event tells no unit and makes no end
 pub record IsQuiet (event : Event) : Type 0 where
@@ -90,3 +92,7 @@ picked_quiet number system picks.NoSuch = record { submits = λ end. refl; shows
 picked_quiet number system picks.Late = record { submits = λ end. refl; shows = λ end. refl; makes = refl }
 picked_quiet number system picks.NotThere = record { submits = λ end. refl; shows = λ end. refl; makes = refl }
 picked_quiet number system picks.NotOurs = record { submits = λ end. refl; shows = λ end. refl; makes = refl }
+
+pub inject_quiet : (system : ℕ) (answer : Injected) → IsQuiet (inject_event system answer)
+inject_quiet system injects.Taken = record { submits = λ end. refl; shows = λ end. refl; makes = refl }
+inject_quiet system injects.NotThere = record { submits = λ end. refl; shows = λ end. refl; makes = refl }

@@ -1,4 +1,4 @@
--- What users ask, and what a line of a script does: the history goes on beside it, and at its end no end is due.
+-- What users ask, and what a call of a network does: the history goes on beside it, and at its end no end is due.
 use Rattle.std.proofs.Common.{◌≡◌, ℕ, ◌+◌, ◌≤◌, Bool, true, false, List, [], ◌∷◌, ◌++◌, length, Option, Some, None, refl, sym, ◌∙◌, ap, subst, append_assoc}
 use Rattle.std.specs.List.{AllByRecursion}
 use Rattle.osi_base.specs.declared.unit.Picked.TheVariants.{Taken as WasPicked}
@@ -10,16 +10,12 @@ use Rattle.osi_journal.specs.declared.cause.Settled.TheVariants.{Settled, Stoppe
 use Rattle.osi_journal.specs.declared.cause.Standing.TheVariants.{Ended}
 use Rattle.osi_journal.specs.declared.event.Event.{Event}
 use Rattle.osi_journal.specs.declared.event.Event.TheVariants as events
-use Rattle.osi_script.specs.declared.line.Line.{Line}
-use Rattle.osi_script.specs.declared.line.Line.TheVariants as lines
 use Rattle.tp4_number.specs.Number.{whole}
-use Rattle.tp4_flow.specs.declared.rules.Options.{Options}
 use Rattle.tp4_conn.specs.Calls.{IsCall}
 use Rattle.tp4_conn.specs.End.{IsSized, IsTimed}
 use Rattle.tp4_conn.specs.Proper.{IsProperCall}
-use Rattle.tp4_conn.specs.declared.call.ConnectCall.{ConnectCall}
+use Rattle.tp4_conn.specs.declared.call.ConnectRequest.{ConnectRequest}
 use Rattle.tp4_conn.specs.declared.call.UserCall.{UserCall}
-use Rattle.tp4_conn.specs.declared.call.UserCall.TheVariants as asks
 use Rattle.tp4_conn.specs.declared.timers.Timers.{Timers}
 use Rattle.tp4_entity.specs.declared.refusal.ConnectRefusal.{ConnectRefusal}
 use Rattle.tp4_entity.specs.declared.refusal.EntityRefusal.{EntityRefusal}
@@ -28,25 +24,26 @@ use Rattle.tp4_entity.specs.References.{least_free, is_silent}
 use Rattle.tp4_entity.specs.Step.{call_of, calling, connect_refusal, connecting, user_refusal}
 use Rattle.tp4_entity.proofs.Beginning.{audible, short}
 use Rattle.law_tp4_history.specs.Tracks.{Whole}
-use Rattle.tp4_world.specs.Laws.{IsNoInjection}
-use Rattle.tp4_world.specs.Run.{Acts, BeginsAt, Calls, CallsAt, CallsBy, CallsEnd, Connects, ConnectsBy, IsRefused, NoneLeft, OneMore, RunsLine, RunsLines, Settles, TooMany, clock_of, has_ended}
+use Rattle.tp4_world.proofs.Lined.{all_did_back, injected, not_taken}
+use Rattle.tp4_world.specs.Called.{Did, DidAll, KeepsLimits, WorldCall}
+use Rattle.tp4_world.specs.Called as requests
+use Rattle.tp4_world.specs.Run.{Acts, BeginsAt, Calls, CallsAt, CallsBy, CallsEnd, Connects, ConnectsBy, IsRefused, NoneLeft, OneMore, Settles, TooMany, clock_of, has_ended}
 use Rattle.tp4_world.specs.Telling.{call_events, connect_event}
 use Rattle.tp4_world.specs.World.{World, end_numbered, entity_at}
 use Rattle.tp4_world.specs.declared.place.EndAt.{EndAt}
-use Rattle.law_tp4_lawful.specs.Headline.{IsProperLine}
 use Rattle.law_tp4_lawful.specs.steps.Worlds.{AreAtRest, Followed, OneInUnit, Outcomes, Rests}
 use Rattle.law_tp4_lawful.proofs.WorldActs.{Went, went_aside}
 use Rattle.law_tp4_lawful.proofs.WorldAsides.{AreQuiet}
 use Rattle.law_tp4_lawful.proofs.WorldFloats.{raw_goes}
-use Rattle.law_tp4_lawful.proofs.WorldHears.{Ran, delivered, ran_nowhere, ran_on, rest_then}
+use Rattle.law_tp4_lawful.proofs.WorldHears.{Ran, delivered, given_away, ran_nowhere, ran_on, rest_then}
 use Rattle.law_tp4_lawful.proofs.WorldTicks.{ticked}
 use Rattle.law_tp4_lawful.proofs.WorldRestarts.{restart_goes, restart_rests}
 
--- a connect call of a proper line
-pub record IsAsked (call : ConnectCall) : Type 0 where
-  pub size : IsSized call.options
-  pub calling : length call.from_selector ≤ 32
-  pub called : length call.to_selector ≤ 32
+-- a connect call that keeps its limits
+pub record IsAsked (request : ConnectRequest) : Type 0 where
+  pub size : IsSized request.options
+  pub calling : length request.from_selector ≤ 32
+  pub called : length request.to_selector ≤ 32
 
 module _ (titles : List (List ℕ)) (timers : Timers) (timed : IsTimed timers) {C : Type 0} (link : C → Link (List ℕ)) (steps : C → Call (List ℕ) → C → Type 0)
     (law : (old : C) (call : Call (List ℕ)) (new : C) → steps old call new → Keeps (link old) call (link new))
@@ -87,17 +84,17 @@ module _ (titles : List (List ℕ)) (timers : Timers) (timed : IsTimed timers) {
   refused old new journal made (Some why) h step =
       told_holds old new journal made (events.No why ∷ []) h (record { submits = λ end. refl; shows = λ end. refl; makes = refl }, tt) step.0 step.1
 
-  begun : (old new : World C) (journal made : List Event) (system : ℕ) (entity : Entity) (call : ConnectCall) (found : Option ℕ) → Holds old journal → entity_at old.entities system ≡ Some entity
-      → is_silent (clock_of link steps old) entity ≡ false → IsAsked call → length call.octets ≤ 32 → least_free (clock_of link steps old) entity ≡ found → BeginsAt link steps old system entity call found made new → Holds new (journal ++ made)
-  begun old new journal made system entity call None h there still asked octets least step = absurd step
-  begun old new journal made system entity call (Some reference) h there still asked octets least step =
+  begun : (old new : World C) (journal made : List Event) (system : ℕ) (entity : Entity) (request : ConnectRequest) (found : Option ℕ) → Holds old journal → entity_at old.entities system ≡ Some entity
+      → is_silent (clock_of link steps old) entity ≡ false → IsAsked request → length request.octets ≤ 32 → least_free (clock_of link steps old) entity ≡ found → BeginsAt link steps old system entity request found made new → Holds new (journal ++ made)
+  begun old new journal made system entity request None h there still asked octets least step = absurd step
+  begun old new journal made system entity request (Some reference) h there still asked octets least step =
       let w : Whole = h.w in
       let now = h.explains.carries.clock in
       let quiet : is_silent w.base.clock entity ≡ false = subst (λ (n : ℕ). is_silent n entity ≡ false) now still in
       let free : least_free w.base.clock entity ≡ Some reference = subst (λ (n : ℕ). least_free n entity ≡ Some reference) now least in
-      let event : Event = connect_event (length old.ends + 1) system reference entity.own call in
+      let event : Event = connect_event (length old.ends + 1) system reference entity.own request in
       let with_end : World C = record old { ends = old.ends ++ record { system = system; reference = reference } ∷ [] } in
-      let proper : IsProperCall (call_of entity reference call) = record {
+      let proper : IsProperCall (call_of entity reference request) = record {
         timers = subst IsTimed (sym (h.explains.known.holds system entity there).timers_are) timed;
         size = asked.size;
         calling = asked.calling;
@@ -105,24 +102,24 @@ module _ (titles : List (List ℕ)) (timers : Timers) (timed : IsTimed timers) {
         octets = octets;
       } in
       let rest = h.rest system entity there in
-      let acts : Acts link steps with_end system entity.own (connecting w.base.clock entity reference call) step.0 new =
-      subst (λ (n : ℕ). Acts link steps with_end system entity.own (connecting n entity reference call) step.0 new) now step.1 in
+      let acts : Acts link steps with_end system entity.own (connecting w.base.clock entity reference request) step.0 new =
+      subst (λ (n : ℕ). Acts link steps with_end system entity.own (connecting n entity reference request) step.0 new) now step.1 in
       let ran : Runs w ((journal ++ event ∷ []) ++ step.0) new =
-      ran_on titles timers timed link steps law followed.aside followed.meets one Sound InTime outcomes w journal (event ∷ []) step.0 with_end new system entity.own (connecting w.base.clock entity reference call)
-      h.explains.carries h.rest (followed.connects w journal old.entities old.ends system entity call reference h.explains.known there quiet proper free)
-      (outcomes.connecting w.base.clock reference entity call rest.0 rest.1 free proper) acts in
+      ran_on titles timers timed link steps law followed.aside followed.meets one Sound InTime outcomes w journal (event ∷ []) step.0 with_end new system entity.own (connecting w.base.clock entity reference request)
+      h.explains.carries h.rest (followed.connects w journal old.entities old.ends system entity request reference h.explains.known there quiet proper free)
+      (outcomes.connecting w.base.clock reference entity request rest.0 rest.1 free proper) acts in
       behind new journal made (event ∷ []) step.0 (holds w ((journal ++ event ∷ []) ++ step.0) new ran) step.2
 
-  connect_by : (old new : World C) (journal made : List Event) (system : ℕ) (entity : Entity) (call : ConnectCall) (why : Option ConnectRefusal) → Holds old journal
-      → entity_at old.entities system ≡ Some entity → IsAsked call → connect_refusal (clock_of link steps old) entity call.octets ≡ why → ConnectsBy link steps old system entity call why made new
+  connect_by : (old new : World C) (journal made : List Event) (system : ℕ) (entity : Entity) (request : ConnectRequest) (why : Option ConnectRefusal) → Holds old journal
+      → entity_at old.entities system ≡ Some entity → IsAsked request → connect_refusal (clock_of link steps old) entity request.octets ≡ why → ConnectsBy link steps old system entity request why made new
       → Holds new (journal ++ made)
-  connect_by old new journal made system entity call (Some why) h there asked is step = refused old new journal made _ h step
-  connect_by old new journal made system entity call None h there asked is step =
-      begun old new journal made system entity call (least_free (clock_of link steps old) entity) h there (audible (clock_of link steps old) entity call.octets is) asked (short (clock_of link steps old) entity call.octets is) refl step
+  connect_by old new journal made system entity request (Some why) h there asked is step = refused old new journal made _ h step
+  connect_by old new journal made system entity request None h there asked is step =
+      begun old new journal made system entity request (least_free (clock_of link steps old) entity) h there (audible (clock_of link steps old) entity request.octets is) asked (short (clock_of link steps old) entity request.octets is) refl step
 
-  connected : (old new : World C) (journal made : List Event) (system : ℕ) (call : ConnectCall) → Holds old journal → IsAsked call → Connects link steps old system call made new → Holds new (journal ++ made)
-  connected old new journal made system call h asked step =
-      connect_by old new journal made system step.0 call (connect_refusal (clock_of link steps old) step.0 call.octets) h step.1 asked refl step.2
+  connected : (old new : World C) (journal made : List Event) (system : ℕ) (request : ConnectRequest) → Holds old journal → IsAsked request → Connects link steps old system request made new → Holds new (journal ++ made)
+  connected old new journal made system request h asked step =
+      connect_by old new journal made system step.0 request (connect_refusal (clock_of link steps old) step.0 request.octets) h step.1 asked refl step.2
 
   call_by : (old new : World C) (journal made : List Event) (number : ℕ) (end : EndAt) (entity : Entity) (call : UserCall) (why : Option EntityRefusal) → Holds old journal
       → end_numbered old.ends number ≡ Some end → entity_at old.entities end.system ≡ Some entity → IsCall call → has_ended (clock_of link steps old) old.ends number end entity ≡ false
@@ -164,7 +161,7 @@ module _ (titles : List (List ℕ)) (timers : Timers) (timed : IsTimed timers) {
   raw old new journal made below h w went rest same =
       subst (λ (x : World C). Holds x (journal ++ made)) (sym same) (holds w (journal ++ made) (record old { carrier = below }) (record { went = went; rest = rest }))
 
-  -- ---- the lines
+  -- ---- the calls
 
   settled : (count : ℕ) (old : World C) (made : List Event) (new : World C) → Settles link steps whole count old made new → (journal : List Event) → Holds old journal → Holds new (journal ++ made)
   settled count old made new (NoneLeft n o m l fresh made_is same) journal h =
@@ -176,55 +173,33 @@ module _ (titles : List (List ℕ)) (timers : Timers) (timed : IsTimed timers) {
       holds h.w (journal ++ here) mid (delivered titles timers timed link steps law followed.aside followed.meets one Sound InTime outcomes h.w old mid journal here pair.0 pair.1 WasPicked h.explains h.rest delivers) in
       behind new journal made here rest (settled (count + 1) mid rest new settles (journal ++ here) first) made_is
 
-  line_holds : (line : Line) (old new : World C) (journal made : List Event) → IsNoInjection line → IsProperLine line → Holds old journal → RunsLine link steps whole titles old line made new
+  pub did_holds : (call : WorldCall) (old new : World C) (journal made : List Event) → KeepsLimits call → (link new.carrier).honest ≡ true → Holds old journal → Did link steps whole old call made new
       → Holds new (journal ++ made)
-  line_holds lines.Nothing old new journal made none proper h step = same_holds old new journal made h step.0 step.1
-  line_holds (lines.Connect system selector to called_selector options octets) old new journal made none proper h step =
-      let asks = step.4 in
-      connected old new journal made system step.1 h
-      (record {
-        size = subst (λ (o : Options). IsSized o) (sym step.3) proper.0;
-        calling = subst (λ (o : List ℕ). length o ≤ 32) (sym asks.0) proper.1;
-        called = subst (λ (o : List ℕ). length o ≤ 32) (sym asks.2) proper.2;
-      }) asks.4
-  line_holds (lines.Accept end options octets) old new journal made none proper h step = called old new journal made end _ h proper step
-  line_holds (lines.Refuse end octets) old new journal made none proper h step = called old new journal made end (asks.Refuse octets) h tt step
-  line_holds (lines.Disconnect end octets) old new journal made none proper h step = called old new journal made end (asks.Disconnect octets) h tt step
-  line_holds (lines.Data end octets) old new journal made none proper h step = called old new journal made end (asks.Normal octets) h tt step
-  line_holds (lines.Expedite end octets) old new journal made none proper h step = called old new journal made end (asks.Urgent octets) h tt step
-  line_holds (lines.Window end credit) old new journal made none proper h step = called old new journal made end (asks.Window credit) h proper step
-  line_holds (lines.Unit system to wish octets) old new journal made none proper h step =
-      let sends = step.4 in
-      let goes = raw_goes timers.life link steps law h.w.base old.carrier sends.0 system step.0 step.1 wish octets made h.explains.carries sends.1 in
-      raw old new journal made sends.0 h h.w
-      (went_aside titles timers link steps law followed.aside h.w journal made old (record old { carrier = sends.0 }) h.explains.known goes.0 goes.1 refl) h.rest sends.2
-  line_holds lines.Tick old new journal made none proper h step =
-      ticked titles timers link steps law followed.aside followed.ticks followed.clock Sound InTime outcomes h.w old new journal made h.explains h.rest step
-  line_holds (lines.Deliver number system) old new journal made none proper h step =
-      holds h.w (journal ++ made) new (delivered titles timers timed link steps law followed.aside followed.meets one Sound InTime outcomes h.w old new journal made number system step.0 h.explains h.rest step.1)
-  line_holds lines.Settle old new journal made none proper h step = settled 0 old made new step journal h
-  line_holds (lines.Inject lan system octets) old new journal made none proper h step = absurd none
-  line_holds (lines.Restart system) old new journal made none proper h step =
+  did_holds (requests.Connect system request) old new journal made limits honest h step =
+      connected old new journal made system request h (record { size = limits.0; calling = limits.1; called = limits.2 }) step
+  did_holds (requests.Ask end call) old new journal made limits honest h step = called old new journal made end call h limits step
+  did_holds (requests.Raw system sender receiver wish octets) old new journal made limits honest h step =
+      let goes = raw_goes timers.life link steps law h.w.base old.carrier step.0 system sender receiver wish octets made h.explains.carries step.1 in
+      raw old new journal made step.0 h h.w
+      (went_aside titles timers link steps law followed.aside h.w journal made old (record old { carrier = step.0 }) h.explains.known goes.0 goes.1 refl) h.rest step.2
+  did_holds (requests.Deliver number system answer) old new journal made limits honest h step =
+      holds h.w (journal ++ made) new (delivered titles timers timed link steps law followed.aside followed.meets one Sound InTime outcomes h.w old new journal made number system answer h.explains h.rest step)
+  did_holds (requests.Inject lan system octets answer) old new journal made limits honest h step =
+      holds h.w (journal ++ made) new
+      (given_away titles timers timed link steps law followed.aside followed.meets one Sound InTime outcomes h.w old new journal made lan system octets answer
+      (not_taken link steps law old new answer made (injected link steps law whole old new lan system octets answer made step) honest) h.explains h.rest step)
+  did_holds (requests.Restart system) old new journal made limits honest h step =
       holds h.w (journal ++ made) new (record {
         went = restart_goes titles timers link steps law followed.aside followed.restarts h.w old new journal made system h.explains step;
         rest = restart_rests link steps Sound h.w.base.clock old new made system h.explains.carries.clock h.rest (λ e sound. outcomes.restarting h.w.base.clock e sound) step;
       })
-  line_holds (lines.Send system selector to called octets) old new journal made none proper h step = absurd step
-  line_holds (lines.Version version) old new journal made none proper h step = absurd step
-  line_holds (lines.Set key value) old new journal made none proper h step = absurd step
-  line_holds (lines.Lan name bound room) old new journal made none proper h step = absurd step
-  line_holds (lines.Es name title) old new journal made none proper h step = absurd step
-  line_holds (lines.Is name title) old new journal made none proper h step = absurd step
-  line_holds (lines.Port system lan snpa) old new journal made none proper h step = absurd step
-  line_holds (lines.Route system prefix hop lan) old new journal made none proper h step = absurd step
-  line_holds (lines.Path name kind systems) old new journal made none proper h step = absurd step
-  line_holds (lines.Tsap system selector) old new journal made none proper h step = absurd step
-  line_holds (lines.Relay system selector to called) old new journal made none proper h step = absurd step
-  line_holds lines.Start old new journal made none proper h step = absurd step
+  did_holds requests.Pass old new journal made limits honest h step =
+      ticked titles timers link steps law followed.aside followed.ticks followed.clock Sound InTime outcomes h.w old new journal made h.explains h.rest step
+  did_holds requests.Settle old new journal made limits honest h step = settled 0 old made new step journal h
 
-  pub lines_hold : (script : List Line) (first last : World C) (journal rest : List Event) → AllByRecursion IsNoInjection script → AllByRecursion IsProperLine script → Rests link Sound titles timers journal first
-      → RunsLines link steps whole titles first script rest last → Rests link Sound titles timers (journal ++ rest) last
-  lines_hold [] first last journal rest none proper h run = same_holds first last journal rest h run.0 run.1
-  lines_hold (line ∷ script) first last journal rest none proper h run =
-      let here : Holds run.0 (journal ++ run.1) = line_holds line first run.0 journal run.1 none.0 proper.0 h run.3 in
-      behind last journal rest run.1 run.2 (lines_hold script run.0 last (journal ++ run.1) run.2 none.1 proper.1 here run.5) run.4
+  pub calls_hold : (calls : List WorldCall) (first last : World C) (journal rest : List Event) → (link last.carrier).honest ≡ true → AllByRecursion KeepsLimits calls → Rests link Sound titles timers journal first
+      → DidAll link steps whole first calls rest last → Rests link Sound titles timers (journal ++ rest) last
+  calls_hold [] first last journal rest honest limits h run = same_holds first last journal rest h run.0 run.1
+  calls_hold (call ∷ calls) first last journal rest honest limits h run =
+      let here : Holds run.0 (journal ++ run.1) = did_holds call first run.0 journal run.1 limits.0 (all_did_back link steps law whole calls run.0 last run.2 run.5 honest) h run.3 in
+      behind last journal rest run.1 run.2 (calls_hold calls run.0 last (journal ++ run.1) run.2 honest limits.1 here run.5) run.4

@@ -1,19 +1,21 @@
 -- What is seen of a carrier beside a history: what entities offer floats as it was offered, and what comes up for transport was offered, at
 -- most the lifetime ago.
 use Rattle.std.proofs.Common.{◌≡◌, ℕ, ◌+◌, ◌≤◌, true, List, [], ◌∷◌, refl, sym, ◌∙◌, ap, subst, inl, inr, arith}
-use Rattle.std.specs.Prelude.{◌==◌}
+use Rattle.std.specs.Prelude.{◌≢◌, ◌==◌}
 use Rattle.std.specs.List.{All, Contains}
 use Rattle.std.proofs.lemmas.List.Elements.{All-head, All-tail}
 use Rattle.nsap.specs.Address.{selector_of, system_part}
 use Rattle.nsap.proofs.AddressLemmas.{selector_of-append}
 use Rattle.osi_base.specs.declared.unit.Offered.{Offered}
+use Rattle.osi_base.specs.declared.unit.Injected.{Injected}
+use Rattle.osi_base.specs.declared.unit.Injected.TheVariants.{Taken as WasInjected}
 use Rattle.osi_base.specs.declared.unit.Picked.{Picked}
 use Rattle.osi_base.specs.declared.unit.Unit.{Unit as CarriedUnit}
 use Rattle.osi_base.specs.declared.unit.Up.{Up}
 use Rattle.osi_base.specs.declared.unit.Up.TheVariants.{Unit as Came, Note as Noted}
 use Rattle.osi_base.specs.declared.unit.Wish.{Wish}
-use Rattle.osi_base.specs.Link.{Link, IsLawful}
-use Rattle.osi_base.specs.Calls.{Call, Choose, Keeps, Offer, Tick}
+use Rattle.osi_base.specs.Link.{Link, IsLawful, IsNote}
+use Rattle.osi_base.specs.Calls.{Call, Choose, Inject, Keeps, Offer, Tick}
 use Rattle.osi_base.specs.Gathering.{Gathers}
 use Rattle.osi_journal.specs.RawLawful.{raw_address}
 use Rattle.osi_journal.specs.declared.event.Event.{Event}
@@ -168,6 +170,29 @@ module _ (life : ℕ) {C : Type 0} (link : C → Link (List ℕ)) (steps : C →
           backed = λ entry there transport. c.backed entry (chooses.grows entry (up.grows entry there)) transport;
         },
         lawful_explained h old ups c lawful,
+      )
+
+  -- octets that were given to no system
+  notes_explained : (h : History) (ups : List (Up (List ℕ))) → All IsNote ups → AreExplained life h ups
+  notes_explained h [] all = tt
+  notes_explained h (Noted note ∷ ups) all = (tt, notes_explained h ups (All-tail IsNote (Noted note) ups all))
+  notes_explained h (Came arrival ∷ ups) all = absurd (All-head IsNote (Came arrival) ups all)
+
+  pub injection_goes : (h : History) (old new : C) (lan system : ℕ) (octets : List ℕ) (answer : Injected) (ups : List (Up (List ℕ))) → answer ≢ WasInjected → Carries life h (link old)
+      → Passes link steps old (Inject lan system octets answer) ups new → Carries life h (link new) × AreExplained life h ups
+  injection_goes h old new lan system octets answer ups refused c pass =
+      let injects = law old (Inject lan system octets answer) pass.called pass.steps_to in
+      let up = pass.gathers in
+      let waited = these_waited (link old) injects.ups ups (link pass.called).waiting c.quiet injects.adds.waiting up.waited in
+      let notes : All IsNote ups = subst (λ (u : List (Up (List ℕ))). All IsNote u) waited (injects.refused refused) in (
+        record {
+          clock = up.stands.clock ∙ injects.clock ∙ c.clock;
+          quiet = up.quiet;
+          honest = up.stands.honest ∙ injects.honest refused ∙ c.honest;
+          bounds = bounds_on life (link pass.called).bound (link new).bound up.stands.same.bound (bounds_on life (link old).bound (link pass.called).bound injects.same.bound c.bounds);
+          backed = λ entry there transport. c.backed entry (injects.grows entry (up.grows entry there)) transport;
+        },
+        notes_explained h ups notes,
       )
 
   -- a tick, which the history takes too

@@ -1,10 +1,12 @@
 -- A unit that came up was offered as one TPDU: its entity meets that TPDU, or tells a fault; the history follows, and no end is due then.
 use Rattle.std.proofs.Common.{◌≡◌, ℕ, Bool, true, false, List, [], ◌∷◌, ◌++◌, Option, Some, None, refl, sym, ◌∙◌, ap, subst, inl, inr, append_assoc}
-use Rattle.std.specs.Prelude.{◌==◌, ◌&&◌, nat_eq}
+use Rattle.std.specs.Prelude.{◌≢◌, ◌==◌, ◌&&◌, nat_eq}
 use Rattle.std.specs.Cmp.Lexicographic.{pointwise, same_text}
 use Rattle.std.proofs.lemmas.List.{append-nil}
 use Rattle.nsap.specs.Address.{selector_of}
 use Rattle.osi_base.specs.declared.unit.Arrival.{Arrival}
+use Rattle.osi_base.specs.declared.unit.Injected.{Injected}
+use Rattle.osi_base.specs.declared.unit.Injected.TheVariants.{Taken as WasInjected}
 use Rattle.osi_base.specs.declared.unit.Picked.{Picked}
 use Rattle.osi_base.specs.declared.unit.Unit.{Unit as CarriedUnit}
 use Rattle.osi_base.specs.declared.unit.Up.{Up}
@@ -29,16 +31,16 @@ use Rattle.tp4_entity.specs.Unit.{HearsUnit, all_met, extended_of, ignored, Take
 use Rattle.law_tp4_history.specs.History.{Note}
 use Rattle.law_tp4_history.specs.Tracks.{Nothing, Whole, onward}
 use Rattle.law_tp4_moves.specs.Moves.{times_of}
-use Rattle.tp4_world.specs.Run.{Acts, Delivers, HearsAll, HearsIf, is_for}
-use Rattle.tp4_world.specs.Telling.{ends_after, events_after, told_fault}
+use Rattle.tp4_world.specs.Run.{Acts, Delivers, HearsAll, HearsIf, Injects, is_for}
+use Rattle.tp4_world.specs.Telling.{ends_after, events_after, inject_event, told_fault}
 use Rattle.tp4_world.specs.World.{World, entity_at, with_entity}
 use Rattle.tp4_world.specs.declared.place.EndAt.{EndAt}
 use Rattle.tp4_world.specs.declared.place.Placed.{Placed}
 use Rattle.law_tp4_lawful.specs.steps.Known.{AfterAside, AfterMeet, Follows, GoesOn, IsReadAs, Known}
 use Rattle.law_tp4_lawful.specs.steps.Worlds.{AreAtRest, AreExplained, Carries, Explains, HasCome, OneInUnit, Outcomes}
 use Rattle.law_tp4_lawful.proofs.WorldActs.{Went, went_aside, went_nowhere, went_on, went_then}
-use Rattle.law_tp4_lawful.proofs.WorldAsides.{are_aside, picked_quiet, told_quiet}
-use Rattle.law_tp4_lawful.proofs.WorldFloats.{all_explained_on, choice_goes}
+use Rattle.law_tp4_lawful.proofs.WorldAsides.{are_aside, inject_quiet, picked_quiet, told_quiet}
+use Rattle.law_tp4_lawful.proofs.WorldFloats.{all_explained_on, choice_goes, injection_goes}
 use Rattle.law_tp4_lawful.proofs.WorldKnown.{known_at, rest_with}
 use Rattle.law_tp4_lawful.proofs.WorldPlaces.{with_again}
 use Rattle.tp4_world.proofs.Having.{with_first}
@@ -245,4 +247,18 @@ module _ (titles : List (List ℕ)) (timers : Timers) (timed : IsTimed timers) {
       let rest : Ran first.next ((journal ++ front) ++ step.later) new =
       heard_all step.ups first.next mid new (journal ++ front) step.later first.explains (rest_then w first.next old.entities first.goes_on rested)
       (all_explained_on timers.life w.base first.next.base step.ups first.goes_on chosen.1) step.hears in
+      ran_as w new journal front step.later made step.made_is (ran_then w ((journal ++ front) ++ step.later) (journal ++ front) mid new first rest)
+
+  -- octets that were given to no system
+  pub given_away : (w : Whole) (old new : World C) (journal made : List Event) (lan system : ℕ) (octets : List ℕ) (answer : Injected) → answer ≢ WasInjected → Explains link titles timers w journal old
+      → AreAtRest Sound w.base.clock old.entities → Injects link steps whole old lan system octets answer made new → Ran w (journal ++ made) new
+  given_away w old new journal made lan system octets answer refused e rested step =
+      let front : List Event = inject_event system answer ∷ told step.ups in
+      let mid : World C = record old { carrier = step.below } in
+      let given = injection_goes timers.life link steps law w.base old.carrier step.below lan system octets answer step.ups refused e.carries step.passes in
+      let first : Went titles timers link steps law aside w (journal ++ front) mid =
+      went_aside titles timers link steps law aside w journal front old mid e.known given.0 (inject_quiet system answer, told_quiet step.ups) refl in
+      let rest : Ran first.next ((journal ++ front) ++ step.later) new =
+      heard_all step.ups first.next mid new (journal ++ front) step.later first.explains (rest_then w first.next old.entities first.goes_on rested)
+      (all_explained_on timers.life w.base first.next.base step.ups first.goes_on given.1) step.hears in
       ran_as w new journal front step.later made step.made_is (ran_then w ((journal ++ front) ++ step.later) (journal ++ front) mid new first rest)

@@ -6,8 +6,8 @@ use Rattle.tp4_conn.specs.Dues.{IsBefore}
 use Rattle.tp4_conn.specs.End.{End as ConnEnd}
 use Rattle.tp4_conn.specs.Living.{IsInTime}
 use Rattle.tp4_conn.specs.Table.{due}
-use Rattle.tp4_conn.specs.declared.base.Base.{Base}
-use Rattle.tp4_conn.specs.declared.stage.Stage.{Stage}
+use Rattle.tp4_conn.specs.declared.end_record.EndRecord.{EndRecord}
+use Rattle.tp4_conn.specs.declared.states.StateData.{StateData}
 use Rattle.tp4_conn.specs.declared.timers.Timers.{Timers}
 use Rattle.tp4_entity.specs.Entity.{Entity, end_at}
 use Rattle.law_tp4_history.specs.Ends.{Terms}
@@ -68,7 +68,7 @@ module _ (titles : List (List ℕ)) (timers : Timers) (w : Whole) (journal : Lis
 
 -- halves that stand in lines stand there a tick later
 abbrev pub StandLater : Type 0
-StandLater = (terms : Terms) (b : Base) (stage : Stage) (own theirs : Track) → Stands terms b stage own theirs → Stands terms b stage (clocked own) (clocked theirs)
+StandLater = (terms : Terms) (b : EndRecord) (stage : StateData) (own theirs : Track) → Stands terms b stage own theirs → Stands terms b stage (clocked own) (clocked theirs)
 
 pub after_clock : StandLater → (titles : List (List ℕ)) (timers : Timers) → AfterClock titles timers
 after_clock later titles timers w journal made entities ends known idle aside =

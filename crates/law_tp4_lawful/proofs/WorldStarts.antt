@@ -1,5 +1,4 @@
--- A network before its first line is explained by a history in which nothing ever was. So a run of lines is explained, and its journal, which that
--- history writes, is lawful.
+-- A network before its first call is explained by a history in which nothing ever was.
 use Rattle.std.proofs.Common.{◌≡◌, ℕ, zero, suc, ◌-◌, ◌≤◌, ◌==◌, Bool, true, false, if◌then◌else◌, cond, List, [], ◌∷◌, ◌++◌, length, replicate, Option, Some, None, refl, sym, ◌∙◌, ap, subst, arith, append_assoc}
 use Rattle.std.specs.Prelude.{option_map, slice_get}
 use Rattle.std.specs.List.{AllByRecursion, find}
@@ -7,29 +6,28 @@ use Rattle.nsap.specs.Address.{is_same_system, system_part}
 use Rattle.nsap.proofs.AddressLemmas.{is_same_system-Decides, system_part-append}
 use Rattle.osi_base.specs.Link.{Link}
 use Rattle.osi_base.specs.Calls.{Call, Keeps}
-use Rattle.osi_journal.specs.Lawful.{AllQueues, KeepsSilence}
+use Rattle.osi_journal.specs.Lawful.{KeepsSilence}
 use Rattle.osi_journal.specs.declared.event.Event.{Event}
 use Rattle.osi_journal.specs.declared.event.Event.TheVariants as events
 use Rattle.net_world.specs.Told.{told}
-use Rattle.tp4_conn.specs.End.{End, IsTimed, frozen_for}
+use Rattle.tp4_conn.specs.End.{End, IsTimed}
 use Rattle.tp4_conn.specs.declared.timers.Timers.{Timers}
 use Rattle.tp4_entity.specs.Entity.{Entity, end_at, there}
-use Rattle.law_tp4_history.specs.Ends.{CrWait, End as HistoryEnd, IsFit, Times}
+use Rattle.law_tp4_history.specs.Ends.{CrWait, End as HistoryEnd, Times}
 use Rattle.law_tp4_history.specs.History.{nothing}
 use Rattle.law_tp4_history.specs.Journals.{Written}
 use Rattle.law_tp4_history.specs.Line.{empty}
 use Rattle.law_tp4_history.specs.Tracks.{IsNothing, Track, Whole}
 use Rattle.law_tp4_moves.specs.Moves.{times_of}
-use Rattle.tp4_world.specs.Laws.{HasNoEnd, IsFirst, IsNew, WholeRun}
+use Rattle.tp4_world.specs.Laws.{HasNoEnd, IsFirst, IsNew}
 use Rattle.tp4_world.specs.Run.{Starts, transport_address}
 use Rattle.tp4_world.specs.World.{World, entity_at, is_of}
 use Rattle.tp4_world.specs.declared.place.Placed.{Placed}
-use Rattle.law_tp4_lawful.specs.Headline.{AreDistinct, IsUntouched, ReceivesWhatWasSubmitted, StaysSilent}
+use Rattle.law_tp4_lawful.specs.Headline.{AreDistinct, IsUntouched}
 use Rattle.law_tp4_lawful.specs.steps.Known.{Holds, IsThere, Known}
-use Rattle.law_tp4_lawful.specs.steps.Worlds.{AreAtRest, Followed, OneInUnit, Outcomes, Rests}
+use Rattle.law_tp4_lawful.specs.steps.Worlds.{AreAtRest, Followed, Outcomes, Rests}
 use Rattle.law_tp4_lawful.proofs.WorldActs.{Went, went_aside}
 use Rattle.law_tp4_lawful.proofs.WorldAsides.{told_quiet}
-use Rattle.law_tp4_lawful.proofs.WorldCalls.{lines_hold}
 use Rattle.law_tp4_lawful.proofs.WorldFloats.{start_goes}
 use Rattle.law_tp4_lawful.proofs.WorldPlaces.{none_some, some_same}
 
@@ -176,7 +174,7 @@ module _ (titles : List (List ℕ)) (timers : Timers) (timed : IsTimed timers) (
       (record { w = went.next; explains = went.explains; rest = first_rest Sound InTime outcomes went.next.base.clock }))
 
 -- a front of a journal that keeps silence keeps it
-front_silent : (frozen : ℕ) (front back : List Event) → KeepsSilence frozen (front ++ back) → KeepsSilence frozen front
+pub front_silent : (frozen : ℕ) (front back : List Event) → KeepsSilence frozen (front ++ back) → KeepsSilence frozen front
 front_silent frozen front back s = record {
   lost = λ first middle rest last making event end system is.
       s.lost first middle rest (last ++ back) making event end system
@@ -188,25 +186,3 @@ front_silent frozen front back s = record {
       (ap (λ (xs : List Event). xs ++ back) is ∙ append_assoc first (events.Restart system ∷ (middle ++ making ∷ last)) back
       ∙ ap (λ (xs : List Event). first ++ events.Restart system ∷ xs) (append_assoc middle (making ∷ last) back));
 }
-
--- the laws of histories that the conclusion takes
-pub record Histories : Type 0 where
-  pub fit : (t : Timers) → IsFit (times_of t)
-  pub begins : (times : Times) (titles : List (List ℕ)) (w : Whole) → IsNothing w → Written times titles w []
-  pub lawful : (times : Times) (titles : List (List ℕ)) (w : Whole) (journal : List Event) → IsFit times → Written times titles w journal → AllQueues titles journal
-
--- what is shown was submitted
-pub receives : {C : Type 0} (link : C → Link (List ℕ)) (steps : C → Call (List ℕ) → C → Type 0) (law : (old : C) (call : Call (List ℕ)) (new : C) → steps old call new → Keeps (link old) call (link new))
-    → WholeRun link steps → ((titles : List (List ℕ)) (timers : Timers) → Followed titles timers) → OneInUnit → (Sound : Entity → Type 0) (InTime : ℕ → Entity → Type 0) → Outcomes Sound InTime → Histories
-    → StaysSilent link steps → ReceivesWhatWasSubmitted link steps
-receives {C} link steps law whole_run followed one Sound InTime outcomes histories silent titles timers made placed begun journal script first last timed inactive distinct is untouched start none proper run =
-    let silence : KeepsSilence (frozen_for timers) (begun ++ journal) = silent titles timers made placed begun journal script first last is untouched start run in
-    let f = followed titles timers in
-    let rests : Rests link Sound titles timers begun first =
-    started titles timers timed inactive distinct placed is.entities untouched histories.begins link steps law f Sound InTime outcomes made begun first is start in
-    let new : AllByRecursion (λ (x : Placed). HasNoEnd x.entity) first.entities =
-    subst (λ (x : World C). AllByRecursion (λ (y : Placed). HasNoEnd y.entity) x.entities) (sym start.becomes) (no_ends titles placed is.entities) in
-    let above = whole_run titles first script journal last new run in
-    let all = lines_hold titles timers timed link steps law f one Sound InTime outcomes script first above.0 begun journal none proper rests above.1 in
-    let queues : AllQueues titles (begun ++ journal) = histories.lawful (times_of timers) titles all.w (begun ++ journal) (histories.fit timers) all.explains.known.written in
-    λ front back at. record { queues = queues front back at; silence = front_silent (frozen_for timers) front back (subst (KeepsSilence (frozen_for timers)) at silence) }

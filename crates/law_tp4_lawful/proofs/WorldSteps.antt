@@ -8,10 +8,10 @@ use Rattle.tp4_number.specs.Number.{whole}
 use Rattle.tp4_conn.specs.Calls.{call_refusal}
 use Rattle.tp4_conn.specs.End.{End as ConnEnd, Moved, end_of, frozen_for}
 use Rattle.tp4_conn.specs.Table.{Called, Ticked, due, on_tick, stepped}
-use Rattle.tp4_conn.specs.declared.base.Base.{Base}
+use Rattle.tp4_conn.specs.declared.end_record.EndRecord.{EndRecord}
 use Rattle.tp4_conn.specs.declared.call.CallRefusal.{CallRefusal}
-use Rattle.tp4_conn.specs.declared.stage.Stage.{Stage}
-use Rattle.tp4_conn.specs.declared.stage.Stage.TheVariants.{Frozen}
+use Rattle.tp4_conn.specs.declared.states.StateData.{StateData}
+use Rattle.tp4_conn.specs.declared.states.StateData.TheVariants.{Frozen}
 use Rattle.tp4_conn.specs.declared.timers.Timers.{Timers}
 use Rattle.tp4_entity.specs.Entity.{Acted, Entity, at, end_at, moved, with_end}
 use Rattle.tp4_entity.specs.References.{is_free}
@@ -170,8 +170,8 @@ module _ (titles : List (List ℕ)) (timers : Timers) (w : Whole) (journal : Lis
 -- ---- a tick
 
 -- a frozen end does nothing
-still : (b : Base) (stage : Stage) (when : ℕ) → stage ≡ Frozen when → ((on_tick b stage).events ≡ []) × ((on_tick b stage).tpdus ≡ [])
-still b stage when is = (ap (λ (s : Stage). (on_tick b s).events) is, ap (λ (s : Stage). (on_tick b s).tpdus) is)
+still : (b : EndRecord) (stage : StateData) (when : ℕ) → stage ≡ Frozen when → ((on_tick b stage).events ≡ []) × ((on_tick b stage).tpdus ≡ [])
+still b stage when is = (ap (λ (s : StateData). (on_tick b s).events) is, ap (λ (s : StateData). (on_tick b s).tpdus) is)
 
 acted_same : (a b : Acted) → a.entity ≡ b.entity → a.events ≡ b.events → a.tpdus ≡ b.tpdus → a ≡ b
 acted_same a b one told tpdus =

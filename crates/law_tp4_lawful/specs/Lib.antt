@@ -1,3 +1,4 @@
+pub mod Called
 pub mod Headline
 pub mod Numbers
 pub mod Own

@@ -3,7 +3,7 @@
 use Rattle.std.specs.Prelude.{◌≡◌, ◌<◌, ◌≤◌, ℕ, ◌+◌, List, length, take, Some}
 use Rattle.std.specs.List.{sum_by}
 use Rattle.osi_base.specs.Link.{Link}
-use Rattle.osi_journal.specs.Lawful.{Marked, expediteds, normals, shown, submitted}
+use Rattle.osi_journal.specs.Lawful.{ArePartners, Marked, expediteds, normals, shown, submitted}
 use Rattle.osi_journal.specs.declared.event.Event.{Event}
 use Rattle.tpdu.specs.declared.tpdu.Tpdu.{Tpdu}
 use Rattle.tpdu.specs.declared.tpdu.Tpdu.TheVariants.{Dt, Ed, Ak, Ea}
@@ -15,7 +15,7 @@ use Rattle.tp4_conn.specs.declared.halves.Halves.{Halves}
 use Rattle.tp4_conn.specs.End.{End, agreed_format}
 use Rattle.tp4_entity.specs.Entity.{Entity}
 use Rattle.tp4_world.specs.World.{World}
-use Rattle.law_tp4_lawful.specs.References.{ArePartners, AreSizes, Carries, ComesTo, IsEnd, halves_at}
+use Rattle.law_tp4_lawful.specs.References.{AreSizes, Carries, ComesTo, IsEnd, halves_at}
 
 -- DT n, where `expected` is the next one: it is read as n, or, where it came before, as a number so far ahead that it is old
 pub record IsReadAsDt (block expected n : ℕ) : Type 0 where
@@ -35,14 +35,14 @@ pub record IsReadAsEd (block expected n : ℕ) : Type 0 where
   pub before : wire block (n + 1) ≡ wire block expected → n + 1 ≡ expected
 
 -- an end with these halves reads the TPDU of number n
-abbrev pub IsRead : ℕ → Halves → ℕ → Tpdu → Type 0
-IsRead block h n (Dt destination last number text) = IsReadAsDt block h.receiving.receiver.expected n
-IsRead block h n (Ed destination last number text) = IsReadAsEd block h.receiving.receiver.urgent n
-IsRead block h n (Ak destination number credit subsequence confirmation) = (number ≡ wire block n) × IsReadAsAk block h.sending.numbers.base h.sending.numbers.blocks.high n
-IsRead block h n (Ea destination number) = (number ≡ wire block n)
+abbrev pub IsReadAsNumber : ℕ → Halves → ℕ → Tpdu → Type 0
+IsReadAsNumber block h n (Dt destination last number text) = IsReadAsDt block h.receiving.receiver.expected n
+IsReadAsNumber block h n (Ed destination last number text) = IsReadAsEd block h.receiving.receiver.urgent n
+IsReadAsNumber block h n (Ak destination number credit subsequence confirmation) = (number ≡ wire block n) × IsReadAsAk block h.sending.numbers.base h.sending.numbers.blocks.high n
+IsReadAsNumber block h n (Ea destination number) = (number ≡ wire block n)
     -- where an ED is outstanding, none but its EA has its wire number
     × ((out : ℕ) (tries : Tries) → h.sending.urgent.out ≡ Some tries → out + 1 ≡ h.sending.urgent.next → number ≡ wire block out → n ≡ out)
-IsRead block h n other = Unit {0}
+IsReadAsNumber block h n other = Unit {0}
 
 -- an end with these halves has sent the TPDU of number n: it went that far with DTs and EDs; an AK tells no number above the one that it expects, and an
 -- EA that of an ED that it took
@@ -62,7 +62,7 @@ AcknowledgesShown size given got n (Ea destination number) = n < length (expedit
 AcknowledgesShown size given got n other = Unit {0}
 
 -- the end of the number x is open, with these halves
-pub record IsOpen {C : Type 0} (last : World C) (x : ℕ) (halves : Halves) : Type 0 where
+pub record IsOpenEnd {C : Type 0} (last : World C) (x : ℕ) (halves : Halves) : Type 0 where
   pub system : ℕ
   pub reference : ℕ
   pub entity : Entity
@@ -76,8 +76,8 @@ pub record IsNumber {C : Type 0} (journal : List Event) (last : World C) (size :
   pub n : ℕ
   pub carries : Carries (size x) block (submitted x journal) n tpdu
   pub acknowledges : AcknowledgesShown (size y) (submitted y journal) (shown x journal) n tpdu
-  pub sent : (theirs : Halves) → IsOpen last x theirs → IsSentBy theirs n tpdu
-  pub read : IsRead block halves n tpdu
+  pub sent : (theirs : Halves) → IsOpenEnd last x theirs → IsSentBy theirs n tpdu
+  pub read : IsReadAsNumber block halves n tpdu
 
 pub record AreRead {C : Type 0} (link : C → Link (List ℕ)) (journal : List Event) (last : World C) : Type 0 where
   pub size : ℕ → ℕ

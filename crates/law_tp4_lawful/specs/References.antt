@@ -6,10 +6,9 @@ use Rattle.nsap.specs.Address.{selector_of}
 use Rattle.osi_base.specs.declared.unit.Unit.{Unit as CarriedUnit}
 use Rattle.osi_base.specs.Calls.{Call}
 use Rattle.osi_base.specs.Link.{Link}
-use Rattle.osi_journal.specs.Lawful.{AreEnds, Marked, expediteds, normals, submitted}
+use Rattle.osi_journal.specs.Lawful.{ArePartners, Makes, Marked, expediteds, normals, submitted}
 use Rattle.osi_journal.specs.RawLawful.{tick_after}
 use Rattle.osi_journal.specs.declared.event.Event.{Event}
-use Rattle.osi_journal.specs.declared.event.Event.TheVariants as events
 use Rattle.osi_script.specs.declared.line.Line.{Line}
 use Rattle.tpdu.specs.Kinds.{has_number}
 use Rattle.tpdu.specs.Values.{TpduAndSum, destination_of}
@@ -25,25 +24,26 @@ use Rattle.tp4_conn.specs.Agreeing.{header_of}
 use Rattle.tp4_conn.specs.End.{End, IsTimed, agreed_format}
 use Rattle.tp4_conn.specs.Matching.{is_match}
 use Rattle.tp4_conn.specs.declared.halves.Halves.{Halves}
-use Rattle.tp4_conn.specs.declared.stage.Stage.{Stage}
-use Rattle.tp4_conn.specs.declared.stage.Stage.TheVariants.{AkWait, Opened}
+use Rattle.tp4_conn.specs.declared.states.StateData.{StateData}
+use Rattle.tp4_conn.specs.declared.states.StateData.TheVariants.{AkWait, Opened}
 use Rattle.tp4_conn.specs.declared.timers.Timers.{Timers}
 use Rattle.tp4_entity.specs.Entity.{Entity, end_at}
 use Rattle.tp4_entity.specs.Unit.{EndsWith, Separates, extended_of}
-use Rattle.tp4_world.specs.Laws.{IsFirst, IsNoInjection}
+use Rattle.tp4_world.specs.Laws.{IsFirst}
 use Rattle.tp4_world.specs.Run.{RunsLines, Starts}
 use Rattle.tp4_world.specs.World.{World, end_numbered, entity_at, latest}
 use Rattle.tp4_world.specs.declared.place.EndAt.{EndAt}
 use Rattle.tp4_world.specs.declared.place.Placed.{Placed}
 use Rattle.law_tp4_lawful.specs.Headline.{AreDistinct, IsProperLine, IsUntouched}
 
--- it holds of the journal and the last state of each run in which nothing is injected. `wrap` is what a receiving half keeps of a number
+-- it holds of the journal and the last state of each run after which the carrier is honest, since no injection was taken. `wrap` is what a receiving half
+-- keeps of a number
 abbrev pub OnRuns : {C : Type 0} → (C → Link (List ℕ)) → (C → Call (List ℕ) → C → Type 0) → (ℕ → ℕ → ℕ) → (List Event → World C → Type 0) → Type 0
 OnRuns {C} link steps wrap Holds =
     (titles : List (List ℕ)) (timers : Timers) (made : C) (placed : List Placed) (begun journal : List Event) (script : List Line) (first last : World C)
     → IsTimed timers → 1 ≤ timers.inactive → AreDistinct titles
     → IsFirst timers.life titles (link made) placed → AllByRecursion (IsUntouched timers) placed → Starts link steps made placed begun first
-    → AllByRecursion IsNoInjection script → AllByRecursion IsProperLine script → RunsLines link steps wrap titles first script journal last
+    → (link last.carrier).honest ≡ true → AllByRecursion IsProperLine script → RunsLines link steps wrap titles first script journal last
     → Holds (begun ++ journal) last
 
 -- the end of the number y stands at that reference of the entity of a system
@@ -76,10 +76,6 @@ pub record ComesTo {C : Type 0} (link : C → Link (List ℕ)) (last : World C) 
   pub is_end : IsEnd last y system entity reference end
   pub matches : is_match end.base end.stage unit.from tpdu ≡ true
 
--- the two are the ends of one connection
-abbrev pub ArePartners : List Event → ℕ → ℕ → Type 0
-ArePartners journal x y = AreEnds journal x y ⊎ AreEnds journal y x
-
 -- the partner of the end y by the journal, at the entity of that address
 pub record HasPartnerAt {C : Type 0} (journal : List Event) (last : World C) (y : ℕ) (address : List ℕ) : Type 0 where
   pub x : ℕ
@@ -99,12 +95,6 @@ IsAnswer other = ⊥
 -- what comes to an end is such an answer, or the end has a partner, whose address is the source of the unit
 abbrev pub IsOfPartner : {C : Type 0} → (C → Link (List ℕ)) → List Event → World C → Type 0
 IsOfPartner link journal last = (y : ℕ) (tpdu : Tpdu) (comes : ComesTo link last y tpdu) → IsAnswer tpdu ⊎ HasPartnerAt journal last y comes.unit.from
-
--- the event by which the end of the number y is made
-abbrev pub Makes : ℕ → Event → Type 0
-Makes y (events.Connect asked) = asked.end ≡ y
-Makes y (events.Incoming heard) = heard.end ≡ y
-Makes y event = ⊥
 
 -- the journal has an event that makes the end y, and each such event stands at this tick or before
 pub record IsMadeBy (journal : List Event) (y tick : ℕ) : Type 0 where
@@ -127,7 +117,7 @@ Carries size block units n (Ed destination last number text) = (number ≡ wire 
 Carries size block units n other = Unit {0}
 
 -- the halves of an end that is open
-abbrev pub halves_at : Stage → Option Halves
+abbrev pub halves_at : StateData → Option Halves
 halves_at (AkWait w) = Some w.halves
 halves_at (Opened o) = Some o.halves
 halves_at other = None

@@ -3,4 +3,4 @@
 
 mod laws;
 
-pub use laws::{lawful, numbers, references, silent};
+pub use laws::{lawful, numbers, over_calls, references, silent};

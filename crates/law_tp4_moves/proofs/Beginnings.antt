@@ -68,7 +68,7 @@ begins h address call offered some free not_silent are = (is_begun, λ o c. (is_
     is_offered : (o : Offer) → Contains offered o → IsOffered (times_of call.rules) h.clock h.count Alone (begun h address call) (begun h address call) o
     is_offered =
         all_offered (times_of call.rules) h.clock Alone (begun h address call) (begun h address call) h.count (connected h.clock call).tpdus offered are
-        (cr_offerable (times_of call.rules) h.clock Alone (begun h address call) (begun h address call) (caller h.clock call) call.octets refl refl refl refl refl refl (omega arith), tt)
+        (cr_offerable (times_of call.rules) h.clock Alone (begun h address call) (begun h address call) (caller h.clock call) call.request.octets refl refl refl refl refl refl (omega arith), tt)
 
 pub indicates : (h : History) (own from n : ℕ) (rules : Timers) (cr : WireTpdu) (o : Offer) (m : Moved) → IsTimed rules → 0 < own → o.tpdu.source ≢ 0
     → on_cr h.clock own o.from rules cr ≡ Some m → Contains h.offers o → IsFresh (times_of rules) h o → IsReading o (seen n cr) → o.origin ≡ SentBy from

@@ -8,9 +8,9 @@ use Rattle.tp4_flow.specs.declared.step.EndEvent.{EndEvent}
 use Rattle.tp4_flow.specs.declared.step.Sent.{Sent}
 use Rattle.tp4_sending.specs.FlowSender.{Sendings, at, opened}
 use Rattle.tp4_sending.specs.Pieces.{once, again}
-use Rattle.tp4_conn.specs.declared.base.Base.{Base}
-use Rattle.tp4_conn.specs.declared.stage.Answering.{Answering}
-use Rattle.tp4_conn.specs.declared.stage.Stage.TheVariants as stages
+use Rattle.tp4_conn.specs.declared.end_record.EndRecord.{EndRecord}
+use Rattle.tp4_conn.specs.declared.states.InAkWait.{InAkWait}
+use Rattle.tp4_conn.specs.declared.states.StateData.TheVariants as stages
 use Rattle.tp4_conn.specs.Agreeing.{agreed_by, confirms_again, flow_rules, halves_of}
 use Rattle.tp4_conn.specs.AkWait.{opening, queueing, ak_wait_tpdu, ak_wait_tick, ak_wait_normal, ak_wait_urgent, ak_wait_disconnect}
 use Rattle.tp4_conn.specs.End.{IsProposal, IsSized, span, stays, frozen}
@@ -26,13 +26,13 @@ use Rattle.law_tp4_moves.proofs.Offers.{AreOfferable, cc_offerable, refusal_offe
 use Rattle.law_tp4_moves.proofs.Opens.{tpdu_takes}
 use Rattle.law_tp4_moves.proofs.Rows.{alone_hears, took_hears, new_end, by_row, freezes, closes, rests, once_more, dc_back}
 
-module _ (times : Times) (h : End) (b : Base) (since : ℕ) (s : Sees times b.clock h (record { base = b; stage = stages.UserWait since })) (going : h.stop ≡ None) (low : b.clock ≤ h.latest) where
+module _ (times : Times) (h : End) (b : EndRecord) (since : ℕ) (s : Sees times b.clock h (record { base = b; stage = stages.UserWait since })) (going : h.stop ≡ None) (low : b.clock ≤ h.latest) where
   pub accepts : (asked : Options) (octets : List ℕ) → IsProposal b.proposed → IsSized asked → Moves times b.clock Alone h (user_wait_accept b asked octets)
   unfolding user_wait_accept
   accepts asked octets proposal sized =
       let o = agreed_by b.proposed asked in
-      let c : Base = record b { agreed = Some o } in
-      let w : Answering = record { octets = octets; first = b.clock; tries = once b.clock; halves = halves_of c o } in
+      let c : EndRecord = record b { agreed = Some o } in
+      let w : InAkWait = record { octets = octets; first = b.clock; tries = once b.clock; halves = halves_of c o } in
       let few = s.timers.sendings_least in
       by_row times h b (stages.UserWait since) s going low Alone b.partner b.credit (Some o) (stages.AkWait w) (b.clock + span b.timers) h.is_parted _ _ (record {
         known = inl refl;
@@ -69,7 +69,7 @@ module _ (times : Times) (h : End) (b : Base) (since : ℕ) (s : Sees times b.cl
       (λ _. rests times h b (stages.UserWait since) s going low)
       (λ _. refuses _ [])
 
-module _ (times : Times) (h : End) (b : Base) (w : Answering) (s : Sees times b.clock h (record { base = b; stage = stages.AkWait w })) (going : h.stop ≡ None) (low : b.clock ≤ h.latest) where
+module _ (times : Times) (h : End) (b : EndRecord) (w : InAkWait) (s : Sees times b.clock h (record { base = b; stage = stages.AkWait w })) (going : h.stop ≡ None) (low : b.clock ≤ h.latest) where
   -- the first flow TPDU: the end is open, and what was queued goes first
   opens : (wrap : ℕ → ℕ → ℕ) (n : ℕ) (tpdu : WireTpdu) → (seen n tpdu).kind ≡ Flow → Moves times b.clock (Took (seen n tpdu)) h (opening wrap b w.halves tpdu)
   opens wrap n tpdu kind =

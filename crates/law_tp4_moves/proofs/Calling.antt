@@ -10,10 +10,10 @@ use Rattle.tp4_flow.specs.declared.step.EndEvent.{EndEvent}
 use Rattle.tp4_sending.specs.FlowSender.{at, opened}
 use Rattle.tp4_sending.specs.Pieces.{again}
 use Rattle.tp4_sending.specs.declared.tries.Tries.{Tries}
-use Rattle.tp4_conn.specs.declared.base.Base.{Base}
-use Rattle.tp4_conn.specs.declared.stage.Parting.{Parting}
-use Rattle.tp4_conn.specs.declared.stage.Requesting.{Requesting}
-use Rattle.tp4_conn.specs.declared.stage.Stage.TheVariants as stages
+use Rattle.tp4_conn.specs.declared.end_record.EndRecord.{EndRecord}
+use Rattle.tp4_conn.specs.declared.states.InWaitBeforeClose.{InWaitBeforeClose}
+use Rattle.tp4_conn.specs.declared.states.InCrWait.{InCrWait}
+use Rattle.tp4_conn.specs.declared.states.StateData.TheVariants as stages
 use Rattle.tp4_conn.specs.declared.timers.Timers.{Timers}
 use Rattle.tp4_conn.specs.Agreeing.{options_in, is_within, flow_rules, halves_of, request}
 use Rattle.tp4_conn.specs.CrWait.{confirmed, cr_wait_tpdu, cr_wait_tick, cr_wait_disconnect}
@@ -37,7 +37,7 @@ soon_again times t from now tries e h soon few =
     let all : tries.count * t.t1 ≤ (t.sendings - 1) * t.t1 = mul-le-mul_right t.t1 (omega (arith, few)) in
     subst (λ (x : Times). now ≤ from + x.most) (sym e) (omega (arith, h.runs, soon, all))
 
-module _ (times : Times) (h : End) (b : Base) (w : Requesting) (s : Sees times b.clock h (record { base = b; stage = stages.CrWait w })) (going : h.stop ≡ None) (low : b.clock ≤ h.latest) where
+module _ (times : Times) (h : End) (b : EndRecord) (w : InCrWait) (s : Sees times b.clock h (record { base = b; stage = stages.CrWait w })) (going : h.stop ≡ None) (low : b.clock ≤ h.latest) where
   -- a CC within what was proposed
   within : (x : Tpdu) (source credit : ℕ) (o : Options) (text : List ℕ) → x.kind ≡ Cc → source ≡ x.source → x.terms ≡ terms_of o → source ≢ 0
       → Moves times b.clock (Took x) h (confirmed (record b { partner = source; credit = credit; agreed = Some o }) o text)
@@ -135,7 +135,7 @@ module _ (times : Times) (h : End) (b : Base) (w : Requesting) (s : Sees times b
         offers = tt;
       })
 
-module _ (times : Times) (h : End) (b : Base) (w : Parting) (s : Sees times b.clock h (record { base = b; stage = stages.WaitBeforeClose w })) (going : h.stop ≡ None) (low : b.clock ≤ h.latest) where
+module _ (times : Times) (h : End) (b : EndRecord) (w : InWaitBeforeClose) (s : Sees times b.clock h (record { base = b; stage = stages.WaitBeforeClose w })) (going : h.stop ≡ None) (low : b.clock ≤ h.latest) where
   pub wait_tpdu : (n : ℕ) (tpdu : WireTpdu) → is_answer tpdu ≡ true → HasSource (seen n tpdu) → Moves times b.clock (Took (seen n tpdu)) h (wait_before_close_tpdu b w tpdu)
   unfolding wait_before_close_tpdu
   wait_tpdu n (wires.Cc credit destination source width calling called size preferred extra version classes ack_time text) fit has =

@@ -2,9 +2,9 @@
 use Rattle.std.proofs.Common.{◌≡◌, ◌≢◌, inl, ℕ, ◌+◌, ◌≤◌, nat_lt, nat_le, [], ◌∷◌, None, refl, arith}
 use Rattle.tpdu.specs.declared.tpdu.Tpdu.{Tpdu as WireTpdu}
 use Rattle.tpdu.specs.declared.tpdu.Tpdu.TheVariants as wires
-use Rattle.tp4_conn.specs.declared.base.Base.{Base}
-use Rattle.tp4_conn.specs.declared.stage.Releasing.{Releasing}
-use Rattle.tp4_conn.specs.declared.stage.Stage.TheVariants as stages
+use Rattle.tp4_conn.specs.declared.end_record.EndRecord.{EndRecord}
+use Rattle.tp4_conn.specs.declared.states.InClosing.{InClosing}
+use Rattle.tp4_conn.specs.declared.states.StateData.TheVariants as stages
 use Rattle.tp4_conn.specs.Closing.{closing_tpdu, closing_tick}
 use Rattle.tp4_conn.specs.End.{span, stays, release}
 use Rattle.tp4_conn.proofs.Timely.{if_kept}
@@ -14,7 +14,7 @@ use Rattle.law_tp4_moves.specs.Seen.{seen}
 use Rattle.law_tp4_moves.proofs.Offers.{dr_offerable}
 use Rattle.law_tp4_moves.proofs.Rows.{alone_hears, took_hears, by_row, freezes, rests}
 
-module _ (times : Times) (h : End) (b : Base) (c : Releasing) (s : Sees times b.clock h (record { base = b; stage = stages.Closing c })) (going : h.stop ≡ None) (low : b.clock ≤ h.latest) where
+module _ (times : Times) (h : End) (b : EndRecord) (c : InClosing) (s : Sees times b.clock h (record { base = b; stage = stages.Closing c })) (going : h.stop ≡ None) (low : b.clock ≤ h.latest) where
   ignores : (x : Tpdu) → x.kind ≢ Dr → x.kind ≢ Dc → Moves times b.clock (Took x) h (stays b (stages.Closing c))
   ignores x no_dr no_dc = by_row times h b (stages.Closing c) s going low (Took x) b.partner b.credit b.agreed (stages.Closing c) h.latest h.is_parted [] [] (record {
     known = inl refl;

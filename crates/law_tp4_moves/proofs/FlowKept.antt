@@ -12,10 +12,10 @@ use Rattle.tp4_number.specs.Traffic.{Rules}
 use Rattle.tp4_flow.specs.Half.{Half}
 use Rattle.tp4_sending.specs.FlowSender.{FlowSender}
 use Rattle.tp4_sending.specs.Kept.{urgent_base}
-use Rattle.tp4_conn.specs.declared.base.Base.{Base}
+use Rattle.tp4_conn.specs.declared.end_record.EndRecord.{EndRecord}
 use Rattle.tp4_conn.specs.declared.halves.Halves.{Halves}
-use Rattle.tp4_conn.specs.declared.stage.Stage.{Stage}
-use Rattle.tp4_conn.specs.declared.stage.Stage.TheVariants.{CrWait, WaitBeforeClose, UserWait, AkWait, Opened, Closing, Frozen}
+use Rattle.tp4_conn.specs.declared.states.StateData.{StateData}
+use Rattle.tp4_conn.specs.declared.states.StateData.TheVariants.{CrWait, WaitBeforeClose, UserWait, AkWait, Opened, Closing, Frozen}
 use Rattle.tp4_conn.specs.declared.timers.Timers.{Timers}
 use Rattle.tp4_conn.specs.End.{Moved}
 use Rattle.tp4_conn.specs.Making.{on_cr}
@@ -69,7 +69,7 @@ module _ (taken : Option Offer) (own theirs own' theirs' : Track) (out : GoesOn 
     their_block = ap (λ (r : Rules). r.block) (rules_on (CanOut taken) own own' out) ∙ s.their_block;
   }
 
-  untouched_kept : (terms : Terms) (b : Base) → AreUntouched terms b theirs own → AreUntouched terms b theirs' own'
+  untouched_kept : (terms : Terms) (b : EndRecord) → AreUntouched terms b theirs own → AreUntouched terms b theirs' own'
   untouched_kept terms b u = record {
     options = u.options;
     terms_are = u.terms_are;
@@ -78,7 +78,7 @@ module _ (taken : Option Offer) (own theirs own' theirs' : Track) (out : GoesOn 
     receiving = receiving_kept taken own own' _ out u.receiving;
   }
 
-  pub partner_stands : (terms : Terms) (b : Base) (stage : Stage) → Stands terms b stage theirs own → Stands terms b stage theirs' own'
+  pub partner_stands : (terms : Terms) (b : EndRecord) (stage : StateData) → Stands terms b stage theirs own → Stands terms b stage theirs' own'
   partner_stands terms b (CrWait w) s = λ begun. untouched_kept terms b (s back.begun)
   partner_stands terms b (WaitBeforeClose w) s = tt
   partner_stands terms b (UserWait since) s = s
@@ -120,7 +120,7 @@ halves_later width h own theirs s = record {
   their_block = s.their_block;
 }
 
-untouched_later : (terms : Terms) (b : Base) (own theirs : Track) → AreUntouched terms b own theirs → AreUntouched terms b (clocked own) (clocked theirs)
+untouched_later : (terms : Terms) (b : EndRecord) (own theirs : Track) → AreUntouched terms b own theirs → AreUntouched terms b (clocked own) (clocked theirs)
 untouched_later terms b own theirs u = record {
   options = u.options;
   terms_are = u.terms_are;
@@ -129,7 +129,7 @@ untouched_later terms b own theirs u = record {
   receiving = receiving_later _ theirs u.receiving;
 }
 
-pub later_stands : (terms : Terms) (b : Base) (stage : Stage) (own theirs : Track) → Stands terms b stage own theirs → Stands terms b stage (clocked own) (clocked theirs)
+pub later_stands : (terms : Terms) (b : EndRecord) (stage : StateData) (own theirs : Track) → Stands terms b stage own theirs → Stands terms b stage (clocked own) (clocked theirs)
 later_stands terms b (CrWait w) own theirs s = λ begun. untouched_later terms b own theirs (s begun)
 later_stands terms b (WaitBeforeClose w) own theirs s = tt
 later_stands terms b (UserWait since) own theirs s = s

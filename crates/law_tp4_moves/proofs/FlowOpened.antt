@@ -20,14 +20,14 @@ use Rattle.tp4_flow.specs.declared.rules.Options.{Options}
 use Rattle.tp4_flow.specs.declared.rules.SubmitRefusal.TheVariants as submits
 use Rattle.tp4_flow.specs.declared.step.EndEvent.{EndEvent}
 use Rattle.tp4_sending.specs.FlowSender.{FlowSender, Sendings, at, block_in, opened, life_of, refusal}
-use Rattle.tp4_conn.specs.declared.base.Base.{Base}
+use Rattle.tp4_conn.specs.declared.end_record.EndRecord.{EndRecord}
 use Rattle.tp4_conn.specs.declared.call.UserCall.{UserCall}
 use Rattle.tp4_conn.specs.declared.call.UserCall.TheVariants as calls
 use Rattle.tp4_conn.specs.declared.halves.Halves.{Halves}
-use Rattle.tp4_conn.specs.declared.stage.Answering.{Answering}
-use Rattle.tp4_conn.specs.declared.stage.Open.{Open}
-use Rattle.tp4_conn.specs.declared.stage.Stage.{Stage}
-use Rattle.tp4_conn.specs.declared.stage.Stage.TheVariants.{AkWait, Opened}
+use Rattle.tp4_conn.specs.declared.states.InAkWait.{InAkWait}
+use Rattle.tp4_conn.specs.declared.states.InOpened.{InOpened}
+use Rattle.tp4_conn.specs.declared.states.StateData.{StateData}
+use Rattle.tp4_conn.specs.declared.states.StateData.TheVariants.{AkWait, Opened}
 use Rattle.tp4_conn.specs.Agreeing.{confirms_again}
 use Rattle.tp4_conn.specs.AkWait.{ak_wait_tpdu, ak_wait_tick, opening}
 use Rattle.tp4_conn.specs.Calls.{unit_refusal, call_refusal}
@@ -51,13 +51,13 @@ pub record Here (format : Format) (h : Halves) (now : ℕ) (own theirs : Track) 
   pub their_clocks : IsAt now theirs
 
 -- a TPDU without a number
-pub plain_sent : (own theirs : Track) (tick : ℕ) (b : Base) (source reason : ℕ) (octets : List ℕ) → AreSentIn own theirs tick (send b (Dr b.partner source reason None octets) ∷ [])
+pub plain_sent : (own theirs : Track) (tick : ℕ) (b : EndRecord) (source reason : ℕ) (octets : List ℕ) → AreSentIn own theirs tick (send b (Dr b.partner source reason None octets) ∷ [])
 plain_sent own theirs tick b source reason octets = (record { n = 0; numbered = tt; stands = tt }, tt)
 
-dc_sent : (own theirs : Track) (tick : ℕ) (b : Base) (source : ℕ) → AreSentIn own theirs tick (confirms b source)
+dc_sent : (own theirs : Track) (tick : ℕ) (b : EndRecord) (source : ℕ) → AreSentIn own theirs tick (confirms b source)
 dc_sent own theirs tick b source = if_kept (AreSentIn own theirs tick) (source == 0) _ _ (λ _. tt) (λ _. (record { n = 0; numbered = tt; stands = tt }, tt))
 
-cc_sent : (own theirs : Track) (tick : ℕ) (b : Base) (agreed : Option Options) (octets : List ℕ) → AreSentIn own theirs tick (confirms_again b agreed octets)
+cc_sent : (own theirs : Track) (tick : ℕ) (b : EndRecord) (agreed : Option Options) (octets : List ℕ) → AreSentIn own theirs tick (confirms_again b agreed octets)
 cc_sent own theirs tick b None octets = tt
 cc_sent own theirs tick b (Some o) octets = (record { n = 0; numbered = tt; stands = tt }, tt)
 
@@ -87,7 +87,7 @@ module _ (terms : Terms) (taken : Option Offer) (now : ℕ) where
     their_block = here.halves.their_block;
   }
 
-  sends_row : {format : Format} {h : Halves} (own theirs : Track) (event : Event) (b : Base) (stage : Stage) (x : Sendings) → Here format h now own theirs → (s : Sends taken now own x (given event))
+  sends_row : {format : Format} {h : Halves} (own theirs : Track) (event : Event) (b : EndRecord) (stage : StateData) (x : Sendings) → Here format h now own theirs → (s : Sends taken now own x (given event))
       → Stands terms b stage s.own theirs → LinesGoOn terms now taken event (record { base = b; stage = stage; events = x.events; tpdus = x.tpdus }) own theirs
   sends_row own theirs event b stage x here s stands = record {
     own = s.own;
@@ -111,7 +111,7 @@ module _ (terms : Terms) (taken : Option Offer) (now : ℕ) where
     their_block = ap (λ (u : Rules). u.block) (rules_on (CanIn taken) _ r.theirs r.goes) ∙ here.halves.their_block;
   }
 
-  takes_row : {format : Format} {h : Halves} (own theirs : Track) (event : Event) (b : Base) (stage : Stage) (events : List EndEvent) (x : Received) → Here format h now own theirs → given event ≡ []
+  takes_row : {format : Format} {h : Halves} (own theirs : Track) (event : Event) (b : EndRecord) (stage : StateData) (events : List EndEvent) (x : Received) → Here format h now own theirs → given event ≡ []
       → shown_in events ≡ shown_in x.events → (r : Takes taken now theirs x)
       → Stands terms b stage own r.theirs → LinesGoOn terms now taken event (record { base = b; stage = stage; events = events; tpdus = x.tpdus }) own theirs
   takes_row own theirs event b stage events x here gave same r stands = record {
@@ -142,7 +142,7 @@ module _ (terms : Terms) (taken : Option Offer) (now : ℕ) where
     sent = sent_both g.own g.theirs now x.tpdus m.tpdus (sent_on (CanOut taken) (CanIn taken) s.own theirs g.own g.theirs now x.tpdus g.own_goes g.they_go (s.sent theirs)) g.sent;
   }
 
-module _ (terms : Terms) (taken : Option Offer) (own theirs : Track) (b : Base) where
+module _ (terms : Terms) (taken : Option Offer) (own theirs : Track) (b : EndRecord) where
   -- a row that ends the end, after what the receiving half did
   release_sent : (tick source reason : ℕ) (octets : List ℕ) (own theirs : Track) → AreSentIn own theirs tick (send b (Dr b.partner source reason None octets) ∷ [])
   release_sent tick source reason octets own theirs = plain_sent own theirs tick b source reason octets
@@ -154,7 +154,7 @@ module _ (terms : Terms) (taken : Option Offer) (own theirs : Track) (b : Base) 
   number_of : (s : FlowSender) (format : Format) (w n : ℕ) → IsSendingAt s own → own.rules.block ≡ block_of format → w ≡ wire (block_of format) n → w ≡ wire (block_in s) n
   number_of s width w n h block e = e ∙ ap (λ (k : ℕ). wire k n) (sym block ∙ h.block)
 
-  dt_row : (event : Event) (got : Got) (o : Open) (x : Received) → Here (agreed_format b.agreed) o.halves b.clock own theirs → given event ≡ [] → Takes taken b.clock theirs x
+  dt_row : (event : Event) (got : Got) (o : InOpened) (x : Received) → Here (agreed_format b.agreed) o.halves b.clock own theirs → given event ≡ [] → Takes taken b.clock theirs x
       → LinesGoOn terms b.clock taken event (dt_as got b o x) own theirs
   dt_row event TooLarge o x here gave r = record {
     own = own;
@@ -172,11 +172,11 @@ module _ (terms : Terms) (taken : Option Offer) (own theirs : Track) (b : Base) 
   dt_row event Old o x here gave r = takes_row terms taken b.clock own theirs event b _ x.events x here gave refl r (took_halves terms taken b.clock here r)
   dt_row event Outside o x here gave r = takes_row terms taken b.clock own theirs event b _ x.events x here gave refl r (took_halves terms taken b.clock here r)
 
-  protocol_row : (event : Event) (o : Open) → Here (agreed_format b.agreed) o.halves b.clock own theirs → given event ≡ [] → LinesGoOn terms b.clock taken event (protocol_error b) own theirs
+  protocol_row : (event : Event) (o : InOpened) → Here (agreed_format b.agreed) o.halves b.clock own theirs → given event ≡ [] → LinesGoOn terms b.clock taken event (protocol_error b) own theirs
   protocol_row event o here gave = idle terms taken b.clock own theirs event _ here gave refl tt (plain_sent own theirs b.clock b b.own 133 [])
 
   -- a TPDU
-  pub opened_row : (o : Open) (tpdu : Tpdu) (sum : Bool) → Here (agreed_format b.agreed) o.halves b.clock own theirs → IsHeard (agreed_format b.agreed) taken tpdu theirs
+  pub opened_row : (o : InOpened) (tpdu : Tpdu) (sum : Bool) → Here (agreed_format b.agreed) o.halves b.clock own theirs → IsHeard (agreed_format b.agreed) taken tpdu theirs
       → LinesGoOn terms b.clock taken (Took tpdu sum) (opened_tpdu whole b o tpdu) own theirs
   unfolding opened_tpdu
   opened_row o (Cr credit source width calling called size preferred extra version classes ack_time text) sum here k = idle terms taken b.clock own theirs _ _ here refl refl here.halves tt
@@ -214,7 +214,7 @@ module _ (terms : Terms) (taken : Option Offer) (own theirs : Track) (b : Base) 
       sends_row terms taken b.clock own theirs _ b _ _ here s (sent_halves terms taken b.clock here s)
 
   -- a tick
-  acked_row : (o : Open) (x : Sendings) → Here (agreed_format b.agreed) o.halves b.clock own theirs → (s : Sends taken b.clock own x []) → LinesGoOn terms b.clock taken Ticked (opened_goes b o x) own theirs
+  acked_row : (o : InOpened) (x : Sendings) → Here (agreed_format b.agreed) o.halves b.clock own theirs → (s : Sends taken b.clock own x []) → LinesGoOn terms b.clock taken Ticked (opened_goes b o x) own theirs
   acked_row o x here s =
       let after : Here (agreed_format b.agreed) (record o.halves { sending = x.sender }) b.clock s.own theirs =
       record { halves = sent_halves terms taken b.clock here s; own_clocks = s.clocks; their_clocks = here.their_clocks } in
@@ -223,17 +223,17 @@ module _ (terms : Terms) (taken : Option Offer) (own theirs : Track) (b : Base) 
       (λ _. led_row terms taken b.clock own theirs Ticked _ x s (takes_row terms taken b.clock s.own theirs Ticked b _ [] _ after refl refl r (took_halves terms taken b.clock after r)))
       (λ _. sends_row terms taken b.clock own theirs Ticked b _ x here s (sent_halves terms taken b.clock here s))
 
-  life_row : (life : Life) (o : Open) → Here (agreed_format b.agreed) o.halves b.clock own theirs → LinesGoOn terms b.clock taken Ticked (opened_as life b o) own theirs
+  life_row : (life : Life) (o : InOpened) → Here (agreed_format b.agreed) o.halves b.clock own theirs → LinesGoOn terms b.clock taken Ticked (opened_as life b o) own theirs
   life_row Exhausted o here = idle terms taken b.clock own theirs Ticked _ here refl refl tt (plain_sent own theirs b.clock b b.own 128 [])
   life_row Goes o here = acked_row o _ here (tick_sends taken b.clock own o.halves.sending here.halves.sending here.own_clocks)
 
-  pub tick_row : (o : Open) → Here (agreed_format b.agreed) o.halves b.clock own theirs → LinesGoOn terms b.clock taken Ticked (opened_tick b o) own theirs
+  pub tick_row : (o : InOpened) → Here (agreed_format b.agreed) o.halves b.clock own theirs → LinesGoOn terms b.clock taken Ticked (opened_tick b o) own theirs
   unfolding opened_tick
   tick_row o here = if_kept (λ (m : Moved). LinesGoOn terms b.clock taken Ticked m own theirs) (nat_le (o.took + b.timers.inactive) b.clock) _ _
       (λ _. idle terms taken b.clock own theirs Ticked _ here refl refl tt (plain_sent own theirs b.clock b b.own 128 []))
       (λ _. life_row (life_of (at b.clock o.halves.sending)) o here)
 
-module _ (terms : Terms) (taken : Option Offer) (own theirs : Track) (b : Base) where
+module _ (terms : Terms) (taken : Option Offer) (own theirs : Track) (b : EndRecord) where
   -- AkWait: Opened, and then the TPDU
   opening_row : (h : Halves) (tpdu : Tpdu) (sum : Bool) → Here (agreed_format b.agreed) h b.clock own theirs → IsHeard (agreed_format b.agreed) taken tpdu theirs
       → LinesGoOn terms b.clock taken (Took tpdu sum) (opening whole b h tpdu) own theirs
@@ -244,7 +244,7 @@ module _ (terms : Terms) (taken : Option Offer) (own theirs : Track) (b : Base) 
       (opened_row terms taken s.own theirs b (record { took = b.clock; acked = b.clock; halves = record h { sending = x.sender } }) tpdu sum
       (record { halves = sent_halves terms taken b.clock here s; own_clocks = s.clocks; their_clocks = here.their_clocks }) k)
 
-  pub ak_wait_row : (w : Answering) (tpdu : Tpdu) (sum : Bool) → Here (agreed_format b.agreed) w.halves b.clock own theirs → IsHeard (agreed_format b.agreed) taken tpdu theirs
+  pub ak_wait_row : (w : InAkWait) (tpdu : Tpdu) (sum : Bool) → Here (agreed_format b.agreed) w.halves b.clock own theirs → IsHeard (agreed_format b.agreed) taken tpdu theirs
       → LinesGoOn terms b.clock taken (Took tpdu sum) (ak_wait_tpdu whole b w tpdu) own theirs
   unfolding ak_wait_tpdu
   ak_wait_row w (Ak destination number credit subsequence confirmation) sum here k = opening_row w.halves (Ak destination number credit subsequence confirmation) sum here k
@@ -257,7 +257,7 @@ module _ (terms : Terms) (taken : Option Offer) (own theirs : Track) (b : Base) 
   ak_wait_row w (Cc credit destination source width calling called size preferred extra version classes ack_time text) sum here k = idle terms taken b.clock own theirs _ _ here refl refl here.halves tt
   ak_wait_row w (Dc destination source) sum here k = idle terms taken b.clock own theirs _ _ here refl refl here.halves tt
 
-  pub ak_tick_row : (w : Answering) → Here (agreed_format b.agreed) w.halves b.clock own theirs → LinesGoOn terms b.clock taken Ticked (ak_wait_tick b w) own theirs
+  pub ak_tick_row : (w : InAkWait) → Here (agreed_format b.agreed) w.halves b.clock own theirs → LinesGoOn terms b.clock taken Ticked (ak_wait_tick b w) own theirs
   unfolding ak_wait_tick
   ak_tick_row w here = if_kept (λ (m : Moved). LinesGoOn terms b.clock taken Ticked m own theirs) (nat_lt b.clock (w.tries.last + b.timers.t1)) _ _
       (λ _. idle terms taken b.clock own theirs Ticked _ here refl refl here.halves tt)
@@ -275,7 +275,7 @@ module _ (terms : Terms) (taken : Option Offer) (own theirs : Track) (b : Base) 
       by true z k = absurd (none-some _ (sym k))
       by false z k = omega (arith, eqb-false octets 0 z)
 
-  grant_row : (o : Open) (credit : ℕ) → Here (agreed_format b.agreed) o.halves b.clock own theirs
+  grant_row : (o : InOpened) (credit : ℕ) → Here (agreed_format b.agreed) o.halves b.clock own theirs
       → LinesGoOn terms b.clock taken (Called (calls.Window credit)) (granting b o (half_granted o.halves.receiving credit)) own theirs
   grant_row o credit here =
       let h = o.halves.receiving in
@@ -285,7 +285,7 @@ module _ (terms : Terms) (taken : Option Offer) (own theirs : Track) (b : Base) 
       (λ _. takes_row terms taken b.clock own theirs _ b _ _ _ here refl refl r (took_halves terms taken b.clock here r))
       (λ _. takes_row terms taken b.clock own theirs _ b _ _ _ here refl refl a (took_halves terms taken b.clock here a))
 
-  pub opened_call : (o : Open) (call : UserCall) → Here (agreed_format b.agreed) o.halves b.clock own theirs → call_refusal b (Opened o) call ≡ None
+  pub opened_call : (o : InOpened) (call : UserCall) → Here (agreed_format b.agreed) o.halves b.clock own theirs → call_refusal b (Opened o) call ≡ None
       → LinesGoOn terms b.clock taken (Called call) (on_call b (Opened o) call) own theirs
   opened_call o (calls.Normal unit) here e =
       let s = submit_sends taken b.clock own o.halves.sending here.halves.sending here.own_clocks unit (unit_some o.halves.sending (length unit) e) in
@@ -298,7 +298,7 @@ module _ (terms : Terms) (taken : Option Offer) (own theirs : Track) (b : Base) 
   opened_call o (calls.Accept asked octets) here e = idle terms taken b.clock own theirs _ _ here refl refl here.halves tt
   opened_call o (calls.Refuse octets) here e = idle terms taken b.clock own theirs _ _ here refl refl here.halves tt
 
-  pub ak_wait_call : (w : Answering) (call : UserCall) → Here (agreed_format b.agreed) w.halves b.clock own theirs → call_refusal b (AkWait w) call ≡ None
+  pub ak_wait_call : (w : InAkWait) (call : UserCall) → Here (agreed_format b.agreed) w.halves b.clock own theirs → call_refusal b (AkWait w) call ≡ None
       → LinesGoOn terms b.clock taken (Called call) (on_call b (AkWait w) call) own theirs
   ak_wait_call w (calls.Normal unit) here e =
       let s = submit_sends taken b.clock own w.halves.sending here.halves.sending here.own_clocks unit (unit_some w.halves.sending (length unit) e) in

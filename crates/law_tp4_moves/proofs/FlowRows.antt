@@ -16,15 +16,15 @@ use Rattle.tp4_number.proofs.Past.{if_kept}
 use Rattle.tp4_flow.specs.Half.{empty, ak}
 use Rattle.tp4_flow.specs.declared.rules.Options.{Options}
 use Rattle.tp4_sending.specs.FlowSender.{at, fresh, opened}
-use Rattle.tp4_conn.specs.declared.base.Base.{Base}
+use Rattle.tp4_conn.specs.declared.end_record.EndRecord.{EndRecord}
 use Rattle.tp4_conn.specs.declared.call.UserCall.{UserCall}
 use Rattle.tp4_conn.specs.declared.call.UserCall.TheVariants as calls
 use Rattle.tp4_conn.specs.declared.halves.Halves.{Halves}
-use Rattle.tp4_conn.specs.declared.stage.Parting.{Parting}
-use Rattle.tp4_conn.specs.declared.stage.Releasing.{Releasing}
-use Rattle.tp4_conn.specs.declared.stage.Requesting.{Requesting}
-use Rattle.tp4_conn.specs.declared.stage.Stage.{Stage}
-use Rattle.tp4_conn.specs.declared.stage.Stage.TheVariants.{CrWait, WaitBeforeClose, UserWait, AkWait, Opened, Closing, Frozen}
+use Rattle.tp4_conn.specs.declared.states.InWaitBeforeClose.{InWaitBeforeClose}
+use Rattle.tp4_conn.specs.declared.states.InClosing.{InClosing}
+use Rattle.tp4_conn.specs.declared.states.InCrWait.{InCrWait}
+use Rattle.tp4_conn.specs.declared.states.StateData.{StateData}
+use Rattle.tp4_conn.specs.declared.states.StateData.TheVariants.{CrWait, WaitBeforeClose, UserWait, AkWait, Opened, Closing, Frozen}
 use Rattle.tp4_conn.specs.declared.timers.Timers.{Timers}
 use Rattle.tp4_conn.specs.Agreeing.{options_in, is_within, is_extended, agreed_by, header_of, flow_rules}
 use Rattle.tp4_conn.specs.Calls.{IsCall, call_refusal}
@@ -71,11 +71,11 @@ credit_low formats.Normal credit low = omega arith
 credit_low formats.Extended credit low = omega arith
 
 -- without a number
-dc_plain : (b : Base) (source : ℕ) → ArePlain (confirms b source)
+dc_plain : (b : EndRecord) (source : ℕ) → ArePlain (confirms b source)
 dc_plain b source = if_kept ArePlain (source == 0) _ _ (λ _. tt) (λ _. ((λ n. refl), tt))
 
 -- the same end at another tick, or with its partner known
-sending_on : (b c : Base) (o : Options) (credit : ℕ) (t : Track) → c.timers ≡ b.timers → IsSendingAt (fresh (flow_rules b o) credit) t → IsSendingAt (fresh (flow_rules c o) credit) t
+sending_on : (b c : EndRecord) (o : Options) (credit : ℕ) (t : Track) → c.timers ≡ b.timers → IsSendingAt (fresh (flow_rules b o) credit) t → IsSendingAt (fresh (flow_rules c o) credit) t
 sending_on b c o credit t same s = record {
   begun = s.begun;
   block = s.block;
@@ -96,7 +96,7 @@ sending_on b c o credit t same s = record {
   sent = s.sent;
 }
 
-receiving_on : (b c : Base) (o : Options) (t : Track) → c.timers ≡ b.timers → IsReceivingAt (empty (flow_rules b o) b.timers.credit) t → IsReceivingAt (empty (flow_rules c o) c.timers.credit) t
+receiving_on : (b c : EndRecord) (o : Options) (t : Track) → c.timers ≡ b.timers → IsReceivingAt (empty (flow_rules b o) b.timers.credit) t → IsReceivingAt (empty (flow_rules c o) c.timers.credit) t
 receiving_on b c o t same r = record {
   begun = r.begun;
   block = r.block;
@@ -105,7 +105,7 @@ receiving_on b c o t same r = record {
   urgent = r.urgent;
 }
 
-untouched_on : (terms : Terms) (b c : Base) (own theirs : Track) → c.timers ≡ b.timers → AreUntouched terms b own theirs → AreUntouched terms c own theirs
+untouched_on : (terms : Terms) (b c : EndRecord) (own theirs : Track) → c.timers ≡ b.timers → AreUntouched terms b own theirs → AreUntouched terms c own theirs
 untouched_on terms b c own theirs same u = record {
   options = u.options;
   terms_are = u.terms_are;
@@ -115,7 +115,7 @@ untouched_on terms b c own theirs same u = record {
 }
 
 -- a calling end takes a CC
-abbrev knowing : ℕ → Base → ℕ → ℕ → Options → Base
+abbrev knowing : ℕ → EndRecord → ℕ → ℕ → Options → EndRecord
 knowing now b source credit o = record (base_at now b) { partner = source; credit = credit; agreed = Some o }
 
 -- both lines as they begin
@@ -131,7 +131,7 @@ begun_track now t o credit = record {
   line = empty_line now credit (most_of o.format) t.credit;
 }
 
-sending_begun : (now : ℕ) (t : Timers) (b : Base) (o : Options) (credit : ℕ) → t ≡ b.timers → IsSendingAt (fresh (flow_rules b o) credit) (begun_track now t o credit)
+sending_begun : (now : ℕ) (t : Timers) (b : EndRecord) (o : Options) (credit : ℕ) → t ≡ b.timers → IsSendingAt (fresh (flow_rules b o) credit) (begun_track now t o credit)
 sending_begun now t b o credit same = record {
   begun = refl;
   block = refl;
@@ -152,7 +152,7 @@ sending_begun now t b o credit same = record {
   sent = omega arith;
 }
 
-receiving_begun : (now : ℕ) (t : Timers) (b : Base) (o : Options) (credit : ℕ) → t ≡ b.timers → IsReceivingAt (empty (flow_rules b o) b.timers.credit) (begun_track now t o credit)
+receiving_begun : (now : ℕ) (t : Timers) (b : EndRecord) (o : Options) (credit : ℕ) → t ≡ b.timers → IsReceivingAt (empty (flow_rules b o) b.timers.credit) (begun_track now t o credit)
 receiving_begun now t b o credit same = record {
   begun = refl;
   block = refl;
@@ -183,18 +183,18 @@ starts times now t o credit life timed size low = record {
     by false false = omega (arith, least)
 
 module _ (times : Times) (terms : Terms) (now : ℕ) (taken : Option Offer) (own theirs : Track) where
-  abbrev Flows : Stage → Event → Moved → Type 0
+  abbrev Flows : StateData → Event → Moved → Type 0
   Flows old event m = Flowed times terms now taken old event m own theirs
 
   -- nothing happens in the lines
-  still : {old : Stage} (event : Event) (m : Moved) → Stands terms m.base m.stage own theirs → given event ≡ [] → shown_in m.events ≡ [] → ArePlain m.tpdus → Flows old event m
+  still : {old : StateData} (event : Event) (m : Moved) → Stands terms m.base m.stage own theirs → given event ≡ [] → shown_in m.events ≡ [] → ArePlain m.tpdus → Flows old event m
   still event m stands gave showed plain = Still (record { stands = stands; gave = gave; showed = showed; plain = plain })
 
   -- CrWait
-  waiting : (b : Base) (w : Requesting) → Stands terms b (CrWait w) own theirs → Stands terms (base_at now b) (CrWait w) own theirs
+  waiting : (b : EndRecord) (w : InCrWait) → Stands terms b (CrWait w) own theirs → Stands terms (base_at now b) (CrWait w) own theirs
   waiting b w s begun = untouched_on terms b (base_at now b) own theirs refl (s begun)
 
-  cr_wait_call : (b : Base) (w : Requesting) (call : UserCall) → call_refusal b (CrWait w) call ≡ None → Flows (CrWait w) (Called call) (on_call (base_at now b) (CrWait w) call)
+  cr_wait_call : (b : EndRecord) (w : InCrWait) (call : UserCall) → call_refusal b (CrWait w) call ≡ None → Flows (CrWait w) (Called call) (on_call (base_at now b) (CrWait w) call)
   cr_wait_call b w (calls.Disconnect octets) e = still _ _ tt refl refl tt
   cr_wait_call b w (calls.Accept asked octets) e = absurd (none-some _ (sym e))
   cr_wait_call b w (calls.Refuse octets) e = absurd (none-some _ (sym e))
@@ -202,7 +202,7 @@ module _ (times : Times) (terms : Terms) (now : ℕ) (taken : Option Offer) (own
   cr_wait_call b w (calls.Urgent unit) e = absurd (none-some _ (sym e))
   cr_wait_call b w (calls.Window credit) e = absurd (none-some _ (sym e))
 
-  cr_wait_ticks : (b : Base) (w : Requesting) → Stands terms b (CrWait w) own theirs → Flows (CrWait w) Ticked (cr_wait_tick b w)
+  cr_wait_ticks : (b : EndRecord) (w : InCrWait) → Stands terms b (CrWait w) own theirs → Flows (CrWait w) Ticked (cr_wait_tick b w)
   unfolding cr_wait_tick
   cr_wait_ticks b w s =
       if_kept (Flows (CrWait w) Ticked) (nat_lt b.clock (w.tries.last + b.timers.t1)) _ _
@@ -210,7 +210,7 @@ module _ (times : Times) (terms : Terms) (now : ℕ) (taken : Option Offer) (own
       (λ _. if_kept (Flows (CrWait w) Ticked) (nat_lt w.tries.count b.timers.sendings) _ _ (λ _. still _ _ s refl refl ((λ n. refl), tt)) (λ _. still _ _ tt refl refl tt))
 
   -- the CC
-  confirmed_row : (old : Stage) (b : Base) (source credit : ℕ) (o : Options) (octets : List ℕ) (event : Event) → credit ≤ 15 → given event ≡ [] → terms_of o ≡ terms → AreUntouched terms b own theirs → IsTimely now own → IsTimely now theirs
+  confirmed_row : (old : StateData) (b : EndRecord) (source credit : ℕ) (o : Options) (octets : List ℕ) (event : Event) → credit ≤ 15 → given event ≡ [] → terms_of o ≡ terms → AreUntouched terms b own theirs → IsTimely now own → IsTimely now theirs
       → Flows old event (confirmed (knowing now b source credit o) o octets)
   confirmed_row old b source credit o octets event low gave is u own_clock their_clock =
       let c = knowing now b source credit o in
@@ -238,7 +238,7 @@ module _ (times : Times) (terms : Terms) (now : ℕ) (taken : Option Offer) (own
         sent = sent_both x.own r.theirs now (opened (at now (fresh (flow_rules c o) credit))).tpdus (ak (empty (flow_rules c o) c.timers.credit) ∷ []) (x.sent r.theirs) (r.sent x.own);
       })
 
-  cr_wait_row : (b : Base) (w : Requesting) (tpdu : Tpdu) (sum : Bool) → IsAllowed (agreed_format b.agreed) tpdu → Stands terms b (CrWait w) own theirs → Confirms terms tpdu own → IsTimely now own → IsTimely now theirs
+  cr_wait_row : (b : EndRecord) (w : InCrWait) (tpdu : Tpdu) (sum : Bool) → IsAllowed (agreed_format b.agreed) tpdu → Stands terms b (CrWait w) own theirs → Confirms terms tpdu own → IsTimely now own → IsTimely now theirs
       → Flows (CrWait w) (Took tpdu sum) (cr_wait_tpdu (base_at now b) w tpdu)
   unfolding cr_wait_tpdu
   cr_wait_row b w (Cc credit destination source width calling called size preferred extra version classes ack_time text) sum a s k own_clock their_clock =
@@ -255,7 +255,7 @@ module _ (times : Times) (terms : Terms) (now : ℕ) (taken : Option Offer) (own
   cr_wait_row b w (Ea destination number) sum a s k own_clock their_clock = still _ _ (waiting b w s) refl refl tt
 
   -- UserWait
-  accepted_row : (since : ℕ) (b : Base) (asked : Options) (octets : List ℕ) → times.life ≡ b.timers.life → IsTimed b.timers → IsProposal b.proposed → IsSized asked → b.credit ≤ 15
+  accepted_row : (since : ℕ) (b : EndRecord) (asked : Options) (octets : List ℕ) → times.life ≡ b.timers.life → IsTimed b.timers → IsProposal b.proposed → IsSized asked → b.credit ≤ 15
       → Flows (UserWait since) (Called (calls.Accept asked octets)) (user_wait_accept (base_at now b) asked octets)
   unfolding user_wait_accept
   accepted_row since b asked octets life timed size also low =
@@ -290,7 +290,7 @@ module _ (times : Times) (terms : Terms) (now : ℕ) (taken : Option Offer) (own
         plain = ((λ n. refl), tt);
       })
 
-  user_wait_call : (b : Base) (since : ℕ) (call : UserCall) → times.life ≡ b.timers.life → IsTimed b.timers → IsProposal b.proposed → b.credit ≤ 15 → call_refusal b (UserWait since) call ≡ None → IsCall call
+  user_wait_call : (b : EndRecord) (since : ℕ) (call : UserCall) → times.life ≡ b.timers.life → IsTimed b.timers → IsProposal b.proposed → b.credit ≤ 15 → call_refusal b (UserWait since) call ≡ None → IsCall call
       → Flows (UserWait since) (Called call) (on_call (base_at now b) (UserWait since) call)
   unfolding user_wait_refuse
   user_wait_call b since (calls.Accept asked octets) life timed size low e c = accepted_row since b asked octets life timed size c low
@@ -300,31 +300,31 @@ module _ (times : Times) (terms : Terms) (now : ℕ) (taken : Option Offer) (own
   user_wait_call b since (calls.Window credit) life timed size low e c = absurd (none-some _ (sym e))
   user_wait_call b since (calls.Disconnect octets) life timed size low e c = absurd (none-some _ (sym e))
 
-  user_wait_ticks : (b : Base) (since : ℕ) → b.credit ≤ 15 → Flows (UserWait since) Ticked (user_wait_tick b since)
+  user_wait_ticks : (b : EndRecord) (since : ℕ) → b.credit ≤ 15 → Flows (UserWait since) Ticked (user_wait_tick b since)
   unfolding user_wait_tick
   user_wait_ticks b since low = if_kept (Flows (UserWait since) Ticked) (nat_lt b.clock (since + b.timers.inactive)) _ _ (λ _. still _ _ low refl refl tt) (λ _. still _ _ tt refl refl ((λ n. refl), tt))
 
   -- states without halves: no call is listed, and nothing has a number
-  wait_row : (b : Base) (w : Parting) (tpdu : Tpdu) (sum : Bool) → Flows (WaitBeforeClose w) (Took tpdu sum) (wait_before_close_tpdu b w tpdu)
+  wait_row : (b : EndRecord) (w : InWaitBeforeClose) (tpdu : Tpdu) (sum : Bool) → Flows (WaitBeforeClose w) (Took tpdu sum) (wait_before_close_tpdu b w tpdu)
   unfolding wait_before_close_tpdu
   wait_row b w (Cc credit destination source width calling called size preferred extra version classes ack_time text) sum = still _ _ tt refl refl ((λ n. refl), tt)
   wait_row b w (Dr destination source reason info text) sum = still _ _ tt refl refl (dc_plain b source)
   wait_row b w other sum = still _ _ tt refl refl tt
 
-  wait_ticks : (b : Base) (w : Parting) → Flows (WaitBeforeClose w) Ticked (wait_before_close_tick b w)
+  wait_ticks : (b : EndRecord) (w : InWaitBeforeClose) → Flows (WaitBeforeClose w) Ticked (wait_before_close_tick b w)
   unfolding wait_before_close_tick
   wait_ticks b w =
       if_kept (Flows (WaitBeforeClose w) Ticked) (nat_lt b.clock (w.request.tries.last + b.timers.t1)) _ _
       (λ _. still _ _ tt refl refl tt)
       (λ _. if_kept (Flows (WaitBeforeClose w) Ticked) (nat_lt w.request.tries.count b.timers.sendings) _ _ (λ _. still _ _ tt refl refl ((λ n. refl), tt)) (λ _. still _ _ tt refl refl tt))
 
-  closing_row : (b : Base) (c : Releasing) (tpdu : Tpdu) (sum : Bool) → Flows (Closing c) (Took tpdu sum) (closing_tpdu b c tpdu)
+  closing_row : (b : EndRecord) (c : InClosing) (tpdu : Tpdu) (sum : Bool) → Flows (Closing c) (Took tpdu sum) (closing_tpdu b c tpdu)
   unfolding closing_tpdu
   closing_row b c (Dc destination source) sum = still _ _ tt refl refl tt
   closing_row b c (Dr destination source cause info text) sum = still _ _ tt refl refl tt
   closing_row b c other sum = still _ _ tt refl refl tt
 
-  closing_ticks : (b : Base) (c : Releasing) → Flows (Closing c) Ticked (closing_tick b c)
+  closing_ticks : (b : EndRecord) (c : InClosing) → Flows (Closing c) Ticked (closing_tick b c)
   unfolding closing_tick
   closing_ticks b c =
       if_kept (Flows (Closing c) Ticked) (nat_le (c.from + span b.timers) b.clock) _ _
@@ -335,7 +335,7 @@ module _ (times : Times) (terms : Terms) (now : ℕ) (taken : Option Offer) (own
   here_at : {format : Format} {h : Halves} → AreHalvesAt format h own theirs → IsTimely now own → IsTimely now theirs → Here format h now own theirs
   here_at s own_clock their_clock = record { halves = s; own_clocks = own_clock s.sending.begun; their_clocks = their_clock s.receiving.begun }
 
-  call_flows : (b : Base) (stage : Stage) (call : UserCall) → times.life ≡ b.timers.life → IsProper b stage → call_refusal b stage call ≡ None → IsCall call → Stands terms b stage own theirs → IsTimely now own → IsTimely now theirs
+  call_flows : (b : EndRecord) (stage : StateData) (call : UserCall) → times.life ≡ b.timers.life → IsProper b stage → call_refusal b stage call ≡ None → IsCall call → Stands terms b stage own theirs → IsTimely now own → IsTimely now theirs
       → Flows stage (Called call) (on_call (base_at now b) stage call)
   call_flows b (CrWait w) call life p e c s own_clock their_clock = cr_wait_call b w call e
   call_flows b (WaitBeforeClose w) call life p e c s own_clock their_clock = absurd (none-some _ (sym e))
@@ -345,7 +345,7 @@ module _ (times : Times) (terms : Terms) (now : ℕ) (taken : Option Offer) (own
   call_flows b (Closing x) call life p e c s own_clock their_clock = absurd (none-some _ (sym e))
   call_flows b (Frozen when) call life p e c s own_clock their_clock = absurd (none-some _ (sym e))
 
-  tpdu_flows : (b : Base) (stage : Stage) (tpdu : Tpdu) (sum : Bool) → IsAllowed (agreed_format b.agreed) tpdu → Stands terms b stage own theirs → IsKnownTpdu terms b stage taken tpdu own theirs → IsTimely now own → IsTimely now theirs
+  tpdu_flows : (b : EndRecord) (stage : StateData) (tpdu : Tpdu) (sum : Bool) → IsAllowed (agreed_format b.agreed) tpdu → Stands terms b stage own theirs → IsKnownTpdu terms b stage taken tpdu own theirs → IsTimely now own → IsTimely now theirs
       → Flows stage (Took tpdu sum) (on_tpdu whole (base_at now b) stage tpdu)
   tpdu_flows b (CrWait w) tpdu sum a s k own_clock their_clock = cr_wait_row b w tpdu sum a s k own_clock their_clock
   tpdu_flows b (WaitBeforeClose w) tpdu sum a s k own_clock their_clock = wait_row (base_at now b) w tpdu sum
@@ -355,7 +355,7 @@ module _ (times : Times) (terms : Terms) (now : ℕ) (taken : Option Offer) (own
   tpdu_flows b (Closing c) tpdu sum a s k own_clock their_clock = closing_row (base_at now b) c tpdu sum
   tpdu_flows b (Frozen when) tpdu sum a s k own_clock their_clock = still _ _ tt refl refl tt
 
-  tick_flows : (b : Base) (stage : Stage) → Stands terms b stage own theirs → IsTimely now own → IsTimely now theirs → Flows stage Ticked (on_tick (base_at now b) stage)
+  tick_flows : (b : EndRecord) (stage : StateData) → Stands terms b stage own theirs → IsTimely now own → IsTimely now theirs → Flows stage Ticked (on_tick (base_at now b) stage)
   tick_flows b (CrWait w) s own_clock their_clock = cr_wait_ticks (base_at now b) w (waiting b w s)
   tick_flows b (WaitBeforeClose w) s own_clock their_clock = wait_ticks (base_at now b) w
   tick_flows b (UserWait since) s own_clock their_clock = user_wait_ticks (base_at now b) since s

@@ -29,3 +29,9 @@ module _ (times : Times) (w : Whole) (x : ℕ) (s : FlowSender) (fit : IsFit tim
       let n = all_numbered times w fit reached in
       renamed _ _ _ (block_in s) s.rules.limit w.base.clock _ s.numbers.next _ s.numbers.blocks (w.track x).line.world.sends h.block h.limit (n.clock x h.begun).0
       (λ i. (h.numbers i).next) (λ i. (h.numbers i).blocks) (n.kept x h.begun).rule
+
+  -- and of EDs
+  pub ed_rule : SaysRule (block_in s) s.rules.limit s.urgent.blocks (w.track x).line.urgent.sends s.urgent.next w.base.clock
+  ed_rule =
+      let n = all_numbered times w fit reached in
+      renamed _ _ _ (block_in s) s.rules.limit w.base.clock _ s.urgent.next _ s.urgent.blocks (w.track x).line.urgent.sends h.block h.limit (n.clock x h.begun).1 h.next h.blocks (n.obeys x h.begun).rule

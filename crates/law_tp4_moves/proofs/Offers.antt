@@ -6,7 +6,7 @@ use Rattle.tpdu.specs.declared.tpdu.Format.{Format}
 use Rattle.tpdu.specs.declared.tpdu.Tpdu.TheVariants as wires
 use Rattle.tp4_flow.specs.declared.rules.Options.{Options}
 use Rattle.tp4_flow.specs.declared.step.Sent.{Sent}
-use Rattle.tp4_conn.specs.declared.base.Base.{Base}
+use Rattle.tp4_conn.specs.declared.end_record.EndRecord.{EndRecord}
 use Rattle.tp4_conn.specs.Agreeing.{options_in, is_extended, flow_rules, request, confirm}
 use Rattle.tp4_conn.specs.End.{IsSized, send, release}
 use Rattle.tp4_conn.proofs.Agreed.{options_back}
@@ -61,7 +61,7 @@ module _ (times : Times) (now : ℕ) (cause : Cause) (h new : End) where
   at_offer : (sent : Sent) → ((number n : ℕ) → IsOffered times now number cause h new (offer_of number n sent)) → IsOfferable sent
   at_offer sent f number o i = subst (λ (p : Offer). IsOffered times now number cause h new p) (sym i.is) (f number i.n)
 
-  pub cr_offerable : (b : Base) (octets : List ℕ) → h.birth.is_called ≡ false → h.birth.partner ≡ b.to → h.birth.reference ≡ b.own
+  pub cr_offerable : (b : EndRecord) (octets : List ℕ) → h.birth.is_called ≡ false → h.birth.partner ≡ b.to → h.birth.reference ≡ b.own
       → h.birth.words.calling ≡ b.calling → h.birth.words.called ≡ b.called → h.birth.words.octets ≡ octets → now ≤ h.birth.made + times.most → IsOfferable (request b octets)
   cr_offerable b octets calls to own calling called is soon = at_offer (request b octets) (λ number n. record {
     tick = refl;
@@ -78,7 +78,7 @@ module _ (times : Times) (now : ℕ) (cause : Cause) (h new : End) where
     parting = λ e. absurd cc;
   })
 
-  pub cc_offerable : (c : Base) (o : Options) (octets : List ℕ) → h.birth.partner ≡ c.to → h.birth.reference ≡ c.own → new.known ≡ c.partner → c.partner ≢ 0
+  pub cc_offerable : (c : EndRecord) (o : Options) (octets : List ℕ) → h.birth.partner ≡ c.to → h.birth.reference ≡ c.own → new.known ≡ c.partner → c.partner ≢ 0
       → IsSized o → new.agreed ≡ Some (terms_of o) → IsOfferable (confirm c o octets)
   cc_offerable c o octets to own known some sized agreed = at_offer (confirm c o octets) (λ number n. record {
     tick = refl;
@@ -95,7 +95,7 @@ module _ (times : Times) (now : ℕ) (cause : Cause) (h new : End) where
     parting = λ e. absurd cc;
   })
 
-  pub dr_offerable : (c : Base) (reason : ℕ) (octets : List ℕ) → h.birth.partner ≡ c.to → h.birth.reference ≡ c.own → new.known ≡ c.partner → c.partner ≢ 0
+  pub dr_offerable : (c : EndRecord) (reason : ℕ) (octets : List ℕ) → h.birth.partner ≡ c.to → h.birth.reference ≡ c.own → new.known ≡ c.partner → c.partner ≢ 0
       → new.is_parted ≡ true → IsOfferable (release c reason octets)
   dr_offerable c reason octets to own known some parted = at_offer (release c reason octets) (λ number n. record {
     tick = refl;
@@ -112,7 +112,7 @@ module _ (times : Times) (now : ℕ) (cause : Cause) (h new : End) where
     parting = λ _ _. (sym own, parted);
   })
 
-  pub refusal_offerable : (c : Base) (octets : List ℕ) → h.birth.partner ≡ c.to → new.known ≡ c.partner → c.partner ≢ 0 → IsOfferable (refusing c octets)
+  pub refusal_offerable : (c : EndRecord) (octets : List ℕ) → h.birth.partner ≡ c.to → new.known ≡ c.partner → c.partner ≢ 0 → IsOfferable (refusing c octets)
   refusal_offerable c octets to known some = at_offer (refusing c octets) (λ number n. record {
     tick = refl;
     origin = refl;
@@ -128,7 +128,7 @@ module _ (times : Times) (now : ℕ) (cause : Cause) (h new : End) where
     parting = λ _ other. absurd (other refl);
   })
 
-  pub dc_offerable : (c : Base) (source : ℕ) (dr : Tpdu) → h.birth.partner ≡ c.to → cause ≡ Took dr → dr.kind ≡ Dr → dr.source ≡ source → source ≢ 0
+  pub dc_offerable : (c : EndRecord) (source : ℕ) (dr : Tpdu) → h.birth.partner ≡ c.to → cause ≡ Took dr → dr.kind ≡ Dr → dr.source ≡ source → source ≢ 0
       → IsOfferable (send c (wires.Dc source c.own))
   dc_offerable c source dr to took kind is some = at_offer (send c (wires.Dc source c.own)) (λ number n. record {
     tick = refl;
@@ -146,7 +146,7 @@ module _ (times : Times) (now : ℕ) (cause : Cause) (h new : End) where
   })
 
   -- what the halves send, and when a called end has any
-  module _ (c : Base) (o : Options) (to : h.birth.partner ≡ c.to) (known : new.known ≡ c.partner) (some : c.partner ≢ 0) (agreed : new.agreed ≡ Some (terms_of o))
+  module _ (c : EndRecord) (o : Options) (to : h.birth.partner ≡ c.to) (known : new.known ≡ c.partner) (some : c.partner ≢ 0) (agreed : new.agreed ≡ Some (terms_of o))
       (is_open : h.birth.is_called ≡ true → IsOpen cause h) where
     pub flow_offerable : (sent : Sent) → IsFlow (flow_rules c o) sent → IsOfferable sent
     flow_offerable sent f = at_offer sent (λ number n. let kind = f.kind n in record {

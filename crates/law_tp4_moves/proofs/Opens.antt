@@ -12,11 +12,11 @@ use Rattle.tp4_flow.specs.declared.rules.Life.TheVariants.{Goes, Exhausted}
 use Rattle.tp4_flow.specs.declared.step.EndEvent.{EndEvent}
 use Rattle.tp4_flow.specs.declared.step.Sent.{Sent}
 use Rattle.tp4_sending.specs.FlowSender.{Sendings, at, acknowledged, urgent_done, life_of, ticked}
-use Rattle.tp4_conn.specs.declared.base.Base.{Base}
+use Rattle.tp4_conn.specs.declared.end_record.EndRecord.{EndRecord}
 use Rattle.tp4_conn.specs.declared.halves.Halves.{Halves}
-use Rattle.tp4_conn.specs.declared.stage.Open.{Open}
-use Rattle.tp4_conn.specs.declared.stage.Stage.{Stage}
-use Rattle.tp4_conn.specs.declared.stage.Stage.TheVariants as stages
+use Rattle.tp4_conn.specs.declared.states.InOpened.{InOpened}
+use Rattle.tp4_conn.specs.declared.states.StateData.{StateData}
+use Rattle.tp4_conn.specs.declared.states.StateData.TheVariants as stages
 use Rattle.tp4_conn.specs.Agreeing.{flow_rules}
 use Rattle.tp4_conn.specs.End.{Moved, span, led_by, confirms, closing}
 use Rattle.tp4_conn.specs.Opened.{hearing, sending, acking, dt_as, is_expedited, opened_tpdu, opened_normal, opened_urgent, opened_window, opened_disconnect, opened_as, opened_tick, protocol_error}
@@ -29,17 +29,17 @@ use Rattle.law_tp4_moves.proofs.Offers.{AreOfferable, offerable_appended, flows_
 use Rattle.law_tp4_moves.proofs.Rows.{Hears, alone_hears, took_hears, new_end, by_row, freezes, closes, told, dc_back}
 
 -- the halves after a call
-abbrev sent_own : (b : Base) (halves : Halves) (own : AreOwn b halves) (x : Sendings) → x.sender.rules ≡ flow_rules b own.terms → AreOwn b (record halves { sending = x.sender })
+abbrev sent_own : (b : EndRecord) (halves : Halves) (own : AreOwn b halves) (x : Sendings) → x.sender.rules ≡ flow_rules b own.terms → AreOwn b (record halves { sending = x.sender })
 sent_own b halves own x e = record { terms = own.terms; agreed = own.agreed; sending = e; receiving = own.receiving }
 
-abbrev got_own : (b : Base) (halves : Halves) (own : AreOwn b halves) (half : Half) → half.rules ≡ flow_rules b own.terms → AreOwn b (record halves { receiving = half })
+abbrev got_own : (b : EndRecord) (halves : Halves) (own : AreOwn b halves) (half : Half) → half.rules ≡ flow_rules b own.terms → AreOwn b (record halves { receiving = half })
 got_own b halves own half e = record { terms = own.terms; agreed = own.agreed; sending = own.sending; receiving = e }
 
 -- an end that is seen of b, knows its partner and has not parted
-module _ (times : Times) (h : End) (b : Base) (stage : Stage) (s : Sees times b.clock h (record { base = b; stage = stage })) (going : h.stop ≡ None) (low : b.clock ≤ h.latest)
+module _ (times : Times) (h : End) (b : EndRecord) (stage : StateData) (s : Sees times b.clock h (record { base = b; stage = stage })) (going : h.stop ≡ None) (low : b.clock ≤ h.latest)
     (some : b.partner ≢ 0) (unparted : h.is_parted ≡ false) where
   -- it is open after the row
-  goes : (cause : Cause) (to : Open) (latest : ℕ) (events : List EndEvent) (tpdus : List Sent) (own : AreOwn b to.halves)
+  goes : (cause : Cause) (to : InOpened) (latest : ℕ) (events : List EndEvent) (tpdus : List Sent) (own : AreOwn b to.halves)
       → (h.birth.is_called ≡ true → IsOpen cause h) → Hears cause h (stages.Opened to) → to.took ≡ took_by cause h.took b.clock
       → latest ≡ took_by cause h.took b.clock + b.timers.inactive + span b.timers → b.clock ≤ to.took + b.timers.inactive → AreFlows (flow_rules b own.terms) tpdus
       → Moves times b.clock cause h (record { base = b; stage = stages.Opened to; events = events; tpdus = tpdus })
@@ -61,17 +61,17 @@ module _ (times : Times) (h : End) (b : Base) (stage : Stage) (s : Sees times b.
 
   -- it takes a TPDU now, after these sends of the open end o
   module _ (x : Tpdu) (is_open : h.birth.is_called ≡ true → IsOpen (Took x) h) (not_closing : h.phase ≡ Closing → ⊥) (first : List EndEvent) (front : List Sent)
-      (o : Open) (own : AreOwn b o.halves) (now : o.took ≡ b.clock) (flows : AreFlows (flow_rules b own.terms) front) where
-    hears_open : (to : Stage) → x.kind ≢ Dr → Hears (Took x) h to
+      (o : InOpened) (own : AreOwn b o.halves) (now : o.took ≡ b.clock) (flows : AreFlows (flow_rules b own.terms) front) where
+    hears_open : (to : StateData) → x.kind ≢ Dr → Hears (Took x) h to
     hears_open to no_dr = took_hears h x to (λ e. absurd (no_dr e)) (λ _ e. absurd (not_closing e)) (λ called _. is_open called)
 
-    takes : (to : Open) (events : List EndEvent) (tpdus : List Sent) (new : AreOwn b to.halves) → x.kind ≢ Dr → to.took ≡ b.clock → new.terms ≡ own.terms → AreFlows (flow_rules b own.terms) tpdus
+    takes : (to : InOpened) (events : List EndEvent) (tpdus : List Sent) (new : AreOwn b to.halves) → x.kind ≢ Dr → to.took ≡ b.clock → new.terms ≡ own.terms → AreFlows (flow_rules b own.terms) tpdus
         → Moves times b.clock (Took x) h (led_by first front (record { base = b; stage = stages.Opened to; events = events; tpdus = tpdus }))
     takes to events tpdus new no_dr took same sent =
         goes (Took x) to (b.clock + b.timers.inactive + span b.timers) (first ++ events) (front ++ tpdus) new is_open (hears_open (stages.Opened to) no_dr) took refl (omega (arith, took))
         (subst (λ (t : Options). AreFlows (flow_rules b t) (front ++ tpdus)) (sym same) (flows_appended (flow_rules b own.terms) front tpdus flows sent))
 
-    front_offerable : (to : Stage) (latest : ℕ) (parted : Bool)
+    front_offerable : (to : StateData) (latest : ℕ) (parted : Bool)
         → AreOfferable times b.clock (Took x) h (new_end times h b stage s going low (Took x) b.partner b.agreed to latest parted) front
     front_offerable to latest parted =
         flows_offerable times b.clock (Took x) h (new_end times h b stage s going low (Took x) b.partner b.agreed to latest parted) b own.terms s.partner refl some
@@ -129,13 +129,13 @@ module _ (times : Times) (h : End) (b : Base) (stage : Stage) (s : Sees times b.
         takes _ _ _ (sent_own b o.halves own y sends.ready.rules_are) (λ e. absurd (cc (e, ap (λ (t : Tpdu). t.kind) is))) now refl sends.flows
 
 -- an open end
-module _ (times : Times) (h : End) (b : Base) (o : Open) (s : Sees times b.clock h (record { base = b; stage = stages.Opened o })) (going : h.stop ≡ None) (low : b.clock ≤ h.latest) where
+module _ (times : Times) (h : End) (b : EndRecord) (o : InOpened) (s : Sees times b.clock h (record { base = b; stage = stages.Opened o })) (going : h.stop ≡ None) (low : b.clock ≤ h.latest) where
   pub opened_takes : (wrap : ℕ → ℕ → ℕ) (n : ℕ) (tpdu : WireTpdu) → Moves times b.clock (Took (seen n tpdu)) h (opened_tpdu wrap b (hearing b o) tpdu)
   opened_takes wrap n tpdu = tpdu_takes times h b (stages.Opened o) s going low s.state.known s.parted (seen n tpdu) (λ _. inl s.phase) (λ e. absurd (cc (e, s.phase))) [] [] (hearing b o)
       (record { terms = s.state.halves.terms; agreed = s.state.halves.agreed; sending = s.state.halves.sending; receiving = s.state.halves.receiving }) refl tt wrap n tpdu refl
 
   -- it goes on by itself
-  alone : (to : Open) (events : List EndEvent) (tpdus : List Sent) (own : AreOwn b to.halves) → to.took ≡ o.took → own.terms ≡ s.state.halves.terms → AreFlows (flow_rules b s.state.halves.terms) tpdus
+  alone : (to : InOpened) (events : List EndEvent) (tpdus : List Sent) (own : AreOwn b to.halves) → to.took ≡ o.took → own.terms ≡ s.state.halves.terms → AreFlows (flow_rules b s.state.halves.terms) tpdus
       → Moves times b.clock Alone h (record { base = b; stage = stages.Opened to; events = events; tpdus = tpdus })
   alone to events tpdus own took same sent =
       goes times h b (stages.Opened o) s going low s.state.known s.parted Alone to h.latest events tpdus own (λ _. inl s.phase) (alone_hears h (stages.Opened to) (λ _. s.phase)) (took ∙ s.state.took_is)

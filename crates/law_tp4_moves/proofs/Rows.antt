@@ -7,9 +7,9 @@ use Rattle.tp4_flow.specs.declared.step.EndEvent.{EndEvent}
 use Rattle.tp4_flow.specs.declared.step.Sent.{Sent}
 use Rattle.tp4_sending.specs.Pieces.{again}
 use Rattle.tp4_sending.specs.declared.tries.Tries.{Tries}
-use Rattle.tp4_conn.specs.declared.base.Base.{Base}
-use Rattle.tp4_conn.specs.declared.stage.Stage.{Stage}
-use Rattle.tp4_conn.specs.declared.stage.Stage.TheVariants as stages
+use Rattle.tp4_conn.specs.declared.end_record.EndRecord.{EndRecord}
+use Rattle.tp4_conn.specs.declared.states.StateData.{StateData}
+use Rattle.tp4_conn.specs.declared.states.StateData.TheVariants as stages
 use Rattle.tp4_conn.specs.declared.timers.Timers.{Timers}
 use Rattle.tp4_conn.specs.End.{Moved, span, stays, led_by, closing, frozen, release, confirms}
 use Rattle.tp4_conn.specs.Living.{IsInTime}
@@ -20,19 +20,19 @@ use Rattle.law_tp4_moves.specs.Seen.{terms_of, AreOffersOf}
 use Rattle.law_tp4_moves.proofs.Offers.{AreOfferable, offerable_appended, all_offered, dr_offerable, dc_offerable}
 
 -- what a TPDU that is taken does, and when a called end is open
-pub record Hears (cause : Cause) (h : End) (to : Stage) : Type 0 where
+pub record Hears (cause : Cause) (h : End) (to : StateData) : Type 0 where
   pub refused : (tpdu : Tpdu) → cause ≡ Took tpdu → tpdu.kind ≡ Dr → phase_of to ≡ Frozen
   pub closed : (tpdu : Tpdu) → cause ≡ Took tpdu → tpdu.kind ≡ Dc → h.phase ≡ Closing → phase_of to ≡ Frozen
   pub opens : h.birth.is_called ≡ true → phase_of to ≡ Opened → IsOpen cause h
 
-pub alone_hears : (h : End) (to : Stage) → (phase_of to ≡ Opened → h.phase ≡ Opened) → Hears Alone h to
+pub alone_hears : (h : End) (to : StateData) → (phase_of to ≡ Opened → h.phase ≡ Opened) → Hears Alone h to
 alone_hears h to opens = record { refused = λ tpdu e. absurd cc; closed = λ tpdu e. absurd cc; opens = λ _ is. inl (opens is) }
 
 taken : Tpdu → Cause → Tpdu
 taken none Alone = none
 taken none (Took tpdu) = tpdu
 
-pub took_hears : (h : End) (x : Tpdu) (to : Stage) → (x.kind ≡ Dr → phase_of to ≡ Frozen) → (x.kind ≡ Dc → h.phase ≡ Closing → phase_of to ≡ Frozen)
+pub took_hears : (h : End) (x : Tpdu) (to : StateData) → (x.kind ≡ Dr → phase_of to ≡ Frozen) → (x.kind ≡ Dc → h.phase ≡ Closing → phase_of to ≡ Frozen)
     → (h.birth.is_called ≡ true → phase_of to ≡ Opened → IsOpen (Took x) h) → Hears (Took x) h to
 unfolding taken
 took_hears h x to refused closed opens = record {
@@ -42,7 +42,7 @@ took_hears h x to refused closed opens = record {
 }
 
 -- where a row freezes the end, it is now
-abbrev pub StopsAt : ℕ → Stage → Type 0
+abbrev pub StopsAt : ℕ → StateData → Type 0
 StopsAt now (stages.CrWait w) = Unit {0}
 StopsAt now (stages.WaitBeforeClose w) = Unit {0}
 StopsAt now (stages.UserWait since) = Unit {0}
@@ -51,7 +51,7 @@ StopsAt now (stages.Opened o) = Unit {0}
 StopsAt now (stages.Closing c) = Unit {0}
 StopsAt now (stages.Frozen when) = when ≡ now
 
-stopped : (now : ℕ) (to : Stage) → StopsAt now to → (stop_of to ≡ None) ⊎ (stop_of to ≡ Some now)
+stopped : (now : ℕ) (to : StateData) → StopsAt now to → (stop_of to ≡ None) ⊎ (stop_of to ≡ Some now)
 stopped now (stages.CrWait w) at = inl refl
 stopped now (stages.WaitBeforeClose w) at = inl refl
 stopped now (stages.UserWait since) at = inl refl
@@ -60,7 +60,7 @@ stopped now (stages.Opened o) at = inl refl
 stopped now (stages.Closing c) at = inl refl
 stopped now (stages.Frozen when) at = inr (ap (λ (t : ℕ). Some t) at)
 
-froze : (now : ℕ) (to : Stage) → StopsAt now to → phase_of to ≡ Frozen → stop_of to ≡ Some now
+froze : (now : ℕ) (to : StateData) → StopsAt now to → phase_of to ≡ Frozen → stop_of to ≡ Some now
 froze now (stages.CrWait w) at e = absurd cc
 froze now (stages.WaitBeforeClose w) at e = absurd cc
 froze now (stages.UserWait since) at e = absurd cc
@@ -69,7 +69,7 @@ froze now (stages.Opened o) at e = absurd cc
 froze now (stages.Closing c) at e = absurd cc
 froze now (stages.Frozen when) at e = ap (λ (t : ℕ). Some t) at
 
-parts_in : (to : Stage) (parted : Bool) → IsPartedIn to parted → parted ≡ true → (phase_of to ≡ Closing) ⊎ (phase_of to ≡ Frozen)
+parts_in : (to : StateData) (parted : Bool) → IsPartedIn to parted → parted ≡ true → (phase_of to ≡ Closing) ⊎ (phase_of to ≡ Frozen)
 parts_in (stages.CrWait w) parted p e = absurd cc
 parts_in (stages.WaitBeforeClose w) parted p e = absurd cc
 parts_in (stages.UserWait since) parted p e = absurd cc
@@ -82,14 +82,14 @@ in_times : (times : Times) (t : Timers) (latest took : ℕ) → times ≡ times_
 in_times times t latest took e low = subst (λ (x : Times). latest ≤ took + x.idle + x.span) (sym e) low
 
 -- an end h that is seen of b in that state and goes on; the tick now is the clock of b
-module _ (times : Times) (h : End) (b : Base) (stage : Stage) (s : Sees times b.clock h (record { base = b; stage = stage })) (going : h.stop ≡ None) (low : b.clock ≤ h.latest)
+module _ (times : Times) (h : End) (b : EndRecord) (stage : StateData) (s : Sees times b.clock h (record { base = b; stage = stage })) (going : h.stop ≡ None) (low : b.clock ≤ h.latest)
     (cause : Cause) where
   -- the reference of the partner is the one that was known, or that of the CC that is taken
   abbrev pub IsKnown : ℕ → Type 0
   IsKnown partner = (partner ≡ b.partner) ⊎ ((b.partner ≡ 0) × ((tpdu : Tpdu) × (cause ≡ Took tpdu) × (tpdu.kind ≡ Cc) × (partner ≡ tpdu.source)))
 
   -- as it is seen after a row
-  abbrev pub new_end : ℕ → Option Options → Stage → ℕ → Bool → End
+  abbrev pub new_end : ℕ → Option Options → StateData → ℕ → Bool → End
   new_end partner agreed to latest parted = record {
     birth = h.birth;
     phase = phase_of to;
@@ -102,7 +102,7 @@ module _ (times : Times) (h : End) (b : Base) (stage : Stage) (s : Sees times b.
     is_out = false;
   }
 
-  pub record Row (partner credit : ℕ) (agreed : Option Options) (to : Stage) (latest : ℕ) (parted : Bool) (tpdus : List Sent) : Type 0 where
+  pub record Row (partner credit : ℕ) (agreed : Option Options) (to : StateData) (latest : ℕ) (parted : Bool) (tpdus : List Sent) : Type 0 where
     pub known : IsKnown partner
     pub agrees : (agreed ≡ b.agreed) ⊎ ((b.agreed ≡ None) × Agrees cause h (new_end partner agreed to latest parted))
     pub stops : StopsAt b.clock to
@@ -115,7 +115,7 @@ module _ (times : Times) (h : End) (b : Base) (stage : Stage) (s : Sees times b.
     pub timely : IsInTime (acts_by (record b { partner = partner; credit = credit; agreed = agreed }) to) b.clock
     pub offers : AreOfferable times b.clock cause h (new_end partner agreed to latest parted) tpdus
 
-  pub by_row : (partner credit : ℕ) (agreed : Option Options) (to : Stage) (latest : ℕ) (parted : Bool) (events : List EndEvent) (tpdus : List Sent)
+  pub by_row : (partner credit : ℕ) (agreed : Option Options) (to : StateData) (latest : ℕ) (parted : Bool) (events : List EndEvent) (tpdus : List Sent)
       → Row partner credit agreed to latest parted tpdus
       → Moves times b.clock cause h (record { base = record b { partner = partner; credit = credit; agreed = agreed }; stage = to; events = events; tpdus = tpdus })
   by_row partner credit agreed to latest parted events tpdus r = record {
@@ -177,8 +177,8 @@ module _ (times : Times) (h : End) (b : Base) (stage : Stage) (s : Sees times b.
   -- a DR is sent, with the time from that tick on; these TPDUs come first
   pub closes : (partner from reason : ℕ) (octets : List ℕ) (first events : List EndEvent) (tpdus : List Sent) → IsKnown partner → partner ≢ 0 → b.clock ≤ from + span b.timers
       → (from + span b.timers ≤ h.latest) ⊎ (from ≤ took_by cause h.took b.clock + b.timers.inactive)
-      → ((to : Stage) → phase_of to ≡ Closing → Hears cause h to)
-      → ((to : Stage) (latest : ℕ) → AreOfferable times b.clock cause h (new_end partner b.agreed to latest true) tpdus)
+      → ((to : StateData) → phase_of to ≡ Closing → Hears cause h to)
+      → ((to : StateData) (latest : ℕ) → AreOfferable times b.clock cause h (new_end partner b.agreed to latest true) tpdus)
       → Moves times b.clock cause h (led_by first tpdus (closing (record b { partner = partner }) events reason octets from))
   closes partner from reason octets first events tpdus known some high early hears offers =
       let to = stages.Closing (record { reason = reason; octets = octets; from = from; last = b.clock }) in
@@ -215,7 +215,7 @@ told times now cause h m events tpdus e g = record {
 }
 
 -- nothing happens, and no TPDU is taken
-goes_on : (now : ℕ) (stage : Stage) → stop_of stage ≡ None → StopsAt now stage
+goes_on : (now : ℕ) (stage : StateData) → stop_of stage ≡ None → StopsAt now stage
 goes_on now (stages.CrWait w) e = tt
 goes_on now (stages.WaitBeforeClose w) e = tt
 goes_on now (stages.UserWait since) e = tt
@@ -224,7 +224,7 @@ goes_on now (stages.Opened o) e = tt
 goes_on now (stages.Closing c) e = tt
 goes_on now (stages.Frozen when) e = absurd cc
 
-pub rests : (times : Times) (h : End) (b : Base) (stage : Stage) (s : Sees times b.clock h (record { base = b; stage = stage })) → h.stop ≡ None → b.clock ≤ h.latest
+pub rests : (times : Times) (h : End) (b : EndRecord) (stage : StateData) (s : Sees times b.clock h (record { base = b; stage = stage })) → h.stop ≡ None → b.clock ≤ h.latest
     → Moves times b.clock Alone h (stays b stage)
 rests times h b stage s going low = by_row times h b stage s going low Alone b.partner b.credit b.agreed stage h.latest h.is_parted [] [] (record {
   known = inl refl;
@@ -241,7 +241,7 @@ rests times h b stage s going low = by_row times h b stage s going low Alone b.p
 })
 
 -- the DC to a DR
-pub dc_back : (times : Times) (now : ℕ) (h new : End) (b : Base) (source : ℕ) (dr : Tpdu) → h.birth.partner ≡ b.to → dr.kind ≡ Dr → dr.source ≡ source
+pub dc_back : (times : Times) (now : ℕ) (h new : End) (b : EndRecord) (source : ℕ) (dr : Tpdu) → h.birth.partner ≡ b.to → dr.kind ≡ Dr → dr.source ≡ source
     → AreOfferable times now (Took dr) h new (confirms b source)
 dc_back times now h new b source dr to kind is =
     if_kept (AreOfferable times now (Took dr) h new) (source == 0) _ _ (λ _. tt) (λ f. (dc_offerable times now (Took dr) h new b source dr to refl kind is (eqb-false source 0 f), tt))

@@ -5,12 +5,12 @@ use Rattle.std.proofs.lemmas.Option.{none-some, same_Some}
 use Rattle.tpdu.specs.declared.tpdu.Tpdu.{Tpdu as WireTpdu}
 use Rattle.tp4_sending.specs.FlowSender.{due_of}
 use Rattle.tp4_sending.specs.Pieces.{sooner}
-use Rattle.tp4_conn.specs.declared.base.Base.{Base}
+use Rattle.tp4_conn.specs.declared.end_record.EndRecord.{EndRecord}
 use Rattle.tp4_conn.specs.declared.call.UserCall.{UserCall}
 use Rattle.tp4_conn.specs.declared.call.UserCall.TheVariants.{Accept, Refuse, Normal, Urgent, Window, Disconnect}
 use Rattle.tp4_conn.specs.declared.halves.Halves.{Halves}
-use Rattle.tp4_conn.specs.declared.stage.Stage.{Stage}
-use Rattle.tp4_conn.specs.declared.stage.Stage.TheVariants as stages
+use Rattle.tp4_conn.specs.declared.states.StateData.{StateData}
+use Rattle.tp4_conn.specs.declared.states.StateData.TheVariants as stages
 use Rattle.tp4_conn.specs.Calls.{IsCall}
 use Rattle.tp4_conn.specs.Dues.{IsBefore}
 use Rattle.tp4_conn.specs.End.{End as ConnEnd, IsProposal, end_of, span}
@@ -28,10 +28,10 @@ use Rattle.law_tp4_moves.proofs.Opens.{opened_takes, normal_sent, urgent_sent, c
 use Rattle.law_tp4_moves.proofs.Rows.{rests, all_tries}
 
 -- the clock of an end is not seen
-own_at : (now : ℕ) (b : Base) (halves : Halves) → AreOwn b halves → AreOwn (at now b) halves
+own_at : (now : ℕ) (b : EndRecord) (halves : Halves) → AreOwn b halves → AreOwn (at now b) halves
 own_at now b halves own = record { terms = own.terms; agreed = own.agreed; sending = own.sending; receiving = own.receiving }
 
-state_at : (now : ℕ) (birth : Birth) (took latest : ℕ) (b : Base) (stage : Stage) → IsSeenIn birth took latest b stage → IsSeenIn birth took latest (at now b) stage
+state_at : (now : ℕ) (birth : Birth) (took latest : ℕ) (b : EndRecord) (stage : StateData) → IsSeenIn birth took latest b stage → IsSeenIn birth took latest (at now b) stage
 state_at now birth took latest b (stages.CrWait w) f =
     record { calls = f.calls; unknown = f.unknown; unagreed = f.unagreed; octets = f.octets; tries = f.tries; latest_is = f.latest_is }
 state_at now birth took latest b (stages.WaitBeforeClose w) f =
@@ -43,7 +43,7 @@ state_at now birth took latest b (stages.Opened o) f = record { known = f.known;
 state_at now birth took latest b (stages.Closing c) f = record { known = f.known; latest_is = f.latest_is }
 state_at now birth took latest b (stages.Frozen when) f = tt
 
-bound_at : (now tick : ℕ) (b : Base) (stage : Stage) → IsInTime (acts_by b stage) tick → IsInTime (acts_by (at now b) stage) tick
+bound_at : (now tick : ℕ) (b : EndRecord) (stage : StateData) → IsInTime (acts_by b stage) tick → IsInTime (acts_by (at now b) stage) tick
 bound_at now tick b (stages.CrWait w) f = f
 bound_at now tick b (stages.WaitBeforeClose w) f = f
 bound_at now tick b (stages.UserWait since) f = f
@@ -52,7 +52,7 @@ bound_at now tick b (stages.Opened o) f = f
 bound_at now tick b (stages.Closing c) f = f
 bound_at now tick b (stages.Frozen when) f = tt
 
-sees_at : (times : Times) (now tick : ℕ) (h : End) (b : Base) (stage : Stage) → Sees times tick h (record { base = b; stage = stage })
+sees_at : (times : Times) (now tick : ℕ) (h : End) (b : EndRecord) (stage : StateData) → Sees times tick h (record { base = b; stage = stage })
     → Sees times tick h (record { base = at now b; stage = stage })
 sees_at times now tick h b stage s = record {
   timers = s.timers;
@@ -78,7 +78,7 @@ pub record IsBy (latest : ℕ) (tick : Option ℕ) : Type 0 where
   pub is : tick ≡ Some next
   pub low : next ≤ latest
 
-acts_in : (birth : Birth) (took latest : ℕ) (b : Base) (stage : Stage) → stop_of stage ≡ None → IsSeenIn birth took latest b stage → IsBy latest (acts_by b stage)
+acts_in : (birth : Birth) (took latest : ℕ) (b : EndRecord) (stage : StateData) → stop_of stage ≡ None → IsSeenIn birth took latest b stage → IsBy latest (acts_by b stage)
 acts_in birth took latest b (stages.CrWait w) e f =
     let low = all_tries b.timers birth.made w.tries f.tries in record { next = w.tries.last + b.timers.t1; is = refl; low = omega (arith, low, f.latest_is) }
 acts_in birth took latest b (stages.WaitBeforeClose w) e f =
@@ -98,7 +98,7 @@ first_due : (bound x y : ℕ) (z : Option ℕ) → x ≤ bound → IsBy bound (s
 first_due bound x y None low = record { next = min x y; is = refl; low = omega arith }
 first_due bound x y (Some z) low = record { next = min (min x y) z; is = refl; low = omega arith }
 
-due_in : (b : Base) (stage : Stage) (bound : ℕ) → acts_by b stage ≡ Some bound → IsBy bound (due b stage)
+due_in : (b : EndRecord) (stage : StateData) (bound : ℕ) → acts_by b stage ≡ Some bound → IsBy bound (due b stage)
 due_in b (stages.CrWait w) bound e = record { next = w.tries.last + b.timers.t1; is = refl; low = le_of_eq (same_Some _ _ e) }
 due_in b (stages.WaitBeforeClose w) bound e = record { next = w.request.tries.last + b.timers.t1; is = refl; low = le_of_eq (same_Some _ _ e) }
 due_in b (stages.UserWait since) bound e = record { next = since + b.timers.inactive; is = refl; low = le_of_eq (same_Some _ _ e) }
@@ -124,7 +124,7 @@ first_before x y now None before = omega arith
 first_before x y now (Some z) before = omega arith
 
 -- a tick at which it is not due passes
-passes : (b : Base) (stage : Stage) (now : ℕ) → IsBefore (due b stage) now → IsInTime (acts_by b stage) (now + 1)
+passes : (b : EndRecord) (stage : StateData) (now : ℕ) → IsBefore (due b stage) now → IsInTime (acts_by b stage) (now + 1)
 passes b (stages.CrWait w) now before = omega arith
 passes b (stages.WaitBeforeClose w) now before = omega arith
 passes b (stages.UserWait since) now before = omega arith
@@ -158,7 +158,7 @@ before_latest times now h e s going before =
     let low : now < d.next = subst (λ (t : Option ℕ). IsBefore t now) d.is before in omega (arith, low, d.low)
 
 -- the tick is the clock of b
-call_moves : (times : Times) (h : End) (b : Base) (stage : Stage) → Sees times b.clock h (record { base = b; stage = stage }) → h.stop ≡ None → b.clock ≤ h.latest → IsProposal b.proposed → (call : UserCall) → IsCall call
+call_moves : (times : Times) (h : End) (b : EndRecord) (stage : StateData) → Sees times b.clock h (record { base = b; stage = stage }) → h.stop ≡ None → b.clock ≤ h.latest → IsProposal b.proposed → (call : UserCall) → IsCall call
     → Moves times b.clock Alone h (on_call b stage call)
 call_moves times h b (stages.CrWait w) s going low proposal (Disconnect octets) may = cr_parts times h b w s going low octets
 call_moves times h b (stages.UserWait since) s going low proposal (Accept asked octets) may = accepts times h b since s going low asked octets proposal may
@@ -172,7 +172,7 @@ call_moves times h b (stages.Opened o) s going low proposal (Window credit) may 
 call_moves times h b (stages.Opened o) s going low proposal (Disconnect octets) may = opened_parts times h b o s going low octets
 call_moves times h b stage s going low proposal call may = rests times h b stage s going low
 
-tick_moves : (times : Times) (h : End) (b : Base) (stage : Stage) → Sees times b.clock h (record { base = b; stage = stage }) → h.stop ≡ None → b.clock ≤ h.latest → IsProperStage b.agreed stage
+tick_moves : (times : Times) (h : End) (b : EndRecord) (stage : StateData) → Sees times b.clock h (record { base = b; stage = stage }) → h.stop ≡ None → b.clock ≤ h.latest → IsProperStage b.agreed stage
     → Moves times b.clock Alone h (on_tick b stage)
 tick_moves times h b (stages.CrWait w) s going low proper = cr_tick times h b w s going low
 tick_moves times h b (stages.WaitBeforeClose w) s going low proper = wait_tick times h b w s going low
@@ -182,8 +182,8 @@ tick_moves times h b (stages.Opened o) s going low proper = opened_ticks times h
 tick_moves times h b (stages.Closing c) s going low proper = closing_ticks times h b c s going low
 tick_moves times h b (stages.Frozen when) s going low proper = rests times h b (stages.Frozen when) s going low
 
-tpdu_moves : (wrap : ℕ → ℕ → ℕ) (times : Times) (h : End) (b : Base) (stage : Stage) → Sees times b.clock h (record { base = b; stage = stage }) → h.stop ≡ None → b.clock ≤ h.latest
-    → (n : ℕ) (tpdu : WireTpdu) (was : Base) → fits was stage tpdu ≡ true → HasSource (seen n tpdu) → Moves times b.clock (Took (seen n tpdu)) h (on_tpdu wrap b stage tpdu)
+tpdu_moves : (wrap : ℕ → ℕ → ℕ) (times : Times) (h : End) (b : EndRecord) (stage : StateData) → Sees times b.clock h (record { base = b; stage = stage }) → h.stop ≡ None → b.clock ≤ h.latest
+    → (n : ℕ) (tpdu : WireTpdu) (was : EndRecord) → fits was stage tpdu ≡ true → HasSource (seen n tpdu) → Moves times b.clock (Took (seen n tpdu)) h (on_tpdu wrap b stage tpdu)
 tpdu_moves wrap times h b (stages.CrWait w) s going low n tpdu was fit has = cr_tpdu times h b w s going low n tpdu fit has
 tpdu_moves wrap times h b (stages.WaitBeforeClose w) s going low n tpdu was fit has = wait_tpdu times h b w s going low n tpdu fit has
 tpdu_moves wrap times h b (stages.UserWait since) s going low n tpdu was fit has = never fit
@@ -193,11 +193,11 @@ tpdu_moves wrap times h b (stages.Closing c) s going low n tpdu was fit has = cl
 tpdu_moves wrap times h b (stages.Frozen when) s going low n tpdu was fit has = never fit
 
 -- a TPDU that is taken, or one that lacks a checksum
-untaken_moves : (times : Times) (now : ℕ) (h : End) (b : Base) (stage : Stage) → Moves times now Alone h (record { base = at now b; stage = stage; events = []; tpdus = [] })
+untaken_moves : (times : Times) (now : ℕ) (h : End) (b : EndRecord) (stage : StateData) → Moves times now Alone h (record { base = at now b; stage = stage; events = []; tpdus = [] })
     → Moves times now Alone h (untaken b stage)
 untaken_moves times now h b stage m = record { new = m.new; sees = sees_at times b.clock now m.new (at now b) stage m.sees; move = m.move }
 
-took_moves : (wrap : ℕ → ℕ → ℕ) (times : Times) (now : ℕ) (h : End) (b : Base) (stage : Stage) → Sees times now h (record { base = b; stage = stage }) → h.stop ≡ None → now ≤ h.latest
+took_moves : (wrap : ℕ → ℕ → ℕ) (times : Times) (now : ℕ) (h : End) (b : EndRecord) (stage : StateData) → Sees times now h (record { base = b; stage = stage }) → h.stop ≡ None → now ≤ h.latest
     → (n : ℕ) (tpdu : WireTpdu) → fits b stage tpdu ≡ true → HasSource (seen n tpdu) → (lacks : Bool)
     → Moves times now (if lacks then Alone else Took (seen n tpdu)) h (if lacks then untaken b stage else on_tpdu wrap (at now b) stage tpdu)
 took_moves wrap times now h b stage s going low n tpdu fit has true =
@@ -219,7 +219,7 @@ pub stays : (wrap : ℕ → ℕ → ℕ) (times : Times) (now t : ℕ) (h : End)
     → Sees times now h (end_of (stepped wrap now e event)) × ((stepped wrap now e event).events ≡ []) × ((stepped wrap now e event).tpdus ≡ [])
 stays wrap times now t h e event s stop = by e.base e.stage event s (sym s.stop ∙ stop)
   where
-    by : (b : Base) (stage : Stage) (event : Event) → Sees times now h (record { base = b; stage = stage }) → stop_of stage ≡ Some t → IsFit (record { base = b; stage = stage }) event
+    by : (b : EndRecord) (stage : StateData) (event : Event) → Sees times now h (record { base = b; stage = stage }) → stop_of stage ≡ Some t → IsFit (record { base = b; stage = stage }) event
         → Sees times now h (end_of (stepped wrap now (record { base = b; stage = stage }) event))
         × ((stepped wrap now (record { base = b; stage = stage }) event).events ≡ []) × ((stepped wrap now (record { base = b; stage = stage }) event).tpdus ≡ [])
     by b (stages.Frozen when) (Called call) s is fit = (sees_at times now now h b (stages.Frozen when) s, refl, refl)
@@ -236,7 +236,7 @@ stays wrap times now t h e event s stop = by e.base e.stage event s (sym s.stop 
 pub frozen_since : (times : Times) (now t : ℕ) (h : End) (e : ConnEnd) → Sees times now h e → h.stop ≡ Some t → e.stage ≡ stages.Frozen t
 frozen_since times now t h e s stop = by e.stage (sym s.stop ∙ stop)
   where
-    by : (stage : Stage) → stop_of stage ≡ Some t → stage ≡ stages.Frozen t
+    by : (stage : StateData) → stop_of stage ≡ Some t → stage ≡ stages.Frozen t
     by (stages.Frozen when) is = ap (λ (n : ℕ). stages.Frozen n) (same_Some _ _ is)
     by (stages.CrWait w) is = absurd (none-some _ is)
     by (stages.WaitBeforeClose w) is = absurd (none-some _ is)

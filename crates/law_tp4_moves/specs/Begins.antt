@@ -14,8 +14,8 @@ begun h address call = record {
     reference = call.own;
     is_called = false;
     caller = 0;
-    partner = call.to;
-    words = record { calling = call.from_selector; called = call.to_selector; octets = call.octets };
+    partner = call.request.to;
+    words = record { calling = call.request.from_selector; called = call.request.to_selector; octets = call.request.octets };
     made = h.clock;
     event = length h.events;
   };

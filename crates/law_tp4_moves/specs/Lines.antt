@@ -16,11 +16,11 @@ use Rattle.tp4_flow.specs.declared.step.What.TheVariants as tells
 use Rattle.tp4_sending.specs.FlowSender.{FlowSender, fresh, block_in}
 use Rattle.tp4_sending.specs.Kept.{urgent_base}
 use Rattle.tp4_sending.specs.Pieces.{count_in, cut_at}
-use Rattle.tp4_conn.specs.declared.base.Base.{Base}
+use Rattle.tp4_conn.specs.declared.end_record.EndRecord.{EndRecord}
 use Rattle.tp4_conn.specs.declared.call.UserCall.TheVariants as calls
 use Rattle.tp4_conn.specs.declared.halves.Halves.{Halves}
-use Rattle.tp4_conn.specs.declared.stage.Stage.{Stage}
-use Rattle.tp4_conn.specs.declared.stage.Stage.TheVariants.{CrWait, UserWait, AkWait, Opened}
+use Rattle.tp4_conn.specs.declared.states.StateData.{StateData}
+use Rattle.tp4_conn.specs.declared.states.StateData.TheVariants.{CrWait, UserWait, AkWait, Opened}
 use Rattle.tp4_conn.specs.Agreeing.{flow_rules, options_in}
 use Rattle.tp4_conn.specs.End.{Moved, agreed_format}
 use Rattle.tp4_conn.specs.Table.{Event, Called, Took, Ticked}
@@ -66,7 +66,7 @@ pub record AreHalvesAt (format : Format) (h : Halves) (own theirs : Track) : Typ
   pub their_block : theirs.rules.block ≡ block_of format
 
 -- the halves that a calling end will have, on the terms of the called end
-pub record AreUntouched (terms : Terms) (b : Base) (own theirs : Track) : Type 0 where
+pub record AreUntouched (terms : Terms) (b : EndRecord) (own theirs : Track) : Type 0 where
   pub options : Options
   pub terms_are : terms_of options ≡ terms
   pub credit : ℕ
@@ -74,7 +74,7 @@ pub record AreUntouched (terms : Terms) (b : Base) (own theirs : Track) : Type 0
   pub receiving : IsReceivingAt (empty (flow_rules b options) b.timers.credit) theirs
 
 -- An end by its state. Both lines begin as the called end accepts, on these terms
-abbrev pub Stands : Terms → Base → Stage → Track → Track → Type 0
+abbrev pub Stands : Terms → EndRecord → StateData → Track → Track → Type 0
 Stands terms b (CrWait w) own theirs = own.is_begun ≡ true → AreUntouched terms b own theirs
 Stands terms b (UserWait since) own theirs = b.credit ≤ 15
 Stands terms b (AkWait w) own theirs = AreHalvesAt (agreed_format b.agreed) w.halves own theirs
@@ -113,14 +113,14 @@ Confirms terms (wires.Cc credit destination source width calling called size pre
 Confirms terms other own = Unit {0}
 
 -- what has to be known of a TPDU, by the state
-abbrev pub IsKnownTpdu : Terms → Base → Stage → Option Offer → WireTpdu → Track → Track → Type 0
+abbrev pub IsKnownTpdu : Terms → EndRecord → StateData → Option Offer → WireTpdu → Track → Track → Type 0
 IsKnownTpdu terms b (CrWait w) taken tpdu own theirs = Confirms terms tpdu own
 IsKnownTpdu terms b (AkWait w) taken tpdu own theirs = IsHeard (agreed_format b.agreed) taken tpdu theirs
 IsKnownTpdu terms b (Opened o) taken tpdu own theirs = IsHeard (agreed_format b.agreed) taken tpdu theirs
 IsKnownTpdu terms b stage taken tpdu own theirs = Unit {0}
 
 -- and of an event
-abbrev pub IsKnownEvent : Terms → Base → Stage → Option Offer → Event → Track → Track → Type 0
+abbrev pub IsKnownEvent : Terms → EndRecord → StateData → Option Offer → Event → Track → Track → Type 0
 IsKnownEvent terms b stage taken (Called call) own theirs = Unit {0}
 IsKnownEvent terms b stage taken (Took tpdu sum) own theirs = IsKnownTpdu terms b stage taken tpdu own theirs
 IsKnownEvent terms b stage taken Ticked own theirs = Unit {0}
@@ -185,7 +185,7 @@ pub record LinesStay (terms : Terms) (event : Event) (m : Moved) (own theirs : T
   pub plain : ArePlain m.tpdus
 
 -- both begin as a called end is accepted, and the calling end can agree on the same
-pub record LinesBegin (times : Times) (terms : Terms) (now : ℕ) (old : Stage) (event : Event) (m : Moved) : Type 0 where
+pub record LinesBegin (times : Times) (terms : Terms) (now : ℕ) (old : StateData) (event : Event) (m : Moved) : Type 0 where
   pub since : ℕ
   pub waited : old ≡ UserWait since
   pub own : Track
@@ -195,7 +195,7 @@ pub record LinesBegin (times : Times) (terms : Terms) (now : ℕ) (old : Stage) 
   pub stands : Stands terms m.base m.stage own theirs
   pub options : Options
   pub agreed : m.base.agreed ≡ Some options
-  pub untouched : (b : Base) → b.timers ≡ m.base.timers → AreUntouched (terms_of options) b theirs own
+  pub untouched : (b : EndRecord) → b.timers ≡ m.base.timers → AreUntouched (terms_of options) b theirs own
   pub own_clocks : IsAt now own
   pub their_clocks : IsAt now theirs
   pub gave : given event ≡ []
@@ -216,7 +216,7 @@ pub record LinesGoOn (terms : Terms) (now : ℕ) (taken : Option Offer) (event :
   pub sent : AreSentIn own theirs now m.tpdus
 
 -- one of these
-pub data Flowed (times : Times) (terms : Terms) (now : ℕ) (taken : Option Offer) (old : Stage) (event : Event) (m : Moved) (own theirs : Track) : Type 0 where
+pub data Flowed (times : Times) (terms : Terms) (now : ℕ) (taken : Option Offer) (old : StateData) (event : Event) (m : Moved) (own theirs : Track) : Type 0 where
   Still : LinesStay terms event m own theirs → Flowed times terms now taken old event m own theirs
   Begun : LinesBegin times terms now old event m → Flowed times terms now taken old event m own theirs
   Going : LinesGoOn terms now taken event m own theirs → Flowed times terms now taken old event m own theirs

@@ -2,14 +2,14 @@
 use Rattle.std.specs.Prelude.{◌≡◌, ◌≢◌, ◌≤◌, ℕ, ◌+◌, ◌-◌, ◌*◌, Bool, true, false, ◌&&◌, not, List, Option, Some, None, option_map, if◌then◌else◌}
 use Rattle.tp4_flow.specs.declared.rules.Options.{Options}
 use Rattle.tp4_sending.specs.declared.tries.Tries.{Tries}
-use Rattle.tp4_conn.specs.declared.base.Base.{Base}
+use Rattle.tp4_conn.specs.declared.end_record.EndRecord.{EndRecord}
 use Rattle.tp4_conn.specs.declared.halves.Halves.{Halves}
-use Rattle.tp4_conn.specs.declared.stage.Answering.{Answering}
-use Rattle.tp4_conn.specs.declared.stage.Open.{Open}
-use Rattle.tp4_conn.specs.declared.stage.Releasing.{Releasing}
-use Rattle.tp4_conn.specs.declared.stage.Requesting.{Requesting}
-use Rattle.tp4_conn.specs.declared.stage.Stage.{Stage}
-use Rattle.tp4_conn.specs.declared.stage.Stage.TheVariants as stages
+use Rattle.tp4_conn.specs.declared.states.InAkWait.{InAkWait}
+use Rattle.tp4_conn.specs.declared.states.InOpened.{InOpened}
+use Rattle.tp4_conn.specs.declared.states.InClosing.{InClosing}
+use Rattle.tp4_conn.specs.declared.states.InCrWait.{InCrWait}
+use Rattle.tp4_conn.specs.declared.states.StateData.{StateData}
+use Rattle.tp4_conn.specs.declared.states.StateData.TheVariants as stages
 use Rattle.tp4_conn.specs.declared.timers.Timers.{Timers}
 use Rattle.tp4_conn.specs.Agreeing.{flow_rules}
 use Rattle.tp4_conn.specs.End.{End as ConnEnd, Moved, IsTimed, end_of, span}
@@ -24,7 +24,7 @@ abbrev pub times_of : Timers → Times
 times_of t = record { life = t.life; idle = t.inactive; span = span t; most = (t.sendings - 1) * t.t1 }
 
 -- the state of an end
-abbrev pub phase_of : Stage → Phase
+abbrev pub phase_of : StateData → Phase
 phase_of (stages.CrWait w) = CrWait
 phase_of (stages.WaitBeforeClose w) = WaitBeforeClose
 phase_of (stages.UserWait since) = UserWait
@@ -34,7 +34,7 @@ phase_of (stages.Closing c) = Closing
 phase_of (stages.Frozen when) = Frozen
 
 -- the tick at which it froze
-abbrev pub stop_of : Stage → Option ℕ
+abbrev pub stop_of : StateData → Option ℕ
 stop_of (stages.CrWait w) = None
 stop_of (stages.WaitBeforeClose w) = None
 stop_of (stages.UserWait since) = None
@@ -44,7 +44,7 @@ stop_of (stages.Closing c) = None
 stop_of (stages.Frozen when) = Some when
 
 -- it has offered a DR with its reference in Closing, and where it froze there
-abbrev pub IsPartedIn : Stage → Bool → Type 0
+abbrev pub IsPartedIn : StateData → Bool → Type 0
 IsPartedIn (stages.CrWait w) parted = parted ≡ false
 IsPartedIn (stages.WaitBeforeClose w) parted = parted ≡ false
 IsPartedIn (stages.UserWait since) parted = parted ≡ false
@@ -59,14 +59,14 @@ pub record AreTries (t : Timers) (from : ℕ) (tries : Tries) : Type 0 where
   pub few : tries.count ≤ t.sendings
 
 -- both halves are those of the end and its partner, on what was agreed
-pub record AreOwn (b : Base) (halves : Halves) : Type 0 where
+pub record AreOwn (b : EndRecord) (halves : Halves) : Type 0 where
   pub terms : Options
   pub agreed : b.agreed ≡ Some terms
   pub sending : halves.sending.rules ≡ flow_rules b terms
   pub receiving : halves.receiving.rules ≡ flow_rules b terms
 
 -- a calling end whose partner has not answered: N T1 from its first CR on
-pub record IsRequesting (birth : Birth) (latest : ℕ) (b : Base) (w : Requesting) : Type 0 where
+pub record IsRequesting (birth : Birth) (latest : ℕ) (b : EndRecord) (w : InCrWait) : Type 0 where
   pub calls : b.is_called ≡ false
   pub unknown : b.partner ≡ 0
   pub unagreed : b.agreed ≡ None
@@ -75,7 +75,7 @@ pub record IsRequesting (birth : Birth) (latest : ℕ) (b : Base) (w : Requestin
   pub latest_is : latest ≡ birth.made + span b.timers
 
 -- a called end whose user has not answered: for an answer I from the indication on, and N T1 after it
-pub record IsAsked (birth : Birth) (latest : ℕ) (b : Base) (since : ℕ) : Type 0 where
+pub record IsAsked (birth : Birth) (latest : ℕ) (b : EndRecord) (since : ℕ) : Type 0 where
   pub called : b.is_called ≡ true
   pub known : b.partner ≢ 0
   pub unagreed : b.agreed ≡ None
@@ -83,7 +83,7 @@ pub record IsAsked (birth : Birth) (latest : ℕ) (b : Base) (since : ℕ) : Typ
   pub latest_is : latest ≡ since + b.timers.inactive + span b.timers
 
 -- a called end that sent a CC: N T1 from the first CC on
-pub record IsAnswering (latest : ℕ) (b : Base) (w : Answering) : Type 0 where
+pub record IsAnswering (latest : ℕ) (b : EndRecord) (w : InAkWait) : Type 0 where
   pub called : b.is_called ≡ true
   pub known : b.partner ≢ 0
   pub halves : AreOwn b w.halves
@@ -92,19 +92,19 @@ pub record IsAnswering (latest : ℕ) (b : Base) (w : Answering) : Type 0 where
   pub latest_is : latest ≡ w.first + span b.timers
 
 -- an open end: I from the last TPDU on, and N T1 after it
-pub record IsOpened (took latest : ℕ) (b : Base) (o : Open) : Type 0 where
+pub record IsOpened (took latest : ℕ) (b : EndRecord) (o : InOpened) : Type 0 where
   pub known : b.partner ≢ 0
   pub halves : AreOwn b o.halves
   pub took_is : o.took ≡ took
   pub latest_is : latest ≡ took + b.timers.inactive + span b.timers
 
 -- an end that sent a DR: N T1 from where its time counts
-pub record IsClosing (latest : ℕ) (b : Base) (c : Releasing) : Type 0 where
+pub record IsClosing (latest : ℕ) (b : EndRecord) (c : InClosing) : Type 0 where
   pub known : b.partner ≢ 0
   pub latest_is : latest ≡ c.from + span b.timers
 
 -- what is seen of an end in its state, and by when it is frozen
-abbrev pub IsSeenIn : Birth → ℕ → ℕ → Base → Stage → Type 0
+abbrev pub IsSeenIn : Birth → ℕ → ℕ → EndRecord → StateData → Type 0
 IsSeenIn birth took latest b (stages.CrWait w) = IsRequesting birth latest b w
 IsSeenIn birth took latest b (stages.WaitBeforeClose w) = IsRequesting birth latest b w.request
 IsSeenIn birth took latest b (stages.UserWait since) = IsAsked birth latest b since
@@ -114,7 +114,7 @@ IsSeenIn birth took latest b (stages.Closing c) = IsClosing latest b c
 IsSeenIn birth took latest b (stages.Frozen when) = Unit {0}
 
 -- the tick by which an end acts in its state: it sends again, gives up its partner or its user, or freezes. Its halves may act earlier
-abbrev pub acts_by : Base → Stage → Option ℕ
+abbrev pub acts_by : EndRecord → StateData → Option ℕ
 acts_by b (stages.CrWait w) = Some (w.tries.last + b.timers.t1)
 acts_by b (stages.WaitBeforeClose w) = Some (w.request.tries.last + b.timers.t1)
 acts_by b (stages.UserWait since) = Some (since + b.timers.inactive)

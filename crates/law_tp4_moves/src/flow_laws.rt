@@ -10,9 +10,9 @@ ghost use Rattle.tp4_number.specs.Number.{whole, MaySend};
 ghost use Rattle.tp4_number.specs.Sender.{may_send};
 ghost use Rattle.tp4_sending.specs.FlowSender.{FlowSender, block_in};
 ghost use Rattle.tp4_flow.specs.declared.step.Sent.{Sent};
-ghost use Rattle.tp4_conn.specs.declared.base.Base.{Base};
+ghost use Rattle.tp4_conn.specs.declared.end_record.EndRecord.{EndRecord};
 ghost use Rattle.tp4_conn.specs.declared.call.ConnectCall.{ConnectCall};
-ghost use Rattle.tp4_conn.specs.declared.stage.Stage.{Stage};
+ghost use Rattle.tp4_conn.specs.declared.states.StateData.{StateData};
 ghost use Rattle.tp4_conn.specs.declared.timers.Timers.{Timers};
 ghost use Rattle.tp4_conn.specs.End.{End, Moved, agreed_format};
 ghost use Rattle.tp4_conn.specs.Making.{connected, on_cr};
@@ -31,12 +31,12 @@ pub fn flowed()
     ensures step { (times : Times) (terms : Terms) (now : ℕ) (taken : Option Offer) (own theirs : Track) (old : End) (event : Event) → times.life ≡ old.base.timers.life
         → IsProper old.base old.stage → IsProperEvent old event → Stands terms old.base old.stage own theirs → IsKnownEvent terms old.base old.stage taken event own theirs
         → IsTimely now own → IsTimely now theirs → Flowed times terms now taken old.stage event (stepped whole now old event) own theirs }
-    ensures known { (times : Times) (w : Whole) (terms : Terms) (b : Base) (stage : Stage) (tpdu : Tpdu) (sum : Bool) (x n : ℕ) (o : Offer) (own : Track) → IsTold times w
+    ensures known { (times : Times) (w : Whole) (terms : Terms) (b : EndRecord) (stage : StateData) (tpdu : Tpdu) (sum : Bool) (x n : ℕ) (o : Offer) (own : Track) → IsTold times w
         → Contains w.base.offers o → o.tpdu ≡ seen n tpdu → (o.tpdu.kind ≡ Flow → IsNumbered (block_of (agreed_format b.agreed)) n tpdu) → (o.tpdu.kind ≡ Flow → o.origin ≡ SentBy x)
         → (o.tpdu.kind ≡ Cc → (own.is_begun ≡ true) × (o.tpdu.terms ≡ terms)) → IsKnownEvent terms b stage (Some o) (Took tpdu sum) own (w.track x) }
     ensures partner { (taken : Option Offer) (own theirs new_own new_theirs : Track) → GoesOn (CanOut taken) own new_own → GoesOn (CanIn taken) theirs new_theirs
-        → (terms : Terms) (b : Base) (stage : Stage) → Stands terms b stage theirs own → Stands terms b stage new_theirs new_own }
-    ensures later { (terms : Terms) (b : Base) (stage : Stage) (own theirs : Track) → Stands terms b stage own theirs → Stands terms b stage (clocked own) (clocked theirs) }
+        → (terms : Terms) (b : EndRecord) (stage : StateData) → Stands terms b stage theirs own → Stands terms b stage new_theirs new_own }
+    ensures later { (terms : Terms) (b : EndRecord) (stage : StateData) (own theirs : Track) → Stands terms b stage own theirs → Stands terms b stage (clocked own) (clocked theirs) }
     ensures timely { (now : ℕ) (t : Track) → IsTimely now t → IsTimely (now + 1) (clocked t) }
     ensures calling { (terms : Terms) (made : ℕ) (call : ConnectCall) (own theirs : Track) → own.is_begun ≡ false
         → Stands terms (connected made call).base (connected made call).stage own theirs }
@@ -50,9 +50,13 @@ pub fn flowed()
 {}
 
 /// What `Sending::may_send` tells of the next DT, and what the half asks before it sends one, is the number rule over all DTs that it ever sent:
-/// a number that opens a block goes exactly where the third block before it was last sent more than `limit` ticks ago.
+/// a number that opens a block goes exactly where the third block before it was last sent more than `limit` ticks ago. So it is of the next
+/// ED, over all EDs.
 pub fn number_rule()
-    ensures { (times : Times) (w : Whole) (x : ℕ) (s : FlowSender) → IsFit times → ReachedAll times w → IsSendingAt s (w.track x)
+    ensures dt { (times : Times) (w : Whole) (x : ℕ) (s : FlowSender) → IsFit times → ReachedAll times w → IsSendingAt s (w.track x)
         → (may_send (block_in s) s.rules.limit s.numbers.blocks s.numbers.next w.base.clock ≡ true)
         ↔ MaySend (block_in s) s.rules.limit (w.track x).line.world.sends s.numbers.next w.base.clock }
+    ensures ed { (times : Times) (w : Whole) (x : ℕ) (s : FlowSender) → IsFit times → ReachedAll times w → IsSendingAt s (w.track x)
+        → (may_send (block_in s) s.rules.limit s.urgent.blocks s.urgent.next w.base.clock ≡ true)
+        ↔ MaySend (block_in s) s.rules.limit (w.track x).line.urgent.sends s.urgent.next w.base.clock }
 {}

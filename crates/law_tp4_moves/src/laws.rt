@@ -3,7 +3,7 @@
 ghost use Rattle.std.specs.Prelude.{◌≡◌, ◌≢◌, ◌+◌, ◌<◌, ◌≤◌, ℕ, List, [], Option, Some, None, Contains};
 ghost use Rattle.tpdu.specs.declared.tpdu.Tpdu.{Tpdu as WireTpdu};
 ghost use Rattle.tp4_conn.specs.declared.call.ConnectCall.{ConnectCall};
-ghost use Rattle.tp4_conn.specs.declared.stage.Stage.TheVariants.{Frozen};
+ghost use Rattle.tp4_conn.specs.declared.states.StateData.TheVariants.{Frozen};
 ghost use Rattle.tp4_conn.specs.declared.timers.Timers.{Timers};
 ghost use Rattle.tp4_conn.specs.Dues.{IsBefore};
 ghost use Rattle.tp4_conn.specs.End.{End as ConnEnd, Moved, IsTimed, end_of, frozen_for};

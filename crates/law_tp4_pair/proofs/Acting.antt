@@ -6,8 +6,8 @@ use Rattle.tp4_flow.specs.declared.rules.Options.{Options}
 use Rattle.tp4_flow.specs.declared.step.Sent.{Sent}
 use Rattle.tp4_sending.specs.FlowSender.{FlowSender, Sendings}
 use Rattle.tp4_conn.specs.declared.halves.Halves.{Halves}
-use Rattle.tp4_conn.specs.declared.stage.Open.{Open}
-use Rattle.tp4_conn.specs.declared.stage.Stage.TheVariants.{Opened}
+use Rattle.tp4_conn.specs.declared.states.InOpened.{InOpened}
+use Rattle.tp4_conn.specs.declared.states.StateData.TheVariants.{Opened}
 use Rattle.tp4_conn.specs.End.{Moved}
 use Rattle.osi_journal.specs.Lawful.{Marked, normals}
 use Rattle.tp4_flow.specs.declared.step.EndEvent.{EndEvent}
@@ -139,7 +139,7 @@ receiving_on first second h k forth rest back u v new events tpdus b rest_are ru
 
 -- the end stays Opened, and both stand after it; or it has left
 pub record GoesOn (first : Party) (h : Halves) (m : Moved) (rest back : List Sent) (u v : Account) : Type 0 where
-  pub after : Open
+  pub after : InOpened
   pub stage : m.stage ≡ Opened after
   pub both : AreBoth first (party m.base) h after.halves rest (back ++ m.tpdus) (record u { showed = u.showed ++ shown_in m.events }) v
 

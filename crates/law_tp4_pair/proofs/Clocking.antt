@@ -6,10 +6,10 @@ use Rattle.tp4_flow.specs.declared.rules.Life.{Life}
 use Rattle.tp4_flow.specs.declared.step.Sent.{Sent}
 use Rattle.tp4_number.proofs.Past.{if_kept}
 use Rattle.tp4_sending.specs.FlowSender.{FlowSender, Sendings, at, nothing, ticked}
-use Rattle.tp4_conn.specs.declared.base.Base.{Base}
+use Rattle.tp4_conn.specs.declared.end_record.EndRecord.{EndRecord}
 use Rattle.tp4_conn.specs.declared.halves.Halves.{Halves}
-use Rattle.tp4_conn.specs.declared.stage.Open.{Open}
-use Rattle.tp4_conn.specs.declared.stage.Stage.TheVariants.{Opened}
+use Rattle.tp4_conn.specs.declared.states.InOpened.{InOpened}
+use Rattle.tp4_conn.specs.declared.states.StateData.TheVariants.{Opened}
 use Rattle.tp4_conn.specs.End.{Moved, stays}
 use Rattle.tp4_conn.specs.Opened.{opened_as, opened_goes, opened_tick}
 use Rattle.osi_journal.specs.Lawful.{Marked}
@@ -34,9 +34,9 @@ repeats true h = ak h ∷ []
 repeats false h = []
 
 -- an end stays Opened over a tick: its sending half makes the new sends that it may, and an AK says again what was said
-pub record Ticks (b : Base) (o : Open) (h : Half) (m : Moved) : Type 0 where
+pub record Ticks (b : EndRecord) (o : InOpened) (h : Half) (m : Moved) : Type 0 where
   pub base : party m.base ≡ party b
-  pub after : Open
+  pub after : InOpened
   pub stage : m.stage ≡ Opened after
   pub x : Sendings
   pub repeats_it : Bool
@@ -46,7 +46,7 @@ pub record Ticks (b : Base) (o : Open) (h : Half) (m : Moved) : Type 0 where
   pub calm : CalmAfter o.halves.sending [] x h [] [] [] []
   pub quiet : shown_in m.events ≡ []
 
-goes_on : (b : Base) (o : Open) (h : Half) (x : Sendings) → CalmAfter o.halves.sending [] x h [] [] [] [] → Ticks b o h (opened_goes b o x)
+goes_on : (b : EndRecord) (o : InOpened) (h : Half) (x : Sendings) → CalmAfter o.halves.sending [] x h [] [] [] [] → Ticks b o h (opened_goes b o x)
 goes_on b o h x c =
     if_kept (Ticks b o h) (nat_le (o.acked + b.timers.window) b.clock) _ _
     (λ _. record {
@@ -74,7 +74,7 @@ goes_on b o h x c =
       quiet = c.quiet;
     })
 
-pub has_tick : (b : Base) (o : Open) (h : Half) → IsCalm o.halves.sending h [] [] [] [] → HasLeft (opened_tick b o).stage ⊎ Ticks b o h (opened_tick b o)
+pub has_tick : (b : EndRecord) (o : InOpened) (h : Half) → IsCalm o.halves.sending h [] [] [] [] → HasLeft (opened_tick b o).stage ⊎ Ticks b o h (opened_tick b o)
 unfolding opened_tick
 has_tick b o h c =
     if_kept (λ (m : Moved). HasLeft m.stage ⊎ Ticks b o h m) (nat_le (o.took + b.timers.inactive) b.clock) _ _
@@ -82,7 +82,7 @@ has_tick b o h c =
     (λ _. let t = ticked_calm (at b.clock o.halves.sending) h (calm_at b.clock o.halves.sending h [] [] [] [] c) in
     subst (λ (l : Life). HasLeft (opened_as l b o).stage ⊎ Ticks b o h (opened_as l b o)) (sym t.0) (inr (goes_on b o h (ticked (at b.clock o.halves.sending)) (from_at b.clock o.halves.sending [] (ticked (at b.clock o.halves.sending)) h [] [] [] [] t.1))))
 
-pub has_none : (b : Base) (o : Open) (h : Half) → IsCalm o.halves.sending h [] [] [] [] → Ticks b o h (stays b (Opened o))
+pub has_none : (b : EndRecord) (o : InOpened) (h : Half) → IsCalm o.halves.sending h [] [] [] [] → Ticks b o h (stays b (Opened o))
 has_none b o h c = record {
   base = refl;
   after = o;
@@ -134,7 +134,7 @@ ticks_carry s x h half again u events a quiet c =
     (sym (ap (λ (l : List Marked). u.showed ++ l) quiet ∙ append-nil u.showed)) (a.carried [] [] u.gave u.showed refl refl (record {}) c)
 
 -- both ends
-pub both_tick : (b c : Base) (o q : Open) (m n : Moved) (v w : Account) → AreBoth (party b) (party c) o.halves q.halves [] [] v w → (t : Ticks b o q.halves.receiving m) (u : Ticks c q o.halves.receiving n)
+pub both_tick : (b c : EndRecord) (o q : InOpened) (m n : Moved) (v w : Account) → AreBoth (party b) (party c) o.halves q.halves [] [] v w → (t : Ticks b o q.halves.receiving m) (u : Ticks c q o.halves.receiving n)
     → AreBoth (party m.base) (party n.base) t.after.halves u.after.halves m.tpdus n.tpdus (record v { showed = v.showed ++ shown_in n.events }) (record w { showed = w.showed ++ shown_in m.events })
 both_tick b c o q m n v w both t u =
     let v' : Account = record v { showed = v.showed ++ shown_in n.events } in

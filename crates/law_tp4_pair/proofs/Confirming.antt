@@ -14,12 +14,12 @@ use Rattle.tp4_flow.specs.declared.step.What.TheVariants.{Accept as Accept_told}
 use Rattle.tp4_number.specs.Number.{near, whole}
 use Rattle.tp4_sending.specs.FlowSender.{FlowSender, acknowledged, acknowledged_to, at, block_in, fresh, is_taken, new_sends, normals, nothing, opened}
 use Rattle.tp4_sending.specs.Pieces.{once}
-use Rattle.tp4_conn.specs.declared.base.Base.{Base}
+use Rattle.tp4_conn.specs.declared.end_record.EndRecord.{EndRecord}
 use Rattle.tp4_conn.specs.declared.halves.Halves.{Halves}
-use Rattle.tp4_conn.specs.declared.stage.Answering.{Answering}
-use Rattle.tp4_conn.specs.declared.stage.Open.{Open}
-use Rattle.tp4_conn.specs.declared.stage.Requesting.{Requesting}
-use Rattle.tp4_conn.specs.declared.stage.Stage.TheVariants.{AkWait, CrWait, Opened, UserWait}
+use Rattle.tp4_conn.specs.declared.states.InAkWait.{InAkWait}
+use Rattle.tp4_conn.specs.declared.states.InOpened.{InOpened}
+use Rattle.tp4_conn.specs.declared.states.InCrWait.{InCrWait}
+use Rattle.tp4_conn.specs.declared.states.StateData.TheVariants.{AkWait, CrWait, Opened, UserWait}
 use Rattle.tp4_conn.specs.Agreeing.{agreed_by, confirm, extra_of, flow_rules, halves_of, is_confirmed, proposed_by, request}
 use Rattle.tp4_conn.specs.AkWait.{ak_wait_tpdu}
 use Rattle.tp4_conn.specs.CrWait.{confirmed, cr_wait_tpdu}
@@ -45,7 +45,7 @@ use Rattle.tp4_conn.proofs.Sizes.{agreed_sized}
 use Rattle.law_tp4_pair.proofs.Opening.{confirm_sum}
 
 -- the row of the calling end
-pub confirms : (b c : Base) (r : Requesting) (options : Options) (octets : List ℕ) (now : ℕ) → c.agreed ≡ Some options → IsSized options → is_confirmed b.proposed options ≡ true
+pub confirms : (b c : EndRecord) (r : InCrWait) (options : Options) (octets : List ℕ) (now : ℕ) → c.agreed ≡ Some options → IsSized options → is_confirmed b.proposed options ≡ true
     → takes whole now b (CrWait r) (confirm c options octets).tpdu (confirm c options octets).sum
     ≡ confirmed (record b { partner = c.own; credit = c.timers.credit; agreed = Some options; clock = now }) options octets
 unfolding cr_wait_tpdu
@@ -79,11 +79,11 @@ none_sent rules credit now w given subsequence = by (is_taken s n given subseque
 
 -- the row of the called end
 pub record IsOpened (m : Moved) : Type 0 where
-  pub open_is : Open
+  pub open_is : InOpened
   pub stage : m.stage ≡ Opened open_is
   pub tpdus : m.tpdus ≡ []
 
-pub answers : (c : Base) (options : Options) (w : Answering) (h : Half) (now : ℕ) → c.agreed ≡ Some options → w.halves ≡ halves_of c options → h.rules.sum ≡ options.sum
+pub answers : (c : EndRecord) (options : Options) (w : InAkWait) (h : Half) (now : ℕ) → c.agreed ≡ Some options → w.halves ≡ halves_of c options → h.rules.sum ≡ options.sum
     → IsOpened (takes whole now c (AkWait w) (ak h).tpdu (ak h).sum)
 unfolding ak_wait_tpdu opened_tpdu
 answers c options w h now agreed halves sum =
@@ -97,13 +97,13 @@ answers c options w h now agreed halves sum =
 -- ---- the pair
 
 -- the called end after the accept, and its CC
-abbrev accepted_base : Base → ℕ → Options → Base
+abbrev accepted_base : EndRecord → ℕ → Options → EndRecord
 accepted_base c now asked = record c { agreed = Some (agreed_by c.proposed asked); clock = now }
 
-abbrev answering : Base → ℕ → Options → List ℕ → Answering
+abbrev answering : EndRecord → ℕ → Options → List ℕ → InAkWait
 answering c now asked octets = record { octets = octets; first = now; tries = once now; halves = halves_of (accepted_base c now asked) (agreed_by c.proposed asked) }
 
-abbrev waits_for_cc : Pair → Base → Base → Requesting → Options → List ℕ → Pair
+abbrev waits_for_cc : Pair → EndRecord → EndRecord → InCrWait → Options → List ℕ → Pair
 waits_for_cc p b c r asked octets = record {
   clock = p.clock;
   calling = record { base = b; stage = CrWait r };
@@ -119,11 +119,11 @@ waits_for_cc p b c r asked octets = record {
 }
 
 -- by the CC and the first AK
-cc_and_ak : (p : Pair) (b c : Base) (r : Requesting) (asked : Options) (octets : List ℕ) → c.proposed ≡ b.proposed → IsProposal c.proposed → IsSized asked
+cc_and_ak : (p : Pair) (b c : EndRecord) (r : InCrWait) (asked : Options) (octets : List ℕ) → c.proposed ≡ b.proposed → IsProposal c.proposed → IsSized asked
     → AreOpened (next (next (waits_for_cc p b c r asked octets) Comes_back) Comes_forth)
 cc_and_ak p b c r asked octets same proposal sized =
     let options : Options = agreed_by c.proposed asked in
-    let d : Base = accepted_base c p.clock asked in
+    let d : EndRecord = accepted_base c p.clock asked in
     let all : IsSized options = agreed_sized c.proposed asked proposal sized in
     let fits : is_confirmed b.proposed options ≡ true = subst (λ (o : Proposed). is_confirmed o options ≡ true) same (agreed_within c.proposed asked proposal sized) in
     subst (λ (m : Moved). AreOpened (next (came m) Comes_forth)) (sym (confirms b d r options octets p.clock refl all fits))
@@ -132,12 +132,12 @@ cc_and_ak p b c r asked octets same proposal sized =
     came : Moved → Pair
     came m = let q = waits_for_cc p b c r asked octets in record q { calling = end_of_row m; back = []; forth = [] ++ m.tpdus; calling_showed = q.calling_showed ++ shown_in m.events; calling_told = q.calling_told ++ m.events }
 
-    by : (e : Base) → AreOpened (next (came (confirmed e (agreed_by c.proposed asked) octets)) Comes_forth)
+    by : (e : EndRecord) → AreOpened (next (came (confirmed e (agreed_by c.proposed asked) octets)) Comes_forth)
     by e =
         let a = answers (accepted_base c p.clock asked) (agreed_by c.proposed asked) (answering c p.clock asked octets) (empty (flow_rules e (agreed_by c.proposed asked)) e.timers.credit) p.clock refl refl refl in
         (_, a.open_is, refl, a.stage, record { forth = refl; back = ap (λ (l : List Sent). [] ++ l) a.tpdus })
 
-pub opens : (p : Pair) (r : Requesting) (since : ℕ) (asked : Options) (octets : List ℕ) → IsIdle p → p.calling.stage ≡ CrWait r → p.called.stage ≡ UserWait since → p.called.base.proposed ≡ p.calling.base.proposed → IsProposal p.called.base.proposed → IsSized asked
+pub opens : (p : Pair) (r : InCrWait) (since : ℕ) (asked : Options) (octets : List ℕ) → IsIdle p → p.calling.stage ≡ CrWait r → p.called.stage ≡ UserWait since → p.called.base.proposed ≡ p.calling.base.proposed → IsProposal p.called.base.proposed → IsSized asked
     → AreOpened (next (next (next p (Asks_called (Accept asked octets))) Comes_back) Comes_forth)
 unfolding user_wait_accept
 opens p r since asked octets idle mine theirs same proposal sized =
@@ -152,22 +152,22 @@ opens p r since asked octets idle mine theirs same proposal sized =
     (cc_and_ak p p.calling.base p.called.base r asked octets same proposal sized)
 
 -- the CR of a connect call is indicated
-pub indicates : (made now own : ℕ) (from : List ℕ) (rules : Timers) (call : ConnectCall) → IsSized call.options → on_cr now own from rules (request (caller made call) call.octets).tpdu
-    ≡ Some (indicated (called_end now own from rules call.rules.credit call.own call.from_selector call.to_selector (proposed_by call.options)) call.octets)
+pub indicates : (made now own : ℕ) (from : List ℕ) (rules : Timers) (call : ConnectCall) → IsSized call.request.options → on_cr now own from rules (request (caller made call) call.request.octets).tpdu
+    ≡ Some (indicated (called_end now own from rules call.rules.credit call.own call.request.from_selector call.request.to_selector (proposed_by call.request.options)) call.request.octets)
 indicates made now own from rules call sized =
-    ap (λ (o : Proposed). Some (indicated (called_end now own from rules call.rules.credit call.own call.from_selector call.to_selector o) call.octets)) (request_back call.options sized)
+    ap (λ (o : Proposed). Some (indicated (called_end now own from rules call.rules.credit call.own call.request.from_selector call.request.to_selector o) call.request.octets)) (request_back call.request.options sized)
 
 -- the entity makes an end for it, where it has a free reference and no end of that caller, and the selector is registered
-pub incoming : (made now reference : ℕ) (e : Entity) (from : List ℕ) (call : ConnectCall) (sum : Bool) → IsSized call.options → list_any (is_called false from call.own) e.ends ≡ false → list_any (is_called true from call.own) e.ends ≡ false
-    → is_registered e.selectors call.to_selector ≡ true → least_free now e ≡ Some reference
-    → met whole now e from ((request (caller made call) call.octets).tpdu, sum)
-    ≡ moved e reference (indicated (called_end now reference from e.timers call.rules.credit call.own call.from_selector call.to_selector (proposed_by call.options)) call.octets)
+pub incoming : (made now reference : ℕ) (e : Entity) (from : List ℕ) (call : ConnectCall) (sum : Bool) → IsSized call.request.options → list_any (is_called false from call.own) e.ends ≡ false → list_any (is_called true from call.own) e.ends ≡ false
+    → is_registered e.selectors call.request.to_selector ≡ true → least_free now e ≡ Some reference
+    → met whole now e from ((request (caller made call) call.request.octets).tpdu, sum)
+    ≡ moved e reference (indicated (called_end now reference from e.timers call.rules.credit call.own call.request.from_selector call.request.to_selector (proposed_by call.request.options)) call.request.octets)
 incoming made now reference e from call sum sized none frozen registered free =
-    let cr : Tpdu = (request (caller made call) call.octets).tpdu in
+    let cr : Tpdu = (request (caller made call) call.request.octets).tpdu in
     ap (λ (b : Bool). if b then answers_of e [] else if list_any (is_called true from call.own) e.ends then answers_of e (refusal from call.own 131 ∷ [])
-    else if not (is_registered e.selectors call.to_selector) then answers_of e (refusal from call.own 3 ∷ []) else new_end now e from call.own cr (least_free now e)) none
+    else if not (is_registered e.selectors call.request.to_selector) then answers_of e (refusal from call.own 3 ∷ []) else new_end now e from call.own cr (least_free now e)) none
     ∙ ap (λ (b : Bool). if b then answers_of e (refusal from call.own 131 ∷ [])
-    else if not (is_registered e.selectors call.to_selector) then answers_of e (refusal from call.own 3 ∷ []) else new_end now e from call.own cr (least_free now e)) frozen
+    else if not (is_registered e.selectors call.request.to_selector) then answers_of e (refusal from call.own 3 ∷ []) else new_end now e from call.own cr (least_free now e)) frozen
     ∙ ap (λ (b : Bool). if not b then answers_of e (refusal from call.own 3 ∷ []) else new_end now e from call.own cr (least_free now e)) registered
     ∙ ap (λ (r : Option ℕ). new_end now e from call.own cr r) free
     ∙ ap (λ (m : Option Moved). calls e reference m) (indicates made now reference from e.timers call sized)

@@ -11,10 +11,10 @@ use Rattle.tp4_number.specs.declared.got.Got.TheVariants.{Kept, Old, Outside, To
 use Rattle.tp4_number.specs.declared.piece.Piece.{Piece}
 use Rattle.tp4_number.specs.Number.{whole}
 use Rattle.tp4_sending.specs.FlowSender.{Sendings, at, acknowledged, urgent_done}
-use Rattle.tp4_conn.specs.declared.base.Base.{Base}
+use Rattle.tp4_conn.specs.declared.end_record.EndRecord.{EndRecord}
 use Rattle.tp4_conn.specs.declared.halves.Halves.{Halves}
-use Rattle.tp4_conn.specs.declared.stage.Open.{Open}
-use Rattle.tp4_conn.specs.declared.stage.Stage.TheVariants.{Opened}
+use Rattle.tp4_conn.specs.declared.states.InOpened.{InOpened}
+use Rattle.tp4_conn.specs.declared.states.StateData.TheVariants.{Opened}
 use Rattle.tp4_conn.specs.Matching.{sum_agreed}
 use Rattle.tp4_conn.specs.Opened.{hearing, sending, receiving, acking, dt_as, is_expedited, opened_tpdu, protocol_error}
 use Rattle.tp4_conn.specs.Table.{at as now_at, takes, untaken, on_tpdu}
@@ -52,7 +52,7 @@ outside_fits e = cc e
 adds_nothing : (first second : Party) (h k : Halves) (forth back : List Sent) (u v : Account) → AreBoth first second h k forth back u (record v { gave = v.gave ++ [] }) → AreBoth first second h k forth back u v
 adds_nothing first second h k forth back u v b = subst (λ (l : List Marked). AreBoth first second h k forth back u (record v { gave = l })) (append-nil v.gave) b
 
-module _ (first : Party) (h : Halves) (b : Base) (o : Open) (to : List ℕ) (format : Format) (sum : Bool) (rest back : List Sent) (u v : Account) where
+module _ (first : Party) (h : Halves) (b : EndRecord) (o : InOpened) (to : List ℕ) (format : Format) (sum : Bool) (rest back : List Sent) (u v : Account) where
   abbrev waits : Tpdu → List Sent
   waits tpdu = record { to = to; tpdu = tpdu; format = format; sum = sum } ∷ rest
 
@@ -133,7 +133,7 @@ module _ (first : Party) (h : Halves) (b : Base) (o : Open) (to : List ℕ) (for
   data_goes other both = absurd both.forth_are.0.kind
 
 -- the row of an Opened end
-pub handed : (first : Party) (h : Halves) (b : Base) (o : Open) (now : ℕ) (sent : Sent) (rest back : List Sent) (u v : Account) → AreBoth first (party b) h o.halves (sent ∷ rest) back u v
+pub handed : (first : Party) (h : Halves) (b : EndRecord) (o : InOpened) (now : ℕ) (sent : Sent) (rest back : List Sent) (u v : Account) → AreBoth first (party b) h o.halves (sent ∷ rest) back u v
     → Continues first h (takes whole now b (Opened o) sent.tpdu sent.sum) rest back u v
 handed first h b o now sent rest back u v both =
     subst (λ (wants : Bool). Continues first h (if wants then untaken b (Opened o) else on_tpdu whole (now_at now b) (Opened o) sent.tpdu) rest back u v)

@@ -8,11 +8,11 @@ use Rattle.tpdu.specs.declared.tpdu.Tpdu.TheVariants.{Dt, Ed, Ak, Ea}
 use Rattle.tp4_flow.specs.Half.{ak}
 use Rattle.tp4_flow.specs.declared.step.Sent.{Sent}
 use Rattle.tp4_number.specs.Number.{whole}
-use Rattle.tp4_conn.specs.declared.base.Base.{Base}
+use Rattle.tp4_conn.specs.declared.end_record.EndRecord.{EndRecord}
 use Rattle.tp4_conn.specs.declared.halves.Halves.{Halves}
-use Rattle.tp4_conn.specs.declared.stage.Open.{Open}
-use Rattle.tp4_conn.specs.declared.stage.Stage.{Stage}
-use Rattle.tp4_conn.specs.declared.stage.Stage.TheVariants.{CrWait, Opened}
+use Rattle.tp4_conn.specs.declared.states.InOpened.{InOpened}
+use Rattle.tp4_conn.specs.declared.states.StateData.{StateData}
+use Rattle.tp4_conn.specs.declared.states.StateData.TheVariants.{CrWait, Opened}
 use Rattle.tp4_conn.specs.Agreeing.{confirm}
 use Rattle.tp4_conn.specs.End.{End, agreed_format}
 use Rattle.tp4_conn.specs.Matching.{fits, is_match}
@@ -38,7 +38,7 @@ met_it now e by tpdu sum stands fit =
     ∙ ap (λ (b : Bool). if b then moved e by.base.own (stepped whole now by (Took tpdu sum)) else unmatched e by.base.to tpdu) matches
 
 -- a DT, an ED, an AK or an EA
-data_fits : (b : Base) (o : Open) (partner : ℕ) (tpdu : Tpdu) → IsDataFor partner tpdu → fits b (Opened o) tpdu ≡ true
+data_fits : (b : EndRecord) (o : InOpened) (partner : ℕ) (tpdu : Tpdu) → IsDataFor partner tpdu → fits b (Opened o) tpdu ≡ true
 data_fits b o partner (Dt destination last number text) k = refl
 data_fits b o partner (Ed destination last number text) k = refl
 data_fits b o partner (Ak destination number credit subsequence confirmation) k = refl
@@ -61,17 +61,17 @@ for_partner : (a b : ℕ) (tpdu : Tpdu) → a ≡ b → IsDataFor a tpdu → IsD
 for_partner a b tpdu e k = subst (λ (n : ℕ). IsDataFor n tpdu) e k
 
 -- between two Opened ends
-both_met : (now : ℕ) (by of : End) (h k : Halves) (sent : Sent) (rest back : List Sent) (u v : _) (q : Open) → by.stage ≡ Opened q → AreBoth (party of.base) (party by.base) h k (sent ∷ rest) back u v → IsMet now by of sent
+both_met : (now : ℕ) (by of : End) (h k : Halves) (sent : Sent) (rest back : List Sent) (u v : _) (q : InOpened) → by.stage ≡ Opened q → AreBoth (party of.base) (party by.base) h k (sent ∷ rest) back u v → IsMet now by of sent
 both_met now by of h k sent rest back u v q is both =
     let f = both.forth_are.0 in
     let kind : IsDataFor by.base.own sent.tpdu = for_partner both.one_rules.partner by.base.own sent.tpdu (both.one.partner ∙ both.partner) f.kind in
     record {
       to = f.to ∙ both.one.to;
-      meets = λ e stands. data_met now e by sent.tpdu sent.sum kind stands (subst (λ (stage : Stage). fits by.base stage sent.tpdu ≡ true) (sym is) (data_fits by.base q by.base.own sent.tpdu kind));
+      meets = λ e stands. data_met now e by sent.tpdu sent.sum kind stands (subst (λ (stage : StateData). fits by.base stage sent.tpdu ≡ true) (sym is) (data_fits by.base q by.base.own sent.tpdu kind));
       format = λ o e. f.format ∙ both.one.format ∙ ap agreed_format (sym both.other.agreed_is);
     }
 
-not_open : (o : Open) (w : _) → CrWait w ≡ Opened o → ⊥
+not_open : (o : InOpened) (w : _) → CrWait w ≡ Opened o → ⊥
 not_open o w e = cc e
 
 first_is : (x y : Sent) (l m : List Sent) → x ∷ l ≡ y ∷ m → x ≡ y
@@ -92,7 +92,7 @@ forth_met p sent rest stay (First o w mine theirs f) e =
     subst (IsMet p.clock p.called p.calling) is (record {
       to = all.0.to ∙ both.one.to;
       meets = λ e stands. data_met p.clock e p.called (ak o.halves.receiving).tpdu (ak o.halves.receiving).sum kind stands
-          (subst (λ (stage : Stage). fits p.called.base stage (ak o.halves.receiving).tpdu ≡ true) (sym theirs) refl);
+          (subst (λ (stage : StateData). fits p.called.base stage (ak o.halves.receiving).tpdu ≡ true) (sym theirs) refl);
       format = λ q g. all.0.format ∙ both.one.format ∙ ap agreed_format (sym both.other.agreed_is);
     })
 forth_met p sent rest stay (Both o q mine theirs both) e =
@@ -107,7 +107,7 @@ back_met p sent rest stay (Confirming r w mine theirs new c) e =
       to = refl;
       meets = λ e stands. ap (λ (n : ℕ). met_at whole p.clock e p.calling.base.to ((confirm p.called.base c.options c.octets).tpdu, (confirm p.called.base c.options c.octets).sum) (Some n)) c.named
           ∙ met_it p.clock e p.calling (confirm p.called.base c.options c.octets).tpdu (confirm p.called.base c.options c.octets).sum stands
-          (subst (λ (stage : Stage). fits p.calling.base stage (confirm p.called.base c.options c.octets).tpdu ≡ true) (sym mine) refl);
+          (subst (λ (stage : StateData). fits p.calling.base stage (confirm p.called.base c.options c.octets).tpdu ≡ true) (sym mine) refl);
       format = λ o g. absurd (not_open o r (sym mine ∙ g));
     })
 back_met p sent rest stay (First o w mine theirs f) e = absurd (none_first sent rest (sym f.back_is ∙ e))

@@ -11,12 +11,12 @@ use Rattle.tp4_number.specs.Formats.{most_of}
 use Rattle.tp4_number.specs.Number.{whole}
 use Rattle.tp4_sending.specs.FlowSender.{Sendings, at, fresh, opened}
 use Rattle.tp4_sending.proofs.Settles.{new_settled}
-use Rattle.tp4_conn.specs.declared.base.Base.{Base}
+use Rattle.tp4_conn.specs.declared.end_record.EndRecord.{EndRecord}
 use Rattle.tp4_conn.specs.declared.halves.Halves.{Halves}
-use Rattle.tp4_conn.specs.declared.stage.Answering.{Answering}
-use Rattle.tp4_conn.specs.declared.stage.Open.{Open}
-use Rattle.tp4_conn.specs.declared.stage.Requesting.{Requesting}
-use Rattle.tp4_conn.specs.declared.stage.Stage.TheVariants.{CrWait, AkWait, Opened}
+use Rattle.tp4_conn.specs.declared.states.InAkWait.{InAkWait}
+use Rattle.tp4_conn.specs.declared.states.InOpened.{InOpened}
+use Rattle.tp4_conn.specs.declared.states.InCrWait.{InCrWait}
+use Rattle.tp4_conn.specs.declared.states.StateData.TheVariants.{CrWait, AkWait, Opened}
 use Rattle.tp4_conn.specs.Agreeing.{confirm, extra_of, flow_rules, halves_of, header_of, is_confirmed, is_extended}
 use Rattle.tp4_conn.specs.AkWait.{ak_wait_tpdu, opening}
 use Rattle.tp4_conn.specs.CrWait.{confirmed, cr_wait_tpdu}
@@ -87,11 +87,11 @@ has_room o size = by o.format o.sum
     by Extended false = omega (arith, size)
 
 -- the calling end after it: it has left, or the first AK waits
-pub data Opens (c : Base) (k : Halves) (m : Moved) : Type 0 where
+pub data Opens (c : EndRecord) (k : Halves) (m : Moved) : Type 0 where
   Gone : HasLeft m.stage → Opens c k m
-  Opened_by : (o : Open) → m.stage ≡ Opened o → shown_in m.events ≡ [] → IsFirst m.base c o.halves k m.tpdus [] no_units no_units → Opens c k m
+  Opened_by : (o : InOpened) → m.stage ≡ Opened o → shown_in m.events ≡ [] → IsFirst m.base c o.halves k m.tpdus [] no_units no_units → Opens c k m
 
-opens_as : (b c : Base) (options : Options) (octets : List ℕ) → c.agreed ≡ Some options → c.credit ≡ b.timers.credit → b.timers.credit ≤ 15 → c.timers.credit ≤ 15 → 12 < options.size → c.partner ≡ b.own → b.partner ≡ c.own
+opens_as : (b c : EndRecord) (options : Options) (octets : List ℕ) → c.agreed ≡ Some options → c.credit ≡ b.timers.credit → b.timers.credit ≤ 15 → c.timers.credit ≤ 15 → 12 < options.size → c.partner ≡ b.own → b.partner ≡ c.own
     → b.agreed ≡ Some options → b.credit ≡ c.timers.credit → Opens c (halves_of c options) (confirmed b options octets)
 opens_as b c options octets agreed known low low_there size named partner mine theirs =
     let least = least_most options.format in
@@ -122,7 +122,7 @@ opens_as b c options octets agreed known low low_there size named partner mine t
       back_is = refl;
     })
 
-cc_opens : (b c : Base) (r : Requesting) (options : Options) (octets : List ℕ) (sum : Bool) → c.agreed ≡ Some options → c.credit ≡ b.timers.credit → b.timers.credit ≤ 15 → c.timers.credit ≤ 15 → IsSized options → c.partner ≡ b.own
+cc_opens : (b c : EndRecord) (r : InCrWait) (options : Options) (octets : List ℕ) (sum : Bool) → c.agreed ≡ Some options → c.credit ≡ b.timers.credit → b.timers.credit ≤ 15 → c.timers.credit ≤ 15 → IsSized options → c.partner ≡ b.own
     → Opens c (halves_of c options) (cr_wait_tpdu b r (confirm c options octets).tpdu)
 unfolding cr_wait_tpdu
 cc_opens b c r options octets sum agreed known low low_there size named =
@@ -138,7 +138,7 @@ cc_opens b c r options octets sum agreed known low low_there size named =
     by false = Gone tt
 
 -- the row of the calling end
-pub confirmed_opens : (b c : Base) (r : Requesting) (options : Options) (octets : List ℕ) (now : ℕ) → c.agreed ≡ Some options → c.credit ≡ b.timers.credit → b.timers.credit ≤ 15 → c.timers.credit ≤ 15 → IsSized options → c.partner ≡ b.own
+pub confirmed_opens : (b c : EndRecord) (r : InCrWait) (options : Options) (octets : List ℕ) (now : ℕ) → c.agreed ≡ Some options → c.credit ≡ b.timers.credit → b.timers.credit ≤ 15 → c.timers.credit ≤ 15 → IsSized options → c.partner ≡ b.own
     → Opens c (halves_of c options) (takes whole now b (CrWait r) (confirm c options octets).tpdu (confirm c options octets).sum)
 confirmed_opens b c r options octets now agreed known low low_there size named =
     let sum : agreed_sum c.agreed ≡ options.sum = ap agreed_sum agreed in
@@ -154,18 +154,18 @@ led_none : (first : Party) (h : Halves) (m : Moved) (rest : List Sent) (u v : Ac
 led_none first h m rest u v (inl left) = inl left
 led_none first h m rest u v (inr g) = inr (record { after = g.after; stage = g.stage; both = g.both })
 
-first_ak : (b c : Base) (h k : Halves) (sent : Sent) (u v : Account) → ((now : ℕ) → AreBoth (party b) (party c) h (record k { sending = (opened (at now k.sending)).sender }) (sent ∷ []) [] u v)
+first_ak : (b c : EndRecord) (h k : Halves) (sent : Sent) (u v : Account) → ((now : ℕ) → AreBoth (party b) (party c) h (record k { sending = (opened (at now k.sending)).sender }) (sent ∷ []) [] u v)
     → ((now : ℕ) → (opened (at now k.sending)).tpdus ≡ []) → ((now : ℕ) → (opened (at now k.sending)).events ≡ []) → Continues (party b) h (opening whole c k sent.tpdu) [] [] u v
 first_ak b c h k sent u v both none quiet =
     let s : Sendings = opened (at c.clock k.sending) in
-    let o : Open = record { took = c.clock; acked = c.clock; halves = record k { sending = s.sender } } in
+    let o : InOpened = record { took = c.clock; acked = c.clock; halves = record k { sending = s.sender } } in
     subst (λ (l : List Sent). Continues (party b) h (led_by s.events l (opened_tpdu whole c o sent.tpdu)) [] [] u v) (sym (none c.clock))
     (subst (λ (l : List EndEvent). Continues (party b) h (led_by l [] (opened_tpdu whole c o sent.tpdu)) [] [] u v) (sym (quiet c.clock))
     (led_none (party b) h (opened_tpdu whole c o sent.tpdu) [] u v
     (data_goes (party b) h c o sent.to sent.format sent.sum [] [] u v sent.tpdu (both c.clock))))
 
 -- the row of the called end
-pub first_opens : (b c : Base) (h : Halves) (w : Answering) (now : ℕ) (u v : Account) → IsFirst b c h w.halves (ak h.receiving ∷ []) [] u v
+pub first_opens : (b c : EndRecord) (h : Halves) (w : InAkWait) (now : ℕ) (u v : Account) → IsFirst b c h w.halves (ak h.receiving ∷ []) [] u v
     → Continues (party b) h (takes whole now c (AkWait w) (ak h.receiving).tpdu (ak h.receiving).sum) [] [] u v
 unfolding ak_wait_tpdu
 first_opens b c h w now u v f =

@@ -5,11 +5,11 @@ use Rattle.tp4_flow.specs.declared.step.Sent.{Sent}
 use Rattle.tp4_number.specs.Number.{whole}
 use Rattle.tp4_conn.specs.declared.call.UserCall.{UserCall}
 use Rattle.tp4_conn.specs.declared.halves.Halves.{Halves}
-use Rattle.tp4_conn.specs.declared.stage.Answering.{Answering}
-use Rattle.tp4_conn.specs.declared.stage.Open.{Open}
-use Rattle.tp4_conn.specs.declared.stage.Requesting.{Requesting}
-use Rattle.tp4_conn.specs.declared.stage.Stage.{Stage}
-use Rattle.tp4_conn.specs.declared.stage.Stage.TheVariants.{CrWait, AkWait, Opened}
+use Rattle.tp4_conn.specs.declared.states.InAkWait.{InAkWait}
+use Rattle.tp4_conn.specs.declared.states.InOpened.{InOpened}
+use Rattle.tp4_conn.specs.declared.states.InCrWait.{InCrWait}
+use Rattle.tp4_conn.specs.declared.states.StateData.{StateData}
+use Rattle.tp4_conn.specs.declared.states.StateData.TheVariants.{CrWait, AkWait, Opened}
 use Rattle.tp4_conn.specs.Agreeing.{confirm, halves_of}
 use Rattle.tp4_conn.specs.End.{End, Moved, stays}
 use Rattle.tp4_conn.specs.Table.{Called, Took, Ticked, at, on_call, on_tick, stepped, takes}
@@ -53,13 +53,13 @@ left_on p (Clock calling called) (inr there) = Left (inr (tick_left called (p.cl
 
 -- ---- both are Opened
 
-module _ (p : Pair) (o q : Open) (mine : p.calling.stage ≡ Opened o) (theirs : p.called.stage ≡ Opened q) (both : AreBoth (party p.calling.base) (party p.called.base) o.halves q.halves p.forth p.back (forth_units p) (back_units p)) where
+module _ (p : Pair) (o q : InOpened) (mine : p.calling.stage ≡ Opened o) (theirs : p.called.stage ≡ Opened q) (both : AreBoth (party p.calling.base) (party p.called.base) o.halves q.halves p.forth p.back (forth_units p) (back_units p)) where
   forth_on : (l : List Sent) → p.forth ≡ l → Stands (comes_forth p l)
   forth_on [] e = Both o q mine theirs both
   forth_on (sent ∷ rest) e =
       let m : Moved = stepped whole p.clock p.called (Took sent.tpdu sent.sum) in
       let r : Continues (party p.calling.base) o.halves m rest p.back (forth_units p) (back_units p) =
-      subst (λ (stage : Stage). Continues (party p.calling.base) o.halves (takes whole p.clock p.called.base stage sent.tpdu sent.sum) rest p.back (forth_units p) (back_units p)) (sym theirs)
+      subst (λ (stage : StateData). Continues (party p.calling.base) o.halves (takes whole p.clock p.called.base stage sent.tpdu sent.sum) rest p.back (forth_units p) (back_units p)) (sym theirs)
       (handed (party p.calling.base) o.halves p.called.base q p.clock sent rest p.back (forth_units p) (back_units p)
       (subst (λ (l : List Sent). AreBoth (party p.calling.base) (party p.called.base) o.halves q.halves l p.back (forth_units p) (back_units p)) e both)) in
       elim r [ inl left ↦ Left (inr left) | inr g ↦ Both o g.after mine g.stage g.both ]
@@ -69,7 +69,7 @@ module _ (p : Pair) (o q : Open) (mine : p.calling.stage ≡ Opened o) (theirs :
   back_on (sent ∷ rest) e =
       let m : Moved = stepped whole p.clock p.calling (Took sent.tpdu sent.sum) in
       let r : Continues (party p.called.base) q.halves m rest p.forth (back_units p) (forth_units p) =
-      subst (λ (stage : Stage). Continues (party p.called.base) q.halves (takes whole p.clock p.calling.base stage sent.tpdu sent.sum) rest p.forth (back_units p) (forth_units p)) (sym mine)
+      subst (λ (stage : StateData). Continues (party p.called.base) q.halves (takes whole p.clock p.calling.base stage sent.tpdu sent.sum) rest p.forth (back_units p) (forth_units p)) (sym mine)
       (handed (party p.called.base) q.halves p.calling.base o p.clock sent rest p.forth (back_units p) (forth_units p)
       (subst (λ (l : List Sent). AreBoth (party p.called.base) (party p.calling.base) q.halves o.halves l p.forth (back_units p) (forth_units p)) e (turned _ _ _ _ _ _ _ _ both))) in
       elim r [ inl left ↦ Left (inl left) | inr g ↦ Both g.after q g.stage theirs (turned _ _ _ _ _ _ _ _ g.both) ]
@@ -85,8 +85,8 @@ module _ (p : Pair) (o q : Open) (mine : p.calling.stage ≡ Opened o) (theirs :
         let v : Account = record { gave = p.called_gave ++ given (Called call); showed = p.calling_showed } in
         let u : Account = record { gave = p.calling_gave; showed = p.called_showed ++ shown_in m.events } in
         let r : Continues (party p.calling.base) o.halves m [] [] (forth_units p) v =
-        subst (λ (stage : Stage). Continues (party p.calling.base) o.halves (on_call (at p.clock p.called.base) stage call) [] [] (forth_units p) v) (sym theirs)
-        (asked (party p.calling.base) o.halves (at p.clock p.called.base) q (forth_units p) (back_units p) none call (subst (λ (stage : Stage). call_refusal p.called.base stage call ≡ None) theirs fits)) in
+        subst (λ (stage : StateData). Continues (party p.calling.base) o.halves (on_call (at p.clock p.called.base) stage call) [] [] (forth_units p) v) (sym theirs)
+        (asked (party p.calling.base) o.halves (at p.clock p.called.base) q (forth_units p) (back_units p) none call (subst (λ (stage : StateData). call_refusal p.called.base stage call ≡ None) theirs fits)) in
         elim r [
           | inl left ↦ Left (inr left)
           | inr g ↦ Both o g.after mine g.stage
@@ -100,9 +100,9 @@ module _ (p : Pair) (o q : Open) (mine : p.calling.stage ≡ Opened o) (theirs :
         let u : Account = record { gave = p.calling_gave ++ given (Called call); showed = p.called_showed } in
         let v : Account = record { gave = p.called_gave; showed = p.calling_showed ++ shown_in m.events } in
         let r : Continues (party p.called.base) q.halves m [] [] (back_units p) u =
-        subst (λ (stage : Stage). Continues (party p.called.base) q.halves (on_call (at p.clock p.calling.base) stage call) [] [] (back_units p) u) (sym mine)
+        subst (λ (stage : StateData). Continues (party p.called.base) q.halves (on_call (at p.clock p.calling.base) stage call) [] [] (back_units p) u) (sym mine)
         (asked (party p.called.base) q.halves (at p.clock p.calling.base) o (back_units p) (forth_units p) (turned _ _ _ _ _ _ _ _ none) call
-        (subst (λ (stage : Stage). call_refusal p.calling.base stage call ≡ None) mine fits)) in
+        (subst (λ (stage : StateData). call_refusal p.calling.base stage call ≡ None) mine fits)) in
         elim r [
           | inl left ↦ Left (inl left)
           | inr g ↦ Both g.after q g.stage theirs
@@ -112,18 +112,18 @@ module _ (p : Pair) (o q : Open) (mine : p.calling.stage ≡ Opened o) (theirs :
 
     -- a tick, or none
     calling_ticks : (ticks : Bool) (now : ℕ) → HasLeft (tick_of ticks now p.calling).stage ⊎ Ticks (at now p.calling.base) o q.halves.receiving (tick_of ticks now p.calling)
-    calling_ticks true now = subst (λ (stage : Stage). HasLeft (on_tick (at now p.calling.base) stage).stage ⊎ Ticks (at now p.calling.base) o q.halves.receiving (on_tick (at now p.calling.base) stage)) (sym mine)
+    calling_ticks true now = subst (λ (stage : StateData). HasLeft (on_tick (at now p.calling.base) stage).stage ⊎ Ticks (at now p.calling.base) o q.halves.receiving (on_tick (at now p.calling.base) stage)) (sym mine)
         (has_tick (at now p.calling.base) o q.halves.receiving none.there)
-    calling_ticks false now = inr (subst (λ (stage : Stage). Ticks (at now p.calling.base) o q.halves.receiving (stays p.calling.base stage)) (sym mine)
+    calling_ticks false now = inr (subst (λ (stage : StateData). Ticks (at now p.calling.base) o q.halves.receiving (stays p.calling.base stage)) (sym mine)
         (same (has_none p.calling.base o q.halves.receiving none.there)))
       where
         same : Ticks p.calling.base o q.halves.receiving (stays p.calling.base (Opened o)) → Ticks (at now p.calling.base) o q.halves.receiving (stays p.calling.base (Opened o))
         same t = record { base = refl; after = t.after; stage = t.stage; x = t.x; repeats_it = t.repeats_it; sender = t.sender; half = t.half; tpdus = t.tpdus; calm = t.calm; quiet = t.quiet }
 
     called_ticks : (ticks : Bool) (now : ℕ) → HasLeft (tick_of ticks now p.called).stage ⊎ Ticks (at now p.called.base) q o.halves.receiving (tick_of ticks now p.called)
-    called_ticks true now = subst (λ (stage : Stage). HasLeft (on_tick (at now p.called.base) stage).stage ⊎ Ticks (at now p.called.base) q o.halves.receiving (on_tick (at now p.called.base) stage)) (sym theirs)
+    called_ticks true now = subst (λ (stage : StateData). HasLeft (on_tick (at now p.called.base) stage).stage ⊎ Ticks (at now p.called.base) q o.halves.receiving (on_tick (at now p.called.base) stage)) (sym theirs)
         (has_tick (at now p.called.base) q o.halves.receiving none.here)
-    called_ticks false now = inr (subst (λ (stage : Stage). Ticks (at now p.called.base) q o.halves.receiving (stays p.called.base stage)) (sym theirs)
+    called_ticks false now = inr (subst (λ (stage : StateData). Ticks (at now p.called.base) q o.halves.receiving (stays p.called.base stage)) (sym theirs)
         (same (has_none p.called.base q o.halves.receiving none.here)))
       where
         same : Ticks p.called.base q o.halves.receiving (stays p.called.base (Opened q)) → Ticks (at now p.called.base) q o.halves.receiving (stays p.called.base (Opened q))
@@ -159,11 +159,11 @@ not_idle : (x : Sent) (l : List Sent) → l ≡ x ∷ [] → l ≡ [] → ⊥
 not_idle x [] e f = cc e
 not_idle x (y ∷ l) e f = cc f
 
-confirming_on : (p : Pair) (happening : Happening) (r : Requesting) (w : Answering) → p.calling.stage ≡ CrWait r → p.called.stage ≡ AkWait w → IsNew p → IsConfirming p.calling.base p.called.base w p.forth p.back → May p happening
+confirming_on : (p : Pair) (happening : Happening) (r : InCrWait) (w : InAkWait) → p.calling.stage ≡ CrWait r → p.called.stage ≡ AkWait w → IsNew p → IsConfirming p.calling.base p.called.base w p.forth p.back → May p happening
     → Stands (next p happening)
 confirming_on p Comes_forth r w mine theirs new c may = subst (λ (l : List Sent). Stands (comes_forth p l)) (sym c.forth_is) (Confirming r w mine theirs new c)
 confirming_on p Comes_back r w mine theirs new c may =
-    subst (λ (l : List Sent). Stands (comes_back p l)) (sym c.back_is) (by (subst (λ (stage : Stage). Opens p.called.base (halves_of p.called.base c.options) (takes whole p.clock p.calling.base stage sent.tpdu sent.sum)) (sym mine)
+    subst (λ (l : List Sent). Stands (comes_back p l)) (sym c.back_is) (by (subst (λ (stage : StateData). Opens p.called.base (halves_of p.called.base c.options) (takes whole p.clock p.calling.base stage sent.tpdu sent.sum)) (sym mine)
     (confirmed_opens p.calling.base p.called.base r c.options c.octets p.clock c.agreed c.known c.low c.low_there c.size c.named)))
   where
     sent : Sent
@@ -185,11 +185,11 @@ confirming_on p (Asks_calling call) r w mine theirs new c may = absurd (not_idle
 confirming_on p (Asks_called call) r w mine theirs new c may = absurd (not_idle _ p.back c.back_is may.0.back)
 confirming_on p (Clock calling called) r w mine theirs new c may = absurd (not_idle _ p.back c.back_is may.back)
 
-first_on : (p : Pair) (happening : Happening) (o : Open) (w : Answering) → p.calling.stage ≡ Opened o → p.called.stage ≡ AkWait w → IsFirst p.calling.base p.called.base o.halves w.halves p.forth p.back (forth_units p) (back_units p) → May p happening
+first_on : (p : Pair) (happening : Happening) (o : InOpened) (w : InAkWait) → p.calling.stage ≡ Opened o → p.called.stage ≡ AkWait w → IsFirst p.calling.base p.called.base o.halves w.halves p.forth p.back (forth_units p) (back_units p) → May p happening
     → Stands (next p happening)
 first_on p Comes_forth o w mine theirs f may =
     subst (λ (l : List Sent). Stands (comes_forth p l)) (sym f.forth_is)
-    (by (subst (λ (stage : Stage). Continues (party p.calling.base) o.halves (takes whole p.clock p.called.base stage (ak o.halves.receiving).tpdu (ak o.halves.receiving).sum) [] [] (forth_units p) (back_units p)) (sym theirs)
+    (by (subst (λ (stage : StateData). Continues (party p.calling.base) o.halves (takes whole p.clock p.called.base stage (ak o.halves.receiving).tpdu (ak o.halves.receiving).sum) [] [] (forth_units p) (back_units p)) (sym theirs)
     (first_opens p.calling.base p.called.base o.halves w p.clock (forth_units p) (back_units p)
     (subst (λ (l : List Sent). IsFirst p.calling.base p.called.base o.halves w.halves (ak o.halves.receiving ∷ []) l (forth_units p) (back_units p)) f.back_is
     (subst (λ (l : List Sent). IsFirst p.calling.base p.called.base o.halves w.halves l p.back (forth_units p) (back_units p)) f.forth_is f)))))
@@ -207,7 +207,7 @@ first_on p (Clock calling called) o w mine theirs f may = absurd (not_idle _ p.f
 
 -- ---- all
 
-both_on : (p : Pair) (happening : Happening) (o q : Open) → p.calling.stage ≡ Opened o → p.called.stage ≡ Opened q → AreBoth (party p.calling.base) (party p.called.base) o.halves q.halves p.forth p.back (forth_units p) (back_units p) → May p happening
+both_on : (p : Pair) (happening : Happening) (o q : InOpened) → p.calling.stage ≡ Opened o → p.called.stage ≡ Opened q → AreBoth (party p.calling.base) (party p.called.base) o.halves q.halves p.forth p.back (forth_units p) (back_units p) → May p happening
     → Stands (next p happening)
 both_on p Comes_forth o q mine theirs both may = forth_on p o q mine theirs both p.forth refl
 both_on p Comes_back o q mine theirs both may = back_on p o q mine theirs both p.back refl

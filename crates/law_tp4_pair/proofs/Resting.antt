@@ -12,11 +12,11 @@ use Rattle.tp4_sending.specs.Pieces.{count_in, end_of}
 use Rattle.tp4_sending.specs.Settled.{IsSettled, waits_normal}
 use Rattle.tp4_sending.specs.declared.tries.Tries.{Tries}
 use Rattle.tp4_conn.specs.declared.call.UserCall.TheVariants.{Accept}
-use Rattle.tp4_conn.specs.declared.stage.Open.{Open}
-use Rattle.tp4_conn.specs.declared.stage.Requesting.{Requesting}
-use Rattle.tp4_conn.specs.declared.stage.Stage.{Stage}
-use Rattle.tp4_conn.specs.declared.stage.Stage.TheVariants.{CrWait, UserWait, AkWait, Opened}
-use Rattle.tp4_conn.specs.declared.base.Base.{Base}
+use Rattle.tp4_conn.specs.declared.states.InOpened.{InOpened}
+use Rattle.tp4_conn.specs.declared.states.InCrWait.{InCrWait}
+use Rattle.tp4_conn.specs.declared.states.StateData.{StateData}
+use Rattle.tp4_conn.specs.declared.states.StateData.TheVariants.{CrWait, UserWait, AkWait, Opened}
+use Rattle.tp4_conn.specs.declared.end_record.EndRecord.{EndRecord}
 use Rattle.tp4_conn.specs.Agreeing.{agreed_by, confirm, halves_of}
 use Rattle.tp4_conn.proofs.Sizes.{agreed_sized}
 use Rattle.tp4_conn.specs.End.{IsProposal, IsSized, Moved, end_of as end_of_row}
@@ -30,7 +30,8 @@ use Rattle.law_tp4_history.proofs.Complete.{Complete}
 use Rattle.law_tp4_pair.specs.steps.Carrying.{AreLeft, Carries}
 use Rattle.law_tp4_pair.specs.steps.Flowing.{IsCalm}
 use Rattle.law_tp4_pair.specs.Pair.{Accepts, Account, Asks_called, IsIdle, IsNew, Pair, back_units, forth_units, next}
-use Rattle.law_tp4_pair.specs.Rest.{HoldsEd, HoldsDt, HasTaken, By_ed, By_dt, By_credit, All, IsAtRest, IsShown, AreAtRest}
+use Rattle.law_tp4_pair.specs.Claim.{HoldsDt, HoldsEd}
+use Rattle.law_tp4_pair.specs.steps.Rest.{HasTaken, By_ed, By_dt, By_credit, All, IsAtRest, IsShown, AreAtRest}
 use Rattle.law_tp4_pair.specs.steps.Standing.{HasLeft, AreBoth, Stands, Left, Confirming, First, Both, party}
 use Rattle.law_tp4_pair.proofs.Granting.{at_rest}
 
@@ -122,7 +123,7 @@ shows s h u r c = record { expedited = expedited r.expedited; normal = normal r.
         (omega (arith, low, c.first, ap (sum_by (count_in s.rules.piece)) c.normal, sum_by-append (count_in s.rules.piece) c.acknowledged s.queue.units)))
 
 -- both ends of a pair
-both_rest : (p : Pair) (o q : Open) → IsIdle p → AreBoth (party p.calling.base) (party p.called.base) o.halves q.halves p.forth p.back (forth_units p) (back_units p) → AreAtRest p o q
+both_rest : (p : Pair) (o q : InOpened) → IsIdle p → AreBoth (party p.calling.base) (party p.called.base) o.halves q.halves p.forth p.back (forth_units p) (back_units p) → AreAtRest p o q
 both_rest p o q idle both =
     let none : AreBoth (party p.calling.base) (party p.called.base) o.halves q.halves [] [] (forth_units p) (back_units p) =
     subst (λ (l : List Sent). AreBoth (party p.calling.base) (party p.called.base) o.halves q.halves l [] (forth_units p) (back_units p)) idle.forth
@@ -136,35 +137,35 @@ both_rest p o q idle both =
       shown_here = shows q.halves.sending o.halves.receiving (back_units p) here none.carried_here;
     }
 
-same_open : (o q : Open) → Opened o ≡ Opened q → o ≡ q
+same_open : (o q : InOpened) → Opened o ≡ Opened q → o ≡ q
 same_open o q e = cc
 
-not_left : (o : Open) (stage : Stage) → stage ≡ Opened o → HasLeft stage → ⊥
+not_left : (o : InOpened) (stage : StateData) → stage ≡ Opened o → HasLeft stage → ⊥
 not_left o stage e left = subst HasLeft e left
 
-not_requesting : (o : Open) (r : Requesting) → CrWait r ≡ Opened o → ⊥
+not_requesting : (o : InOpened) (r : InCrWait) → CrWait r ≡ Opened o → ⊥
 not_requesting o r e = cc e
 
-not_answering : (o : Open) (w : _) → AkWait w ≡ Opened o → ⊥
+not_answering : (o : InOpened) (w : _) → AkWait w ≡ Opened o → ⊥
 not_answering o w e = cc e
 
-pub pair_rests : (p : Pair) (o q : Open) → Stands p → IsIdle p → p.calling.stage ≡ Opened o → p.called.stage ≡ Opened q
+pub pair_rests : (p : Pair) (o q : InOpened) → Stands p → IsIdle p → p.calling.stage ≡ Opened o → p.called.stage ≡ Opened q
     → AreAtRest p o q
 pair_rests p o q (Left left) idle mine theirs = elim left [ inl here ↦ absurd (not_left o p.calling.stage mine here) | inr there ↦ absurd (not_left q p.called.stage theirs there) ]
 pair_rests p o q (Confirming r w is was new c) idle mine theirs = absurd (not_requesting o r (sym is ∙ mine))
 pair_rests p o q (First n w is was f) idle mine theirs = absurd (not_answering q w (sym was ∙ theirs))
 pair_rests p o q (Both n m is was both) idle mine theirs =
-    subst (λ (x : Open). AreAtRest p x q) (same_open n o (sym is ∙ mine)) (subst (λ (y : Open). AreAtRest p n y) (same_open m q (sym was ∙ theirs)) (both_rest p n m idle both))
+    subst (λ (x : InOpened). AreAtRest p x q) (same_open n o (sym is ∙ mine)) (subst (λ (y : InOpened). AreAtRest p n y) (same_open m q (sym was ∙ theirs)) (both_rest p n m idle both))
 
 -- the called end accepts
-accepts : (p : Pair) (r : Requesting) (since : ℕ) (asked : Options) (octets : List ℕ) → IsIdle p → p.calling.stage ≡ CrWait r → p.called.stage ≡ UserWait since
+accepts : (p : Pair) (r : InCrWait) (since : ℕ) (asked : Options) (octets : List ℕ) → IsIdle p → p.calling.stage ≡ CrWait r → p.called.stage ≡ UserWait since
     → p.called.base.credit ≡ p.calling.base.timers.credit → p.calling.base.timers.credit ≤ 15 → p.called.base.timers.credit ≤ 15
     → IsProposal p.called.base.proposed → IsSized asked → p.called.base.partner ≡ p.calling.base.own → IsNew p → Stands (next p (Asks_called (Accept asked octets)))
 unfolding user_wait_accept
 accepts p r since asked octets idle mine theirs known low low_there size size_asked named new =
     let options : Options = agreed_by p.called.base.proposed asked in
-    let b : Base = record p.called.base { agreed = Some options; clock = p.clock } in
-    subst (λ (m : Moved). Stands (answered m)) (sym (ap (λ (stage : Stage). on_call (at p.clock p.called.base) stage (Accept asked octets)) theirs))
+    let b : EndRecord = record p.called.base { agreed = Some options; clock = p.clock } in
+    subst (λ (m : Moved). Stands (answered m)) (sym (ap (λ (stage : StateData). on_call (at p.clock p.called.base) stage (Accept asked octets)) theirs))
     (Confirming r (record { octets = octets; first = p.clock; tries = once p.clock; halves = halves_of b options }) mine refl (record { calling_gave = new.calling_gave; called_gave = append-nil p.called_gave ∙ new.called_gave; calling_showed = new.calling_showed; called_showed = append-nil p.called_showed ∙ new.called_showed }) (record {
       options = options;
       agreed = refl;

@@ -14,15 +14,16 @@ use Rattle.tp4_sending.specs.Pieces.{least_due, sooner}
 use Rattle.tp4_sending.specs.Settled.{IsDue}
 use Rattle.tp4_sending.proofs.Dues.{first_due, second_due}
 use Rattle.tp4_conn.specs.declared.call.UserCall.TheVariants.{Accept}
-use Rattle.tp4_conn.specs.declared.stage.Open.{Open}
-use Rattle.tp4_conn.specs.declared.stage.Stage.{Stage}
-use Rattle.tp4_conn.specs.declared.stage.Stage.TheVariants.{Opened}
+use Rattle.tp4_conn.specs.declared.states.InOpened.{InOpened}
+use Rattle.tp4_conn.specs.declared.states.StateData.{StateData}
+use Rattle.tp4_conn.specs.declared.states.StateData.TheVariants.{Opened}
 use Rattle.tp4_conn.specs.End.{End}
 use Rattle.tp4_conn.specs.Living.{IsInTime}
 use Rattle.tp4_conn.specs.Table.{due}
-use Rattle.law_tp4_pair.specs.Claim.{AllShown, AreLater, ArePairs, HasShown, IsPairOf, IsToldIn, TellsDt, TellsEd}
+use Rattle.law_tp4_pair.specs.Claim.{AllShown, HasShown, HoldsDt, HoldsEd, TellsDt, TellsEd}
+use Rattle.law_tp4_pair.specs.steps.Pairs.{AreLater, ArePairs, IsPairOf, IsToldIn}
 use Rattle.law_tp4_pair.specs.Pair.{Account, Asks_called, next}
-use Rattle.law_tp4_pair.specs.Rest.{AreAtRest, HoldsDt, HoldsEd, IsShown}
+use Rattle.law_tp4_pair.specs.steps.Rest.{AreAtRest, IsShown}
 use Rattle.law_tp4_pair.specs.Telling.{AreTold, HasTold, Tells}
 use Rattle.law_tp4_pair.proofs.Pairs.{stands_after}
 use Rattle.law_tp4_pair.proofs.Resting.{accepts_stands, pair_rests}
@@ -87,10 +88,10 @@ not_due : (o : Option ℕ) (now : ℕ) → IsInTime o (now + 1) → IsDue o now 
 not_due None now later d = d
 not_due (Some tick) now later d = absurd (omega (arith, later, d))
 
-end_quiet : (now : ℕ) (x : End) (o : Open) → x.stage ≡ Opened o → IsInTime (due x.base x.stage) (now + 1) → IsQuiet now o.halves.sending
+end_quiet : (now : ℕ) (x : End) (o : InOpened) → x.stage ≡ Opened o → IsInTime (due x.base x.stage) (now + 1) → IsQuiet now o.halves.sending
 end_quiet now x o is later d =
     let inactive : Option ℕ = sooner (Some (o.took + x.base.timers.inactive)) (Some (o.acked + x.base.timers.window)) in
-    not_due (due x.base (Opened o)) now (subst (λ (stage : Stage). IsInTime (due x.base stage) (now + 1)) is later) (second_due inactive (due_of o.halves.sending) now d)
+    not_due (due x.base (Opened o)) now (subst (λ (stage : StateData). IsInTime (due x.base stage) (now + 1)) is later) (second_due inactive (due_of o.halves.sending) now d)
 
 -- ---- what is shown
 
@@ -116,7 +117,7 @@ shows_in now journal from to s h u told quiet i t j gave showed = record { exped
     normal (inr (inr (inl held))) = inr (inr (inl (dt held)))
     normal (inr (inr (inr none))) = inr (inr (inr none))
 
-pair_shows : (now : ℕ) (journal : List Event) (calling called : ℕ) (x y : End) (o q : Open) → x.stage ≡ Opened o → y.stage ≡ Opened q → IsInTime (due x.base x.stage) (now + 1)
+pair_shows : (now : ℕ) (journal : List Event) (calling called : ℕ) (x y : End) (o q : InOpened) → x.stage ≡ Opened o → y.stage ≡ Opened q → IsInTime (due x.base x.stage) (now + 1)
     → IsInTime (due y.base y.stage) (now + 1) → IsPairOf journal calling called x y
     → HasShown now journal calling called o.halves.sending q.halves.receiving × HasShown now journal called calling q.halves.sending o.halves.receiving
 pair_shows now journal calling called x y o q mine theirs later there_later p =
@@ -126,9 +127,9 @@ pair_shows now journal calling called x y o q mine theirs later there_later p =
     let rest : AreAtRest p.last o q = pair_rests p.last o q (stands_after begun p.last p.happenings (accepts_stands p.first p.asked p.octets p.accepts) p.leads) p.idle at there in
     let told : AreTold p.last = told_after begun p.last p.happenings (told_on p.first (Asks_called (Accept p.asked p.octets)) (told_first p.first p.asked p.accepts)) p.leads in (
       shows_in now journal calling called o.halves.sending q.halves.receiving _ p.last.calling_told (end_quiet now x o mine later) rest.shown_there
-          (subst (λ (stage : Stage). Tells stage p.last.calling_told) at told.calling) p.calling_told p.calling_gave p.called_showed,
+          (subst (λ (stage : StateData). Tells stage p.last.calling_told) at told.calling) p.calling_told p.calling_gave p.called_showed,
       shows_in now journal called calling q.halves.sending o.halves.receiving _ p.last.called_told (end_quiet now y q theirs there_later) rest.shown_here
-          (subst (λ (stage : Stage). Tells stage p.last.called_told) there told.called) p.called_told p.called_gave p.calling_showed,
+          (subst (λ (stage : StateData). Tells stage p.last.called_told) there told.called) p.called_told p.called_gave p.calling_showed,
     )
 
 pub claims : (now : ℕ) (journal : List Event) (end_of : ℕ → Option End) → ArePairs journal end_of → AreLater now end_of → AllShown now journal end_of

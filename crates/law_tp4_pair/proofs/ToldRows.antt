@@ -16,15 +16,15 @@ use Rattle.tp4_number.specs.declared.got.Got.TheVariants.{Kept, Old, Outside, To
 use Rattle.tp4_number.specs.Number.{whole}
 use Rattle.tp4_number.proofs.Past.{if_kept}
 use Rattle.tp4_sending.specs.FlowSender.{Sendings, at, fresh, life_of, opened, ticked}
-use Rattle.tp4_conn.specs.declared.base.Base.{Base}
+use Rattle.tp4_conn.specs.declared.end_record.EndRecord.{EndRecord}
 use Rattle.tp4_conn.specs.declared.call.UserCall.{UserCall}
 use Rattle.tp4_conn.specs.declared.call.UserCall.TheVariants.{Accept, Refuse, Normal, Urgent, Window, Disconnect}
 use Rattle.tp4_conn.specs.declared.halves.Halves.{Halves}
-use Rattle.tp4_conn.specs.declared.stage.Answering.{Answering}
-use Rattle.tp4_conn.specs.declared.stage.Open.{Open}
-use Rattle.tp4_conn.specs.declared.stage.Requesting.{Requesting}
-use Rattle.tp4_conn.specs.declared.stage.Stage.{Stage}
-use Rattle.tp4_conn.specs.declared.stage.Stage.TheVariants.{CrWait, WaitBeforeClose, UserWait, AkWait, Opened, Closing, Frozen}
+use Rattle.tp4_conn.specs.declared.states.InAkWait.{InAkWait}
+use Rattle.tp4_conn.specs.declared.states.InOpened.{InOpened}
+use Rattle.tp4_conn.specs.declared.states.InCrWait.{InCrWait}
+use Rattle.tp4_conn.specs.declared.states.StateData.{StateData}
+use Rattle.tp4_conn.specs.declared.states.StateData.TheVariants.{CrWait, WaitBeforeClose, UserWait, AkWait, Opened, Closing, Frozen}
 use Rattle.tp4_conn.specs.Agreeing.{is_within, options_in}
 use Rattle.tp4_conn.specs.AkWait.{ak_wait_tick, ak_wait_tpdu, opening}
 use Rattle.tp4_conn.specs.CrWait.{confirmed, cr_wait_tick, cr_wait_tpdu}
@@ -42,7 +42,7 @@ use Rattle.law_tp4_pair.proofs.Told.{acknowledged_told, at_told, done_told, more
 abbrev TellsRow : List EndEvent → Moved → Type 0
 TellsRow told m = Tells m.stage (told ++ m.events)
 
-more_tells : (stage : Stage) (told events : List EndEvent) → Tells stage told → Tells stage (told ++ events)
+more_tells : (stage : StateData) (told events : List EndEvent) → Tells stage told → Tells stage (told ++ events)
 more_tells (CrWait w) told events h = tt
 more_tells (WaitBeforeClose w) told events h = tt
 more_tells (UserWait since) told events h = tt
@@ -51,7 +51,7 @@ more_tells (Opened o) told events h = more_told o.halves.sending told events h
 more_tells (Closing c) told events h = tt
 more_tells (Frozen when) told events h = tt
 
-left_tells : (stage : Stage) (told : List EndEvent) → HasLeft stage → Tells stage told
+left_tells : (stage : StateData) (told : List EndEvent) → HasLeft stage → Tells stage told
 left_tells (CrWait w) told left = tt
 left_tells (WaitBeforeClose w) told left = tt
 left_tells (UserWait since) told left = tt
@@ -65,13 +65,13 @@ fresh_told rules credit told = record { normal = λ n e. absurd (false≢true e)
 
 -- ---- Opened
 
-dt_tells : (b : Base) (o : Open) (got : Got) (r : _) (told : List EndEvent) → HasTold o.halves.sending told → TellsRow told (dt_as got b o r)
+dt_tells : (b : EndRecord) (o : InOpened) (got : Got) (r : _) (told : List EndEvent) → HasTold o.halves.sending told → TellsRow told (dt_as got b o r)
 dt_tells b o TooLarge r told h = tt
 dt_tells b o Kept r told h = more_told o.halves.sending told r.events h
 dt_tells b o Old r told h = more_told o.halves.sending told r.events h
 dt_tells b o Outside r told h = more_told o.halves.sending told r.events h
 
-opened_tells : (b : Base) (o : Open) (tpdu : Tpdu) (told : List EndEvent) → HasTold o.halves.sending told → TellsRow told (opened_tpdu whole b o tpdu)
+opened_tells : (b : EndRecord) (o : InOpened) (tpdu : Tpdu) (told : List EndEvent) → HasTold o.halves.sending told → TellsRow told (opened_tpdu whole b o tpdu)
 unfolding opened_tpdu
 opened_tells b o (Cc credit destination source width calling called size preferred extra version classes ack_time text) told h = more_told o.halves.sending told [] h
 opened_tells b o (Dr destination source reason info text) told h = tt
@@ -84,7 +84,7 @@ opened_tells b o (Ak destination number credit subsequence confirmation) told h 
 opened_tells b o (Ea destination number) told h = done_told (at b.clock o.halves.sending) number told (at_told b.clock o.halves.sending told h)
 opened_tells b o other told h = more_told o.halves.sending told [] h
 
-tick_tells : (b : Base) (o : Open) (told : List EndEvent) → HasTold o.halves.sending told → TellsRow told (opened_tick b o)
+tick_tells : (b : EndRecord) (o : InOpened) (told : List EndEvent) → HasTold o.halves.sending told → TellsRow told (opened_tick b o)
 unfolding opened_tick
 tick_tells b o told h =
     if_kept (TellsRow told) (nat_le (o.took + b.timers.inactive) b.clock) _ _ (λ _. tt) (λ _. by (life_of (at b.clock o.halves.sending)))
@@ -106,14 +106,14 @@ tick_tells b o told h =
 led_tells : (m : Moved) (told events : List EndEvent) (tpdus : List Sent) → TellsRow (told ++ events) m → TellsRow told (led_by events tpdus m)
 led_tells m told events tpdus h = subst (Tells m.stage) (append_assoc told events m.events) h
 
-opening_tells : (b : Base) (k : Halves) (tpdu : Tpdu) (told : List EndEvent) → HasTold k.sending told → TellsRow told (opening whole b k tpdu)
+opening_tells : (b : EndRecord) (k : Halves) (tpdu : Tpdu) (told : List EndEvent) → HasTold k.sending told → TellsRow told (opening whole b k tpdu)
 opening_tells b k tpdu told h =
     let s : Sendings = opened (at b.clock k.sending) in
-    let o : Open = record { took = b.clock; acked = b.clock; halves = record k { sending = s.sender } } in
+    let o : InOpened = record { took = b.clock; acked = b.clock; halves = record k { sending = s.sender } } in
     led_tells (opened_tpdu whole b o tpdu) told s.events s.tpdus
     (opened_tells b o tpdu (told ++ s.events) (opened_told (at b.clock k.sending) told (at_told b.clock k.sending told h)))
 
-ak_wait_tells : (b : Base) (w : Answering) (tpdu : Tpdu) (told : List EndEvent) → HasTold w.halves.sending told → TellsRow told (ak_wait_tpdu whole b w tpdu)
+ak_wait_tells : (b : EndRecord) (w : InAkWait) (tpdu : Tpdu) (told : List EndEvent) → HasTold w.halves.sending told → TellsRow told (ak_wait_tpdu whole b w tpdu)
 unfolding ak_wait_tpdu
 ak_wait_tells b w (Ak destination number credit subsequence confirmation) told h = opening_tells b w.halves (Ak destination number credit subsequence confirmation) told h
 ak_wait_tells b w (Dt destination last number text) told h = opening_tells b w.halves (Dt destination last number text) told h
@@ -123,18 +123,18 @@ ak_wait_tells b w (Dr destination source reason info text) told h = tt
 ak_wait_tells b w (Er destination cause rejected) told h = tt
 ak_wait_tells b w other told h = more_told w.halves.sending told [] h
 
-ak_wait_later : (b : Base) (w : Answering) (told : List EndEvent) → HasTold w.halves.sending told → TellsRow told (ak_wait_tick b w)
+ak_wait_later : (b : EndRecord) (w : InAkWait) (told : List EndEvent) → HasTold w.halves.sending told → TellsRow told (ak_wait_tick b w)
 unfolding ak_wait_tick
 ak_wait_later b w told h =
     if_kept (TellsRow told) (nat_lt b.clock (w.tries.last + b.timers.t1)) _ _ (λ _. more_told w.halves.sending told [] h)
     (λ _. if_kept (TellsRow told) (nat_lt w.tries.count b.timers.sendings) _ _ (λ _. more_told w.halves.sending told [] h) (λ _. tt))
 
-confirmed_tells : (b : Base) (o : Options) (octets : List ℕ) (told : List EndEvent) → TellsRow told (confirmed b o octets)
+confirmed_tells : (b : EndRecord) (o : Options) (octets : List ℕ) (told : List EndEvent) → TellsRow told (confirmed b o octets)
 confirmed_tells b o octets told =
     let first : EndEvent = tell b (Confirm o octets) in
     subst (HasTold _) (append_assoc told (first ∷ []) _) (opened_told _ (told ++ first ∷ []) (at_told b.clock _ (told ++ first ∷ []) (fresh_told _ b.credit (told ++ first ∷ []))))
 
-cr_wait_tells : (b : Base) (w : Requesting) (tpdu : Tpdu) (told : List EndEvent) → TellsRow told (cr_wait_tpdu b w tpdu)
+cr_wait_tells : (b : EndRecord) (w : InCrWait) (tpdu : Tpdu) (told : List EndEvent) → TellsRow told (cr_wait_tpdu b w tpdu)
 unfolding cr_wait_tpdu
 cr_wait_tells b w (Cc credit destination source width calling called size preferred extra version classes ack_time text) told =
     if_kept (TellsRow told) (is_within b.proposed width size preferred extra) _ _
@@ -143,18 +143,18 @@ cr_wait_tells b w (Cc credit destination source width calling called size prefer
 cr_wait_tells b w (Dr destination source reason info text) told = tt
 cr_wait_tells b w other told = tt
 
-cr_wait_later : (b : Base) (w : Requesting) (told : List EndEvent) → TellsRow told (cr_wait_tick b w)
+cr_wait_later : (b : EndRecord) (w : InCrWait) (told : List EndEvent) → TellsRow told (cr_wait_tick b w)
 unfolding cr_wait_tick
 cr_wait_later b w told =
     if_kept (TellsRow told) (nat_lt b.clock (w.tries.last + b.timers.t1)) _ _ (λ _. tt) (λ _. if_kept (TellsRow told) (nat_lt w.tries.count b.timers.sendings) _ _ (λ _. tt) (λ _. tt))
 
-user_wait_later : (b : Base) (since : ℕ) (told : List EndEvent) → TellsRow told (user_wait_tick b since)
+user_wait_later : (b : EndRecord) (since : ℕ) (told : List EndEvent) → TellsRow told (user_wait_tick b since)
 unfolding user_wait_tick
 user_wait_later b since told = if_kept (TellsRow told) (nat_lt b.clock (since + b.timers.inactive)) _ _ (λ _. tt) (λ _. tt)
 
 -- ---- all rows
 
-takes_tells : (b : Base) (stage : Stage) (tpdu : Tpdu) (told : List EndEvent) → Tells stage told → TellsRow told (on_tpdu whole b stage tpdu)
+takes_tells : (b : EndRecord) (stage : StateData) (tpdu : Tpdu) (told : List EndEvent) → Tells stage told → TellsRow told (on_tpdu whole b stage tpdu)
 takes_tells b (CrWait w) tpdu told h = cr_wait_tells b w tpdu told
 takes_tells b (WaitBeforeClose w) tpdu told h = left_tells _ _ (takes_left b (WaitBeforeClose w) tpdu tt)
 takes_tells b (UserWait since) tpdu told h = tt
@@ -163,7 +163,7 @@ takes_tells b (Opened o) tpdu told h = opened_tells b (hearing b o) tpdu told h
 takes_tells b (Closing c) tpdu told h = left_tells _ _ (takes_left b (Closing c) tpdu tt)
 takes_tells b (Frozen when) tpdu told h = tt
 
-ticks_tell : (b : Base) (stage : Stage) (told : List EndEvent) → Tells stage told → TellsRow told (on_tick b stage)
+ticks_tell : (b : EndRecord) (stage : StateData) (told : List EndEvent) → Tells stage told → TellsRow told (on_tick b stage)
 ticks_tell b (CrWait w) told h = cr_wait_later b w told
 ticks_tell b (WaitBeforeClose w) told h = left_tells _ _ (ticks_left b (WaitBeforeClose w) tt)
 ticks_tell b (UserWait since) told h = user_wait_later b since told
@@ -172,11 +172,11 @@ ticks_tell b (Opened o) told h = tick_tells b o told h
 ticks_tell b (Closing c) told h = left_tells _ _ (ticks_left b (Closing c) tt)
 ticks_tell b (Frozen when) told h = tt
 
-grants_tell : (b : Base) (o : Open) (new : Half) (told : List EndEvent) → HasTold o.halves.sending told → TellsRow told (granting b o new)
+grants_tell : (b : EndRecord) (o : InOpened) (new : Half) (told : List EndEvent) → HasTold o.halves.sending told → TellsRow told (granting b o new)
 grants_tell b o new told h = if_kept (TellsRow told) (new.receiver.inbox.credit == o.halves.receiving.receiver.inbox.credit) _ _
     (λ _. more_told o.halves.sending told _ h) (λ _. more_told o.halves.sending told _ h)
 
-opened_call_tells : (b : Base) (o : Open) (call : UserCall) (told : List EndEvent) → HasTold o.halves.sending told → TellsRow told (on_call b (Opened o) call)
+opened_call_tells : (b : EndRecord) (o : InOpened) (call : UserCall) (told : List EndEvent) → HasTold o.halves.sending told → TellsRow told (on_call b (Opened o) call)
 opened_call_tells b o (Normal unit) told h = submitted_told (at b.clock o.halves.sending) unit told (at_told b.clock o.halves.sending told h)
 opened_call_tells b o (Urgent unit) told h = urged_told (at b.clock o.halves.sending) unit told (at_told b.clock o.halves.sending told h)
 opened_call_tells b o (Window credit) told h = grants_tell b o (half_granted o.halves.receiving credit) told h
@@ -184,7 +184,7 @@ opened_call_tells b o (Disconnect octets) told h = tt
 opened_call_tells b o (Accept options octets) told h = more_told o.halves.sending told [] h
 opened_call_tells b o (Refuse octets) told h = more_told o.halves.sending told [] h
 
-ak_wait_call_tells : (b : Base) (w : Answering) (call : UserCall) (told : List EndEvent) → HasTold w.halves.sending told → TellsRow told (on_call b (AkWait w) call)
+ak_wait_call_tells : (b : EndRecord) (w : InAkWait) (call : UserCall) (told : List EndEvent) → HasTold w.halves.sending told → TellsRow told (on_call b (AkWait w) call)
 ak_wait_call_tells b w (Normal unit) told h = submitted_told (at b.clock w.halves.sending) unit told (at_told b.clock w.halves.sending told h)
 ak_wait_call_tells b w (Urgent unit) told h = urged_told (at b.clock w.halves.sending) unit told (at_told b.clock w.halves.sending told h)
 ak_wait_call_tells b w (Window credit) told h = more_told w.halves.sending told [] h
@@ -192,7 +192,7 @@ ak_wait_call_tells b w (Disconnect octets) told h = tt
 ak_wait_call_tells b w (Accept options octets) told h = more_told w.halves.sending told [] h
 ak_wait_call_tells b w (Refuse octets) told h = more_told w.halves.sending told [] h
 
-user_wait_call_tells : (b : Base) (since : ℕ) (call : UserCall) (told : List EndEvent) → TellsRow told (on_call b (UserWait since) call)
+user_wait_call_tells : (b : EndRecord) (since : ℕ) (call : UserCall) (told : List EndEvent) → TellsRow told (on_call b (UserWait since) call)
 unfolding user_wait_accept user_wait_refuse
 user_wait_call_tells b since (Accept options octets) told = fresh_told _ b.credit _
 user_wait_call_tells b since (Refuse octets) told = tt
@@ -201,7 +201,7 @@ user_wait_call_tells b since (Urgent unit) told = tt
 user_wait_call_tells b since (Window credit) told = tt
 user_wait_call_tells b since (Disconnect octets) told = tt
 
-cr_wait_call_tells : (b : Base) (w : Requesting) (call : UserCall) (told : List EndEvent) → TellsRow told (on_call b (CrWait w) call)
+cr_wait_call_tells : (b : EndRecord) (w : InCrWait) (call : UserCall) (told : List EndEvent) → TellsRow told (on_call b (CrWait w) call)
 cr_wait_call_tells b w (Accept options octets) told = tt
 cr_wait_call_tells b w (Refuse octets) told = tt
 cr_wait_call_tells b w (Normal unit) told = tt
@@ -209,7 +209,7 @@ cr_wait_call_tells b w (Urgent unit) told = tt
 cr_wait_call_tells b w (Window credit) told = tt
 cr_wait_call_tells b w (Disconnect octets) told = tt
 
-calls_tell : (b : Base) (stage : Stage) (call : UserCall) (told : List EndEvent) → Tells stage told → TellsRow told (on_call b stage call)
+calls_tell : (b : EndRecord) (stage : StateData) (call : UserCall) (told : List EndEvent) → Tells stage told → TellsRow told (on_call b stage call)
 calls_tell b (CrWait w) call told h = cr_wait_call_tells b w call told
 calls_tell b (WaitBeforeClose w) call told h = tt
 calls_tell b (UserWait since) call told h = user_wait_call_tells b since call told
@@ -254,6 +254,6 @@ told_after old new (happening ∷ happenings) h l = told_after (next old happeni
 -- before the accept
 pub told_first : (p : Pair) (asked : Options) → Accepts p asked → AreTold p
 told_first p asked a = record {
-  calling = subst (λ (stage : Stage). Tells stage p.calling_told) (sym a.calling) tt;
-  called = subst (λ (stage : Stage). Tells stage p.called_told) (sym a.called) tt;
+  calling = subst (λ (stage : StateData). Tells stage p.calling_told) (sym a.calling) tt;
+  called = subst (λ (stage : StateData). Tells stage p.called_told) (sym a.called) tt;
 }

@@ -5,12 +5,12 @@ use Rattle.tp4_flow.specs.Half.{Half, ak, half_granted}
 use Rattle.tp4_flow.specs.declared.step.Sent.{Sent}
 use Rattle.tp4_flow.specs.declared.step.What.TheVariants.{Window as WindowTold}
 use Rattle.tp4_sending.specs.FlowSender.{Sendings, at, submitted, urged}
-use Rattle.tp4_conn.specs.declared.base.Base.{Base}
+use Rattle.tp4_conn.specs.declared.end_record.EndRecord.{EndRecord}
 use Rattle.tp4_conn.specs.declared.call.UserCall.{UserCall}
 use Rattle.tp4_conn.specs.declared.call.UserCall.TheVariants.{Accept, Refuse, Normal, Urgent, Window, Disconnect}
 use Rattle.tp4_conn.specs.declared.halves.Halves.{Halves}
-use Rattle.tp4_conn.specs.declared.stage.Open.{Open}
-use Rattle.tp4_conn.specs.declared.stage.Stage.TheVariants.{Opened}
+use Rattle.tp4_conn.specs.declared.states.InOpened.{InOpened}
+use Rattle.tp4_conn.specs.declared.states.StateData.TheVariants.{Opened}
 use Rattle.tp4_conn.specs.End.{tell}
 use Rattle.tp4_conn.specs.Opened.{sending, receiving, acking}
 use Rattle.tp4_conn.specs.Table.{Called, on_call}
@@ -30,7 +30,7 @@ use Rattle.law_tp4_pair.proofs.Going.{calm_at}
 use Rattle.law_tp4_pair.proofs.Granting.{granted_begun, granted_calm, unchanged_calm}
 use Rattle.law_tp4_pair.proofs.Hearing.{CalmAfter, from_at}
 
-module _ (first : Party) (h : Halves) (b : Base) (o : Open) (u v : Account) (both : AreBoth first (party b) h o.halves [] [] u v) where
+module _ (first : Party) (h : Halves) (b : EndRecord) (o : InOpened) (u v : Account) (both : AreBoth first (party b) h o.halves [] [] u v) where
   sends_goes : (added : List Marked) (x : Sendings) → AllFull (normals added) → CalmAfter (at b.clock o.halves.sending) added x h.receiving [] [] [] []
       → Continues first h (sending b o x) [] [] u (record v { gave = v.gave ++ added })
   sends_goes added x full a = inr (record {

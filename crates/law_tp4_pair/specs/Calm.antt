@@ -56,18 +56,18 @@ Settles (lines.Settle ∷ script) = Prim.Unit {0}
 Settles (line ∷ script) = ⊥
 
 -- after the start nothing is delivered or injected by a line of its own, no system begins again, and each other line is settled
-abbrev pub IsSettled : List Line → Type 0
-IsSettled [] = Prim.Unit {0}
-IsSettled (lines.Nothing ∷ script) = IsSettled script
-IsSettled (lines.Settle ∷ script) = IsSettled script
-IsSettled (lines.Deliver frame system ∷ script) = ⊥
-IsSettled (lines.Inject lan system octets ∷ script) = ⊥
-IsSettled (lines.Restart system ∷ script) = ⊥
-IsSettled (line ∷ script) = Settles script × IsSettled script
+abbrev pub IsSettledScript : List Line → Type 0
+IsSettledScript [] = Prim.Unit {0}
+IsSettledScript (lines.Nothing ∷ script) = IsSettledScript script
+IsSettledScript (lines.Settle ∷ script) = IsSettledScript script
+IsSettledScript (lines.Deliver frame system ∷ script) = ⊥
+IsSettledScript (lines.Inject lan system octets ∷ script) = ⊥
+IsSettledScript (lines.Restart system ∷ script) = ⊥
+IsSettledScript (line ∷ script) = Settles script × IsSettledScript script
 
 pub record IsCalmScript (script : List Line) : Type 0 where
   pub before : List Line
   pub after : List Line
   pub script_is : script ≡ before ++ lines.Start ∷ after
   pub one_lan : IsOneLan before
-  pub settled : IsSettled after
+  pub settled : IsSettledScript after

@@ -2,6 +2,5 @@ pub mod Calm
 pub mod Claim
 pub mod Meeting
 pub mod Pair
-pub mod Rest
 pub mod Telling
 pub mod steps

@@ -6,9 +6,9 @@ use Rattle.tp4_flow.specs.declared.step.EndEvent.{EndEvent}
 use Rattle.tp4_flow.specs.declared.step.Sent.{Sent}
 use Rattle.tp4_number.specs.Number.{whole}
 use Rattle.tp4_conn.specs.declared.call.UserCall.{UserCall}
-use Rattle.tp4_conn.specs.declared.stage.Open.{Open}
-use Rattle.tp4_conn.specs.declared.stage.Requesting.{Requesting}
-use Rattle.tp4_conn.specs.declared.stage.Stage.TheVariants.{CrWait, Opened, UserWait}
+use Rattle.tp4_conn.specs.declared.states.InOpened.{InOpened}
+use Rattle.tp4_conn.specs.declared.states.InCrWait.{InCrWait}
+use Rattle.tp4_conn.specs.declared.states.StateData.TheVariants.{CrWait, Opened, UserWait}
 use Rattle.tp4_flow.specs.declared.rules.Options.{Options}
 use Rattle.tp4_conn.specs.Calls.{call_refusal}
 use Rattle.tp4_conn.specs.End.{End, IsProposal, IsSized, Moved, end_of, stays}
@@ -43,7 +43,7 @@ pub record IsIdle (p : Pair) : Type 0 where
 
 -- both ends are Opened, and nothing waits
 abbrev pub AreOpened : Pair → Type 0
-AreOpened p = (o q : Open) × (p.calling.stage ≡ Opened o) × (p.called.stage ≡ Opened q) × IsIdle p
+AreOpened p = (o q : InOpened) × (p.calling.stage ≡ Opened o) × (p.called.stage ≡ Opened q) × IsIdle p
 
 abbrev pub May : Pair → Happening → Type 0
 May p Comes_forth = Unit {0}
@@ -146,7 +146,7 @@ pub record IsNew (p : Pair) : Type 0 where
 -- its CR and its timers say
 pub record Accepts (p : Pair) (asked : Options) : Type 0 where
   pub idle : IsIdle p
-  pub request : Requesting
+  pub request : InCrWait
   pub calling : p.calling.stage ≡ CrWait request
   pub since : ℕ
   pub called : p.called.stage ≡ UserWait since

@@ -3,8 +3,8 @@ use Rattle.std.specs.Prelude.{◌≡◌, ℕ, true, List, Contains}
 use Rattle.tp4_flow.specs.declared.step.EndEvent.{EndEvent}
 use Rattle.tp4_flow.specs.declared.step.HeldKind.TheVariants.{Dt, Ed}
 use Rattle.tp4_sending.specs.FlowSender.{FlowSender, holds, is_noted}
-use Rattle.tp4_conn.specs.declared.stage.Stage.{Stage}
-use Rattle.tp4_conn.specs.declared.stage.Stage.TheVariants.{AkWait, Opened}
+use Rattle.tp4_conn.specs.declared.states.StateData.{StateData}
+use Rattle.tp4_conn.specs.declared.states.StateData.TheVariants.{AkWait, Opened}
 use Rattle.law_tp4_pair.specs.Pair.{Pair}
 
 -- each number that is noted as held was told
@@ -13,7 +13,7 @@ pub record HasTold (s : FlowSender) (told : List EndEvent) : Type 0 where
   pub urgent : (n : ℕ) → is_noted s.urgent.noted n ≡ true → Contains told (holds s Ed n)
 
 -- of an end that has a sending half
-abbrev pub Tells : Stage → List EndEvent → Type 0
+abbrev pub Tells : StateData → List EndEvent → Type 0
 Tells (AkWait w) told = HasTold w.halves.sending told
 Tells (Opened o) told = HasTold o.halves.sending told
 Tells stage told = Unit {0}

@@ -11,10 +11,10 @@ ghost use Rattle.tp4_number.specs.declared.piece.Piece.{Piece};
 ghost use Rattle.tp4_number.specs.Number.{whole};
 ghost use Rattle.tp4_sending.specs.FlowSender.{FlowSender, acknowledged, life_of, submitted, ticked, urged, urgent_done};
 ghost use Rattle.tp4_conn.specs.declared.call.UserCall.TheVariants.{Accept};
-ghost use Rattle.tp4_conn.specs.declared.stage.Open.{Open};
-ghost use Rattle.tp4_conn.specs.declared.stage.Requesting.{Requesting};
-ghost use Rattle.tp4_conn.specs.declared.stage.Stage.TheVariants.{CrWait, Opened};
-ghost use Rattle.tp4_conn.specs.declared.base.Base.{Base};
+ghost use Rattle.tp4_conn.specs.declared.states.InOpened.{InOpened};
+ghost use Rattle.tp4_conn.specs.declared.states.InCrWait.{InCrWait};
+ghost use Rattle.tp4_conn.specs.declared.states.StateData.TheVariants.{CrWait, Opened};
+ghost use Rattle.tp4_conn.specs.declared.end_record.EndRecord.{EndRecord};
 ghost use Rattle.tp4_conn.specs.declared.call.ConnectCall.{ConnectCall};
 ghost use Rattle.tp4_conn.specs.declared.timers.Timers.{Timers};
 ghost use Rattle.tp4_conn.specs.Agreeing.{agreed_by, confirm, is_confirmed, proposed_by, request};
@@ -30,10 +30,11 @@ ghost use Rattle.tp4_entity.specs.Entity.{Entity, moved};
 ghost use Rattle.tp4_entity.specs.References.{least_free};
 ghost use Rattle.law_tp4_pair.specs.steps.Flowing.{IsCalm, IsCalmOn};
 ghost use Rattle.osi_journal.specs.declared.event.Event.{Event as JournalEvent};
-ghost use Rattle.law_tp4_pair.specs.Claim.{AllShown, AreLater, ArePairs};
+ghost use Rattle.law_tp4_pair.specs.Claim.{AllShown};
 ghost use Rattle.law_tp4_pair.specs.Meeting.{IsMet};
 ghost use Rattle.law_tp4_pair.specs.Pair.{Accepts, AreOpened, Asks_called, Comes_back, Comes_forth, Happening, IsIdle, Leads, May, Pair, next};
-ghost use Rattle.law_tp4_pair.specs.Rest.{AreAtRest, IsAtRest};
+ghost use Rattle.law_tp4_pair.specs.steps.Pairs.{AreLater, ArePairs};
+ghost use Rattle.law_tp4_pair.specs.steps.Rest.{AreAtRest, IsAtRest};
 ghost use Rattle.law_tp4_pair.specs.steps.Standing.{HasLeft, Stands};
 ghost use Rattle.law_tp4_pair.specs.Telling.{AreTold, Tells};
 ghost use Rattle.law_tp4_pair.specs.steps.Waiting.{View, aks_in, eas_in};
@@ -63,13 +64,13 @@ pub fn stands()
     ensures left { (p : Pair) → HasLeft p.calling.stage ⊎ HasLeft p.called.stage → Stands p }
     ensures accepted { (p : Pair) (asked : Options) (octets : List ℕ) → Accepts p asked → Stands (next p (Asks_called (Accept asked octets))) }
     ensures step { (p : Pair) (happening : Happening) → Stands p → May p happening → Stands (next p happening) }
-    ensures rests { (p : Pair) (o q : Open) → Stands p → IsIdle p → p.calling.stage ≡ Opened o → p.called.stage ≡ Opened q → AreAtRest p o q }
+    ensures rests { (p : Pair) (o q : InOpened) → Stands p → IsIdle p → p.calling.stage ≡ Opened o → p.called.stage ≡ Opened q → AreAtRest p o q }
 {}
 
 /// Nothing is missing: after an accept, whatever happens in order, where nothing waits between the two ends and both are Opened each has shown all
 /// that the other submitted, but for want of credit or by the number rule; and each number that is held back was told.
 pub fn nothing_missing()
-    ensures rest { (p : Pair) (asked : Options) (octets : List ℕ) (happenings : List Happening) (last : Pair) (o q : Open) → Accepts p asked
+    ensures rest { (p : Pair) (asked : Options) (octets : List ℕ) (happenings : List Happening) (last : Pair) (o q : InOpened) → Accepts p asked
         → Leads (next p (Asks_called (Accept asked octets))) happenings last → IsIdle last → last.calling.stage ≡ Opened o → last.called.stage ≡ Opened q → AreAtRest last o q }
     ensures told { (p : Pair) (asked : Options) (octets : List ℕ) (happenings : List Happening) (last : Pair) → Accepts p asked
         → Leads (next p (Asks_called (Accept asked octets))) happenings last → AreTold last }
@@ -79,14 +80,14 @@ pub fn nothing_missing()
 /// waits for its user. An accept has its confirm: what is agreed is within what was proposed, and both ends are Opened by
 /// the CC and the first AK, after which nothing waits.
 pub fn opens()
-    ensures indicated { (made now own : ℕ) (from : List ℕ) (rules : Timers) (call : ConnectCall) → IsSized call.options → on_cr now own from rules (request (caller made call) call.octets).tpdu
-        ≡ Some (indicated (called_end now own from rules call.rules.credit call.own call.from_selector call.to_selector (proposed_by call.options)) call.octets) }
-    ensures incoming { (made now reference : ℕ) (e : Entity) (from : List ℕ) (call : ConnectCall) (sum : Bool) → IsSized call.options → list_any (is_called false from call.own) e.ends ≡ false
-        → list_any (is_called true from call.own) e.ends ≡ false → is_registered e.selectors call.to_selector ≡ true → least_free now e ≡ Some reference
-        → met whole now e from ((request (caller made call) call.octets).tpdu, sum)
-        ≡ moved e reference (indicated (called_end now reference from e.timers call.rules.credit call.own call.from_selector call.to_selector (proposed_by call.options)) call.octets) }
+    ensures indicated { (made now own : ℕ) (from : List ℕ) (rules : Timers) (call : ConnectCall) → IsSized call.request.options → on_cr now own from rules (request (caller made call) call.request.octets).tpdu
+        ≡ Some (indicated (called_end now own from rules call.rules.credit call.own call.request.from_selector call.request.to_selector (proposed_by call.request.options)) call.request.octets) }
+    ensures incoming { (made now reference : ℕ) (e : Entity) (from : List ℕ) (call : ConnectCall) (sum : Bool) → IsSized call.request.options → list_any (is_called false from call.own) e.ends ≡ false
+        → list_any (is_called true from call.own) e.ends ≡ false → is_registered e.selectors call.request.to_selector ≡ true → least_free now e ≡ Some reference
+        → met whole now e from ((request (caller made call) call.request.octets).tpdu, sum)
+        ≡ moved e reference (indicated (called_end now reference from e.timers call.rules.credit call.own call.request.from_selector call.request.to_selector (proposed_by call.request.options)) call.request.octets) }
     ensures within { (proposed : Proposed) (asked : Options) → IsProposal proposed → IsSized asked → is_confirmed proposed (agreed_by proposed asked) ≡ true }
-    ensures confirm { (b c : Base) (r : Requesting) (options : Options) (octets : List ℕ) (now : ℕ) → c.agreed ≡ Some options → IsSized options → is_confirmed b.proposed options ≡ true
+    ensures confirm { (b c : EndRecord) (r : InCrWait) (options : Options) (octets : List ℕ) (now : ℕ) → c.agreed ≡ Some options → IsSized options → is_confirmed b.proposed options ≡ true
         → takes whole now b (CrWait r) (confirm c options octets).tpdu (confirm c options octets).sum
         ≡ confirmed (record b { partner = c.own; credit = c.timers.credit; agreed = Some options; clock = now }) options octets }
     ensures both { (p : Pair) (asked : Options) (octets : List ℕ) → Accepts p asked → AreOpened (next (next (next p (Asks_called (Accept asked octets))) Comes_back) Comes_forth) }

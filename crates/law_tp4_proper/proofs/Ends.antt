@@ -19,7 +19,7 @@ use Rattle.tp4_conn.specs.Matching.{is_match}
 use Rattle.tp4_conn.specs.Proper.{AreSendable, IsProperCall}
 use Rattle.tp4_conn.specs.Table.{Called, Took, Ticked, due, stepped}
 use Rattle.tp4_conn.specs.declared.call.CallRefusal.{CallRefusal}
-use Rattle.tp4_conn.specs.declared.call.ConnectCall.{ConnectCall}
+use Rattle.tp4_conn.specs.declared.call.ConnectRequest.{ConnectRequest}
 use Rattle.tp4_conn.specs.declared.call.UserCall.{UserCall}
 use Rattle.tp4_conn.specs.declared.timers.Timers.{Timers}
 use Rattle.tp4_conn.proofs.Timely.{if_kept}
@@ -152,9 +152,9 @@ new_rests now references e is timed some = at_rest now e timed some none
     none (suc k) end h =
         absurd (none-some _ (sym (ap (λ (l : List Place). there (slice_get l k)) is ∙ empty references k) ∙ sym (end_at_of e (suc k) k (omega arith)) ∙ h))
 
-pub connecting_rests : (now reference : ℕ) (e : Entity) (call : ConnectCall) → IsAtRest now e → least_free now e ≡ Some reference → IsProperCall (call_of e reference call)
-    → IsProperStep now (connecting now e reference call)
-connecting_rests now reference e call r free proper = moved_rest now (at now e) reference (connected now (call_of e reference call)) (clocked now now e r) (connected_rests now (call_of e reference call) proper)
+pub connecting_rests : (now reference : ℕ) (e : Entity) (request : ConnectRequest) → IsAtRest now e → least_free now e ≡ Some reference → IsProperCall (call_of e reference request)
+    → IsProperStep now (connecting now e reference request)
+connecting_rests now reference e request r free proper = moved_rest now (at now e) reference (connected now (call_of e reference request)) (clocked now now e r) (connected_rests now (call_of e reference request) proper)
 
 not_refused : (why : Option CallRefusal) → refused_by why ≡ None → why ≡ None
 not_refused None h = refl

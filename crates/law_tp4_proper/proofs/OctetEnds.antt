@@ -11,7 +11,7 @@ use Rattle.tp4_conn.specs.End.{End, IsTimed, Moved, end_of}
 use Rattle.tp4_conn.specs.Making.{connected, on_cr}
 use Rattle.tp4_conn.specs.Matching.{is_match}
 use Rattle.tp4_conn.specs.Table.{Called, Took, Ticked, due, stepped}
-use Rattle.tp4_conn.specs.declared.call.ConnectCall.{ConnectCall}
+use Rattle.tp4_conn.specs.declared.call.ConnectRequest.{ConnectRequest}
 use Rattle.tp4_conn.specs.declared.call.UserCall.{UserCall}
 use Rattle.tp4_conn.proofs.Timely.{if_kept}
 use Rattle.tp4_entity.specs.Association.{answers, calls, is_called, is_registered, met, met_by, new_end, refusal, requested, stateless, unmatched}
@@ -48,9 +48,9 @@ module _ (is_address : List ℕ → Bool) where
   timed_at : (e : Entity) (reference : ℕ) (end : End) → AreProper e → end_at e reference ≡ Some end → IsTimed end.base.timers
   timed_at e reference end p h = (p.ends reference end h).proper.timers
 
-  pub connecting_in : (now reference : ℕ) (e : Entity) (call : ConnectCall) → EntityInOctets is_address e → ConnectInOctets is_address (call_of e reference call)
-      → StepInOctets is_address (connecting now e reference call)
-  connecting_in now reference e call i c = moved_in (at now e) reference (connected now (call_of e reference call)) (clocked_in now e i) (connected_in is_address now (call_of e reference call) c)
+  pub connecting_in : (now reference : ℕ) (e : Entity) (request : ConnectRequest) → EntityInOctets is_address e → ConnectInOctets is_address (call_of e reference request)
+      → StepInOctets is_address (connecting now e reference request)
+  connecting_in now reference e request i c = moved_in (at now e) reference (connected now (call_of e reference request)) (clocked_in now e i) (connected_in is_address now (call_of e reference request) c)
 
   called_end : (wrap : ℕ → ℕ → ℕ) (now reference : ℕ) (e : Entity) (call : UserCall) (place : Place) → end_at e reference ≡ place → EntityInOctets is_address e → AreProper e → CallInOctets is_address call
       → StepInOctets is_address (calling_end wrap now e reference call place)

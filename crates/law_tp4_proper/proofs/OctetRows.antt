@@ -14,18 +14,18 @@ use Rattle.tp4_flow.specs.declared.rules.Options.{Options}
 use Rattle.tp4_flow.specs.declared.step.EndEvent.{EndEvent}
 use Rattle.tp4_flow.specs.declared.step.Sent.{Sent}
 use Rattle.tp4_sending.specs.FlowSender.{Sendings, at, life_of, opened}
-use Rattle.tp4_conn.specs.declared.base.Base.{Base}
+use Rattle.tp4_conn.specs.declared.end_record.EndRecord.{EndRecord}
 use Rattle.tp4_conn.specs.declared.call.ConnectCall.{ConnectCall}
 use Rattle.tp4_conn.specs.declared.call.UserCall.{UserCall}
 use Rattle.tp4_conn.specs.declared.call.UserCall.TheVariants.{Accept, Refuse, Normal, Urgent, Window, Disconnect}
 use Rattle.tp4_conn.specs.declared.halves.Halves.{Halves}
-use Rattle.tp4_conn.specs.declared.stage.Answering.{Answering}
-use Rattle.tp4_conn.specs.declared.stage.Open.{Open}
-use Rattle.tp4_conn.specs.declared.stage.Parting.{Parting}
-use Rattle.tp4_conn.specs.declared.stage.Releasing.{Releasing}
-use Rattle.tp4_conn.specs.declared.stage.Requesting.{Requesting}
-use Rattle.tp4_conn.specs.declared.stage.Stage.{Stage}
-use Rattle.tp4_conn.specs.declared.stage.Stage.TheVariants.{CrWait, WaitBeforeClose, UserWait, AkWait, Opened, Closing, Frozen}
+use Rattle.tp4_conn.specs.declared.states.InAkWait.{InAkWait}
+use Rattle.tp4_conn.specs.declared.states.InOpened.{InOpened}
+use Rattle.tp4_conn.specs.declared.states.InWaitBeforeClose.{InWaitBeforeClose}
+use Rattle.tp4_conn.specs.declared.states.InClosing.{InClosing}
+use Rattle.tp4_conn.specs.declared.states.InCrWait.{InCrWait}
+use Rattle.tp4_conn.specs.declared.states.StateData.{StateData}
+use Rattle.tp4_conn.specs.declared.states.StateData.TheVariants.{CrWait, WaitBeforeClose, UserWait, AkWait, Opened, Closing, Frozen}
 use Rattle.tp4_conn.specs.declared.timers.Timers.{Timers}
 use Rattle.tp4_conn.specs.Agreeing.{agreed_by, confirm, confirms_again, extra_of, halves_of, is_within, options_in, proposed_in, request}
 use Rattle.tp4_conn.specs.AkWait.{ak_wait_tick, ak_wait_tpdu, opening}
@@ -57,7 +57,7 @@ module _ (is_address : List ℕ → Bool) where
     pub end : EndInOctets is_address (end_of m)
     pub tpdus : AreAddressed is_address m.tpdus
 
-  row : (b : Base) (stage : Stage) (events : List EndEvent) (tpdus : List Sent) → BaseInOctets is_address b → StageInOctets is_address stage → AreAddressed is_address tpdus
+  row : (b : EndRecord) (stage : StateData) (events : List EndEvent) (tpdus : List Sent) → BaseInOctets is_address b → StageInOctets is_address stage → AreAddressed is_address tpdus
       → RowInOctets (record { base = b; stage = stage; events = events; tpdus = tpdus })
   row b stage events tpdus i s fits = record { end = record { base = i; stage = s }; tpdus = fits }
 
@@ -66,39 +66,39 @@ module _ (is_address : List ℕ → Bool) where
 
   -- ---- the TPDUs of an end
 
-  request_in : (b : Base) (octets : List ℕ) → BaseInOctets is_address b → AreOctets octets → AreAddressed is_address (request b octets ∷ [])
+  request_in : (b : EndRecord) (octets : List ℕ) → BaseInOctets is_address b → AreOctets octets → AreAddressed is_address (request b octets ∷ [])
   request_in b octets i h = ((i.to, (i.own, i.calling, i.called, extra_low b.proposed.options, h)), tt)
 
-  confirm_in : (b : Base) (o : Options) (octets : List ℕ) → BaseInOctets is_address b → AreOctets octets → AreAddressed is_address (confirm b o octets ∷ [])
+  confirm_in : (b : EndRecord) (o : Options) (octets : List ℕ) → BaseInOctets is_address b → AreOctets octets → AreAddressed is_address (confirm b o octets ∷ [])
   confirm_in b o octets i h = ((i.to, (i.partner, i.own, i.calling, i.called, extra_low o, h)), tt)
 
-  confirms_in : (b : Base) (agreed : Option Options) (octets : List ℕ) → BaseInOctets is_address b → AreOctets octets → AreAddressed is_address (confirms_again b agreed octets)
+  confirms_in : (b : EndRecord) (agreed : Option Options) (octets : List ℕ) → BaseInOctets is_address b → AreOctets octets → AreAddressed is_address (confirms_again b agreed octets)
   confirms_in b None octets i h = tt
   confirms_in b (Some o) octets i h = confirm_in b o octets i h
 
-  release_in : (b : Base) (reason : ℕ) (octets : List ℕ) → BaseInOctets is_address b → reason < 256 → AreOctets octets → AreAddressed is_address (release b reason octets ∷ [])
+  release_in : (b : EndRecord) (reason : ℕ) (octets : List ℕ) → BaseInOctets is_address b → reason < 256 → AreOctets octets → AreAddressed is_address (release b reason octets ∷ [])
   release_in b reason octets i low h = ((i.to, (i.partner, i.own, low, h)), tt)
 
-  refusing_in : (b : Base) (octets : List ℕ) → BaseInOctets is_address b → AreOctets octets → AreAddressed is_address (refusing b octets ∷ [])
+  refusing_in : (b : EndRecord) (octets : List ℕ) → BaseInOctets is_address b → AreOctets octets → AreAddressed is_address (refusing b octets ∷ [])
   refusing_in b octets i h = ((i.to, (i.partner, omega arith, omega arith, h)), tt)
 
-  dc_in : (b : Base) (source : ℕ) → BaseInOctets is_address b → IsPair source → AreAddressed is_address (confirms b source)
+  dc_in : (b : EndRecord) (source : ℕ) → BaseInOctets is_address b → IsPair source → AreAddressed is_address (confirms b source)
   dc_in b source i low = if_kept (AreAddressed is_address) (source == 0) _ _ (λ _. tt) (λ _. ((i.to, (low, i.own)), tt))
 
-  closing_row : (b : Base) (events : List EndEvent) (reason : ℕ) (octets : List ℕ) (from : ℕ) → BaseInOctets is_address b → reason < 256 → AreOctets octets
+  closing_row : (b : EndRecord) (events : List EndEvent) (reason : ℕ) (octets : List ℕ) (from : ℕ) → BaseInOctets is_address b → reason < 256 → AreOctets octets
       → RowInOctets (closing b events reason octets from)
   closing_row b events reason octets from i low h = row b _ events _ i (low, h) (release_in b reason octets i low h)
 
-  frozen_row : (b : Base) (events : List EndEvent) (tpdus : List Sent) → BaseInOctets is_address b → AreAddressed is_address tpdus → RowInOctets (frozen b events tpdus)
+  frozen_row : (b : EndRecord) (events : List EndEvent) (tpdus : List Sent) → BaseInOctets is_address b → AreAddressed is_address tpdus → RowInOctets (frozen b events tpdus)
   frozen_row b events tpdus i fits = row b _ events tpdus i tt fits
 
-  at_in : (now : ℕ) (b : Base) → BaseInOctets is_address b → BaseInOctets is_address (base_at now b)
+  at_in : (now : ℕ) (b : EndRecord) → BaseInOctets is_address b → BaseInOctets is_address (base_at now b)
   at_in now b i = record { own = i.own; partner = i.partner; to = i.to; calling = i.calling; called = i.called }
 
-  partner_in : (b : Base) (partner : ℕ) → BaseInOctets is_address b → IsPair partner → BaseInOctets is_address (record b { partner = partner })
+  partner_in : (b : EndRecord) (partner : ℕ) → BaseInOctets is_address b → IsPair partner → BaseInOctets is_address (record b { partner = partner })
   partner_in b partner i low = record { own = i.own; partner = low; to = i.to; calling = i.calling; called = i.called }
 
-  fresh_in : (b : Base) (o : Options) → BaseInOctets is_address b → IsTimed b.timers → HalvesInOctets is_address (halves_of b o)
+  fresh_in : (b : EndRecord) (o : Options) → BaseInOctets is_address b → IsTimed b.timers → HalvesInOctets is_address (halves_of b o)
   fresh_in b o i timed = record {
     sending = record { rules = record { to = i.to; partner = i.partner }; units = tt; urgent = tt };
     receiving = record { rules = record { to = i.to; partner = i.partner }; credit = omega (arith, timed.credit); subsequence = omega arith };
@@ -112,28 +112,28 @@ module _ (is_address : List ℕ → Bool) where
 
   -- ---- Opened
 
-  sending_row : (b : Base) (o : Open) (x : Sendings) → BaseInOctets is_address b → HalvesInOctets is_address o.halves → SendsInOctets is_address x → RowInOctets (sending b o x)
+  sending_row : (b : EndRecord) (o : InOpened) (x : Sendings) → BaseInOctets is_address b → HalvesInOctets is_address o.halves → SendsInOctets is_address x → RowInOctets (sending b o x)
   sending_row b o x i h s = row b _ _ _ i (sent_in o.halves x h s) s.tpdus
 
-  dt_row : (got : Got) (b : Base) (o : Open) (r : Received) → BaseInOctets is_address b → HalvesInOctets is_address (record o.halves { receiving = r.half })
+  dt_row : (got : Got) (b : EndRecord) (o : InOpened) (r : Received) → BaseInOctets is_address b → HalvesInOctets is_address (record o.halves { receiving = r.half })
       → AreAddressed is_address r.tpdus → RowInOctets (dt_as got b o r)
   dt_row TooLarge b o r i h fits = led r.events r.tpdus _ fits (closing_row b _ 133 [] b.clock i (omega arith) tt)
   dt_row Kept b o r i h fits = row b _ _ _ i h fits
   dt_row Old b o r i h fits = row b _ _ _ i h fits
   dt_row Outside b o r i h fits = row b _ _ _ i h fits
 
-  on_dt_row : (wrap : ℕ → ℕ → ℕ) (b : Base) (o : Open) (w : ℕ) (piece : Piece) → BaseInOctets is_address b → HalvesInOctets is_address o.halves → RowInOctets (on_dt wrap b o w piece)
+  on_dt_row : (wrap : ℕ → ℕ → ℕ) (b : EndRecord) (o : InOpened) (w : ℕ) (piece : Piece) → BaseInOctets is_address b → HalvesInOctets is_address o.halves → RowInOctets (on_dt wrap b o w piece)
   on_dt_row wrap b o w piece i h =
       let half = o.halves.receiving in
       dt_row (dt_arrival half w piece).got b o (taken_dt wrap half w piece) i (got_in o.halves _ h (after_in is_address wrap half w piece h.receiving))
       (dt_in is_address wrap half w piece h.receiving)
 
-  on_ed_row : (wrap : ℕ → ℕ → ℕ) (b : Base) (o : Open) (w : ℕ) (octets : List ℕ) → BaseInOctets is_address b → HalvesInOctets is_address o.halves
+  on_ed_row : (wrap : ℕ → ℕ → ℕ) (b : EndRecord) (o : InOpened) (w : ℕ) (octets : List ℕ) → BaseInOctets is_address b → HalvesInOctets is_address o.halves
       → RowInOctets (receiving b o (taken_ed wrap o.halves.receiving w octets))
   on_ed_row wrap b o w octets i h =
       row b _ _ _ i (got_in o.halves _ h (ed_half_in is_address wrap o.halves.receiving w octets h.receiving)) (ed_in is_address wrap o.halves.receiving w octets h.receiving)
 
-  opened_tpdu_row : (wrap : ℕ → ℕ → ℕ) (b : Base) (o : Open) (tpdu : Tpdu) → BaseInOctets is_address b → HalvesInOctets is_address o.halves → HasOctets tpdu
+  opened_tpdu_row : (wrap : ℕ → ℕ → ℕ) (b : EndRecord) (o : InOpened) (tpdu : Tpdu) → BaseInOctets is_address b → HalvesInOctets is_address o.halves → HasOctets tpdu
       → RowInOctets (opened_tpdu wrap b o tpdu)
   unfolding opened_tpdu
   opened_tpdu_row wrap b o (Cr credit source width calling called size preferred extra version classes ack_time text) i h t = row b _ _ _ i h tt
@@ -150,17 +150,17 @@ module _ (is_address : List ℕ → Bool) where
   opened_tpdu_row wrap b o (Ea destination number) i h t =
       sending_row b o _ i h (done_in is_address (at b.clock o.halves.sending) number (clock_in is_address b.clock o.halves.sending h.sending))
 
-  goes_row : (b : Base) (o : Open) (x : Sendings) → BaseInOctets is_address b → HalvesInOctets is_address o.halves → SendsInOctets is_address x → RowInOctets (opened_goes b o x)
+  goes_row : (b : EndRecord) (o : InOpened) (x : Sendings) → BaseInOctets is_address b → HalvesInOctets is_address o.halves → SendsInOctets is_address x → RowInOctets (opened_goes b o x)
   goes_row b o x i h s =
       if_kept RowInOctets (nat_le (o.acked + b.timers.window) b.clock) _ _
       (λ _. led x.events x.tpdus _ s.tpdus (row b _ _ _ i (sent_in o.halves x h s) (ak_in is_address o.halves.receiving h.receiving)))
       (λ _. sending_row b o x i h s)
 
-  life_row : (life : Ends) (b : Base) (o : Open) → BaseInOctets is_address b → HalvesInOctets is_address o.halves → RowInOctets (opened_as life b o)
+  life_row : (life : Ends) (b : EndRecord) (o : InOpened) → BaseInOctets is_address b → HalvesInOctets is_address o.halves → RowInOctets (opened_as life b o)
   life_row Exhausted b o i h = closing_row b _ 128 [] b.clock i (omega arith) tt
   life_row Goes b o i h = goes_row b o _ i h (ticked_in is_address (at b.clock o.halves.sending) (clock_in is_address b.clock o.halves.sending h.sending))
 
-  opened_tick_row : (b : Base) (o : Open) → BaseInOctets is_address b → HalvesInOctets is_address o.halves → RowInOctets (opened_tick b o)
+  opened_tick_row : (b : EndRecord) (o : InOpened) → BaseInOctets is_address b → HalvesInOctets is_address o.halves → RowInOctets (opened_tick b o)
   unfolding opened_tick
   opened_tick_row b o i h =
       if_kept RowInOctets (nat_le (o.took + b.timers.inactive) b.clock) _ _
@@ -169,14 +169,14 @@ module _ (is_address : List ℕ → Bool) where
 
   -- ---- a TPDU
 
-  confirmed_row : (b : Base) (o : Options) (octets : List ℕ) → BaseInOctets is_address b → IsTimed b.timers → RowInOctets (confirmed b o octets)
+  confirmed_row : (b : EndRecord) (o : Options) (octets : List ℕ) → BaseInOctets is_address b → IsTimed b.timers → RowInOctets (confirmed b o octets)
   confirmed_row b o octets i timed =
       let h = halves_of b o in
       let fresh = fresh_in b o i timed in
       let s = opened_in is_address (at b.clock h.sending) (clock_in is_address b.clock h.sending fresh.sending) in
       row b _ _ _ i (sent_in h (opened (at b.clock h.sending)) fresh s) (appended is_address (opened (at b.clock h.sending)).tpdus (ak h.receiving ∷ []) s.tpdus (ak_in is_address h.receiving fresh.receiving))
 
-  cr_wait_row : (b : Base) (w : Requesting) (tpdu : Tpdu) → BaseInOctets is_address b → IsTimed b.timers → AreOctets w.octets → HasOctets tpdu → RowInOctets (cr_wait_tpdu b w tpdu)
+  cr_wait_row : (b : EndRecord) (w : InCrWait) (tpdu : Tpdu) → BaseInOctets is_address b → IsTimed b.timers → AreOctets w.octets → HasOctets tpdu → RowInOctets (cr_wait_tpdu b w tpdu)
   unfolding cr_wait_tpdu
   cr_wait_row b w (Cc credit destination source width calling called size preferred extra version classes ack_time text) i timed h t =
       if_kept RowInOctets (is_within b.proposed width size preferred extra) _ _
@@ -186,21 +186,21 @@ module _ (is_address : List ℕ → Bool) where
   cr_wait_row b w (Dr destination source reason info text) i timed h t = frozen_row b _ _ i (dc_in b source i t.1)
   cr_wait_row b w other i timed h t = row b _ _ _ i h tt
 
-  wait_row : (b : Base) (w : Parting) (tpdu : Tpdu) → BaseInOctets is_address b → AreOctets w.request.octets × AreOctets w.octets → HasOctets tpdu → RowInOctets (wait_before_close_tpdu b w tpdu)
+  wait_row : (b : EndRecord) (w : InWaitBeforeClose) (tpdu : Tpdu) → BaseInOctets is_address b → AreOctets w.request.octets × AreOctets w.octets → HasOctets tpdu → RowInOctets (wait_before_close_tpdu b w tpdu)
   unfolding wait_before_close_tpdu
   wait_row b w (Cc credit destination source width calling called size preferred extra version classes ack_time text) i h t =
       closing_row (record b { partner = source }) [] 128 w.octets b.clock (partner_in b source i t.1) (omega arith) h.1
   wait_row b w (Dr destination source reason info text) i h t = frozen_row b _ _ i (dc_in b source i t.1)
   wait_row b w other i h t = row b _ _ _ i h tt
 
-  opening_row : (wrap : ℕ → ℕ → ℕ) (b : Base) (h : Halves) (tpdu : Tpdu) → BaseInOctets is_address b → HalvesInOctets is_address h → HasOctets tpdu → RowInOctets (opening wrap b h tpdu)
+  opening_row : (wrap : ℕ → ℕ → ℕ) (b : EndRecord) (h : Halves) (tpdu : Tpdu) → BaseInOctets is_address b → HalvesInOctets is_address h → HasOctets tpdu → RowInOctets (opening wrap b h tpdu)
   opening_row wrap b h tpdu i k t =
       let x = opened (at b.clock h.sending) in
       let s = opened_in is_address (at b.clock h.sending) (clock_in is_address b.clock h.sending k.sending) in
       led x.events x.tpdus _ s.tpdus
       (opened_tpdu_row wrap b (record { took = b.clock; acked = b.clock; halves = record h { sending = x.sender } }) tpdu i (sent_in h x k s) t)
 
-  ak_wait_row : (wrap : ℕ → ℕ → ℕ) (b : Base) (w : Answering) (tpdu : Tpdu) → BaseInOctets is_address b → AreOctets w.octets × HalvesInOctets is_address w.halves → HasOctets tpdu
+  ak_wait_row : (wrap : ℕ → ℕ → ℕ) (b : EndRecord) (w : InAkWait) (tpdu : Tpdu) → BaseInOctets is_address b → AreOctets w.octets × HalvesInOctets is_address w.halves → HasOctets tpdu
       → RowInOctets (ak_wait_tpdu wrap b w tpdu)
   unfolding ak_wait_tpdu
   ak_wait_row wrap b w (Ak destination number credit subsequence confirmation) i h t = opening_row wrap b w.halves (Ak destination number credit subsequence confirmation) i h.1 t
@@ -211,13 +211,13 @@ module _ (is_address : List ℕ → Bool) where
   ak_wait_row wrap b w (Er destination cause rejected) i h t = closing_row b _ 133 [] w.first i (omega arith) tt
   ak_wait_row wrap b w other i h t = row b _ _ _ i h tt
 
-  closing_tpdu_row : (b : Base) (c : Releasing) (tpdu : Tpdu) → BaseInOctets is_address b → (c.reason < 256) × AreOctets c.octets → RowInOctets (closing_tpdu b c tpdu)
+  closing_tpdu_row : (b : EndRecord) (c : InClosing) (tpdu : Tpdu) → BaseInOctets is_address b → (c.reason < 256) × AreOctets c.octets → RowInOctets (closing_tpdu b c tpdu)
   unfolding closing_tpdu
   closing_tpdu_row b c (Dc destination source) i h = frozen_row b _ _ i tt
   closing_tpdu_row b c (Dr destination source cause info text) i h = frozen_row b _ _ i tt
   closing_tpdu_row b c other i h = row b _ _ _ i h tt
 
-  tpdu_row : (wrap : ℕ → ℕ → ℕ) (b : Base) (stage : Stage) (tpdu : Tpdu) → BaseInOctets is_address b → IsTimed b.timers → StageInOctets is_address stage → HasOctets tpdu
+  tpdu_row : (wrap : ℕ → ℕ → ℕ) (b : EndRecord) (stage : StateData) (tpdu : Tpdu) → BaseInOctets is_address b → IsTimed b.timers → StageInOctets is_address stage → HasOctets tpdu
       → RowInOctets (on_tpdu wrap b stage tpdu)
   tpdu_row wrap b (CrWait w) tpdu i timed h t = cr_wait_row b w tpdu i timed h t
   tpdu_row wrap b (WaitBeforeClose w) tpdu i timed h t = wait_row b w tpdu i h t
@@ -229,7 +229,7 @@ module _ (is_address : List ℕ → Bool) where
 
   -- ---- a tick
 
-  tick_row : (b : Base) (stage : Stage) → BaseInOctets is_address b → StageInOctets is_address stage → RowInOctets (on_tick b stage)
+  tick_row : (b : EndRecord) (stage : StateData) → BaseInOctets is_address b → StageInOctets is_address stage → RowInOctets (on_tick b stage)
   unfolding cr_wait_tick wait_before_close_tick user_wait_tick ak_wait_tick closing_tick
   tick_row b (CrWait w) i h =
       if_kept RowInOctets (nat_lt b.clock (w.tries.last + b.timers.t1)) _ _
@@ -254,7 +254,7 @@ module _ (is_address : List ℕ → Bool) where
 
   -- ---- a call
 
-  accepted_row : (b : Base) (asked : Options) (octets : List ℕ) → BaseInOctets is_address b → IsTimed b.timers → AreOctets octets → RowInOctets (user_wait_accept b asked octets)
+  accepted_row : (b : EndRecord) (asked : Options) (octets : List ℕ) → BaseInOctets is_address b → IsTimed b.timers → AreOctets octets → RowInOctets (user_wait_accept b asked octets)
   unfolding user_wait_accept
   accepted_row b asked octets i timed h =
       let o = agreed_by b.proposed asked in
@@ -262,11 +262,11 @@ module _ (is_address : List ℕ → Bool) where
       let in_octets : BaseInOctets is_address c = record { own = i.own; partner = i.partner; to = i.to; calling = i.calling; called = i.called } in
       row c _ _ _ in_octets (h, fresh_in c o in_octets timed) (confirm_in c o octets in_octets h)
 
-  refused_row : (b : Base) (octets : List ℕ) → BaseInOctets is_address b → AreOctets octets → RowInOctets (user_wait_refuse b octets)
+  refused_row : (b : EndRecord) (octets : List ℕ) → BaseInOctets is_address b → AreOctets octets → RowInOctets (user_wait_refuse b octets)
   unfolding user_wait_refuse
   refused_row b octets i h = frozen_row b _ _ i (refusing_in b octets i h)
 
-  granting_row : (b : Base) (o : Open) (credit : ℕ) → BaseInOctets is_address b → HalvesInOctets is_address o.halves → RowInOctets (granting b o (half_granted o.halves.receiving credit))
+  granting_row : (b : EndRecord) (o : InOpened) (credit : ℕ) → BaseInOctets is_address b → HalvesInOctets is_address o.halves → RowInOctets (granting b o (half_granted o.halves.receiving credit))
   granting_row b o credit i h =
       let new = half_granted o.halves.receiving credit in
       let g = granted_in is_address o.halves.receiving credit h.receiving in
@@ -274,11 +274,11 @@ module _ (is_address : List ℕ → Bool) where
       (λ _. row b _ _ _ i (got_in o.halves new h g) tt)
       (λ _. row b _ _ _ i (got_in o.halves new h g) (ak_in is_address new g))
 
-  waiting_row : (b : Base) (w : Answering) (x : Sendings) → BaseInOctets is_address b → AreOctets w.octets × HalvesInOctets is_address w.halves → SendsInOctets is_address x
+  waiting_row : (b : EndRecord) (w : InAkWait) (x : Sendings) → BaseInOctets is_address b → AreOctets w.octets × HalvesInOctets is_address w.halves → SendsInOctets is_address x
       → RowInOctets (record { base = b; stage = AkWait (record w { halves = record w.halves { sending = x.sender } }); events = x.events; tpdus = x.tpdus })
   waiting_row b w x i h s = row b _ _ _ i (h.0, sent_in w.halves x h.1 s) s.tpdus
 
-  call_row : (b : Base) (stage : Stage) (call : UserCall) → BaseInOctets is_address b → IsTimed b.timers → StageInOctets is_address stage → CallInOctets is_address call
+  call_row : (b : EndRecord) (stage : StateData) (call : UserCall) → BaseInOctets is_address b → IsTimed b.timers → StageInOctets is_address stage → CallInOctets is_address call
       → RowInOctets (on_call b stage call)
   call_row b (CrWait w) (Disconnect octets) i timed h c = row b _ _ _ i (h, c) tt
   call_row b (CrWait w) other i timed h c = row b _ _ _ i h tt
@@ -323,7 +323,7 @@ module _ (is_address : List ℕ → Bool) where
   pub connected_in : (now : ℕ) (call : ConnectCall) → ConnectInOctets is_address call → RowInOctets (connected now call)
   connected_in now call c =
       let i : BaseInOctets is_address (caller now call) = record { own = c.own; partner = omega arith; to = c.to; calling = c.from_selector; called = c.to_selector } in
-      row (caller now call) _ _ _ i c.octets (request_in (caller now call) call.octets i c.octets)
+      row (caller now call) _ _ _ i c.octets (request_in (caller now call) call.request.octets i c.octets)
 
   pub indicated_in : (now own : ℕ) (from : List ℕ) (rules : Timers) (tpdu : Tpdu) (m : Moved) → IsPair own → is_address from ≡ true → HasOctets tpdu
       → on_cr now own from rules tpdu ≡ Some m → RowInOctets m

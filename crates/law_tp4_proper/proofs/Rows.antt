@@ -7,11 +7,11 @@ use Rattle.tpdu.specs.declared.tpdu.Format.TheVariants.{Normal as Plain}
 use Rattle.tpdu.specs.declared.tpdu.Tpdu.{Tpdu}
 use Rattle.tpdu.specs.declared.tpdu.Tpdu.TheVariants.{Cr}
 use Rattle.tp4_flow.specs.declared.rules.Options.{Options}
-use Rattle.tp4_conn.specs.declared.base.Base.{Base}
+use Rattle.tp4_conn.specs.declared.end_record.EndRecord.{EndRecord}
 use Rattle.tp4_conn.specs.declared.call.ConnectCall.{ConnectCall}
 use Rattle.tp4_conn.specs.declared.call.UserCall.{UserCall}
-use Rattle.tp4_conn.specs.declared.stage.Stage.{Stage}
-use Rattle.tp4_conn.specs.declared.stage.Stage.TheVariants.{CrWait, WaitBeforeClose, UserWait, AkWait, Opened, Closing, Frozen}
+use Rattle.tp4_conn.specs.declared.states.StateData.{StateData}
+use Rattle.tp4_conn.specs.declared.states.StateData.TheVariants.{CrWait, WaitBeforeClose, UserWait, AkWait, Opened, Closing, Frozen}
 use Rattle.tp4_conn.specs.declared.timers.Timers.{Timers}
 use Rattle.tp4_conn.specs.Dues.{IsBefore, IsDue, IsRunning}
 use Rattle.tp4_conn.specs.End.{End, IsTimed, Moved, end_of}
@@ -28,7 +28,7 @@ use Rattle.tp4_conn.proofs.Timely.{if_kept}
 use Rattle.law_tp4_proper.specs.Rest.{IsProperEnd}
 
 -- a proper end is due when it is said to be
-proper_runs : (agreed : Option Options) (stage : Stage) → IsProperStage agreed stage → IsRunning stage
+proper_runs : (agreed : Option Options) (stage : StateData) → IsProperStage agreed stage → IsRunning stage
 proper_runs agreed (CrWait w) proper = tt
 proper_runs agreed (WaitBeforeClose w) proper = tt
 proper_runs agreed (UserWait since) proper = tt
@@ -37,7 +37,7 @@ proper_runs agreed (Opened o) proper = (proper.is_open, proper.halves.t1)
 proper_runs agreed (Closing c) proper = tt
 proper_runs agreed (Frozen when) proper = tt
 
-pub proper_due : (b : Base) (stage : Stage) → IsProper b stage → IsDue b stage
+pub proper_due : (b : EndRecord) (stage : StateData) → IsProper b stage → IsDue b stage
 proper_due b stage p = running_due b stage p.timers (proper_runs b.agreed stage p.state)
 
 -- it is proper, and not due
@@ -57,7 +57,7 @@ pub next_in_time : (next : Option ℕ) (now : ℕ) → IsBefore next now → IsI
 next_in_time None now low = tt
 next_in_time (Some tick) now low = omega (arith, low)
 
-may_send : (agreed : Option Options) (stage : Stage) → IsProperStage agreed stage → MaySend stage
+may_send : (agreed : Option Options) (stage : StateData) → IsProperStage agreed stage → MaySend stage
 may_send agreed (CrWait w) proper = tt
 may_send agreed (WaitBeforeClose w) proper = tt
 may_send agreed (UserWait since) proper = tt

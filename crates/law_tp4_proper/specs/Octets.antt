@@ -9,13 +9,13 @@ use Rattle.tp4_flow.specs.Half.{Half}
 use Rattle.tp4_flow.specs.declared.rules.FlowRules.{FlowRules}
 use Rattle.tp4_flow.specs.declared.step.Sent.{Sent}
 use Rattle.tp4_sending.specs.FlowSender.{FlowSender}
-use Rattle.tp4_conn.specs.declared.base.Base.{Base}
+use Rattle.tp4_conn.specs.declared.end_record.EndRecord.{EndRecord}
 use Rattle.tp4_conn.specs.declared.call.ConnectCall.{ConnectCall}
 use Rattle.tp4_conn.specs.declared.call.UserCall.{UserCall}
 use Rattle.tp4_conn.specs.declared.call.UserCall.TheVariants.{Accept, Refuse, Normal, Urgent, Window, Disconnect}
 use Rattle.tp4_conn.specs.declared.halves.Halves.{Halves}
-use Rattle.tp4_conn.specs.declared.stage.Stage.{Stage}
-use Rattle.tp4_conn.specs.declared.stage.Stage.TheVariants.{CrWait, WaitBeforeClose, UserWait, AkWait, Opened, Closing, Frozen}
+use Rattle.tp4_conn.specs.declared.states.StateData.{StateData}
+use Rattle.tp4_conn.specs.declared.states.StateData.TheVariants.{CrWait, WaitBeforeClose, UserWait, AkWait, Opened, Closing, Frozen}
 use Rattle.tp4_conn.specs.End.{End}
 use Rattle.tp4_entity.specs.Entity.{Acted, Entity, end_at}
 
@@ -67,14 +67,14 @@ module _ (is_address : List ℕ → Bool) where
     pub sending : SenderInOctets h.sending
     pub receiving : HalfInOctets h.receiving
 
-  pub record BaseInOctets (b : Base) : Type 0 where
+  pub record BaseInOctets (b : EndRecord) : Type 0 where
     pub own : IsPair b.own
     pub partner : IsPair b.partner
     pub to : is_address b.to ≡ true
     pub calling : AreOctets b.calling
     pub called : AreOctets b.called
 
-  abbrev pub StageInOctets : Stage → Type 0
+  abbrev pub StageInOctets : StateData → Type 0
   StageInOctets (CrWait w) = AreOctets w.octets
   StageInOctets (WaitBeforeClose w) = AreOctets w.request.octets × AreOctets w.octets
   StageInOctets (UserWait since) = Unit {0}
@@ -99,10 +99,10 @@ module _ (is_address : List ℕ → Bool) where
 
   pub record ConnectInOctets (call : ConnectCall) : Type 0 where
     pub own : IsPair call.own
-    pub to : is_address call.to ≡ true
-    pub from_selector : AreOctets call.from_selector
-    pub to_selector : AreOctets call.to_selector
-    pub octets : AreOctets call.octets
+    pub to : is_address call.request.to ≡ true
+    pub from_selector : AreOctets call.request.from_selector
+    pub to_selector : AreOctets call.request.to_selector
+    pub octets : AreOctets call.request.octets
 
   -- ---- entities
 

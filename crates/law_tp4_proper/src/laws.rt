@@ -12,7 +12,7 @@ ghost use Rattle.tp4_flow.specs.declared.step.Sent.{Sent};
 ghost use Rattle.tp4_conn.specs.Calls.{IsCall};
 ghost use Rattle.tp4_conn.specs.End.{IsTimed};
 ghost use Rattle.tp4_conn.specs.Proper.{IsProperCall, IsSendable};
-ghost use Rattle.tp4_conn.specs.declared.call.ConnectCall.{ConnectCall};
+ghost use Rattle.tp4_conn.specs.declared.call.ConnectRequest.{ConnectRequest};
 ghost use Rattle.tp4_conn.specs.declared.call.UserCall.{UserCall};
 ghost use Rattle.tp4_entity.specs.Association.{met};
 ghost use Rattle.tp4_entity.specs.Entity.{Acted, Entity, at, end_at};
@@ -28,8 +28,8 @@ ghost use Rattle.law_tp4_proper.specs.Units.{IsOneOrBad};
 pub fn rests()
     ensures new { (now references : ℕ) (e : Entity) → e.ends ≡ replicate references None → IsTimed e.timers → 1 ≤ e.timers.inactive → IsAtRest now e }
     ensures restarting { (now : ℕ) (e : Entity) → IsTimed e.timers → 1 ≤ e.timers.inactive → IsAtRest now (restarted now e) }
-    ensures connecting { (now reference : ℕ) (e : Entity) (call : ConnectCall) → IsAtRest now e → least_free now e ≡ Some reference
-        → IsProperCall (call_of e reference call) → IsProperStep now (connecting now e reference call) }
+    ensures connecting { (now reference : ℕ) (e : Entity) (request : ConnectRequest) → IsAtRest now e → least_free now e ≡ Some reference
+        → IsProperCall (call_of e reference request) → IsProperStep now (connecting now e reference request) }
     ensures calling { (wrap : ℕ → ℕ → ℕ) (now reference : ℕ) (e : Entity) (call : UserCall) → IsAtRest now e → user_refusal e reference call ≡ None → IsCall call
         → IsProperStep now (calling wrap now e reference call) }
     ensures met { (wrap : ℕ → ℕ → ℕ) (now : ℕ) (e : Entity) (from : List ℕ) (tpdu : TpduAndSum) → IsAtRest now e
@@ -74,8 +74,8 @@ pub fn written_and_read()
 /// Where all that an entity holds is in octets, and so is what comes, from an address, it is so afterwards, and what it sends is in
 /// octets and goes to addresses.
 pub fn stays_in_octets()
-    ensures connecting { (is_address : List ℕ → Bool) (now reference : ℕ) (e : Entity) (call : ConnectCall) → EntityInOctets is_address e
-        → ConnectInOctets is_address (call_of e reference call) → StepInOctets is_address (connecting now e reference call) }
+    ensures connecting { (is_address : List ℕ → Bool) (now reference : ℕ) (e : Entity) (request : ConnectRequest) → EntityInOctets is_address e
+        → ConnectInOctets is_address (call_of e reference request) → StepInOctets is_address (connecting now e reference request) }
     ensures calling { (is_address : List ℕ → Bool) (wrap : ℕ → ℕ → ℕ) (now reference : ℕ) (e : Entity) (call : UserCall) → EntityInOctets is_address e → AreProper e
         → CallInOctets is_address call → StepInOctets is_address (calling wrap now e reference call) }
     ensures met { (is_address : List ℕ → Bool) (wrap : ℕ → ℕ → ℕ) (now : ℕ) (e : Entity) (from : List ℕ) (tpdu : TpduAndSum) → EntityInOctets is_address e → AreProper e

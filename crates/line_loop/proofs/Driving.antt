@@ -20,9 +20,21 @@ itself xs = ([], append-nil xs)
 module _ {M E R : Type 0} (meaning : Meaning M E R) where
   -- a weaker fact about the end
   asks_on : (P Q : Type 0) → (P → Q) → (first : M) (read text : List ℕ) (status : Status) → Asks meaning P first read text status → Asks meaning Q first read text status
-  asks_on P Q f first read text Done h = (h.0, h.1, f h.2, h.3, h.4)
-  asks_on P Q f first read text RefusedLine h = (h.0, h.1, h.2, h.3, elim h.4 [ inl here ↦ inl here | inr last ↦ inr (f last.0, last.1) ], h.5)
-  asks_on P Q f first read text TooMuch h = (h.0, h.1, elim h.2 [ inl here ↦ inl here | inr last ↦ inr (f last.0, last.1) ], h.3)
+  asks_on P Q f first read text Done h = record { journal = h.journal; last = h.last; ends = f h.ends; whole = h.whole; text_is = h.text_is }
+  asks_on P Q f first read text RefusedLine h = record {
+    line = h.line;
+    said = h.said;
+    journal = h.journal;
+    last = h.last;
+    refused = elim h.refused [ inl here ↦ inl here | inr last ↦ inr (f last.0, last.1) ];
+    text_is = h.text_is;
+  }
+  asks_on P Q f first read text TooMuch h = record {
+    journal = h.journal;
+    last = h.last;
+    passed = elim h.passed [ inl here ↦ inl here | inr last ↦ inr (f last.0, last.1) ];
+    text_is = h.text_is;
+  }
   asks_on P Q f first read text ReadFault h = h
   asks_on P Q f first read text WriteFault h = absurd h
   asks_on P Q f first read text NoMemory h = absurd h
@@ -53,19 +65,37 @@ module _ {M E R : Type 0} (meaning : Meaning M E R) where
   -- ---- from the loop over octets
 
   asks_lines : (P : Type 0) (first : M) (read text : List ℕ) (status : Status) → loop.Asks (line_course meaning first) P read text status → Asks meaning P first read text status
-  asks_lines P first read text Done h = let k = h.1.ends in (k.0, k.1, h.0, k.2, k.3)
+  asks_lines P first read text Done h = let k = h.1.ends in record { journal = k.0; last = k.1; ends = h.0; whole = k.2; text_is = k.3 }
   asks_lines P first read text RefusedLine (inl s) =
       let k = s.stops in
-      (k.0, k.1, k.2, k.3, inl (subst (λ (r : List ℕ). IsRefusedAt meaning first r k.0 k.1 k.2 k.3) (sym s.place) (refused_more meaning first s.front s.more k.0 k.1 k.2 k.3 k.4)), k.5)
-  asks_lines P first read text RefusedLine (inr e) = let k = e.1.ends in (k.0, k.1, k.2, k.3, inr (e.0, k.4), k.5)
+      record {
+        line = k.0;
+        said = k.1;
+        journal = k.2;
+        last = k.3;
+        refused = inl (subst (λ (r : List ℕ). IsRefusedAt meaning first r k.0 k.1 k.2 k.3) (sym s.place) (refused_more meaning first s.front s.more k.0 k.1 k.2 k.3 k.4));
+        text_is = k.5;
+      }
+  asks_lines P first read text RefusedLine (inr e) =
+      let k = e.1.ends in record { line = k.0; said = k.1; journal = k.2; last = k.3; refused = inr (e.0, k.4); text_is = k.5 }
   asks_lines P first read text TooMuch (inl (inl s)) =
       let k = s.stops in
-      (k.0, k.1, inl (subst (λ (r : List ℕ). IsTooMuch meaning first r k.0 k.1) (sym s.place) (too_much_more meaning first s.front s.more k.0 k.1 k.2)), k.3)
-  asks_lines P first read text TooMuch (inl (inr e)) = let k = e.1.ends in (k.0, k.1, inr (e.0, k.2), k.3)
+      record {
+        journal = k.0;
+        last = k.1;
+        passed = inl (subst (λ (r : List ℕ). IsTooMuch meaning first r k.0 k.1) (sym s.place) (too_much_more meaning first s.front s.more k.0 k.1 k.2));
+        text_is = k.3;
+      }
+  asks_lines P first read text TooMuch (inl (inr e)) = let k = e.1.ends in record { journal = k.0; last = k.1; passed = inr (e.0, k.2); text_is = k.3 }
   asks_lines P first read text TooMuch (inr o) =
       let k = o.over in
-      (k.0, k.1, inl (subst (λ (r : List ℕ). IsTooMuch meaning first r k.0 k.1) (sym o.place) (too_much_here meaning first o.front o.octet o.more k.0 k.1 k.2 (inl o.full))), k.3)
-  asks_lines P first read text ReadFault h = h.1
+      record {
+        journal = k.0;
+        last = k.1;
+        passed = inl (subst (λ (r : List ℕ). IsTooMuch meaning first r k.0 k.1) (sym o.place) (too_much_here meaning first o.front o.octet o.more k.0 k.1 k.2 (inl o.full)));
+        text_is = k.3;
+      }
+  asks_lines P first read text ReadFault h = let k = h.1 in record { journal = k.0; last = k.1; so_far = k.2; text_is = k.3 }
   asks_lines P first read text WriteFault h = absurd h
   asks_lines P first read text NoMemory h = absurd h
   asks_lines P first read text RefusedWords h = absurd h

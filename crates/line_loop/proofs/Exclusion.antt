@@ -274,22 +274,22 @@ module _ {M E R : Type 0} (meaning : Meaning M E R) (laws : Laws meaning) where
   asks_one : (first : M) (all text other : List ℕ) (status next : Status) → status ≢ ReadFault → next ≢ ReadFault
       → Asks meaning (Unit {0}) first all text status → Asks meaning (Unit {0}) first all other next → (status ≡ next) × (text ≡ other)
   asks_one first all text other Done Done never nor h k =
-      let same = one_whole first all h.0 k.0 h.1 k.1 h.3 k.3 in (refl, h.4 ∙ told_alike meaning.done h.0 k.0 h.1 k.1 same.0 same.1 ∙ sym k.4)
-  asks_one first all text other Done RefusedLine never nor h k = absurd (whole_somewhere first all h.0 h.1 k.0 k.1 k.2 k.3 h.3 k.4)
-  asks_one first all text other Done TooMuch never nor h k = absurd (whole_or_much first all h.0 h.1 k.0 k.1 h.3 k.2)
-  asks_one first all text other RefusedLine Done never nor h k = absurd (whole_somewhere first all k.0 k.1 h.0 h.1 h.2 h.3 k.3 h.4)
+      let same = one_whole first all h.journal k.journal h.last k.last h.whole k.whole in (refl, h.text_is ∙ told_alike meaning.done h.journal k.journal h.last k.last same.0 same.1 ∙ sym k.text_is)
+  asks_one first all text other Done RefusedLine never nor h k = absurd (whole_somewhere first all h.journal h.last k.line k.said k.journal k.last h.whole k.refused)
+  asks_one first all text other Done TooMuch never nor h k = absurd (whole_or_much first all h.journal h.last k.journal k.last h.whole k.passed)
+  asks_one first all text other RefusedLine Done never nor h k = absurd (whole_somewhere first all k.journal k.last h.line h.said h.journal h.last k.whole h.refused)
   asks_one first all text other RefusedLine RefusedLine never nor h k =
-      let same = one_somewhere first all h.0 h.1 h.2 h.3 k.0 k.1 k.2 k.3 h.4 k.4 in (
+      let same = one_somewhere first all h.line h.said h.journal h.last k.line k.said k.journal k.last h.refused k.refused in (
         refl,
-        h.5 ∙ told_alike (λ m. meaning.refused m h.0 h.1) h.2 k.2 h.3 k.3 same.2 same.3
-            ∙ ap (λ (n : ℕ). meaning.text k.3 k.2 ++ meaning.refused k.3 n h.1) same.0
-            ∙ ap (λ (r : R). meaning.text k.3 k.2 ++ meaning.refused k.3 k.0 r) same.1 ∙ sym k.5,
+        h.text_is ∙ told_alike (λ m. meaning.refused m h.line h.said) h.journal k.journal h.last k.last same.2 same.3
+            ∙ ap (λ (n : ℕ). meaning.text k.last k.journal ++ meaning.refused k.last n h.said) same.0
+            ∙ ap (λ (r : R). meaning.text k.last k.journal ++ meaning.refused k.last k.line r) same.1 ∙ sym k.text_is,
       )
-  asks_one first all text other RefusedLine TooMuch never nor h k = absurd (refused_or_much first all h.0 h.1 h.2 h.3 k.0 k.1 h.4 k.2)
-  asks_one first all text other TooMuch Done never nor h k = absurd (whole_or_much first all k.0 k.1 h.0 h.1 k.3 h.2)
-  asks_one first all text other TooMuch RefusedLine never nor h k = absurd (refused_or_much first all k.0 k.1 k.2 k.3 h.0 h.1 k.4 h.2)
+  asks_one first all text other RefusedLine TooMuch never nor h k = absurd (refused_or_much first all h.line h.said h.journal h.last k.journal k.last h.refused k.passed)
+  asks_one first all text other TooMuch Done never nor h k = absurd (whole_or_much first all k.journal k.last h.journal h.last k.whole h.passed)
+  asks_one first all text other TooMuch RefusedLine never nor h k = absurd (refused_or_much first all k.line k.said k.journal k.last h.journal h.last k.refused h.passed)
   asks_one first all text other TooMuch TooMuch never nor h k =
-      let same = much_somewhere first all h.0 h.1 k.0 k.1 h.2 k.2 in (refl, h.3 ∙ told_alike meaning.too_much h.0 k.0 h.1 k.1 same.0 same.1 ∙ sym k.3)
+      let same = much_somewhere first all h.journal h.last k.journal k.last h.passed k.passed in (refl, h.text_is ∙ told_alike meaning.too_much h.journal k.journal h.last k.last same.0 same.1 ∙ sym k.text_is)
   asks_one first all text other ReadFault next never nor h k = absurd (never refl)
   asks_one first all text other status ReadFault never nor h k = absurd (nor refl)
   asks_one first all text other WriteFault next never nor h k = absurd h
@@ -307,34 +307,35 @@ module _ {M E R : Type 0} (meaning : Meaning M E R) (laws : Laws meaning) where
   -- what a front of an input gave, the input asks for
   outcome_all : (first : M) (read rest written : List ℕ) (status : Status) → Outcome meaning (rest ≡ []) first read written status → ((status ≢ ReadFault) × Asks meaning (Unit {0}) first (read ++ rest) written status) ⊎ IsFailure status
   outcome_all first read rest written Done h =
-      inl ((λ is. absurd (cc)), (h.0, h.1, tt, subst (λ (xs : List ℕ). IsWhole meaning first xs h.0 h.1) (sym (ap (λ (xs : List ℕ). read ++ xs) h.2 ∙ append-nil read)) h.3, h.4))
+      let all : read ≡ read ++ rest = sym (ap (λ (xs : List ℕ). read ++ xs) h.ends ∙ append-nil read) in
+      inl ((λ is. absurd (cc)), record { journal = h.journal; last = h.last; ends = tt; whole = subst (λ (xs : List ℕ). IsWhole meaning first xs h.journal h.last) all h.whole; text_is = h.text_is })
   outcome_all first read rest written RefusedLine h =
       inl (
         (λ is. absurd (cc)),
-        (
-          h.0,
-          h.1,
-          h.2,
-          h.3,
-          elim h.4 [
-            | inl here ↦ inl (refused_more meaning first read rest h.0 h.1 h.2 h.3 here)
-            | inr last ↦ inr (tt, subst (λ (xs : List ℕ). IsRefusedAtEnd meaning first xs h.0 h.1 h.2 h.3) (sym (ap (λ (xs : List ℕ). read ++ xs) last.0 ∙ append-nil read)) last.1)
-          ],
-          h.5,
-        ),
+        record {
+          line = h.line;
+          said = h.said;
+          journal = h.journal;
+          last = h.last;
+          refused = elim h.refused [
+            | inl here ↦ inl (refused_more meaning first read rest h.line h.said h.journal h.last here)
+            | inr last ↦ inr (tt, subst (λ (xs : List ℕ). IsRefusedAtEnd meaning first xs h.line h.said h.journal h.last) (sym (ap (λ (xs : List ℕ). read ++ xs) last.0 ∙ append-nil read)) last.1)
+          ];
+          text_is = h.text_is;
+        },
       )
   outcome_all first read rest written TooMuch h =
       inl (
         (λ is. absurd (cc)),
-        (
-          h.0,
-          h.1,
-          elim h.2 [
-            | inl here ↦ inl (too_much_more meaning first read rest h.0 h.1 here)
-            | inr last ↦ inr (tt, subst (λ (xs : List ℕ). IsTooMuchAtEnd meaning first xs h.0 h.1) (sym (ap (λ (xs : List ℕ). read ++ xs) last.0 ∙ append-nil read)) last.1)
-          ],
-          h.3,
-        ),
+        record {
+          journal = h.journal;
+          last = h.last;
+          passed = elim h.passed [
+            | inl here ↦ inl (too_much_more meaning first read rest h.journal h.last here)
+            | inr last ↦ inr (tt, subst (λ (xs : List ℕ). IsTooMuchAtEnd meaning first xs h.journal h.last) (sym (ap (λ (xs : List ℕ). read ++ xs) last.0 ∙ append-nil read)) last.1)
+          ];
+          text_is = h.text_is;
+        },
       )
   outcome_all first read rest written ReadFault h = inr (inl refl)
   outcome_all first read rest written WriteFault h = inr (inr (inl refl))
@@ -366,8 +367,9 @@ module _ {M E R : Type 0} (meaning : Meaning M E R) (laws : Laws meaning) where
   accepted_asks : (first : M) (all text : List ℕ) (status : Status) → IsAccepted meaning first all → status ≢ ReadFault → Asks meaning (Unit {0}) first all text status
       → (status ≡ Done) × Asks meaning (Unit {0}) first all text Done
   accepted_asks first all text Done a never h = (refl, h)
-  accepted_asks first all text RefusedLine a never h = elim h.4 [ inl here ↦ absurd (a.read h.0 h.1 h.2 h.3 here) | inr last ↦ absurd (a.ended h.0 h.1 h.2 h.3 last.1) ]
-  accepted_asks first all text TooMuch a never h = elim h.2 [ inl here ↦ absurd (a.within h.0 h.1 here) | inr last ↦ absurd (a.within_at_end h.0 h.1 last.1) ]
+  accepted_asks first all text RefusedLine a never h =
+      elim h.refused [ inl here ↦ absurd (a.read h.line h.said h.journal h.last here) | inr last ↦ absurd (a.ended h.line h.said h.journal h.last last.1) ]
+  accepted_asks first all text TooMuch a never h = elim h.passed [ inl here ↦ absurd (a.within h.journal h.last here) | inr last ↦ absurd (a.within_at_end h.journal h.last last.1) ]
   accepted_asks first all text ReadFault a never h = absurd (never refl)
   accepted_asks first all text WriteFault a never h = absurd h
   accepted_asks first all text NoMemory a never h = absurd h

@@ -1,11 +1,11 @@
 -- Octets come to one thing at most: they were read, or one line is refused, or a limit is passed. What all octets of a
 -- source ask for comes, or a failure in its place.
 use Rattle.std.specs.Prelude.{◌≡◌, ℕ, List}
-use Rattle.osi_base.specs.declared.status.Status.{Status}
-pub use Rattle.octet_loop.specs.Outcome.{IsFailure}
+pub use Rattle.octet_loop.specs.ByStatus.{IsFailure}
+use Rattle.octet_loop.specs.ByStatus as by_status
 use Rattle.line_loop.specs.Meaning.{Meaning}
 use Rattle.line_loop.specs.Course.{IsRead, IsWhole, IsTooMuch, IsTooMuchAtEnd, IsRefusedAt, IsRefusedAtEnd}
-use Rattle.line_loop.specs.Outcome.{AsksFor}
+use Rattle.line_loop.specs.Outcome.{Asks}
 
 -- the meanings of octets exclude each other, and each has one journal and one state
 pub record OneCourse {M E R : Type 0} (meaning : Meaning M E R) : Type 0 where
@@ -42,8 +42,7 @@ pub record OneCourse {M E R : Type 0} (meaning : Meaning M E R) : Type 0 where
 
 -- an input asks for at most one status and one transcript: Done, or the first refused line, or that a limit is passed
 abbrev pub AsksOne : {M E R : Type 0} → Meaning M E R → Type 0
-AsksOne {M} meaning = (first : M) (all text other : List ℕ) (status next : Status)
-    → AsksFor meaning first all text status → AsksFor meaning first all other next → (status ≡ next) × (text ≡ other)
+AsksOne {M} meaning = (first : M) → by_status.AsksOne (λ end. Asks meaning end first)
 
 -- no line of an input is refused, and none of its octets passes a limit or ends a line that fills the journal
 pub record IsAccepted {M E R : Type 0} (meaning : Meaning M E R) (first : M) (all : List ℕ) : Type 0 where

@@ -1,50 +1,62 @@
--- What was written, by the octets read and the status.
-use Rattle.std.specs.Prelude.{◌≡◌, ◌≢◌, ◌⊎◌, ℕ, List, ◌++◌}
+-- What the octets of an input ask for: the transcript of what their lines come to.
+use Rattle.std.specs.Prelude.{◌≡◌, ◌⊎◌, ℕ, List, ◌++◌}
 use Rattle.osi_base.specs.declared.status.Status.{Status}
 use Rattle.osi_base.specs.declared.status.Status.TheVariants.{Done, RefusedLine, RefusedWords, ReadFault, WriteFault, NoMemory, RefusedCapture, TooMuch}
+use Rattle.octet_loop.specs.ByStatus as by_status
 use Rattle.line_loop.specs.Meaning.{Meaning}
 use Rattle.line_loop.specs.Course.{IsRead, IsWhole, IsTooMuch, IsTooMuchAtEnd, IsRefusedAt, IsRefusedAtEnd}
-use Rattle.line_loop.specs.Writing.{IsPrefix}
 
 module _ {M E R : Type 0} (meaning : Meaning M E R) where
-  -- the transcript that the octets ask for, by how the run ends: with ReadFault that of their whole lines alone. `end` says
-  -- that the input ends after them
+  -- in each of these `end` says that the input ends after the octets
+
+  -- all lines ran, and the input ends: their whole transcript
+  pub record AsksWhole (end : Type 0) (first : M) (read text : List ℕ) : Type 0 where
+    pub journal : List E
+    pub last : M
+    pub ends : end
+    pub whole : IsWhole meaning first read journal last
+    pub text_is : text ≡ meaning.text last journal ++ meaning.done last
+
+  -- a line is refused: the transcript of the lines before it, and what is said of it
+  pub record AsksRefusal (end : Type 0) (first : M) (read text : List ℕ) : Type 0 where
+    pub line : ℕ
+    pub said : R
+    pub journal : List E
+    pub last : M
+    pub refused : IsRefusedAt meaning first read line said journal last ⊎ (end × IsRefusedAtEnd meaning first read line said journal last)
+    pub text_is : text ≡ meaning.text last journal ++ meaning.refused last line said
+
+  -- a limit is passed, or a line fills the journal: the transcript up to there, and that it is too much
+  pub record AsksTooMuch (end : Type 0) (first : M) (read text : List ℕ) : Type 0 where
+    pub journal : List E
+    pub last : M
+    pub passed : IsTooMuch meaning first read journal last ⊎ (end × IsTooMuchAtEnd meaning first read journal last)
+    pub text_is : text ≡ meaning.text last journal ++ meaning.too_much last
+
+  -- the lines that have their line feed: their transcript alone
+  pub record AsksSoFar (first : M) (read text : List ℕ) : Type 0 where
+    pub journal : List E
+    pub last : M
+    pub so_far : IsRead meaning first read journal last
+    pub text_is : text ≡ meaning.text last journal
+
+  -- the transcript that the octets ask for, by how the run ends
   abbrev pub Asks : Type 0 → M → List ℕ → List ℕ → Status → Type 0
-  Asks end first read text Done = (journal : List E) × (last : M) × end × IsWhole meaning first read journal last
-      × (text ≡ meaning.text last journal ++ meaning.done last)
-  Asks end first read text RefusedLine = (line : ℕ) × (said : R) × (journal : List E) × (last : M)
-      × (IsRefusedAt meaning first read line said journal last ⊎ (end × IsRefusedAtEnd meaning first read line said journal last))
-      × (text ≡ meaning.text last journal ++ meaning.refused last line said)
-  Asks end first read text TooMuch = (journal : List E) × (last : M)
-      × (IsTooMuch meaning first read journal last ⊎ (end × IsTooMuchAtEnd meaning first read journal last))
-      × (text ≡ meaning.text last journal ++ meaning.too_much last)
-  Asks end first read text ReadFault = (journal : List E) × (last : M) × IsRead meaning first read journal last
-      × (text ≡ meaning.text last journal)
+  Asks end first read text Done = AsksWhole end first read text
+  Asks end first read text RefusedLine = AsksRefusal end first read text
+  Asks end first read text TooMuch = AsksTooMuch end first read text
+  Asks end first read text ReadFault = AsksSoFar first read text
   Asks end first read text WriteFault = ⊥
   Asks end first read text NoMemory = ⊥
   Asks end first read text RefusedWords = ⊥
   Asks end first read text RefusedCapture = ⊥
 
-  -- all octets of an input ask for this transcript and this status, which is no failure
+  -- what was written, by the status: the definitions that every command has, for the lines of octets
   abbrev pub AsksFor : M → List ℕ → List ℕ → Status → Type 0
-  AsksFor first all text status = (status ≢ ReadFault) × Asks (Unit {0}) first all text status
+  AsksFor first = by_status.AsksFor (λ end. Asks end first)
 
-  -- a front of the transcript that a front of the octets asks for; the input ends there only where it is all of them
-  pub record IsCut (end : Type 0) (first : M) (read written : List ℕ) : Type 0 where
-    pub front : List ℕ
-    pub text : List ℕ
-    pub status : Status
-    pub begins : IsPrefix front read
-    pub asked : Asks ((front ≡ read) × end) first front text status
-    pub cut : IsPrefix written text
+  abbrev pub IsCut : Type 0 → M → List ℕ → List ℕ → Type 0
+  IsCut end first = by_status.IsCut (λ end. Asks end first) end
 
-  -- what was written is what the octets read ask for, or where a write or memory failed a front of that
   abbrev pub Outcome : Type 0 → M → List ℕ → List ℕ → Status → Type 0
-  Outcome end first read written Done = Asks end first read written Done
-  Outcome end first read written RefusedLine = Asks end first read written RefusedLine
-  Outcome end first read written TooMuch = Asks end first read written TooMuch
-  Outcome end first read written ReadFault = Asks end first read written ReadFault
-  Outcome end first read written WriteFault = IsCut end first read written
-  Outcome end first read written NoMemory = IsCut end first read written
-  Outcome end first read written RefusedWords = ⊥
-  Outcome end first read written RefusedCapture = ⊥
+  Outcome end first = by_status.Outcome (λ end. Asks end first) end

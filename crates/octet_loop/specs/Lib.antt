@@ -1,3 +1,4 @@
+pub mod ByStatus
 pub mod Course
 pub mod Limits
 pub mod Outcome

@@ -1,10 +1,11 @@
--- What was written, by the octets read and the status.
-use Rattle.std.specs.Prelude.{◌≡◌, ◌≢◌, ◌⊎◌, ◌≤◌, ℕ, List, ◌∷◌, ◌++◌, length}
+-- What the octets of an input ask for, by what they come to.
+use Rattle.std.specs.Prelude.{◌≡◌, ◌⊎◌, ◌≤◌, ℕ, List, ◌∷◌, ◌++◌, length}
 use Rattle.osi_base.specs.declared.status.Status.{Status}
 use Rattle.osi_base.specs.declared.status.Status.TheVariants.{Done, RefusedLine, RefusedWords, ReadFault, WriteFault, NoMemory, RefusedCapture, TooMuch}
+pub use Rattle.octet_loop.specs.ByStatus.{IsFailure}
+use Rattle.octet_loop.specs.ByStatus as by_status
 use Rattle.octet_loop.specs.Course.{Course}
 use Rattle.octet_loop.specs.Limits.{most_octets}
-use Rattle.octet_loop.specs.Writing.{IsPrefix}
 
 module _ (course : Course) where
   -- an octet within the limit of an input stops the run
@@ -45,34 +46,15 @@ module _ (course : Course) where
   Asks end read text NoMemory = ⊥
   Asks end read text RefusedWords = ⊥
 
-  -- all octets of an input ask for this text and this status, which is no failure
+  -- what was written, by the status: the definitions that every command has, for these octets
   abbrev pub AsksFor : List ℕ → List ℕ → Status → Type 0
-  AsksFor all text status = (status ≢ ReadFault) × Asks (Unit {0}) all text status
+  AsksFor = by_status.AsksFor Asks
 
-  -- a front of the text that a front of the octets asks for; the input ends there only where it is all of them
-  pub record IsCut (end : Type 0) (read written : List ℕ) : Type 0 where
-    pub front : List ℕ
-    pub text : List ℕ
-    pub status : Status
-    pub begins : IsPrefix front read
-    pub asked : Asks ((front ≡ read) × end) front text status
-    pub cut : IsPrefix written text
+  abbrev pub IsCut : Type 0 → List ℕ → List ℕ → Type 0
+  IsCut = by_status.IsCut Asks
 
-  -- what was written is what the octets read ask for, or where a write or memory failed a front of that
   abbrev pub Outcome : Type 0 → List ℕ → List ℕ → Status → Type 0
-  Outcome end read written Done = Asks end read written Done
-  Outcome end read written RefusedLine = Asks end read written RefusedLine
-  Outcome end read written RefusedCapture = Asks end read written RefusedCapture
-  Outcome end read written TooMuch = Asks end read written TooMuch
-  Outcome end read written ReadFault = Asks end read written ReadFault
-  Outcome end read written WriteFault = IsCut end read written
-  Outcome end read written NoMemory = IsCut end read written
-  Outcome end read written RefusedWords = ⊥
+  Outcome = by_status.Outcome Asks
 
-  -- an input asks for at most one status and one text
   abbrev pub AsksOne : Type 0
-  AsksOne = (all text other : List ℕ) (status next : Status) → AsksFor all text status → AsksFor all other next → (status ≡ next) × (text ≡ other)
-
--- a read, a write or memory failed
-abbrev pub IsFailure : Status → Type 0
-IsFailure status = (status ≡ ReadFault) ⊎ (status ≡ WriteFault) ⊎ (status ≡ NoMemory)
+  AsksOne = by_status.AsksOne Asks

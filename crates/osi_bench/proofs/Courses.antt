@@ -3,7 +3,7 @@ use Rattle.std.proofs.Common.{◌≡◌, ◌⊎◌, ℕ, ◌+◌, ◌-◌, ◌<�
 use Rattle.std.proofs.lemmas.Bool.{cases_lt}
 use Rattle.std.proofs.lemmas.List.{length-map}
 use Rattle.line_loop.specs.Lines.{most_lines}
-use Rattle.osi_base.specs.declared.status.Status.TheVariants.{Done, TooMuch}
+use Rattle.osi_base.specs.declared.status.Status.TheVariants.{Done, NoMemory, TooMuch}
 use Rattle.osi_journal.specs.declared.event.Event.{Event}
 use Rattle.osi_script.specs.Grammar.{Reading}
 use Rattle.osi_storm.specs.Counted.{counts_of}
@@ -13,10 +13,10 @@ use Rattle.osi_storm.specs.Words.{generator_of, words}
 use Rattle.osi_storm.specs.declared.request.Storm.{Storm}
 use Rattle.rand_pcg.specs.Pcg.{pcg32}
 use Rattle.script_bench.specs.Acts.{HasStep}
-use Rattle.law_run.specs.Bench.{Bench, RunsLine, first_bench, most_events}
+use Rattle.law_run.specs.Bench.{Bench, RunsText, first_bench, most_events}
 use Rattle.law_run.specs.World.{world_acts}
 use Rattle.law_run.specs.steps.WorldLaws.{world_keeping, world_laws}
-use Rattle.osi_bench.specs.Storm.{AsksSomeSummary, StormFills, StormRuns, as_it_stands, line_after, storm_lines}
+use Rattle.osi_bench.specs.Storm.{AsksSomeSummary, StormFills, StormRuns, SummaryOutcome, as_it_stands, line_after, storm_lines}
 use Rattle.osi_bench.specs.Text.{done_line, toomuch_line}
 use Rattle.osi_bench.proofs.Generated.{AreClear, Lines, storm_clear}
 use Rattle.osi_bench.proofs.Storming.{word_length}
@@ -47,7 +47,7 @@ each_ends (line ∷ lines) bench before clear events room stands few =
       ))
       | inr fits ↦
           let next : Bench = record { names = read.names; world = h.new; lines = bench.lines + 1; events = bench.events + length h.made } in
-          let runs : RunsLine bench (line before) h.made next = record { line = read.line; meaning = c.1; steps = h.steps; lines = refl; events = refl; room = fits } in
+          let runs : RunsText bench (line before) h.made next = record { line = read.line; meaning = c.1; steps = h.steps; lines = refl; events = refl; room = fits } in
           let size : length (before ++ h.made) ≡ length before + length h.made = length-append before h.made in
           let events_on : bench.events + length h.made ≡ length (before ++ h.made) = ap (λ (n : ℕ). n + length h.made) events ∙ sym size in
           elim (each_ends lines next (before ++ h.made) c.3 events_on (subst (λ (n : ℕ). n ≤ most_events) events_on fits) on (omega (arith, few))) [
@@ -72,3 +72,9 @@ some_summary storm low =
       | inl all ↦ record { text = summary_line storm (counts_of all.0) ++ done_line; status = Done; asks = (all.0, all.1, all.2, refl) }
       | inr fills ↦ record { text = toomuch_line; status = TooMuch; asks = (fills, refl) }
     ]
+
+-- where memory ran out before anything was written, that is a front of what the script asks for
+pub nothing_written : (storm : Storm) → storm.count ≤ 20000 → SummaryOutcome storm [] NoMemory
+nothing_written storm low =
+    let some = some_summary storm low in
+    record { front = []; text = some.text; status = some.status; begins = ([], refl); asked = some.asks; cut = (some.text, refl) }

@@ -1,30 +1,29 @@
 -- A generated script is a script in which nothing is injected, and its run is that of the network; so its journal is lawful, whatever front of its lines ran.
-use Rattle.std.proofs.Common.{◌≡◌, ℕ, ◌+◌, ◌<◌, ◌≤◌, List, [], ◌∷◌, ◌++◌, length, map, take, drop, refl, sym, ◌∙◌, ap, subst, append_assoc, length-append, arith}
+use Rattle.std.proofs.Common.{◌≡◌, ℕ, ◌+◌, ◌<◌, ◌≤◌, List, [], ◌∷◌, ◌++◌, length, map, take, drop, None, refl, sym, ◌∙◌, ap, subst, append_assoc, length-append, arith}
 use Rattle.std.specs.Prelude.{Ok, Result}
-use Rattle.std.specs.List.{AllByRecursion, count_by}
+use Rattle.std.specs.List.{count_by}
 use Rattle.std.proofs.lemmas.List.{append-nil, take-append-drop}
 use Rattle.std.proofs.lemmas.List.Sums.{count_by-le-length}
 use Rattle.line_loop.specs.Course.{Runs}
 use Rattle.osi_journal.specs.declared.event.Event.{Event}
 use Rattle.osi_journal.specs.Lawful.{Lawful}
-use Rattle.osi_script.specs.declared.fault.LineFault.{LineFault}
-use Rattle.osi_script.specs.declared.form.Dialect.TheVariants as dialects
+use Rattle.osi_script.specs.declared.cause.LineFault.{LineFault}
+use Rattle.osi_script.specs.declared.words.Dialect.TheVariants as dialects
 use Rattle.osi_script.specs.declared.line.Line.{Line}
-use Rattle.osi_script.specs.declared.line.Line.TheVariants as lines
 use Rattle.osi_script.specs.Grammar.{Reading, line_read}
+use Rattle.osi_script.specs.Injecting.{HasNoInject, IsNoInjection}
 use Rattle.osi_script.specs.Known.{Declared, nothing_declared}
 use Rattle.osi_script.specs.Script.{Says}
 use Rattle.osi_storm.specs.Counted.{is_frame, makes_end}
 use Rattle.osi_storm.specs.Line.{line_text, set_up_lines}
-use Rattle.osi_storm.specs.Read.{InjectsNothing}
 use Rattle.osi_storm.specs.Words.{words}
 use Rattle.osi_storm.specs.declared.request.Storm.{Storm}
 use Rattle.osi_storm.proofs.EachLine.{are_read}
 use Rattle.script_world.proofs.Headline.{front_lawful}
-use Rattle.tp4_world.specs.Laws.{IsNoInjection}
-use Rattle.law_run.specs.Bench.{Bench, RunsLine, bench_meaning, first_bench, most_events}
+use Rattle.law_run.specs.Bench.{Bench, RunsText, bench_meaning, first_bench, most_events}
 use Rattle.law_run.specs.Transcript.{IsFilledRun, IsScriptRun}
-use Rattle.law_run.specs.World.{HasNoInject, World, WorldRun, frozen_of, titles_of}
+use Rattle.law_run.specs.World.{World, WorldRun, frozen_of, strays_of, titles_of}
+use Rattle.law_run.proofs.Lawful.{unstrayed}
 use Rattle.law_run.proofs.ScriptRuns.{filled_run, script_run}
 use Rattle.osi_bench.specs.Storm.{IsLawfulRun, IsLawfulStorm, StormRuns, as_it_stands, line_after, storm_lines}
 use Rattle.osi_bench.proofs.Storming.{few_frames, read_by}
@@ -39,13 +38,13 @@ abbrev pub AreClear : Lines → Declared → Type 0
 AreClear [] names = Unit {0}
 AreClear (line ∷ lines) names =
     (before : List Event) → length before ≤ most_events
-    → (read : Reading) × (line_read names (line before) ≡ Ok read) × InjectsNothing read.line × AreClear lines read.names
+    → (read : Reading) × (line_read names (line before) ≡ Ok read) × IsNoInjection read.line × AreClear lines read.names
 
 -- the line of each word is read by these names, declares nothing and injects nothing
 abbrev AreWords : Declared → Type 0
 AreWords names =
     (word frames ends : ℕ) → frames < 1000000000 → ends < 1000000000
-    → (line : Line) × (line_read names (line_text word frames ends) ≡ Ok (record { line = line; names = names })) × InjectsNothing line
+    → (line : Line) × (line_read names (line_text word frames ends) ≡ Ok (record { line = line; names = names })) × IsNoInjection line
 
 words_clear : (all : List ℕ) (names : Declared) → AreWords names → AreClear (map line_after all) names
 words_clear [] names each = tt
@@ -55,7 +54,7 @@ words_clear (word ∷ all) names each = λ before few.
     (few_frames (count_by makes_end before) (length before) (count_by-le-length makes_end before) few) in
     (record { line = r.0; names = names }, r.1, r.2, words_clear all names each)
 
-set_up_clear : (texts : List (List ℕ)) (script : List Line) (names last : Declared) (rest : Lines) → Says names texts script last → AllByRecursion InjectsNothing script → AreClear rest last
+set_up_clear : (texts : List (List ℕ)) (script : List Line) (names last : Declared) (rest : Lines) → Says names texts script last → HasNoInject script → AreClear rest last
     → AreClear (map as_it_stands texts ++ rest) names
 set_up_clear [] [] names last rest says none clear = subst (λ (n : Declared). AreClear rest n) says clear
 set_up_clear [] (line ∷ script) names last rest says none clear = absurd says
@@ -72,17 +71,13 @@ storm_clear storm =
 one_read : (read : Result Reading LineFault) (first second : Reading) → read ≡ Ok first → read ≡ Ok second → first ≡ second
 one_read read first second a b = cc
 
-no_injection : (line : Line) → InjectsNothing line → IsNoInjection line
-no_injection (lines.Inject lan system octets) none = absurd none
-no_injection line none = tt
-
 -- the first of the lines that are said is the one that is read
-none_first : (text : List ℕ) (texts : List (List ℕ)) (script : List Line) (names : Declared) (read : Reading) (end : Declared) → line_read names text ≡ Ok read → InjectsNothing read.line
+none_first : (text : List ℕ) (texts : List (List ℕ)) (script : List Line) (names : Declared) (read : Reading) (end : Declared) → line_read names text ≡ Ok read → IsNoInjection read.line
     → Says names (text ∷ texts) script end → ((others : List Line) → Says read.names texts others end → HasNoInject others) → HasNoInject script
 none_first text texts [] names read end is none says others = absurd says
 none_first text texts (line ∷ script) names read end is none says others =
     let same : record { line = line; names = says.0 } ≡ read = one_read (line_read names text) (record { line = line; names = says.0 }) read says.1 is in
-    (no_injection line (subst (λ (r : Reading). InjectsNothing r.line) (sym same) none), others script (subst (λ (r : Reading). Says r.names texts script end) same says.2))
+    (subst (λ (r : Reading). IsNoInjection r.line) (sym same) none, others script (subst (λ (r : Reading). Says r.names texts script end) same says.2))
 
 none_behind : (names end : Declared) (script : List Line) → Says names [] script end → HasNoInject script
 none_behind names end [] says = tt
@@ -113,7 +108,7 @@ generated [] rest first before journal last clear events room h = record {
 }
 generated (line ∷ lines) rest first before journal last clear events room h =
     let c = clear before room in
-    let ran : RunsLine first (line before) h.0 h.1 = h.2 in
+    let ran : RunsText first (line before) h.0 h.1 = h.2 in
     let same : c.0 ≡ record { line = ran.line; names = h.1.names } = one_read (line_read first.names (line before)) c.0 (record { line = ran.line; names = h.1.names }) c.1 ran.meaning in
     let size : length (before ++ h.0) ≡ length before + length h.0 = length-append before h.0 in
     let events_on : h.1.events ≡ length (before ++ h.0) = ran.events ∙ ap (λ (n : ℕ). n + length h.0) events ∙ sym size in
@@ -152,14 +147,18 @@ generated_run storm journal last h = front_run storm (storm_lines storm) [] jour
 
 -- ---- and is lawful
 
+none_strayed : (texts : List (List ℕ)) (journal : List Event) (last : Bench) (run : IsScriptRun texts journal last) → HasNoInject run.script → strays_of last.world ≡ None
+none_strayed texts journal last run none = unstrayed texts run.script last.names journal last.world run.lines run.run none
+
 module _ (law : (texts : List (List ℕ)) (script : List Line) (names : Declared) (journal : List Event) (last : World) → Says (nothing_declared dialects.Run) texts script names
-    → WorldRun script journal last → HasNoInject script → Lawful (frozen_of last) (titles_of last) journal) where
+    → WorldRun script journal last → strays_of last ≡ None → Lawful (frozen_of last) (titles_of last) journal) where
   filled_front : (texts : List (List ℕ)) (journal : List Event) (last : Bench) (f : IsFilledRun texts journal last) → HasNoInject f.run.script → IsLawfulRun last journal
   filled_front texts journal last f none =
       let frozen = frozen_of last.world in
       let titles = titles_of last.world in
-      let whole : Lawful frozen titles f.whole = law texts f.run.script last.names f.whole last.world f.run.lines f.run.run none in (
-        f.sent none,
+      let clear = none_strayed texts f.whole last f.run none in
+      let whole : Lawful frozen titles f.whole = law texts f.run.script last.names f.whole last.world f.run.lines f.run.run clear in (
+        f.sent clear,
         subst (λ (j : List Event). Lawful frozen titles j) (sym f.journal_is)
             (front_lawful frozen titles (take most_events f.whole) (drop most_events f.whole)
             (subst (λ (j : List Event). Lawful frozen titles j) (sym (take-append-drop most_events f.whole)) whole)),
@@ -169,7 +168,8 @@ module _ (law : (texts : List (List ℕ)) (script : List Line) (names : Declared
   lawful_storm storm = record {
     ran = λ lines rest journal last is h.
         let r = front_run storm lines rest journal last is h in
-        (r.1.sent r.2, law r.0 r.1.script last.names journal last.world r.1.lines r.1.run r.2);
+        let clear = none_strayed r.0 journal last r.1 r.2 in
+        (r.1.sent clear, law r.0 r.1.script last.names journal last.world r.1.lines r.1.run clear);
     filled = λ lines rest line journal made state last is h fills.
         let g = ran_front storm lines (line ∷ rest) journal state is h in
         let c = g.left journal g.room in

@@ -5,18 +5,18 @@ use Rattle.std.proofs.Common.{sym, ◌∙◌, ap, subst}
 use Rattle.std.specs.List.{AllByRecursion}
 use Rattle.std.proofs.lemmas.Slice.Eq.{bytes_eq-Decides}
 use Rattle.osi_script.specs.Commands.{HasLine}
-use Rattle.osi_script.specs.declared.form.Dialect.TheVariants as dialects
+use Rattle.osi_script.specs.Injecting.{HasNoInject, IsNoInjection}
+use Rattle.osi_script.specs.declared.words.Dialect.TheVariants as dialects
 use Rattle.osi_script.specs.declared.line.Line.{Line}
 use Rattle.osi_script.specs.declared.line.Line.TheVariants as lines
 use Rattle.osi_script.proofs.CommandLines.{script_has}
 use Rattle.osi_storm.specs.declared.request.Storm.{Storm}
 use Rattle.script_bench.specs.Claims.{IsLaw}
 use Rattle.script_world.specs.InactiveNets.{InactiveDoes, MakesInactive, link_of_inactive}
-use Rattle.script_world.specs.Transports.{HasNoInject, frozen_of, titles_of}
-use Rattle.script_world.specs.steps.MadeInactive.{inactive_laws}
-use Rattle.script_world.proofs.Headline.{front_lawful, script_lawful}
+use Rattle.script_world.specs.Transports.{frozen_of, titles_of}
+use Rattle.script_world.specs.steps.MadeInactive.{inactive_laws, subset_law}
+use Rattle.script_world.proofs.Headline.{front_lawful, script_lawful, script_unstrayed}
 use Rattle.law_tp4_lawful.specs.Headline.{ReceivesWhatWasSubmitted}
-use Rattle.tp4_world.specs.Laws.{IsNoInjection}
 use Rattle.osi_bench.specs.Kinds.{IsLawfulRun, inactive_acts, kind_named, kind_of}
 use Rattle.osi_bench.specs.Top.{IsStorm, is_decode, is_frames, is_run}
 use Rattle.osi_bench.specs.declared.kinds.Kind.{Kind}
@@ -48,9 +48,9 @@ decode_only (word ∷ []) kind h k = no (subst (λ (w : List ℕ). kind_named w 
 decode_only (word ∷ other ∷ words) kind h k = absurd (cc)
 
 pub storm_only : (words : List (List ℕ)) (kind : Kind) (storm : Storm) → IsStorm words storm → kind_of words ≡ Some kind → ⊥
-storm_only words kind storm h k = no (subst (λ (w : List (List ℕ)). kind_of w ≡ Some kind) h.2 k)
+storm_only words kind storm h k = no (subst (λ (w : List (List ℕ)). kind_of w ≡ Some kind) h.words_are k)
   where
-    no : kind_of (codes "storm" ∷ h.0 ∷ h.1 ∷ []) ≡ Some kind → ⊥
+    no : kind_of (codes "storm" ∷ h.seed ∷ h.count ∷ []) ≡ Some kind → ⊥
     no e = cc
 
 pub same_kind : (found : Option Kind) (one other : Kind) → found ≡ Some one → found ≡ Some other → one ≡ other
@@ -76,6 +76,7 @@ pub inactive_law : ReceivesWhatWasSubmitted link_of_inactive InactiveDoes → Is
 inactive_law law = record {
   runs = λ texts script names journal last says run.
       script_lawful link_of_inactive InactiveDoes MakesInactive dialects.Inactive inactive_laws law texts script names journal last says run
-      (not_injected script (script_has dialects.Inactive texts script names says));
+      (script_unstrayed link_of_inactive InactiveDoes MakesInactive dialects.Inactive inactive_laws subset_law texts script names journal last says run
+      (not_injected script (script_has dialects.Inactive texts script names says)));
   front = λ script before after last lawful. front_lawful (frozen_of last) (titles_of last) before after lawful;
 }

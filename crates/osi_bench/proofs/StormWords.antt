@@ -20,9 +20,10 @@ pub storm_words : {A : Type 0} (f : A → List ℕ) (words : List A) (a b d : A)
     → IfSome read (λ storm. Asks seed count storm) → IfSome read (λ storm. IsStorm (map f words) storm)
 storm_words f words a b d word seed count None least most p q r word-is is seed-is count-is asks = tt
 storm_words f words a b d word seed count (Some storm) least most p q r word-is is seed-is count-is asks =
-    let named : f a ≡ codes "storm" = sym word-is ∙ (bytes_eq-Decides word (codes "storm")).0 is in (
-      seed,
-      count,
-      three f words a b d least most p q r ∙ ap (λ (w : List ℕ). w ∷ f b ∷ f d ∷ []) named ∙ (λ i. codes "storm" ∷ sym seed-is i ∷ sym count-is i ∷ []),
-      asks,
-    )
+    let named : f a ≡ codes "storm" = sym word-is ∙ (bytes_eq-Decides word (codes "storm")).0 is in
+    record {
+      seed = seed;
+      count = count;
+      words_are = three f words a b d least most p q r ∙ ap (λ (w : List ℕ). w ∷ f b ∷ f d ∷ []) named ∙ (λ i. codes "storm" ∷ sym seed-is i ∷ sym count-is i ∷ []);
+      asks = asks;
+    }

@@ -11,7 +11,7 @@ use Rattle.osi_base.specs.declared.status.Status.{Status}
 use Rattle.osi_base.specs.declared.status.Status.TheVariants.{Done, RefusedLine, RefusedWords, ReadFault, WriteFault, NoMemory, RefusedCapture, TooMuch}
 use Rattle.osi_journal.specs.declared.event.Event.{Event}
 use Rattle.osi_script.specs.declared.line.Line.{Line}
-use Rattle.osi_script.specs.declared.fault.LineFault.{LineFault}
+use Rattle.osi_script.specs.declared.cause.LineFault.{LineFault}
 use Rattle.osi_script.specs.Grammar.{Reading, line_read}
 use Rattle.osi_script.specs.Known.{Declared, nothing_declared}
 use Rattle.osi_script.specs.Script.{Says}
@@ -24,8 +24,8 @@ use Rattle.osi_storm.specs.Line.{line_text, set_up_lines}
 use Rattle.osi_storm.specs.Read.{RunsStorms}
 use Rattle.osi_storm.specs.Summary.{summary_line}
 use Rattle.osi_storm.proofs.EachLine.{are_read}
-use Rattle.osi_script.specs.declared.form.Dialect.TheVariants as dialects
-use Rattle.law_run.specs.Bench.{Bench, FillsJournal, RunsLine, first_bench, most_events}
+use Rattle.osi_script.specs.declared.words.Dialect.TheVariants as dialects
+use Rattle.law_run.specs.Bench.{Bench, FillsJournal, RunsText, first_bench, most_events}
 use Rattle.osi_bench.specs.Storm.{AsksSummary, StormFills, StormRuns, SummaryOutcome, as_it_stands, line_after, storm_lines}
 use Rattle.osi_bench.specs.Text.{done_line, toomuch_line}
 use Rattle.osi_bench.specs.steps.Storming.{Fills, Goes, HasJournal, IsKnown, IsReady, Stands}
@@ -60,7 +60,7 @@ few_enough journal size few room = omega arith
 abbrev pub CountsOn : Counts → List Event → Counts → Type 0
 CountsOn counts made after = (journal : List Event) → length journal + length made < 4294967296 → counts ≡ counts_of journal → after ≡ counts_of (journal ++ made)
 
-stands_on : (bench next : Bench) (counts after : Counts) (before made : List Event) (text : List ℕ) → Stands bench counts before → RunsLine bench text made next → CountsOn counts made after
+stands_on : (bench next : Bench) (counts after : Counts) (before made : List Event) (text : List ℕ) → Stands bench counts before → RunsText bench text made next → CountsOn counts made after
     → Stands next after (before ++ made)
 stands_on bench next counts after before made text h runs on =
     let size : length (before ++ made) ≡ length before + length made = length-append before made in
@@ -77,10 +77,10 @@ abbrev pub IsNext : Bench → Counts → List ℕ → (List Event → List ℕ) 
 IsNext bench counts text line = (journal : List Event) → Stands bench counts journal → text ≡ line journal
 
 pub goes_on : (lines : Lines) (line : List Event → List ℕ) (first bench next : Bench) (start counts after : Counts) (text : List ℕ) (made : List Event) → Goes lines first start bench counts
-    → IsNext bench counts text line → RunsLine bench text made next → CountsOn counts made after → Goes (lines ++ line ∷ []) first start next after
+    → IsNext bench counts text line → RunsText bench text made next → CountsOn counts made after → Goes (lines ++ line ∷ []) first start next after
 goes_on lines line first bench next start counts after text made goes is runs on = λ before stands.
     let h = goes before stands in
-    let runs_so : RunsLine bench (line h.0) made next = subst (λ (t : List ℕ). RunsLine bench t made next) (is h.0 h.1) runs in
+    let runs_so : RunsText bench (line h.0) made next = subst (λ (t : List ℕ). RunsText bench t made next) (is h.0 h.1) runs in
     (h.0 ++ made, stands_on bench next counts after h.0 made text h.1 runs on, runs_on lines (line ∷ []) first bench next before h.0 (h.0 ++ made) h.2 (made, next, runs_so, (refl, refl)))
 
 pub none_goes : (first : Bench) (start : Counts) → Goes [] first start first start
@@ -124,7 +124,7 @@ rest_says text texts names after last line (first ∷ script) h read =
     let same : h.0 ≡ after = one_reading (line_read names text) (record { line = first; names = h.0 }) (record { line = line; names = after }) h.1 read in
     (script, subst (λ (n : Declared). Says n texts script last) same h.2)
 
-pub rest_left : (text : List ℕ) (texts : List (List ℕ)) (old new : Bench) (made : List Event) → AreLeft (text ∷ texts) old.names → RunsLine old text made new → AreLeft texts new.names
+pub rest_left : (text : List ℕ) (texts : List (List ℕ)) (old new : Bench) (made : List Event) → AreLeft (text ∷ texts) old.names → RunsText old text made new → AreLeft texts new.names
 rest_left text texts old new made h runs =
     let r = rest_says text texts old.names new.names h.last runs.line h.script h.says runs.meaning in
     record { script = r.0; last = h.last; says = r.1; ready = h.ready }
@@ -164,7 +164,7 @@ is_at f items texts place other text all below is =
     subst (λ (ts : List (List ℕ)). IsAt ts place text) all (record { front = front; rest = rest })
 
 pub goes_texts : (texts : List (List ℕ)) (place : ℕ) (text : List ℕ) (first bench next : Bench) (start counts after : Counts) (made : List Event) → IsAt texts place text
-    → Goes (map as_it_stands (take place texts)) first start bench counts → RunsLine bench text made next → CountsOn counts made after
+    → Goes (map as_it_stands (take place texts)) first start bench counts → RunsText bench text made next → CountsOn counts made after
     → Goes (map as_it_stands (take (place + 1) texts)) first start next after
 goes_texts texts place text first bench next start counts after made here goes runs on =
     let same : map as_it_stands (take (place + 1) texts) ≡ map as_it_stands (take place texts) ++ as_it_stands text ∷ [] =
@@ -185,7 +185,7 @@ fills_texts texts place text first bench last start counts made here goes fills 
 pub known_at : (texts : List (List ℕ)) (place : ℕ) (text : List ℕ) (names : Declared) → IsAt texts place text → AreLeft (drop place texts) names → IsKnown names text
 known_at texts place text names here left = first_known text (drop (place + 1) texts) names (subst (λ (ts : List (List ℕ)). AreLeft ts names) here.rest left)
 
-pub left_at : (texts : List (List ℕ)) (place : ℕ) (text : List ℕ) (old new : Bench) (made : List Event) → IsAt texts place text → AreLeft (drop place texts) old.names → RunsLine old text made new
+pub left_at : (texts : List (List ℕ)) (place : ℕ) (text : List ℕ) (old new : Bench) (made : List Event) → IsAt texts place text → AreLeft (drop place texts) old.names → RunsText old text made new
     → AreLeft (drop (place + 1) texts) new.names
 left_at texts place text old new made here left runs = rest_left text (drop (place + 1) texts) old new made (subst (λ (ts : List (List ℕ)). AreLeft ts old.names) here.rest left) runs
 
@@ -229,7 +229,7 @@ ready_known bench counts word text ready has is =
     record { line = r.0; after = bench.names; meaning = ap (λ (t : List ℕ). line_read bench.names t) is ∙ r.1 }
 
 pub ready_on : (bench next : Bench) (counts : Counts) (word : ℕ) (text : List ℕ) (made : List Event) → IsReady bench.names → HasJournal bench counts → text ≡ line_text word counts.frames counts.ends
-    → RunsLine bench text made next → IsReady next.names
+    → RunsText bench text made next → IsReady next.names
 ready_on bench next counts word text made ready has is runs =
     let r = ready_read bench.names bench counts word ready has in
     let one : line_read bench.names text ≡ Ok (record { line = r.0; names = bench.names }) = ap (λ (t : List ℕ). line_read bench.names t) is ∙ r.1 in
@@ -240,7 +240,7 @@ ready_on bench next counts word text made ready has is runs =
 pub word_next : (bench : Bench) (counts : Counts) (word : ℕ) (text : List ℕ) → text ≡ line_text word counts.frames counts.ends → IsNext bench counts text (line_after word)
 word_next bench counts word text is = λ journal stands. is ∙ ap (λ (c : Counts). line_text word c.frames c.ends) stands.counted
 
-pub journal_on : (bench next : Bench) (counts after : Counts) (text : List ℕ) (made : List Event) → HasJournal bench counts → RunsLine bench text made next → CountsOn counts made after → HasJournal next after
+pub journal_on : (bench next : Bench) (counts after : Counts) (text : List ℕ) (made : List Event) → HasJournal bench counts → RunsText bench text made next → CountsOn counts made after → HasJournal next after
 journal_on bench next counts after text made has runs on = (has.0 ++ made, stands_on bench next counts after has.0 made text has.1 runs on)
 
 -- the words so far and those that are left
@@ -309,9 +309,9 @@ too_much_asked storm first start old new fresh none fills empty is =
 
 summary_cut : (storm : Storm) (text front : List ℕ) (end status : Status) → AsksSummary storm text end → (status ≡ WriteFault) ⊎ (status ≡ NoMemory) → IsPrefix front text → SummaryOutcome storm front status
 summary_cut storm text front end status asked (inl is) begins =
-    subst (λ (s : Status). SummaryOutcome storm front s) (sym is) (record { text = text; status = end; asked = asked; cut = begins })
+    subst (λ (s : Status). SummaryOutcome storm front s) (sym is) (record { front = []; text = text; status = end; begins = ([], refl); asked = asked; cut = begins })
 summary_cut storm text front end status asked (inr is) begins =
-    subst (λ (s : Status). SummaryOutcome storm front s) (sym is) (inr (record { text = text; status = end; asked = asked; cut = begins }))
+    subst (λ (s : Status). SummaryOutcome storm front s) (sym is) (record { front = []; text = text; status = end; begins = ([], refl); asked = asked; cut = begins })
 
 asked_outcome : (storm : Storm) (text : List ℕ) (status : Status) → AsksSummary storm text status → SummaryOutcome storm text status
 asked_outcome storm text Done h = h

@@ -9,7 +9,7 @@ use Rattle.lan_bag.specs.Bag.{Bag}
 use Rattle.inactive_step.specs.Network.{Inactive}
 use Rattle.osi_journal.specs.declared.event.Event.{Event}
 use Rattle.osi_journal.specs.Lawful.{Lawful}
-use Rattle.osi_script.specs.declared.form.Dialect.TheVariants as dialects
+use Rattle.osi_script.specs.declared.words.Dialect.TheVariants as dialects
 use Rattle.osi_script.specs.declared.line.Line.{Line}
 use Rattle.script_bench.specs.Acts.{Acts}
 use Rattle.script_bench.specs.Bench.{bench_meaning, first_bench}

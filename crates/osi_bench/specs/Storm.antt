@@ -1,18 +1,19 @@
 -- The run of a generated script: each line is made by what the journal of the lines before it counts.
 use Rattle.std.specs.Prelude.{◌≡◌, ◌⊎◌, ℕ, List, [], ◌∷◌, ◌++◌, map}
-use Rattle.line_loop.specs.Writing.{IsPrefix}
+use Rattle.octet_loop.specs.ByStatus as by_status
 use Rattle.osi_base.specs.declared.status.Status.{Status}
 use Rattle.osi_base.specs.declared.status.Status.TheVariants.{Done, RefusedLine, RefusedWords, ReadFault, WriteFault, NoMemory, RefusedCapture, TooMuch}
 use Rattle.osi_journal.specs.declared.event.Event.{Event}
+use Rattle.osi_script.specs.Injecting.{HasNoInject}
 use Rattle.osi_storm.specs.declared.request.Storm.{Storm}
 use Rattle.osi_storm.specs.Counted.{counts_of}
 use Rattle.osi_storm.specs.Line.{set_up_lines, line_text}
 use Rattle.osi_storm.specs.Summary.{summary_line}
 use Rattle.osi_storm.specs.Words.{words}
-use Rattle.law_run.specs.Bench.{Bench, RunsLine, FillsJournal, first_bench}
+use Rattle.law_run.specs.Bench.{Bench, RunsText, FillsJournal, first_bench}
 use Rattle.osi_bench.specs.Text.{done_line, toomuch_line}
 use Rattle.law_run.specs.Transcript.{IsScriptRun}
-use Rattle.law_run.specs.World.{HasNoInject, frozen_of, life_of, titles_of}
+use Rattle.law_run.specs.World.{frozen_of, life_of, titles_of}
 use Rattle.osi_journal.specs.Lawful.{Lawful}
 use Rattle.osi_journal.specs.RawLawful.{RawLawful}
 
@@ -32,14 +33,14 @@ storm_lines storm = map as_it_stands set_up_lines ++ map line_after (words storm
 abbrev pub StormRuns : Bench → List Event → List (List Event → List ℕ) → List Event → Bench → Type 0
 StormRuns first before [] journal last = (journal ≡ before) × (last ≡ first)
 StormRuns first before (line ∷ lines) journal last =
-    (made : List Event) × (middle : Bench) × RunsLine first (line before) made middle × StormRuns middle (before ++ made) lines journal last
+    (made : List Event) × (middle : Bench) × RunsText first (line before) made middle × StormRuns middle (before ++ made) lines journal last
 
 -- the lines run one after another up to one that fills the journal
 abbrev pub StormFills : Bench → List Event → List (List Event → List ℕ) → Type 0
 StormFills first before [] = ⊥
 StormFills first before (line ∷ lines) =
     ((made : List Event) × (last : Bench) × FillsJournal first (line before) made last)
-    ⊎ ((made : List Event) × (middle : Bench) × RunsLine first (line before) made middle × StormFills middle (before ++ made) lines)
+    ⊎ ((made : List Event) × (middle : Bench) × RunsText first (line before) made middle × StormFills middle (before ++ made) lines)
 
 -- what a generated script asks for, by how its run ends: the counts of its journal, or that a line fills the journal
 abbrev pub AsksSummary : Storm → List ℕ → Status → Type 0
@@ -62,23 +63,12 @@ pub record AsksSomeSummary (storm : Storm) : Type 0 where
 abbrev pub AsksOneSummary : Type 0
 AsksOneSummary = (storm : Storm) (text other : List ℕ) (status next : Status) → AsksSummary storm text status → AsksSummary storm other next → (status ≡ next) × (text ≡ other)
 
--- a front of what a generated script asks for
-pub record IsCutSummary (storm : Storm) (written : List ℕ) : Type 0 where
-  pub text : List ℕ
-  pub status : Status
-  pub asked : AsksSummary storm text status
-  pub cut : IsPrefix written text
+-- what was written, by the status: the definitions that every command has, for a generated script, of which nothing is read
+abbrev pub IsCutSummary : Storm → List ℕ → Type 0
+IsCutSummary storm = by_status.IsCut (λ end read. AsksSummary storm) (Unit {0}) []
 
--- what was written is what the generated script asks for, or where a write or memory failed a front of that
 abbrev pub SummaryOutcome : Storm → List ℕ → Status → Type 0
-SummaryOutcome storm written Done = AsksSummary storm written Done
-SummaryOutcome storm written TooMuch = AsksSummary storm written TooMuch
-SummaryOutcome storm written WriteFault = IsCutSummary storm written
-SummaryOutcome storm written NoMemory = (written ≡ []) ⊎ IsCutSummary storm written
-SummaryOutcome storm written RefusedLine = ⊥
-SummaryOutcome storm written ReadFault = ⊥
-SummaryOutcome storm written RefusedWords = ⊥
-SummaryOutcome storm written RefusedCapture = ⊥
+SummaryOutcome storm = by_status.Outcome (λ end read. AsksSummary storm) (Unit {0}) []
 
 -- each raw unit that is shown was sent, and each end shows what its partner submitted
 abbrev pub IsLawfulRun : Bench → List Event → Type 0

@@ -104,6 +104,9 @@ pub fn run_kind<S: Source, K: Sink>(
     // A failed read ends the run: no other status comes after it, and no further read.
     ensures no_read_fault { result ≢ Status.ReadFault → S.faults source.new ≡ S.faults source.old }
     ensures one_read_fault { S.faults source.new ≤ S.faults source.old + 1 }
+    // So does a failed write: no other status comes after it, and no further write.
+    ensures no_write_fault { result ≢ Status.WriteFault → K.faults sink.new ≡ K.faults sink.old }
+    ensures one_write_fault { K.faults sink.new ≤ K.faults sink.old + 1 }
     // A fault comes only where its count rose in this call, or stands at its last value.
     ensures read_fault { result ≡ Status.ReadFault → HasRisen (S.faults source.old) (S.faults source.new) }
     ensures write_fault { result ≡ Status.WriteFault → HasRisen (K.faults sink.old) (K.faults sink.new) }

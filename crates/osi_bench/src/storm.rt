@@ -1,13 +1,13 @@
 //! A generated script, run on the bench, and the summary of its journal.
 
-ghost use Rattle.std.specs.Prelude.{◌≡◌, ◌+◌, ◌<◌, ◌≤◌, ◌++◌, [], ℕ, List, length, map, OnOk, IfOk, IsErrOf};
+ghost use Rattle.std.specs.Prelude.{◌≡◌, ◌≢◌, ◌+◌, ◌<◌, ◌≤◌, ◌++◌, [], ℕ, List, length, map, OnOk, IfOk, IsErrOf};
 ghost use Rattle.line_loop.specs.Lines.{most_lines};
 ghost use Rattle.osi_base.specs.Ends.{HasRisen, Put};
 ghost use Rattle.osi_journal.specs.declared.event.Event.{Event as JournalEvent};
 ghost use Rattle.osi_storm.specs.Counted.{counts_of};
 ghost use Rattle.osi_storm.specs.Line.{set_up_lines};
 ghost use Rattle.osi_storm.specs.Words.{words};
-ghost use Rattle.law_run.specs.Bench.{Bench as BenchState, FillsJournal, RunsLine, first_bench};
+ghost use Rattle.law_run.specs.Bench.{Bench as BenchState, FillsJournal, RunsText, first_bench};
 ghost use Rattle.osi_bench.specs.Storm.{AsksSummary, SummaryOutcome, as_it_stands, line_after, storm_lines};
 ghost use Rattle.osi_bench.specs.steps.Storming.{Fills, Goes, HasJournal, IsKnown, IsReady};
 
@@ -92,7 +92,7 @@ impl Rig {
     fn run_line(&mut self, text: &[u8]) -> Result<(), Stop>
         requires lines { self.old.bench.lines < most_lines }
         requires known { IsKnown self.old.bench.names text.now }
-        ensures ok { OnOk result (RunsLine self.old.bench text.now self.new.events.items self.new.bench) }
+        ensures ok { OnOk result (RunsText self.old.bench text.now self.new.events.items self.new.bench) }
         ensures counts { OnOk result ((journal : List JournalEvent) → length journal + length self.new.events.items < 4294967296 → self.old.counts ≡ counts_of journal
             → self.new.counts ≡ counts_of (journal ++ self.new.events.items)) }
         ensures full { IsErrOf result Stop.Full → (made : List JournalEvent) × (last : BenchState) × FillsJournal self.old.bench text.now made last }
@@ -114,6 +114,8 @@ pub fn write_storm<K: Sink>(alloc: Global, storm: Storm, sink: &mut K) -> Status
     requires { storm.count ≤ 20000 }
     // What was written is the summary, as the status says.
     ensures storm { (written : List ℕ) × Put (K.held sink.old) written (K.held sink.new) × SummaryOutcome storm written result }
+    ensures no_write_fault { result ≢ Status.WriteFault → K.faults sink.new ≡ K.faults sink.old }
+    ensures one_write_fault { K.faults sink.new ≤ K.faults sink.old + 1 }
     ensures write_fault { result ≡ Status.WriteFault → HasRisen (K.faults sink.old) (K.faults sink.new) }
 {
     let mut out = Vec::new(alloc);

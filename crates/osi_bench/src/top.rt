@@ -140,9 +140,12 @@ pub fn osi<S: Source, K: Sink>(
         → (S.left source.new ≡ S.left source.old) × IsWritten K.held sink.old usage_line Status.RefusedWords sink.new result }
     // One read asks for no more than 4,096 octets.
     ensures asked { S.asked source.new ≤ max (S.asked source.old) most_read }
-    // A failed read ends the run: no status but ReadFault or NoMemory comes after it, and no further read.
-    ensures no_read_fault { result ≢ Status.ReadFault → result ≢ Status.NoMemory → S.faults source.new ≡ S.faults source.old }
+    // A failed read ends the run: no other status comes after it, and no further read.
+    ensures no_read_fault { result ≢ Status.ReadFault → S.faults source.new ≡ S.faults source.old }
     ensures one_read_fault { S.faults source.new ≤ S.faults source.old + 1 }
+    // So does a failed write: no other status comes after it, and no further write.
+    ensures no_write_fault { result ≢ Status.WriteFault → K.faults sink.new ≡ K.faults sink.old }
+    ensures one_write_fault { K.faults sink.new ≤ K.faults sink.old + 1 }
     // A fault comes only where its count rose in this call, or stands at its last value.
     ensures read_fault { result ≡ Status.ReadFault → HasRisen (S.faults source.old) (S.faults source.new) }
     ensures write_fault { result ≡ Status.WriteFault → HasRisen (K.faults sink.old) (K.faults sink.new) }
@@ -213,6 +216,8 @@ fn storm_of(words: &[String]) -> Option<Storm>
 fn refuse_words<K: Sink>(sink: &mut K) -> Status
     ensures written { IsWritten K.held sink.old usage_line Status.RefusedWords sink.new result }
     ensures faults_stay { K.faults sink.old ≤ K.faults sink.new }
+    ensures no_write_fault { result ≢ Status.WriteFault → K.faults sink.new ≡ K.faults sink.old }
+    ensures one_write_fault { K.faults sink.new ≤ K.faults sink.old + 1 }
     ensures write_fault { result ≡ Status.WriteFault → HasRisen (K.faults sink.old) (K.faults sink.new) }
 {
     write_last(sink, usage(), Status::RefusedWords)

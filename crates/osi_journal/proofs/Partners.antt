@@ -1,5 +1,5 @@
 -- An end has one partner: one event makes the end, so the request and the indication of a connection are those of both its ends.
-use Rattle.std.proofs.Common.{◌≡◌, ◌⊎◌, inl, inr, ℕ, ◌<◌, List, slice_get, Some, sym, ◌∙◌, ap, subst, arith}
+use Rattle.std.proofs.Common.{◌≡◌, inl, inr, ℕ, List, sym, ◌∙◌, ap, subst}
 use Rattle.std.proofs.lemmas.Bool.{cases_order}
 use Rattle.osi_journal.specs.Lawful.{IsLatest, Partner, AreEnds, ArePartners, AreQueues}
 use Rattle.osi_journal.specs.declared.event.Event.{Event}
@@ -8,7 +8,7 @@ use Rattle.osi_journal.specs.declared.event.Indication.{Indication}
 use Rattle.osi_journal.specs.declared.event.Request.{Request}
 
 module _ (titles : List (List ℕ)) (journal : List Event) (queues : AreQueues titles journal) where
-  one_latest : (p q other : ℕ) (calling : List ℕ) (reference : ℕ) (asked again : Request) → IsLatest journal p q calling reference asked → IsLatest journal p other calling reference again → q ≡ other
+  pub one_latest : (p q other : ℕ) (calling : List ℕ) (reference : ℕ) (asked again : Request) → IsLatest journal p q calling reference asked → IsLatest journal p other calling reference again → q ≡ other
   one_latest p q other calling reference asked again a b = elim (cases_order q other) [
     | inl same ↦ same
     | inr (inl below) ↦ absurd (a.last other again below b.before b.is b.from b.by)

@@ -9,7 +9,7 @@ use std::alloc::Global;
 use std::marker::Model;
 
 /// The most events of a transcript.
-const EVENTS: usize = 4_194_304;
+const MOST_EVENTS: usize = 4_194_304;
 
 /// Why an event is not taken.
 #[derive(Clone, Copy)]
@@ -62,7 +62,7 @@ impl Journal {
         ensures full { IsErrOf result Full ↔ (length self.old ≡ 4194304) }
         ensures err { OnErr result (self.new ≡ self.old) }
     {
-        if self.events.len() == EVENTS {
+        if self.events.len() == MOST_EVENTS {
             return Err(JournalRefusal::Full);
         }
         match self.events.push(event) {

@@ -6,6 +6,7 @@ ghost use Rattle.osi_journal.specs.Told.{journal_text};
 ghost use Rattle.osi_journal.specs.Injective.{EachTold};
 ghost use Rattle.osi_journal.specs.Lawful.{ArePartners, Lawful};
 ghost use Rattle.osi_journal.specs.RawLawful.{RawLawful};
+ghost use Rattle.osi_journal.specs.Showing.{EachTellsRightly};
 ghost use Rattle.osi_journal.specs.declared.event.Event.{Event};
 
 /// For given names no two lists of events have one text.
@@ -24,4 +25,10 @@ pub fn fronts_are_lawful()
 pub fn one_partner()
     ensures { (frozen : ℕ) (titles : List (List ℕ)) (journal : List Event) (end one other : ℕ) → Lawful frozen titles journal → ArePartners journal end one → ArePartners journal end other
         → one ≡ other }
+{}
+
+/// In a lawful journal each unit that an end shows is the next one, of its mark, of those that its partner was asked to send before; and a
+/// connect indication says what the latest request before it, with its calling address and reference, says.
+pub fn shown_is_next()
+    ensures { (frozen : ℕ) (titles : List (List ℕ)) (journal : List Event) → Lawful frozen titles journal → EachTellsRightly titles journal }
 {}

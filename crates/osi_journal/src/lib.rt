@@ -3,21 +3,21 @@
 
 mod boxed;
 mod cause;
-mod datagrams;
-mod ends;
+mod cause_words;
+mod common_lines;
+mod datagram_lines;
+mod end_lines;
 mod event;
-mod fields;
+mod frequent_fields;
 mod journal;
 mod laws;
-mod networks;
-mod pieces;
-mod shapes;
+mod line_fields;
+mod network_lines;
 mod text;
-mod words;
 
 pub use boxed::Boxed;
 pub use cause::{GoneCause, Refused, Settled, Standing, TpduCause, TpduKind, UdCause};
 pub use event::{Event, Indication, Request};
 pub use journal::{Journal, JournalRefusal};
-pub use laws::{fronts_are_lawful, one_partner, text_is_injective};
+pub use laws::{fronts_are_lawful, one_partner, shown_is_next, text_is_injective};
 pub use text::write_event;

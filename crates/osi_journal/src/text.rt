@@ -5,18 +5,18 @@ ghost use Rattle.osi_script.specs.Tags.{tags_of};
 ghost use Rattle.osi_journal.specs.Told.{event_text};
 
 use crate::cause::Settled;
-use crate::datagrams::{write_bad_ud, write_datagram, write_send};
-use crate::ends::{
+use crate::cause_words::{drop_piece, hello_cause_piece, tpdu_piece};
+use crate::common_lines::{
+    write_answer, write_count, write_marked, write_octets, write_place, write_raw, write_system,
+    write_told,
+};
+use crate::datagram_lines::{write_bad_ud, write_datagram, write_send};
+use crate::end_lines::{
     write_agreed, write_connect, write_gone, write_held, write_incoming, write_joined,
     write_refused, write_window,
 };
 use crate::event::Event;
-use crate::networks::{write_bad_tpdu, write_frame, write_hello, write_redirect};
-use crate::shapes::{
-    write_answer, write_count, write_marked, write_octets, write_place, write_raw, write_system,
-    write_told,
-};
-use crate::words::{drop_piece, hello_cause_piece, tpdu_piece};
+use crate::network_lines::{write_bad_tpdu, write_frame, write_hello, write_redirect};
 use osi_base::NoMemory;
 use osi_script::Names;
 

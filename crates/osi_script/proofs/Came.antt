@@ -1,14 +1,14 @@
 -- Where a line that is read comes from: from nothing, or from the fields of a word, with no limit passed.
 use Rattle.std.proofs.Common.{◌≡◌, ℕ, ◌+◌, Bool, true, false, List, [], ◌∷◌, length, Some, None, refl, sym}
 use Rattle.std.specs.Prelude.{Option, Result, Ok, Err, if◌then◌else◌}
-use Rattle.osi_script.specs.declared.fault.LineCause.{LineCause}
-use Rattle.osi_script.specs.declared.fault.LineCause.TheVariants as causes
-use Rattle.osi_script.specs.declared.fault.LineFault.{LineFault}
-use Rattle.osi_script.specs.declared.form.Dialect.{Dialect}
-use Rattle.osi_script.specs.declared.form.Word.{Word}
-use Rattle.osi_script.specs.declared.form.Word.TheVariants as words
+use Rattle.osi_script.specs.declared.cause.LineCause.{LineCause}
+use Rattle.osi_script.specs.declared.cause.LineCause.TheVariants as causes
+use Rattle.osi_script.specs.declared.cause.LineFault.{LineFault}
+use Rattle.osi_script.specs.declared.words.Dialect.{Dialect}
+use Rattle.osi_script.specs.declared.words.Word.{Word}
+use Rattle.osi_script.specs.declared.words.Word.TheVariants as words
 use Rattle.osi_script.specs.declared.line.Line.TheVariants as lines
-use Rattle.osi_script.specs.declared.parts.Parts.{Parts}
+use Rattle.osi_script.specs.declared.field_values.FieldValues.{FieldValues}
 use Rattle.osi_script.specs.Field.{fields_of}
 use Rattle.osi_script.specs.Known.{Declared, no_parts}
 use Rattle.osi_script.specs.Table.{row_of, word_of}
@@ -55,15 +55,15 @@ IsWordOf dialect word = (field : List ℕ) × (word_of dialect field ≡ Some wo
 -- where a reading comes from
 pub data Came (names : Declared) (reading : Reading) : Type 0 where
   Idle : reading ≡ record { line = lines.Nothing; names = names } → Came names reading
-  Worded : (word : Word) (parts : Parts) → IsWordOf names.dialect word → AllGood names (onto (row_of word).fields []) parts
+  Worded : (word : Word) (parts : FieldValues) → IsWordOf names.dialect word → AllGood names (onto (row_of word).fields []) parts
       → reading ≡ record { line = line_for (next_number names (row_of word).effect) word parts; names = declared_by names (row_of word).effect parts } → Came names reading
 
-limited : (names : Declared) (word : Word) (parts : Parts) (limit : Option LineCause) (reading : Reading) → IsWordOf names.dialect word → with_limit names word parts limit ≡ Ok reading
+limited : (names : Declared) (word : Word) (parts : FieldValues) (limit : Option LineCause) (reading : Reading) → IsWordOf names.dialect word → with_limit names word parts limit ≡ Ok reading
     → AllGood names (onto (row_of word).fields []) parts → Came names reading
 limited names word parts (Some cause) reading its is g = absurd (cc)
 limited names word parts None reading its is g = Worded word parts its g (sym (ok_same _ reading is))
 
-whole : (names : Declared) (word : Word) (past column : ℕ) (fields : List (List ℕ)) (read : Result Parts LineFault) (reading : Reading) → IsWordOf names.dialect word
+whole : (names : Declared) (word : Word) (past column : ℕ) (fields : List (List ℕ)) (read : Result FieldValues LineFault) (reading : Reading) → IsWordOf names.dialect word
     → count_fault past column (row_of word).fields fields ≡ None → fields_read names no_parts column (row_of word).fields fields ≡ read
     → whole_read names word read ≡ Ok reading → Came names reading
 whole names word past column fields (Err found) reading its count is i = absurd (cc)

@@ -2,14 +2,14 @@
 use Rattle.std.proofs.Common.{◌≡◌, ℕ, Bool, true, false, List, [], ◌∷◌, Some, refl, sym, ◌∙◌, ap, subst}
 use Rattle.std.specs.Prelude.{Ok, find, if◌then◌else◌}
 use Rattle.std.specs.List.{AllByRecursion}
-use Rattle.osi_script.specs.declared.form.Dialect.{Dialect}
-use Rattle.osi_script.specs.declared.form.Dialect.TheVariants as dialects
-use Rattle.osi_script.specs.declared.form.Effect.{Effect}
-use Rattle.osi_script.specs.declared.form.Effect.TheVariants as effects
-use Rattle.osi_script.specs.declared.form.Word.{Word}
+use Rattle.osi_script.specs.declared.words.Dialect.{Dialect}
+use Rattle.osi_script.specs.declared.words.Dialect.TheVariants as dialects
+use Rattle.osi_script.specs.declared.words.Effect.{Effect}
+use Rattle.osi_script.specs.declared.words.Effect.TheVariants as effects
+use Rattle.osi_script.specs.declared.words.Word.{Word}
 use Rattle.osi_script.specs.declared.line.Line.{Line}
 use Rattle.osi_script.specs.declared.line.Line.TheVariants as lines
-use Rattle.osi_script.specs.declared.parts.Parts.{Parts}
+use Rattle.osi_script.specs.declared.field_values.FieldValues.{FieldValues}
 use Rattle.osi_script.specs.Commands.{HasLine}
 use Rattle.osi_script.specs.Field.{is_word}
 use Rattle.osi_script.specs.Grammar.{Reading, declared_by, line_for, line_read, next_number}
@@ -27,7 +27,7 @@ found_among P test (first ∷ all) word each is = by (found_among P test all wor
     by rest true i = let same : first ≡ word = cc in subst P same each.0
     by rest false i = rest i
 
-each_has : (dialect : Dialect) (number : ℕ) (parts : Parts) → AllByRecursion (λ word. HasLine dialect (line_for number word parts)) (words_of dialect)
+each_has : (dialect : Dialect) (number : ℕ) (parts : FieldValues) → AllByRecursion (λ word. HasLine dialect (line_for number word parts)) (words_of dialect)
 each_has dialects.Run number parts = (tt, (tt, (tt, (tt, (tt, (tt, (tt, (tt, (tt, (tt, (tt, (tt, (tt, (tt, (tt, (tt, (tt, (tt, (tt, (tt, (tt, (tt, (tt, tt)))))))))))))))))))))))
 each_has dialects.Datagrams number parts = (tt, (tt, (tt, (tt, (tt, (tt, (tt, (tt, (tt, (tt, (tt, (tt, (tt, tt)))))))))))))
 each_has dialects.Inactive number parts = (tt, (tt, (tt, (tt, (tt, (tt, (tt, (tt, (tt, (tt, (tt, (tt, (tt, (tt, (tt, (tt, (tt, tt)))))))))))))))))
@@ -39,11 +39,11 @@ idle_has dialects.Datagrams = tt
 idle_has dialects.Inactive = tt
 idle_has dialects.Relay = tt
 
-word_has : (dialect : Dialect) (number : ℕ) (word : Word) (parts : Parts) → IsWordOf dialect word → HasLine dialect (line_for number word parts)
+word_has : (dialect : Dialect) (number : ℕ) (word : Word) (parts : FieldValues) → IsWordOf dialect word → HasLine dialect (line_for number word parts)
 word_has dialect number word parts its =
     found_among (λ w. HasLine dialect (line_for number w parts)) (λ w. is_word (row_of w).text its.0) (words_of dialect) word (each_has dialect number parts) its.1
 
-declared_stays : (names : Declared) (effect : Effect) (parts : Parts) → (declared_by names effect parts).dialect ≡ names.dialect
+declared_stays : (names : Declared) (effect : Effect) (parts : FieldValues) → (declared_by names effect parts).dialect ≡ names.dialect
 declared_stays names effects.Nothing parts = refl
 declared_stays names effects.Version parts = refl
 declared_stays names effects.Setting parts = refl

@@ -4,13 +4,13 @@ use Rattle.std.proofs.Common.{◌≡◌, ℕ, ◌+◌, ◌<◌, Bool, true, fals
 use Rattle.std.specs.Prelude.{◌==◌, ◌&&◌, not, Option, Result, Ok, Err, is_some, position, if◌then◌else◌, codes}
 use Rattle.std.proofs.lemmas.Bool.Decides.{nat_tests}
 use Rattle.std.proofs.lemmas.List.Quantifiers.{position-Some}
-use Rattle.osi_script.specs.declared.fault.LineCause.{LineCause}
-use Rattle.osi_script.specs.declared.fault.LineCause.TheVariants as causes
-use Rattle.osi_script.specs.declared.form.Form.{Form}
-use Rattle.osi_script.specs.declared.form.Form.TheVariants as forms
-use Rattle.osi_script.specs.declared.form.Named.TheVariants as named
-use Rattle.osi_script.specs.declared.form.Plain.TheVariants as plain
-use Rattle.osi_script.specs.declared.parts.Parts.{Parts}
+use Rattle.osi_script.specs.declared.cause.LineCause.{LineCause}
+use Rattle.osi_script.specs.declared.cause.LineCause.TheVariants as causes
+use Rattle.osi_script.specs.declared.words.FieldKind.{FieldKind}
+use Rattle.osi_script.specs.declared.words.FieldKind.TheVariants as forms
+use Rattle.osi_script.specs.declared.words.NameKind.TheVariants as named
+use Rattle.osi_script.specs.declared.words.WordKind.TheVariants as plain
+use Rattle.osi_script.specs.declared.field_values.FieldValues.{FieldValues}
 use Rattle.osi_script.specs.Field.{is_word, is_name}
 use Rattle.osi_script.specs.Gives.{into, then_read}
 use Rattle.osi_script.specs.Known.{Declared, system_at, lan_at, path_at, is_end}
@@ -21,11 +21,11 @@ use Rattle.osi_script.proofs.Places.{Place, Fact, AtSystem, AtOther, AtLan, AtWi
 
 -- ---- what a name gives
 
-through : {A B : Type 0} (read : Result A LineCause) (put : A → Parts) (see : Parts → B) (seen : B) (more : Parts) → ((value : A) → see (put value) ≡ seen) → into read put ≡ Ok more → see more ≡ seen
+through : {A B : Type 0} (read : Result A LineCause) (put : A → FieldValues) (see : FieldValues → B) (seen : B) (more : FieldValues) → ((value : A) → see (put value) ≡ seen) → into read put ≡ Ok more → see more ≡ seen
 through (Ok value) put see seen more all is = (let here : put value ≡ more = cc in ap see (sym here)) ∙ all value
 through (Err cause) put see seen more all is = absurd (cc)
 
-given : {A : Type 0} (P : A → Type 0) (see : Parts → A) (read : Result A LineCause) (put : A → Parts) (more : Parts)
+given : {A : Type 0} (P : A → Type 0) (see : FieldValues → A) (read : Result A LineCause) (put : A → FieldValues) (more : FieldValues)
     → ((value : A) → see (put value) ≡ value) → ((value : A) → read ≡ Ok value → P value) → into read put ≡ Ok more → P (see more)
 given P see (Ok value) put more back each is =
     let here : put value ≡ more = cc in subst P (sym (back value) ∙ ap see here) (each value refl)
@@ -142,16 +142,16 @@ fresh_there find field name is =
 
 -- ---- a field, and all fields
 
-record Fills (names : Declared) (fact : Fact) (place : Place) (old new : Parts) : Type 0 where
+record Fills (names : Declared) (fact : Fact) (place : Place) (old new : FieldValues) : Type 0 where
   good : Good names fact new
   keeps : rest_of place new ≡ rest_of place old
 
-fills : (names : Declared) (old : Parts) (form : Form) (field : List ℕ) (new : Parts) → field_read names old form field ≡ Ok new → Fills names (fact_of form) (place_of form) old new
+fills : (names : Declared) (old : FieldValues) (form : FieldKind) (field : List ℕ) (new : FieldValues) → field_read names old form field ≡ Ok new → Fills names (fact_of form) (place_of form) old new
 fills names old (forms.Named named.System) field new is = record { good = given (IsSystem names) (λ parts. parts.system) _ _ new (λ v. refl) (system_there names field) is; keeps = through _ _ (rest_of AtSystem) _ new (λ v. refl) is }
 fills names old (forms.Named named.EndSystem) field new is = record { good = given (IsEndSystem names) (λ parts. parts.system) _ _ new (λ v. refl) (end_there names field) is; keeps = through _ _ (rest_of AtSystem) _ new (λ v. refl) is }
 fills names old (forms.Named named.To) field new is = record { good = given (IsEndSystem names) (λ parts. parts.other) _ _ new (λ v. refl) (end_there names field) is; keeps = through _ _ (rest_of AtOther) _ new (λ v. refl) is }
 fills names old (forms.Named named.Other) field new is = record {
-  good = subst (λ (own : ℕ). IsOtherEnd names own new.other) (sym (through _ _ (λ (parts : Parts). parts.system) _ new (λ v. refl) is))
+  good = subst (λ (own : ℕ). IsOtherEnd names own new.other) (sym (through _ _ (λ (parts : FieldValues). parts.system) _ new (λ v. refl) is))
       (given (IsOtherEnd names old.system) (λ parts. parts.other) _ _ new (λ v. refl) (other_there names old.system field) is);
   keeps = through _ _ (rest_of AtOther) _ new (λ v. refl) is;
 }
@@ -183,29 +183,29 @@ fills names old forms.Selector field new is = record { good = tt; keeps = throug
 fills names old forms.Called field new is = record { good = tt; keeps = through _ _ (rest_of Elsewhere) _ new (λ v. refl) is }
 fills names old forms.Octets field new is = record { good = tt; keeps = through _ _ (rest_of Elsewhere) _ new (λ v. refl) is }
 
-abbrev pub AllGood : Declared → List Form → Parts → Type 0
+abbrev pub AllGood : Declared → List FieldKind → FieldValues → Type 0
 AllGood names [] parts = Unit {0}
 AllGood names (form ∷ forms) parts = Good names (fact_of form) parts × AllGood names forms parts
 
-abbrev pub clear_of : Form → List Form → Bool
+abbrev pub clear_of : FieldKind → List FieldKind → Bool
 clear_of form [] = true
 clear_of form (other ∷ done) = spares (place_of form) (fact_of other) && clear_of form done
 
-abbrev pub are_clear : List Form → List Form → Bool
+abbrev pub are_clear : List FieldKind → List FieldKind → Bool
 are_clear done [] = true
 are_clear done (form ∷ forms) = clear_of form done && are_clear (form ∷ done) forms
 
-abbrev pub onto : List Form → List Form → List Form
+abbrev pub onto : List FieldKind → List FieldKind → List FieldKind
 onto [] done = done
 onto (form ∷ forms) done = onto forms (form ∷ done)
 
-all_moved : (names : Declared) (done : List Form) (form : Form) (old new : Parts) → clear_of form done ≡ true → rest_of (place_of form) new ≡ rest_of (place_of form) old → AllGood names done old → AllGood names done new
+all_moved : (names : Declared) (done : List FieldKind) (form : FieldKind) (old new : FieldValues) → clear_of form done ≡ true → rest_of (place_of form) new ≡ rest_of (place_of form) old → AllGood names done old → AllGood names done new
 all_moved names [] form old new clear is good = tt
 all_moved names (other ∷ done) form old new clear is good =
     let parts = both (spares (place_of form) (fact_of other)) (clear_of form done) clear in
     (moved names (fact_of other) (place_of form) old new parts.0 is good.0, all_moved names done form old new parts.1 is good.1)
 
-pub all_good : (names : Declared) (parts out : Parts) (past column : ℕ) (done forms : List Form) (fields : List (List ℕ))
+pub all_good : (names : Declared) (parts out : FieldValues) (past column : ℕ) (done forms : List FieldKind) (fields : List (List ℕ))
     → are_clear done forms ≡ true → AllGood names done parts → count_fault past column forms fields ≡ None → fields_read names parts column forms fields ≡ Ok out
     → AllGood names (onto forms done) out
 all_good names parts out past column done [] fields clear good count is = let same : parts ≡ out = cc in subst (AllGood names done) same good
@@ -213,9 +213,9 @@ all_good names parts out past column done (form ∷ forms) [] clear good count i
 all_good names parts out past column done (form ∷ forms) (field ∷ fields) clear good count is =
     by (λ more. all_good names more out past (next_column column field) (form ∷ done) forms fields) (field_read names parts form field) refl is
   where
-    by : ((more : Parts) → are_clear (form ∷ done) forms ≡ true → AllGood names (form ∷ done) more → count_fault past (next_column column field) forms fields ≡ None
+    by : ((more : FieldValues) → are_clear (form ∷ done) forms ≡ true → AllGood names (form ∷ done) more → count_fault past (next_column column field) forms fields ≡ None
         → fields_read names more (next_column column field) forms fields ≡ Ok out → AllGood names (onto forms (form ∷ done)) out)
-        → (read : Result Parts LineCause) → field_read names parts form field ≡ read
+        → (read : Result FieldValues LineCause) → field_read names parts form field ≡ read
         → at_column column read (λ more. fields_read names more (next_column column field) forms fields) ≡ Ok out
         → AllGood names (onto forms (form ∷ done)) out
     by next (Err cause) is_read i = absurd (cc)

@@ -10,11 +10,11 @@ use Rattle.std.proofs.lemmas.Bool.Decides.{nat_tests}
 use Rattle.std.proofs.lemmas.List.{length-map, map-append}
 use Rattle.std.proofs.lemmas.List.Sums.{fails_before_first}
 use Rattle.std.proofs.lemmas.Option.{unwrap_or-slice_get, slice_get-get_or, get_or_from_slice_get}
-use Rattle.osi_script.specs.declared.form.Dialect.{Dialect}
-use Rattle.osi_script.specs.declared.form.Word.{Word}
-use Rattle.osi_script.specs.declared.form.Word.TheVariants as words
+use Rattle.osi_script.specs.declared.words.Dialect.{Dialect}
+use Rattle.osi_script.specs.declared.words.Word.{Word}
+use Rattle.osi_script.specs.declared.words.Word.TheVariants as words
 use Rattle.osi_script.specs.declared.line.Line.{Line}
-use Rattle.osi_script.specs.declared.parts.Parts.{Parts}
+use Rattle.osi_script.specs.declared.field_values.FieldValues.{FieldValues}
 use Rattle.osi_script.specs.declared.system.LanRow.{LanRow}
 use Rattle.osi_script.specs.Field.{is_name}
 use Rattle.osi_script.specs.Known.{Declared, KnownSystem, nothing_declared, with_changed, changed}
@@ -88,7 +88,7 @@ kept systems at change same = by (slice_get systems at) refl
 
 -- ---- a line
 
-kept_by : (names : Declared) (word : Word) (parts : Parts) → AllGood names (onto (row_of word).fields []) parts → HaveNames names → HaveNames (declared_by names (row_of word).effect parts)
+kept_by : (names : Declared) (word : Word) (parts : FieldValues) → AllGood names (onto (row_of word).fields []) parts → HaveNames names → HaveNames (declared_by names (row_of word).effect parts)
 kept_by names words.Lan parts g h =
     (h.0, subst AreNames (sym (map-append (λ (lan : LanRow). lan.name) names.lans _)) (one_more _ parts.name h.1 g.1.1.0.0 (nowhere (λ (lan : LanRow). lan.name) names.lans parts.name g.1.1.0.1)))
 kept_by names words.Es parts g h =

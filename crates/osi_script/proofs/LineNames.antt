@@ -1,9 +1,9 @@
 -- A line that is read names what is declared.
 use Rattle.std.proofs.Common.{◌≡◌, ℕ, List, [], refl, sym, ap, subst}
 use Rattle.std.specs.Prelude.{Ok}
-use Rattle.osi_script.specs.declared.form.Word.{Word}
-use Rattle.osi_script.specs.declared.form.Word.TheVariants as words
-use Rattle.osi_script.specs.declared.parts.Parts.{Parts}
+use Rattle.osi_script.specs.declared.words.Word.{Word}
+use Rattle.osi_script.specs.declared.words.Word.TheVariants as words
+use Rattle.osi_script.specs.declared.field_values.FieldValues.{FieldValues}
 use Rattle.osi_script.specs.Known.{Declared}
 use Rattle.osi_script.specs.Table.{row_of}
 use Rattle.osi_script.specs.Grammar.{Reading, next_number, line_for, line_read}
@@ -11,7 +11,7 @@ use Rattle.osi_script.specs.Names.{NamesDeclared}
 use Rattle.osi_script.proofs.Came.{Came, Idle, Worded, came}
 use Rattle.osi_script.proofs.Filled.{AllGood, onto}
 
-named : (names : Declared) (word : Word) (parts : Parts) → AllGood names (onto (row_of word).fields []) parts → NamesDeclared names (line_for (next_number names (row_of word).effect) word parts)
+named : (names : Declared) (word : Word) (parts : FieldValues) → AllGood names (onto (row_of word).fields []) parts → NamesDeclared names (line_for (next_number names (row_of word).effect) word parts)
 named names words.Version parts g = tt
 named names words.Set parts g = tt
 named names words.Lan parts g = refl

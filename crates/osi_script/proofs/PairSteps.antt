@@ -8,7 +8,7 @@ use Rattle.hex.specs.Hex.{decode_pairs, digit_or_error, hex_digit_value, pair_va
 use Rattle.hex.specs.declared.error.FromHexError.{FromHexError}
 use Rattle.hex.specs.declared.error.FromHexError.TheVariants.{InvalidHexCharacter}
 use Rattle.hex.proofs.Pairs.{prepend, decode_done, decode_err, decode_start, decode_step}
-use Rattle.osi_script.specs.declared.fault.LineCause.TheVariants as causes
+use Rattle.osi_script.specs.declared.cause.LineCause.TheVariants as causes
 use Rattle.osi_script.specs.Field.{as_octets}
 use Rattle.osi_script.specs.steps.Pairs.{Writes, digit_or_none, or_none}
 

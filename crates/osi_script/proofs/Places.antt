@@ -1,11 +1,11 @@
 -- The places that the forms of a row fill, and what each form says of its place.
 use Rattle.std.proofs.Common.{◌≡◌, ℕ, Bool, true, false, List, [], refl, sym, ◌∙◌, ap, subst}
 use Rattle.std.specs.Prelude.{◌==◌, ◌&&◌, not, None}
-use Rattle.osi_script.specs.declared.form.Form.{Form}
-use Rattle.osi_script.specs.declared.form.Form.TheVariants as forms
-use Rattle.osi_script.specs.declared.form.Named.TheVariants as named
-use Rattle.osi_script.specs.declared.form.Plain.TheVariants as plain
-use Rattle.osi_script.specs.declared.parts.Parts.{Parts}
+use Rattle.osi_script.specs.declared.words.FieldKind.{FieldKind}
+use Rattle.osi_script.specs.declared.words.FieldKind.TheVariants as forms
+use Rattle.osi_script.specs.declared.words.NameKind.TheVariants as named
+use Rattle.osi_script.specs.declared.words.WordKind.TheVariants as plain
+use Rattle.osi_script.specs.declared.field_values.FieldValues.{FieldValues}
 use Rattle.osi_script.specs.Field.{is_name}
 use Rattle.osi_script.specs.Known.{Declared, system_at, lan_at}
 use Rattle.osi_script.specs.Names.{IsSystem, IsEndSystem, IsLan, IsPath, AreIntermediateSystems}
@@ -71,7 +71,7 @@ IsFreshSystem names name = (is_name name ≡ true) × (system_at names.systems n
 abbrev pub IsOtherEnd : Declared → ℕ → ℕ → Type 0
 IsOtherEnd names own system = IsEndSystem names system × (system ≡ own → ⊥)
 
-abbrev pub Good : Declared → Fact → Parts → Type 0
+abbrev pub Good : Declared → Fact → FieldValues → Type 0
 Good names ASystem parts = IsSystem names parts.system
 Good names AnEnd parts = IsEndSystem names parts.system
 Good names ToEnd parts = IsEndSystem names parts.other
@@ -84,7 +84,7 @@ Good names FreshLan parts = IsFreshLan names parts.name
 Good names FreshSystem parts = IsFreshSystem names parts.name
 Good names NoFact parts = Unit {0}
 
-abbrev pub fact_of : Form → Fact
+abbrev pub fact_of : FieldKind → Fact
 fact_of (forms.Named named.System) = ASystem
 fact_of (forms.Named named.EndSystem) = AnEnd
 fact_of (forms.Named named.To) = ToEnd
@@ -117,7 +117,7 @@ fact_of forms.Selector = NoFact
 fact_of forms.Called = NoFact
 fact_of forms.Octets = NoFact
 
-abbrev pub place_of : Form → Place
+abbrev pub place_of : FieldKind → Place
 place_of (forms.Named named.System) = AtSystem
 place_of (forms.Named named.EndSystem) = AtSystem
 place_of (forms.Named named.To) = AtOther
@@ -159,7 +159,7 @@ pub record Six : Type 0 where
   pub name : List ℕ
 
 -- the six places but one
-abbrev pub rest_of : Place → Parts → Six
+abbrev pub rest_of : Place → FieldValues → Six
 rest_of AtSystem parts = record { system = 0; other = parts.other; lan = parts.lan; path = parts.wish.path; hops = parts.hops; name = parts.name }
 rest_of AtOther parts = record { system = parts.system; other = 0; lan = parts.lan; path = parts.wish.path; hops = parts.hops; name = parts.name }
 rest_of AtLan parts = record { system = parts.system; other = parts.other; lan = 0; path = parts.wish.path; hops = parts.hops; name = parts.name }
@@ -169,7 +169,7 @@ rest_of AtName parts = record { system = parts.system; other = parts.other; lan 
 rest_of Elsewhere parts = record { system = parts.system; other = parts.other; lan = parts.lan; path = parts.wish.path; hops = parts.hops; name = parts.name }
 rest_of Nowhere parts = record { system = parts.system; other = parts.other; lan = parts.lan; path = parts.wish.path; hops = parts.hops; name = parts.name }
 
-same_system : (place : Place) (old new : Parts) → apart place AtSystem ≡ true → rest_of place new ≡ rest_of place old → new.system ≡ old.system
+same_system : (place : Place) (old new : FieldValues) → apart place AtSystem ≡ true → rest_of place new ≡ rest_of place old → new.system ≡ old.system
 same_system AtSystem old new far is = absurd (cc)
 same_system AtOther old new far is = ap (λ (six : Six). six.system) is
 same_system AtLan old new far is = ap (λ (six : Six). six.system) is
@@ -179,7 +179,7 @@ same_system AtName old new far is = ap (λ (six : Six). six.system) is
 same_system Elsewhere old new far is = ap (λ (six : Six). six.system) is
 same_system Nowhere old new far is = ap (λ (six : Six). six.system) is
 
-same_other : (place : Place) (old new : Parts) → apart place AtOther ≡ true → rest_of place new ≡ rest_of place old → new.other ≡ old.other
+same_other : (place : Place) (old new : FieldValues) → apart place AtOther ≡ true → rest_of place new ≡ rest_of place old → new.other ≡ old.other
 same_other AtSystem old new far is = ap (λ (six : Six). six.other) is
 same_other AtOther old new far is = absurd (cc)
 same_other AtLan old new far is = ap (λ (six : Six). six.other) is
@@ -189,7 +189,7 @@ same_other AtName old new far is = ap (λ (six : Six). six.other) is
 same_other Elsewhere old new far is = ap (λ (six : Six). six.other) is
 same_other Nowhere old new far is = ap (λ (six : Six). six.other) is
 
-same_lan : (place : Place) (old new : Parts) → apart place AtLan ≡ true → rest_of place new ≡ rest_of place old → new.lan ≡ old.lan
+same_lan : (place : Place) (old new : FieldValues) → apart place AtLan ≡ true → rest_of place new ≡ rest_of place old → new.lan ≡ old.lan
 same_lan AtSystem old new far is = ap (λ (six : Six). six.lan) is
 same_lan AtOther old new far is = ap (λ (six : Six). six.lan) is
 same_lan AtLan old new far is = absurd (cc)
@@ -199,7 +199,7 @@ same_lan AtName old new far is = ap (λ (six : Six). six.lan) is
 same_lan Elsewhere old new far is = ap (λ (six : Six). six.lan) is
 same_lan Nowhere old new far is = ap (λ (six : Six). six.lan) is
 
-same_path : (place : Place) (old new : Parts) → apart place AtWish ≡ true → rest_of place new ≡ rest_of place old → new.wish.path ≡ old.wish.path
+same_path : (place : Place) (old new : FieldValues) → apart place AtWish ≡ true → rest_of place new ≡ rest_of place old → new.wish.path ≡ old.wish.path
 same_path AtSystem old new far is = ap (λ (six : Six). six.path) is
 same_path AtOther old new far is = ap (λ (six : Six). six.path) is
 same_path AtLan old new far is = ap (λ (six : Six). six.path) is
@@ -209,7 +209,7 @@ same_path AtName old new far is = ap (λ (six : Six). six.path) is
 same_path Elsewhere old new far is = ap (λ (six : Six). six.path) is
 same_path Nowhere old new far is = ap (λ (six : Six). six.path) is
 
-same_hops : (place : Place) (old new : Parts) → apart place AtHops ≡ true → rest_of place new ≡ rest_of place old → new.hops ≡ old.hops
+same_hops : (place : Place) (old new : FieldValues) → apart place AtHops ≡ true → rest_of place new ≡ rest_of place old → new.hops ≡ old.hops
 same_hops AtSystem old new far is = ap (λ (six : Six). six.hops) is
 same_hops AtOther old new far is = ap (λ (six : Six). six.hops) is
 same_hops AtLan old new far is = ap (λ (six : Six). six.hops) is
@@ -219,7 +219,7 @@ same_hops AtName old new far is = ap (λ (six : Six). six.hops) is
 same_hops Elsewhere old new far is = ap (λ (six : Six). six.hops) is
 same_hops Nowhere old new far is = ap (λ (six : Six). six.hops) is
 
-same_name : (place : Place) (old new : Parts) → apart place AtName ≡ true → rest_of place new ≡ rest_of place old → new.name ≡ old.name
+same_name : (place : Place) (old new : FieldValues) → apart place AtName ≡ true → rest_of place new ≡ rest_of place old → new.name ≡ old.name
 same_name AtSystem old new far is = ap (λ (six : Six). six.name) is
 same_name AtOther old new far is = ap (λ (six : Six). six.name) is
 same_name AtLan old new far is = ap (λ (six : Six). six.name) is
@@ -234,12 +234,12 @@ both true true is = (refl, refl)
 both true false is = absurd (cc)
 both false b is = absurd (cc)
 
-other_kept : (names : Declared) (old new : Parts) → new.other ≡ old.other → new.system ≡ old.system → IsOtherEnd names old.system old.other → IsOtherEnd names new.system new.other
+other_kept : (names : Declared) (old new : FieldValues) → new.other ≡ old.other → new.system ≡ old.system → IsOtherEnd names old.system old.other → IsOtherEnd names new.system new.other
 other_kept names old new other system good =
     (subst (IsEndSystem names) (sym other) good.0, λ same. good.1 (sym other ∙ same ∙ system))
 
 -- what holds of a place holds after another place is filled
-pub moved : (names : Declared) (fact : Fact) (place : Place) (old new : Parts) → spares place fact ≡ true → rest_of place new ≡ rest_of place old → Good names fact old → Good names fact new
+pub moved : (names : Declared) (fact : Fact) (place : Place) (old new : FieldValues) → spares place fact ≡ true → rest_of place new ≡ rest_of place old → Good names fact old → Good names fact new
 moved names ASystem place old new far is good = subst (IsSystem names) (sym (same_system place old new far is)) good
 moved names AnEnd place old new far is good = subst (IsEndSystem names) (sym (same_system place old new far is)) good
 moved names ToEnd place old new far is good = subst (IsEndSystem names) (sym (same_other place old new far is)) good

@@ -1,10 +1,10 @@
 -- A reading that is put into its place is put there by the definition too.
 use Rattle.std.proofs.Common.{ap}
 use Rattle.std.specs.Prelude.{Option, Some, Result, Ok, Err}
-use Rattle.osi_script.specs.declared.fault.LineCause.{LineCause}
-use Rattle.osi_script.specs.declared.fault.FieldRefusal.{FieldRefusal}
-use Rattle.osi_script.specs.declared.fault.FieldRefusal.TheVariants as fields
-use Rattle.osi_script.specs.declared.field.TpduSize.{TpduSize}
+use Rattle.osi_script.specs.declared.cause.LineCause.{LineCause}
+use Rattle.osi_script.specs.declared.cause.FieldRefusal.{FieldRefusal}
+use Rattle.osi_script.specs.declared.cause.FieldRefusal.TheVariants as fields
+use Rattle.osi_script.specs.declared.field_forms.TpduSize.{TpduSize}
 use Rattle.osi_script.specs.declared.line.Options.{Options}
 use Rattle.osi_script.specs.Reading.{with_size}
 use Rattle.osi_script.specs.Gives.{Gives, into}

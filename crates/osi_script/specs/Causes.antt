@@ -1,7 +1,7 @@
 -- The words of the causes of a refused line.
 use Rattle.std.specs.Prelude.{ℕ, List, codes}
-use Rattle.osi_script.specs.declared.fault.LineCause.{LineCause}
-use Rattle.osi_script.specs.declared.fault.LineCause.TheVariants as causes
+use Rattle.osi_script.specs.declared.cause.LineCause.{LineCause}
+use Rattle.osi_script.specs.declared.cause.LineCause.TheVariants as causes
 
 abbrev pub cause_text : LineCause → List ℕ
 cause_text causes.Long = codes "long"

@@ -1,6 +1,6 @@
 -- Which lines the scripts of each command have.
-use Rattle.osi_script.specs.declared.form.Dialect.{Dialect}
-use Rattle.osi_script.specs.declared.form.Dialect.TheVariants as dialects
+use Rattle.osi_script.specs.declared.words.Dialect.{Dialect}
+use Rattle.osi_script.specs.declared.words.Dialect.TheVariants as dialects
 use Rattle.osi_script.specs.declared.line.Line.{Line}
 use Rattle.osi_script.specs.declared.line.Line.TheVariants as lines
 

@@ -9,8 +9,8 @@ use Rattle.nsap.specs.Address.{selector_of}
 use Rattle.nsap.specs.Text.{address_of_text, snpa_of_text, prefix_of_text}
 use Rattle.nsap.specs.declared.text.NsapFault.{NsapFault}
 use Rattle.nsap.specs.declared.text.NsapFault.TheVariants as faults
-use Rattle.osi_script.specs.declared.fault.LineCause.{LineCause}
-use Rattle.osi_script.specs.declared.fault.LineCause.TheVariants as causes
+use Rattle.osi_script.specs.declared.cause.LineCause.{LineCause}
+use Rattle.osi_script.specs.declared.cause.LineCause.TheVariants as causes
 
 -- the fields of a line, parted by one blank each; a line of no octets has one empty field
 unfoldable pub fields_of : List ℕ → List (List ℕ)

@@ -1,11 +1,11 @@
 -- What a reading gives, or why it gives nothing.
 use Rattle.std.specs.Prelude.{◌≡◌, Result, Ok, Err}
-use Rattle.osi_script.specs.declared.fault.LineCause.{LineCause}
-use Rattle.osi_script.specs.declared.fault.LineFault.{LineFault}
-use Rattle.osi_script.specs.declared.fault.FieldRefusal.{FieldRefusal}
-use Rattle.osi_script.specs.declared.fault.FieldRefusal.TheVariants as fields
-use Rattle.osi_script.specs.declared.fault.LineRefusal.{LineRefusal}
-use Rattle.osi_script.specs.declared.fault.LineRefusal.TheVariants as lines
+use Rattle.osi_script.specs.declared.cause.LineCause.{LineCause}
+use Rattle.osi_script.specs.declared.cause.LineFault.{LineFault}
+use Rattle.osi_script.specs.declared.cause.FieldRefusal.{FieldRefusal}
+use Rattle.osi_script.specs.declared.cause.FieldRefusal.TheVariants as fields
+use Rattle.osi_script.specs.declared.cause.LineRefusal.{LineRefusal}
+use Rattle.osi_script.specs.declared.cause.LineRefusal.TheVariants as lines
 
 -- after the answer of a field stands what the definition reads, or the cause is its cause
 abbrev pub Gives : {A U : Type 0} → Result A LineCause → Result U FieldRefusal → A → Type 0

@@ -3,19 +3,19 @@ use Rattle.std.specs.Prelude.{◌≡◌, ◌==◌, ℕ, ◌+◌, Bool, true, fal
 use Rattle.std.specs.Prelude.{position, Option, Some, None, slice_get, Result, Ok, Err}
 use Rattle.std.specs.List.{list_any}
 use Rattle.nsap.specs.declared.port.Port.{Port}
-use Rattle.osi_script.specs.declared.fault.LineCause.{LineCause}
-use Rattle.osi_script.specs.declared.fault.LineCause.TheVariants as causes
-use Rattle.osi_script.specs.declared.fault.LineFault.{LineFault}
-use Rattle.osi_script.specs.declared.form.Effect.{Effect}
-use Rattle.osi_script.specs.declared.form.Effect.TheVariants as effects
-use Rattle.osi_script.specs.declared.form.Word.{Word}
-use Rattle.osi_script.specs.declared.form.Word.TheVariants as words
-use Rattle.osi_script.specs.declared.form.Form.{Form}
-use Rattle.osi_script.specs.declared.fault.LineRefusal.{LineRefusal}
-use Rattle.osi_script.specs.declared.fault.LineRefusal.TheVariants as refusals
+use Rattle.osi_script.specs.declared.cause.LineCause.{LineCause}
+use Rattle.osi_script.specs.declared.cause.LineCause.TheVariants as causes
+use Rattle.osi_script.specs.declared.cause.LineFault.{LineFault}
+use Rattle.osi_script.specs.declared.words.Effect.{Effect}
+use Rattle.osi_script.specs.declared.words.Effect.TheVariants as effects
+use Rattle.osi_script.specs.declared.words.Word.{Word}
+use Rattle.osi_script.specs.declared.words.Word.TheVariants as words
+use Rattle.osi_script.specs.declared.words.FieldKind.{FieldKind}
+use Rattle.osi_script.specs.declared.cause.LineRefusal.{LineRefusal}
+use Rattle.osi_script.specs.declared.cause.LineRefusal.TheVariants as refusals
 use Rattle.osi_script.specs.declared.line.Line.{Line}
 use Rattle.osi_script.specs.declared.line.Line.TheVariants as lines
-use Rattle.osi_script.specs.declared.parts.Parts.{Parts}
+use Rattle.osi_script.specs.declared.field_values.FieldValues.{FieldValues}
 use Rattle.osi_script.specs.declared.settings.Key.TheVariants as keys
 use Rattle.osi_script.specs.Settings.{setting_or, with_setting}
 use Rattle.osi_script.specs.Field.{fields_of, is_printable}
@@ -31,18 +31,18 @@ abbrev pub next_column : ℕ → List ℕ → ℕ
 next_column column field = column + length field + 1
 
 -- too few fields, one past the line, or the first extra one
-abbrev pub count_fault : ℕ → ℕ → List Form → List (List ℕ) → Option LineFault
+abbrev pub count_fault : ℕ → ℕ → List FieldKind → List (List ℕ) → Option LineFault
 count_fault past column [] [] = None
 count_fault past column [] (field ∷ fields) = Some (fault causes.Fields column)
 count_fault past column (form ∷ forms) [] = Some (fault causes.Fields past)
 count_fault past column (form ∷ forms) (field ∷ fields) = count_fault past (next_column column field) forms fields
 
-abbrev pub at_column : ℕ → Result Parts LineCause → (Parts → Result Parts LineFault) → Result Parts LineFault
+abbrev pub at_column : ℕ → Result FieldValues LineCause → (FieldValues → Result FieldValues LineFault) → Result FieldValues LineFault
 at_column column (Ok parts) next = next parts
 at_column column (Err cause) next = Err (fault cause column)
 
 -- the fields one after another, and the first that is refused with its column
-abbrev pub fields_read : Declared → Parts → ℕ → List Form → List (List ℕ) → Result Parts LineFault
+abbrev pub fields_read : Declared → FieldValues → ℕ → List FieldKind → List (List ℕ) → Result FieldValues LineFault
 fields_read names parts column [] fields = Ok parts
 fields_read names parts column (form ∷ forms) [] = Ok parts
 fields_read names parts column (form ∷ forms) (field ∷ fields) =
@@ -57,7 +57,7 @@ abbrev pub life_cause : Declared → Option LineCause
 life_cause names = if list_any (λ lan. nat_lt (setting_or names.settings keys.Life) lan.bound) names.lans then Some causes.Life else None
 
 -- a limit that the line would pass
-abbrev pub limit_cause : Declared → Effect → Parts → Option LineCause
+abbrev pub limit_cause : Declared → Effect → FieldValues → Option LineCause
 limit_cause names effects.Nothing parts = None
 limit_cause names effects.Version parts = None
 limit_cause names effects.Setting parts = None
@@ -79,7 +79,7 @@ next_number names effects.Path = length names.paths + 1
 next_number names effect = 0
 
 -- the line that the fields make
-abbrev pub line_for : ℕ → Word → Parts → Line
+abbrev pub line_for : ℕ → Word → FieldValues → Line
 line_for number words.Version parts = lines.Version parts.number
 line_for number words.Set parts = lines.Set parts.key parts.number
 line_for number words.Lan parts = lines.Lan number parts.number parts.amount
@@ -106,14 +106,14 @@ line_for number words.Inject parts = lines.Inject parts.lan parts.system parts.o
 line_for number words.Restart parts = lines.Restart parts.system
 line_for number words.Send parts = lines.Send parts.system parts.selector parts.other parts.called parts.octets
 
-abbrev pub new_system : Bool → Parts → KnownSystem
+abbrev pub new_system : Bool → FieldValues → KnownSystem
 new_system is_end parts = record { name = parts.name; is_end = is_end; title = given_title parts; ports = []; routes = []; selectors = [] }
 
-abbrev pub new_port : Parts → Port
+abbrev pub new_port : FieldValues → Port
 new_port parts = record { lan = parts.lan; snpa = given_station parts }
 
 -- what is declared after a line
-abbrev pub declared_by : Declared → Effect → Parts → Declared
+abbrev pub declared_by : Declared → Effect → FieldValues → Declared
 declared_by names effects.Version parts = record names { second = parts.number == 2; versioned = true }
 declared_by names effects.Setting parts = record names { settings = with_setting names.settings parts.key parts.number }
 declared_by names effects.Lan parts = record names { lans = names.lans ++ record { name = parts.name; bound = parts.number } ∷ [] }
@@ -134,12 +134,12 @@ pub record Reading : Type 0 where
   pub line : Line
   pub names : Declared
 
-abbrev pub with_limit : Declared → Word → Parts → Option LineCause → Result Reading LineFault
+abbrev pub with_limit : Declared → Word → FieldValues → Option LineCause → Result Reading LineFault
 with_limit names word parts (Some cause) = Err (fault cause 1)
 with_limit names word parts None =
     Ok (record { line = line_for (next_number names (row_of word).effect) word parts; names = declared_by names (row_of word).effect parts })
 
-abbrev pub whole_read : Declared → Word → Result Parts LineFault → Result Reading LineFault
+abbrev pub whole_read : Declared → Word → Result FieldValues LineFault → Result Reading LineFault
 whole_read names word (Err found) = Err found
 whole_read names word (Ok parts) = with_limit names word parts (limit_cause names (row_of word).effect parts)
 

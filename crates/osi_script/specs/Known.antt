@@ -8,11 +8,11 @@ use Rattle.std.specs.Ordering.{nat_cmp}
 use Rattle.nsap.specs.declared.port.Port.{Port}
 use Rattle.osi_script.specs.declared.settings.Settings.{Settings}
 use Rattle.osi_script.specs.declared.settings.Key.TheVariants as keys
-use Rattle.osi_script.specs.declared.form.Dialect.{Dialect}
-use Rattle.osi_script.specs.declared.form.Dialect.TheVariants as dialects
+use Rattle.osi_script.specs.declared.words.Dialect.{Dialect}
+use Rattle.osi_script.specs.declared.words.Dialect.TheVariants as dialects
 use Rattle.osi_script.specs.Settings.{is_unset}
 use Rattle.osi_script.specs.declared.line.PathKind.TheVariants as kinds
-use Rattle.osi_script.specs.declared.parts.Parts.{Parts}
+use Rattle.osi_script.specs.declared.field_values.FieldValues.{FieldValues}
 use Rattle.osi_script.specs.declared.system.LanRow.{LanRow}
 
 -- a system with its ports, routes and selectors; the selectors stand in ascending order
@@ -66,7 +66,7 @@ is_untouched names =
     not names.versioned && (not names.started && (length names.lans == 0 && (length names.systems == 0 && is_unset names.settings)))
 
 -- the fields of a line before the first
-abbrev pub no_parts : Parts
+abbrev pub no_parts : FieldValues
 no_parts = record {
   name = [];
   key = keys.Life;
@@ -89,13 +89,13 @@ no_parts = record {
 }
 
 -- the addresses that the fields gave; no line reads one that no field gave
-abbrev pub given_title : Parts → List ℕ
+abbrev pub given_title : FieldValues → List ℕ
 given_title parts = unwrap_or parts.title (0 ∷ [])
 
-abbrev pub given_station : Parts → List ℕ
+abbrev pub given_station : FieldValues → List ℕ
 given_station parts = unwrap_or parts.station (0 ∷ 0 ∷ 0 ∷ 0 ∷ 0 ∷ 0 ∷ [])
 
-abbrev pub given_prefix : Parts → List ℕ
+abbrev pub given_prefix : FieldValues → List ℕ
 given_prefix parts = unwrap_or parts.prefix []
 
 -- the number of the first with this name

@@ -3,6 +3,7 @@ pub mod Commands
 pub mod Field
 pub mod Gives
 pub mod Grammar
+pub mod Injecting
 pub mod Known
 pub mod Names
 pub mod Reading

@@ -3,16 +3,16 @@ use Rattle.std.specs.Prelude.{◌==◌, ℕ, ◌+◌, ◌*◌, Bool, true, false
 use Rattle.std.specs.Prelude.{is_some, slice_get, Result, Ok, Err, codes}
 use Rattle.std.specs.List.{list_all, list_any, slice_split}
 use Rattle.std.specs.Cmp.Lexicographic.{pointwise}
-use Rattle.osi_script.specs.declared.fault.LineCause.{LineCause}
-use Rattle.osi_script.specs.declared.fault.LineCause.TheVariants as causes
-use Rattle.osi_script.specs.declared.field.TpduSize.{TpduSize}
-use Rattle.osi_script.specs.declared.form.Form.{Form}
-use Rattle.osi_script.specs.declared.form.Form.TheVariants as forms
-use Rattle.osi_script.specs.declared.form.Named.{Named}
-use Rattle.osi_script.specs.declared.form.Named.TheVariants as named
-use Rattle.osi_script.specs.declared.form.Plain.{Plain}
-use Rattle.osi_script.specs.declared.form.Plain.TheVariants as plain
-use Rattle.osi_script.specs.declared.parts.Parts.{Parts}
+use Rattle.osi_script.specs.declared.cause.LineCause.{LineCause}
+use Rattle.osi_script.specs.declared.cause.LineCause.TheVariants as causes
+use Rattle.osi_script.specs.declared.field_forms.TpduSize.{TpduSize}
+use Rattle.osi_script.specs.declared.words.FieldKind.{FieldKind}
+use Rattle.osi_script.specs.declared.words.FieldKind.TheVariants as forms
+use Rattle.osi_script.specs.declared.words.NameKind.{NameKind}
+use Rattle.osi_script.specs.declared.words.NameKind.TheVariants as named
+use Rattle.osi_script.specs.declared.words.WordKind.{WordKind}
+use Rattle.osi_script.specs.declared.words.WordKind.TheVariants as plain
+use Rattle.osi_script.specs.declared.field_values.FieldValues.{FieldValues}
 use Rattle.osi_base.specs.declared.unit.Wish.{Wish}
 use Rattle.osi_script.specs.declared.line.Options.{Options}
 use Rattle.osi_script.specs.declared.line.PathKind.{PathKind}
@@ -164,7 +164,7 @@ hops_of names field =
     else each_intermediate names (listed_names field)
 
 -- what a name gives
-abbrev pub named_read : Declared → Parts → Named → List ℕ → Result Parts LineCause
+abbrev pub named_read : Declared → FieldValues → NameKind → List ℕ → Result FieldValues LineCause
 named_read names parts named.System field = into (system_of names field) (λ system. record parts { system = system })
 named_read names parts named.EndSystem field = into (end_system_of names field) (λ system. record parts { system = system })
 named_read names parts named.To field = into (end_system_of names field) (λ system. record parts { other = system })
@@ -179,7 +179,7 @@ abbrev pub with_size : Options → TpduSize → Options
 with_size options size = record options { size = size.octets; preferred = size.preferred }
 
 -- what a word or a number gives
-abbrev pub plain_read : Declared → Parts → Plain → List ℕ → Result Parts LineCause
+abbrev pub plain_read : Declared → FieldValues → WordKind → List ℕ → Result FieldValues LineCause
 plain_read names parts plain.Key field = into (unset_key names.settings (key_of field)) (λ key. record parts { key = key })
 plain_read names parts plain.Value field = into (value_of names.settings parts.key field) (λ value. record parts { number = value })
 plain_read names parts (plain.Number least most) field = into (number_of least most field) (λ number. record parts { number = number })
@@ -196,7 +196,7 @@ plain_read names parts plain.Sum field =
 plain_read names parts plain.Flags field = into (flags_of field) (λ wish. record parts { wish = wish })
 
 -- what a field gives, after the parts that the fields before it gave
-abbrev pub field_read : Declared → Parts → Form → List ℕ → Result Parts LineCause
+abbrev pub field_read : Declared → FieldValues → FieldKind → List ℕ → Result FieldValues LineCause
 field_read names parts (forms.Named form) field = named_read names parts form field
 field_read names parts (forms.Plain form) field = plain_read names parts form field
 field_read names parts forms.NewLan field = into (new_name (lan_at names.lans field) field) (λ name. record parts { name = name })

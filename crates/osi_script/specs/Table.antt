@@ -2,17 +2,17 @@
 -- script, its fields and what it does. And the words of each command.
 use Rattle.std.specs.Prelude.{ℕ, Bool, true, false, List, [], ◌∷◌, Option, codes, find}
 use Rattle.osi_script.specs.Field.{is_word}
-use Rattle.osi_script.specs.declared.form.Dialect.{Dialect}
-use Rattle.osi_script.specs.declared.form.Dialect.TheVariants as dialects
-use Rattle.osi_script.specs.declared.form.Word.{Word}
-use Rattle.osi_script.specs.declared.form.Word.TheVariants as words
-use Rattle.osi_script.specs.declared.form.Effect.{Effect}
-use Rattle.osi_script.specs.declared.form.Effect.TheVariants as effects
-use Rattle.osi_script.specs.declared.form.Form.{Form}
-use Rattle.osi_script.specs.declared.form.Form.TheVariants as forms
-use Rattle.osi_script.specs.declared.form.Named.{Named}
-use Rattle.osi_script.specs.declared.form.Named.TheVariants as named
-use Rattle.osi_script.specs.declared.form.Plain.TheVariants as plain
+use Rattle.osi_script.specs.declared.words.Dialect.{Dialect}
+use Rattle.osi_script.specs.declared.words.Dialect.TheVariants as dialects
+use Rattle.osi_script.specs.declared.words.Word.{Word}
+use Rattle.osi_script.specs.declared.words.Word.TheVariants as words
+use Rattle.osi_script.specs.declared.words.Effect.{Effect}
+use Rattle.osi_script.specs.declared.words.Effect.TheVariants as effects
+use Rattle.osi_script.specs.declared.words.FieldKind.{FieldKind}
+use Rattle.osi_script.specs.declared.words.FieldKind.TheVariants as forms
+use Rattle.osi_script.specs.declared.words.NameKind.{NameKind}
+use Rattle.osi_script.specs.declared.words.NameKind.TheVariants as named
+use Rattle.osi_script.specs.declared.words.WordKind.TheVariants as plain
 
 pub record LineRow : Type 0 where
   pub text : List ℕ
@@ -21,28 +21,28 @@ pub record LineRow : Type 0 where
   pub is_later : Bool
   -- before every other line that does anything
   pub is_first : Bool
-  pub fields : List Form
+  pub fields : List FieldKind
   pub effect : Effect
 
-abbrev pub set_up : List ℕ → List Form → Effect → LineRow
+abbrev pub set_up : List ℕ → List FieldKind → Effect → LineRow
 set_up text fields effect = record { text = text; of_set_up = true; is_later = false; is_first = false; fields = fields; effect = effect }
 
-abbrev pub event : List ℕ → List Form → LineRow
+abbrev pub event : List ℕ → List FieldKind → LineRow
 event text fields = record { text = text; of_set_up = false; is_later = false; is_first = false; fields = fields; effect = effects.Nothing }
 
 -- an event of version 2 alone
-abbrev pub later_event : List ℕ → List Form → LineRow
+abbrev pub later_event : List ℕ → List FieldKind → LineRow
 later_event text fields = record { text = text; of_set_up = false; is_later = true; is_first = false; fields = fields; effect = effects.Nothing }
 
 -- a number of an end or a frame
-abbrev pub any_number : Form
+abbrev pub any_number : FieldKind
 any_number = forms.Plain (plain.Number 0 999999999)
 
-abbrev pub name : Named → Form
+abbrev pub name : NameKind → FieldKind
 name named = forms.Named named
 
 -- FMT SIZE EXP SUM OCT
-abbrev pub agreement : List Form
+abbrev pub agreement : List FieldKind
 agreement = forms.Plain plain.Format ∷ forms.Plain plain.Size ∷ forms.Plain plain.Expedited ∷ forms.Plain plain.Sum ∷ forms.Octets ∷ []
 
 abbrev pub row_of : Word → LineRow

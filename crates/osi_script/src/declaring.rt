@@ -5,12 +5,12 @@ ghost use Rattle.std.specs.List.{list_any};
 ghost use Rattle.osi_script.specs.Grammar.{new_system};
 ghost use Rattle.osi_script.specs.Known.{changed, with};
 
-use crate::fault::LineCause;
-use crate::form::Effect;
+use crate::cause::LineCause;
+use crate::field_values::FieldValues;
 use crate::names::Names;
-use crate::parts::Parts;
 use crate::settings::Key;
 use crate::system::{LanRow, SystemRow};
+use crate::words::Effect;
 use nsap::{Port, Prefix};
 use osi_base::{Bytes, NoMemory};
 use std::alloc::Global;
@@ -29,7 +29,7 @@ impl Names {
     ghost use Rattle.osi_script.specs.Grammar.{limit_cause, life_cause, next_number, declared_by};
 
     /// A limit that the line would pass.
-    pub fn limit_cause(&self, effect: Effect, parts: &Parts) -> Option<LineCause>
+    pub fn limit_cause(&self, effect: Effect, parts: &FieldValues) -> Option<LineCause>
         ensures { result ≡ limit_cause self.now effect parts.now }
     {
         match effect {
@@ -96,7 +96,7 @@ impl Names {
     }
 
     /// Takes up what a line declares.
-    pub fn declare(&mut self, effect: Effect, parts: &Parts) -> Result<(), NoMemory>
+    pub fn declare(&mut self, effect: Effect, parts: &FieldValues) -> Result<(), NoMemory>
         requires { limit_cause self.old effect parts.now ≡ None }
         ensures ok { OnOk result (self.new ≡ declared_by self.old effect parts.now) }
         ensures err { OnErr result (self.new ≡ self.old) }
@@ -157,7 +157,7 @@ fn is_any_above(lans: &[LanRow], life: u32) -> bool
     lans.iter().any(|lan| life < lan.bound)
 }
 
-fn system_row(alloc: Global, is_end: bool, parts: &Parts) -> Result<SystemRow, NoMemory>
+fn system_row(alloc: Global, is_end: bool, parts: &FieldValues) -> Result<SystemRow, NoMemory>
     ensures { IfOk result (λ row. row ≡ new_system is_end parts.now) }
 {
     let name = Bytes::copy(alloc, parts.name.as_slice())?;

@@ -8,9 +8,9 @@ ghost use Rattle.osi_script.specs.Known.{Declared, nothing_declared};
 ghost use Rattle.osi_script.specs.Names.{NamesDeclared};
 ghost use Rattle.osi_script.specs.Script.{Says, Script, LineFaultAt};
 ghost use Rattle.osi_script.specs.Tags.{HaveNames};
-ghost use Rattle.osi_script.specs.declared.fault.LineFault.{LineFault};
+ghost use Rattle.osi_script.specs.declared.cause.LineFault.{LineFault};
 ghost use Rattle.osi_script.specs.declared.line.Line.{Line};
-ghost use Rattle.osi_script.specs.declared.form.Dialect.{Dialect};
+ghost use Rattle.osi_script.specs.declared.words.Dialect.{Dialect};
 
 /// The systems, LANs and source routes of a line are declared before it, each of the kind that the
 /// line asks for; and what a line declares has the next number.

@@ -1,28 +1,29 @@
 //! The lines of a script: what each says after the lines before it, or its first fault.
 //!
-//! `table` has a row for each line word, `reading` reads a field of each kind, `lines` goes over the
-//! fields of a row, and `names` keeps what the lines so far declare.
+//! `line_table` has a row for each line word, `field_reading` reads a field of each kind, `line_reading` goes over the
+//! fields of a row, `fault_column` finds the column of a fault, and `names` keeps what the lines so far declare.
 #![tactic(auto)]
 
+mod cause;
 mod declaring;
-mod fault;
-mod field;
-mod fields;
-mod form;
+mod fault_column;
+mod field_forms;
+mod field_reading;
+mod field_values;
+mod hexadecimal;
 mod laws;
 mod line;
-mod lines;
+mod line_fields;
+mod line_reading;
+mod line_table;
 mod names;
-mod pairs;
-mod parts;
-mod reading;
 mod settings;
 mod system;
-mod table;
+mod words;
 
-pub use fault::{LineCause, LineFault, LineRefusal};
-pub use form::{Dialect, Word};
+pub use cause::{LineCause, LineFault, LineRefusal};
 pub use laws::{lines_are_of_command, names_are_known, names_stay_names, one_reading};
 pub use line::{Line, Options, PathKind};
 pub use names::Names;
 pub use settings::{Key, default_of};
+pub use words::{Dialect, Word};

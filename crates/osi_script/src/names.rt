@@ -7,9 +7,9 @@ ghost use Rattle.osi_script.specs.Known.{system_at, lan_at, path_at, has_snpa, i
 ghost use Rattle.osi_script.specs.Tags.{name_at, tags_of};
 ghost use Rattle.std.specs.Cmp.Lexicographic.{pointwise};
 
-use crate::form::Dialect;
 use crate::settings::Settings;
 use crate::system::{LanRow, SystemRow};
+use crate::words::Dialect;
 use nsap::{Nsap, Prefix, Snpa};
 use osi_base::Bytes;
 use std::alloc::Global;
@@ -54,7 +54,7 @@ impl Model for Names {
 
 impl Names {
     ghost use Rattle.osi_script.specs.Known.{nothing_declared, is_among, is_end, has_port, has_station, routes_of, selectors_of};
-    ghost use Rattle.osi_script.specs.declared.form.Dialect.TheVariants as dialects;
+    ghost use Rattle.osi_script.specs.declared.words.Dialect.TheVariants as dialects;
 
     /// Nothing is declared yet in a script of `run`, which `frames` reads too.
     pub fn new(alloc: Global) -> Names

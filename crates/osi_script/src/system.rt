@@ -27,6 +27,7 @@ pub struct SystemRow {
     title: Nsap,
     ports: Vec<Port>,
     routes: Vec<Prefix>,
+    /// By their octets, so that one of many is found by few comparisons.
     selectors: BTreeSet<Vec<u8>>,
 }
 

@@ -1,6 +1,6 @@
 -- A set-up is well after each of its calls: with what was added, and as it was where memory ran out.
-use Rattle.std.proofs.Common.{◌≡◌, ℕ, zero, suc, ◌+◌, ◌≤◌, Bool, true, false, List, [], ◌∷◌, ◌++◌, take, Some, Result, Ok, Err, sym, ◌∙◌, ap, subst}
-use Rattle.std.specs.Prelude.{if◌then◌else◌, map, slice_get, slice_set, IsSome, OnErr, OnOk}
+use Rattle.std.proofs.Common.{◌≡◌, ℕ, zero, suc, ◌+◌, ◌≤◌, Bool, true, false, List, [], ◌∷◌, ◌++◌, take, Option, Some, None, Result, Ok, Err, sym, ◌∙◌, ap, subst}
+use Rattle.std.specs.Prelude.{if◌then◌else◌, map, option_map, slice_get, slice_set, IsSome, OnErr, OnOk}
 use Rattle.std.specs.List.{AllByRecursion}
 use Rattle.nsap.specs.declared.port.Hop.{Hop}
 use Rattle.nsap.specs.declared.port.Port.{Port}
@@ -111,3 +111,11 @@ pub ports_next : (rows : List PortRow) (i : ℕ) (row : PortRow) (number : ℕ) 
     → new ≡ ports ++ own_port row number → new ≡ ports_at (take (i + 1) rows) number
 ports_next rows i row number ports new more so_far is =
     is ∙ ap (λ (p : List Port). p ++ own_port row number) so_far ∙ sym (ports_push (take i rows) row number) ∙ ap (λ (r : List PortRow). ports_at r number) (sym more)
+
+mapped : {A B : Type 0} (f : A → B) (o : Option A) → option_map f o ≡ None → IsSome o → ⊥
+mapped f None none there = cc
+mapped f (Some x) none there = cc
+
+-- to a system with a port on the LAN there is a way over it
+pub no_way : (setup : SetUp) (next lan : ℕ) → hop_to setup next lan ≡ None → IsSome (port_on setup.ports next lan) → ⊥
+no_way setup next lan none there = mapped _ (port_on setup.ports next lan) none there

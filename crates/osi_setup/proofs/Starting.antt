@@ -1,9 +1,8 @@
 -- What was set up makes LANs, systems and a network: each is as those below ask for.
 use Rattle.std.proofs.Common.{◌≡◌, ◌==◌, ℕ, zero, suc, ◌+◌, ◌<◌, ◌≤◌, false, List, [], ◌∷◌, ◌++◌, length, map, Option, Some, Result, Ok, Err, refl, sym, ◌∙◌, ap, subst, arith, append_assoc, length-append}
-use Rattle.std.specs.Prelude.{slice_get, if◌then◌else◌, IfOk, IsSome, option_map, unwrap_or}
+use Rattle.std.specs.Prelude.{slice_get, if◌then◌else◌, IfOk, IsSome, unwrap_or}
 use Rattle.std.specs.List.{AllByRecursion}
 use Rattle.std.proofs.lemmas.List.Elements.{All-from_recursion}
-use Rattle.std.proofs.lemmas.Option.{slice_get-map}
 use Rattle.nsap.specs.Address.{is_same_system}
 use Rattle.nsap.specs.declared.port.Port.{Port}
 use Rattle.esis_tables.specs.Rows.{Rows, no_rows}
@@ -14,12 +13,12 @@ use Rattle.lan_bag.specs.Rows.{IsLan, IsSetUp, bound_on}
 use Rattle.clnp_route.specs.declared.table.RouteRow.{RouteRow}
 use Rattle.clnp_system.specs.Node.{Node, fresh_node}
 use Rattle.clnp_system.specs.Tables.{rows_tables}
-use Rattle.clnp_system.specs.Setting.{HasLan, IsSetting, Setting, is_group}
+use Rattle.clnp_system.specs.Setting.{HasLan, IsSetting, Setting}
 use Rattle.law_clnp_step.specs.Sound.{AreApart, AreDistinct, IsBounded, IsNew, IsPeopled, settings_of}
 use Rattle.law_clnp_step.specs.Network.{Network}
 use Rattle.law_clnp_step.specs.Step.{Begins}
-use Rattle.osi_setup.specs.SetUp.{System, SetUp, end_of, rows_of, ports_at, port_on, titles_of, setting_of, nodes_from, nodes_of}
-use Rattle.osi_setup.specs.Fitting.{IsWell, IsTitle, AreTitlesApart}
+use Rattle.osi_setup.specs.SetUp.{System, SetUp, end_of, rows_of, ports_at, port_on, setting_of, nodes_from, nodes_of}
+use Rattle.osi_setup.specs.Fitting.{IsWell, AreTitlesApart}
 use Rattle.osi_setup.proofs.Elements.{each, at, find_all, find_passes, get_end}
 use Rattle.osi_setup.proofs.Ports.{at_one, lans_differ, number_is}
 
@@ -56,18 +55,12 @@ has_lan setup n system lan w lt =
     let at = numbers setup.lans lan w.lans lt in
     record { least_bound = at.least_bound; most_bound = at.most_bound; least_room = at.least_room; most_room = at.most_room }
 
-title_there : (setup : SetUp) (n : ℕ) (system : System) → slice_get setup.systems n ≡ Some system → slice_get (titles_of setup) n ≡ Some system.title
-title_there setup n system is = slice_get-map (λ (s : System). s.title) setup.systems n ∙ ap (λ (found : Option System). option_map (λ (s : System). s.title) found) is
-
 pub is_setting : (setup : SetUp) (n : ℕ) (system : System) → IsWell setup → slice_get setup.systems n ≡ Some system → IsSetting (setting_of setup n system)
 is_setting setup n system w is = record {
-  entity = (at IsTitle (titles_of setup) n system.title w.titles (title_there setup n system is)).entity;
   few_ports = subst (λ (found : Option System). length (ports_at setup.ports n) ≤ (if end_of found then 1 else 8)) is (w.few_ports n);
   lans = each (λ (port : Port). port.lan < length setup.lans) (λ (port : Port). HasLan (setting_of setup n system) port.lan) (ports_at setup.ports n)
       (λ port lt. has_lan setup n system port.lan w lt) (ports_listed setup n w);
   apart = lans_differ setup.ports n w.apart;
-  single = at_one (λ port. is_group port.snpa ≡ false) setup.ports n
-      (each (λ (row : PortRow). is_group row.port.snpa ≡ false) (λ (row : PortRow). row.system ≡ n → is_group row.port.snpa ≡ false) setup.ports (λ row single. λ same. single) w.single);
   hops = subst (λ (found : Option System). AllByRecursion (λ (row : RouteRow). IsSome (port_on setup.ports n row.hop.port.lan)) (rows_of found)) is (w.hops n);
   least_life = w.times.least_life;
   most_life = w.times.most_life;

@@ -246,7 +246,7 @@ impl SetUp {
         ensures { OnOk result (self.new ≡ record self.old { systems = with_route self.old.systems system prefix (hop_to self.old next lan) }) }
     {
         let Some(hop) = self.hop_to(next, lan) else {
-            return Ok(());
+            unreachable!();
         };
         let system = &mut self.systems[usize::from(system)];
         system.add_route(prefix, hop)

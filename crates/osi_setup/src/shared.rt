@@ -114,7 +114,7 @@ impl Shared {
     /// One LAN more.
     pub fn add_lan(&mut self, lan: Lan) -> Result<(), NoMemory>
         ensures ok { OnOk result (self.new ≡ record self.old { lans = self.old.lans ++ lan ∷ [] }) }
-        ensures same { OnErr result (self.new ≡ self.old) }
+        ensures err { OnErr result (self.new ≡ self.old) }
     {
         self.lans.push(lan)?;
         Ok(())
@@ -123,7 +123,7 @@ impl Shared {
     /// One port more.
     pub fn add_port(&mut self, row: PortRow) -> Result<(), NoMemory>
         ensures ok { OnOk result (self.new ≡ record self.old { ports = self.old.ports ++ row ∷ [] }) }
-        ensures same { OnErr result (self.new ≡ self.old) }
+        ensures err { OnErr result (self.new ≡ self.old) }
     {
         self.ports.push(row)?;
         Ok(())
@@ -132,7 +132,7 @@ impl Shared {
     /// One source route more.
     pub fn add_path(&mut self, path: Path) -> Result<(), NoMemory>
         ensures ok { OnOk result (self.new ≡ record self.old { paths = self.old.paths ++ path ∷ [] }) }
-        ensures same { OnErr result (self.new ≡ self.old) }
+        ensures err { OnErr result (self.new ≡ self.old) }
     {
         self.paths.push(path)?;
         Ok(())
@@ -141,7 +141,7 @@ impl Shared {
     /// One relay more.
     pub fn add_relay(&mut self, relay: RelayLine) -> Result<(), NoMemory>
         ensures ok { OnOk result (self.new ≡ record self.old { relays = self.old.relays ++ relay ∷ [] }) }
-        ensures same { OnErr result (self.new ≡ self.old) }
+        ensures err { OnErr result (self.new ≡ self.old) }
     {
         self.relays.push(relay)?;
         Ok(())

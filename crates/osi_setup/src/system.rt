@@ -50,7 +50,7 @@ impl System {
         requires fresh { has_prefix self.old.rows prefix ≡ false }
         requires room { length self.old.rows < 256 }
         ensures ok { OnOk result (self.new ≡ record self.old { rows = self.old.rows ++ record { prefix = prefix; hop = hop } ∷ [] }) }
-        ensures same { OnErr result (self.new ≡ self.old) }
+        ensures err { OnErr result (self.new ≡ self.old) }
     {
         match self.rows.add(prefix, hop) {
             Ok(()) => Ok(()),
@@ -69,7 +69,7 @@ impl System {
     /// Adds a selector at which the system takes connections.
     pub fn add_selector(&mut self, selector: Bytes) -> Result<(), NoMemory>
         ensures ok { OnOk result (self.new ≡ record self.old { selectors = self.old.selectors ++ selector ∷ [] }) }
-        ensures same { OnErr result (self.new ≡ self.old) }
+        ensures err { OnErr result (self.new ≡ self.old) }
     {
         self.selectors.push(selector)?;
         Ok(())

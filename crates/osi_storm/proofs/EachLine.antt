@@ -3,7 +3,7 @@ use Rattle.std.proofs.Common.{◌≡◌, ℕ, suc, ◌+◌, ◌/◌, ◌%◌, �
 use Rattle.std.specs.Prelude.{◌==◌, nat_le}
 use Rattle.std.specs.Fmt.{decimal}
 use Rattle.hex.specs.Hex.{encode_lower}
-use Rattle.osi_script.specs.declared.form.Dialect.{Dialect}
+use Rattle.osi_script.specs.declared.words.Dialect.{Dialect}
 use Rattle.osi_storm.specs.Line.{data_line, deliver_line, closing_line, line_of, number_back}
 use Rattle.osi_storm.specs.Read.{RunsStorms, AreRead}
 use Rattle.osi_storm.proofs.Rows.{IsRead, a_is, b_is, r_is, back_small, tick_read, connect_by, accept_read, units_read, expedite_read, deliver_read, disconnect_read, refuse_read, window_read}

@@ -8,20 +8,21 @@ use Rattle.std.proofs.lemmas.Bool.Decides.{nat_tests}
 use Rattle.std.proofs.lemmas.List.{length-replicate}
 use Rattle.hex.specs.Hex.{encode_lower, decode_pairs, lower_digits, IsBytes}
 use Rattle.hex.proofs.HexLemmas.{length-encode_with}
-use Rattle.osi_script.specs.declared.form.Dialect.{Dialect}
-use Rattle.osi_script.specs.declared.form.Word.{Word}
-use Rattle.osi_script.specs.declared.form.Word.TheVariants as words
+use Rattle.osi_script.specs.declared.words.Dialect.{Dialect}
+use Rattle.osi_script.specs.declared.words.Word.{Word}
+use Rattle.osi_script.specs.declared.words.Word.TheVariants as words
 use Rattle.osi_script.specs.declared.line.Line.{Line}
 use Rattle.osi_script.specs.declared.line.Line.TheVariants as lines
 use Rattle.osi_script.specs.declared.line.Options.{Options}
 use Rattle.osi_script.specs.Field.{fields_of, is_name, number_of, octets_of, is_printable}
 use Rattle.osi_script.specs.Grammar.{Reading, line_read, text_read, worded_read, is_idle}
+use Rattle.osi_script.specs.Injecting.{IsNoInjection}
 use Rattle.osi_script.specs.Known.{Declared, is_second}
 use Rattle.osi_script.specs.Reading.{system_of, end_system_of, size_of, selector_of}
 use Rattle.osi_script.specs.Table.{row_of, word_of}
 use Rattle.osi_script.proofs.Printing.{all_printable}
 use Rattle.osi_storm.specs.Line.{accept_line, number_back}
-use Rattle.osi_storm.specs.Read.{InjectsNothing, RunsStorms}
+use Rattle.osi_storm.specs.Read.{RunsStorms}
 use Rattle.osi_storm.proofs.Fields.{AreVisible, joined, fields_joined, printable_joined, size_of_all, size_joined, is_visible}
 use Rattle.osi_storm.proofs.Numbers.{decimal_visible, decimal_short, number_read, credit_read, hex_visible, hex_read}
 use Rattle.osi_storm.proofs.SetUp.{set_up_names}
@@ -31,7 +32,7 @@ reading dialect line = record { line = line; names = set_up_names dialect }
 
 -- the line is read after the set-up, and declares and injects nothing
 abbrev pub IsRead : Dialect → List ℕ → Type 0
-IsRead dialect text = (line : Line) × (line_read (set_up_names dialect) text ≡ Ok (reading dialect line)) × InjectsNothing line
+IsRead dialect text = (line : Line) × (line_read (set_up_names dialect) text ≡ Ok (reading dialect line)) × IsNoInjection line
 
 text_is : (names : Declared) (text : List ℕ) (word : Word) (fields : List (List ℕ)) (read : Reading) → nat_lt 40000 (length text) ≡ false
     → position (λ octet. not (is_printable octet)) text ≡ None → is_idle text ≡ false → fields_of text ≡ (row_of word).text ∷ fields

@@ -3,7 +3,7 @@ use Rattle.std.proofs.Common.{◌≡◌, ℕ, Bool, true, false, List, [], ◌�
 use Rattle.nsap.specs.declared.port.Port.{Port}
 use Rattle.nsap.specs.Text.{hex_octets}
 use Rattle.hex.specs.Hex.{decode_pairs}
-use Rattle.osi_script.specs.declared.form.Dialect.{Dialect}
+use Rattle.osi_script.specs.declared.words.Dialect.{Dialect}
 use Rattle.osi_script.specs.declared.line.Line.{Line}
 use Rattle.osi_script.specs.declared.line.Line.TheVariants as lines
 use Rattle.osi_script.specs.declared.system.LanRow.{LanRow}

@@ -1,12 +1,12 @@
 -- That no line of a generated script is refused, and that none injects octets.
 use Rattle.std.specs.Prelude.{◌≡◌, ℕ, ◌<◌, List, [], ◌∷◌, Some, Ok}
 use Rattle.std.specs.List.{AllByRecursion}
-use Rattle.osi_script.specs.declared.form.Dialect.{Dialect}
-use Rattle.osi_script.specs.declared.form.Word.{Word}
-use Rattle.osi_script.specs.declared.form.Word.TheVariants as words
+use Rattle.osi_script.specs.declared.words.Dialect.{Dialect}
+use Rattle.osi_script.specs.declared.words.Word.{Word}
+use Rattle.osi_script.specs.declared.words.Word.TheVariants as words
 use Rattle.osi_script.specs.declared.line.Line.{Line}
-use Rattle.osi_script.specs.declared.line.Line.TheVariants as lines
 use Rattle.osi_script.specs.Grammar.{line_read}
+use Rattle.osi_script.specs.Injecting.{HasNoInject, IsNoInjection}
 use Rattle.osi_script.specs.Known.{Declared, nothing_declared}
 use Rattle.osi_script.specs.Script.{Says}
 use Rattle.osi_script.specs.Table.{row_of, word_of}
@@ -22,16 +22,11 @@ line_words =
 abbrev pub RunsStorms : Dialect → Type 0
 RunsStorms dialect = AllByRecursion (λ word. word_of dialect (row_of word).text ≡ Some word) line_words
 
--- the line injects no octets
-abbrev pub InjectsNothing : Line → Type 0
-InjectsNothing (lines.Inject lan system octets) = ⊥
-InjectsNothing line = Unit {0}
-
 -- the lines of the set-up are read one after another, and after them the line of each word, which declares nothing more; none of them injects octets
 pub record AreRead (dialect : Dialect) : Type 0 where
   pub said : List Line
   pub names : Declared
   pub set_up : Says (nothing_declared dialect) set_up_lines said names
-  pub none_injects : AllByRecursion InjectsNothing said
+  pub none_injects : HasNoInject said
   pub each : (word frames ends : ℕ) → frames < 1000000000 → ends < 1000000000
-      → (line : Line) × (line_read names (line_text word frames ends) ≡ Ok (record { line = line; names = names })) × InjectsNothing line
+      → (line : Line) × (line_read names (line_text word frames ends) ≡ Ok (record { line = line; names = names })) × IsNoInjection line

@@ -1,7 +1,7 @@
 //! What holds of every generated script.
 
-ghost use Rattle.osi_script.specs.declared.form.Dialect.{Dialect};
-ghost use Rattle.osi_script.specs.declared.form.Dialect.TheVariants as dialects;
+ghost use Rattle.osi_script.specs.declared.words.Dialect.{Dialect};
+ghost use Rattle.osi_script.specs.declared.words.Dialect.TheVariants as dialects;
 ghost use Rattle.osi_storm.specs.Read.{RunsStorms, AreRead};
 
 /// Where the words of generated scripts name their lines, no line of them is refused, and none injects octets; so it is in scripts of `run`.

@@ -1,5 +1,5 @@
 -- Whatever script with relays was run: its journal is lawful, and the two connections of a pair are two queues together.
-use Rattle.std.proofs.Common.{◌≡◌, ◌⊎◌, inl, inr, ℕ, ◌≤◌, List, [], ◌∷◌, ◌++◌, refl, sym, ◌∙◌, ap, subst, append_assoc}
+use Rattle.std.proofs.Common.{◌≡◌, ◌⊎◌, inl, inr, true, ℕ, ◌≤◌, List, [], ◌∷◌, ◌++◌, refl, sym, ◌∙◌, ap, subst, append_assoc}
 use Rattle.std.specs.List.{AllByRecursion}
 use Rattle.osi_base.specs.Link.{Link}
 use Rattle.osi_base.specs.Calls.{Call, Keeps}
@@ -8,8 +8,8 @@ use Rattle.osi_journal.specs.declared.event.Event.{Event}
 use Rattle.osi_journal.specs.declared.event.Event.TheVariants as events
 use Rattle.osi_script.proofs.CommandLines.{line_has, line_stays}
 use Rattle.osi_script.specs.Commands.{HasLine}
-use Rattle.osi_script.specs.declared.form.Dialect.{Dialect}
-use Rattle.osi_script.specs.declared.form.Dialect.TheVariants as dialects
+use Rattle.osi_script.specs.declared.words.Dialect.{Dialect}
+use Rattle.osi_script.specs.declared.words.Dialect.TheVariants as dialects
 use Rattle.osi_script.specs.declared.line.Line.{Line}
 use Rattle.osi_script.specs.Known.{Declared, nothing_declared}
 use Rattle.osi_script.specs.Script.{Says}
@@ -32,11 +32,14 @@ use Rattle.script_world.proofs.Went.{HasStarted, IsSettingUp, PlayRuns, Went, we
 use Rattle.tp4_conn.specs.End.{frozen_for}
 use Rattle.tp4_conn.specs.declared.timers.Timers.{Timers}
 use Rattle.law_tp4_lawful.specs.Headline.{IsProperLine, ReceivesWhatWasSubmitted}
+use Rattle.tp4_number.specs.Number.{wire}
 use Rattle.tp4_relay.specs.Kept.{Kept, nothing_kept}
 use Rattle.tp4_relay.proofs.Telling.{rules_stay}
 use Rattle.tp4_world.specs.Laws.{IsFirst}
 use Rattle.tp4_world.specs.Run.{Starts}
 use Rattle.tp4_world.specs.World.{World}
+use Rattle.tp4_world.proofs.Lined.{lines_alike}
+use Rattle.tp4_world.proofs.Shown.{first_honest}
 use Rattle.relay_play.specs.Claims.{RelaysLawfully, frozen_of, titles_of}
 use Rattle.relay_play.specs.Relays.{RelayRun, part_of, relay_play}
 use Rattle.relay_play.specs.Rows.{rows_of}
@@ -116,10 +119,16 @@ module _ {N : Type 0} (link : N → Link (List ℕ)) (steps : N → Call (List �
       made_plain : plain s.made ≡ s.made
       made_plain = ap plain begins.made_is ∙ told_plain begins.ups ∙ sym begins.made_is
 
+      -- nothing was injected
+      still_honest : (link s.end.ends.carrier).honest ≡ true
+      still_honest =
+          lines_alike link steps keeps wire titles on.built.script first s.end.ends (plain s.rest) on.built.honest on.built.runs
+          ∙ first_honest link steps s.setup.life titles net (entities_of s.setup) s.made first first_is begins
+
       plain_lawful : Lawful (frozen_for timers) titles (s.made ++ plain s.rest)
       plain_lawful =
           law titles timers net (entities_of s.setup) s.made (plain s.rest) on.built.script first s.end.ends (are_timed s.setup.life s.setup.limits s.well.limits s.well.times.most_life) s.well.limits.least_inactive
-          (distinct titles s.well.distinct) first_is (untouched s.setup) begins on.built.honest on.built.proper on.built.runs
+          (distinct titles s.well.distinct) first_is (untouched s.setup) begins still_honest on.built.proper on.built.runs
 
       journal_lawful : Lawful (frozen_for timers) titles journal
       journal_lawful =

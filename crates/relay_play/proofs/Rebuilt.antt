@@ -12,10 +12,11 @@ use Rattle.osi_journal.specs.declared.event.Event.{Event}
 use Rattle.osi_journal.specs.declared.event.Event.TheVariants as events
 use Rattle.osi_journal.specs.declared.event.Indication.{Indication}
 use Rattle.osi_script.specs.Commands.{HasLine}
-use Rattle.osi_script.specs.declared.form.Dialect.TheVariants as dialects
+use Rattle.osi_script.specs.declared.words.Dialect.TheVariants as dialects
 use Rattle.osi_script.specs.declared.line.Line.{Line}
 use Rattle.osi_script.specs.declared.line.Line.TheVariants as lines
 use Rattle.osi_script.specs.declared.line.Options.{Options as ScriptOptions}
+use Rattle.osi_script.specs.Injecting.{HasNoInject, IsNoInjection}
 use Rattle.osi_setup.proofs.Elements.{at}
 use Rattle.net_world.specs.Told.{told}
 use Rattle.tpdu.specs.Grammar.{BeginsWithTpdu}
@@ -25,11 +26,11 @@ use Rattle.tpdu.specs.declared.tpdu.Tpdu.TheVariants as wires
 use Rattle.tp4_number.specs.Number.{wire}
 use Rattle.tp4_number.specs.declared.piece.Piece.{Piece}
 use Rattle.tp4_flow.specs.declared.rules.Options.{Options}
-use Rattle.tp4_conn.specs.declared.call.ConnectCall.{ConnectCall}
+use Rattle.tp4_conn.specs.declared.call.ConnectRequest.{ConnectRequest}
 use Rattle.tp4_conn.specs.declared.call.UserCall.{UserCall}
 use Rattle.tp4_conn.specs.declared.call.UserCall.TheVariants as asks
-use Rattle.tp4_conn.specs.declared.stage.Stage.{Stage}
-use Rattle.tp4_conn.specs.declared.stage.Stage.TheVariants as stages
+use Rattle.tp4_conn.specs.declared.states.StateData.{StateData}
+use Rattle.tp4_conn.specs.declared.states.StateData.TheVariants as stages
 use Rattle.tp4_conn.specs.declared.timers.Timers.{Timers}
 use Rattle.tp4_conn.specs.End.{IsSized}
 use Rattle.law_tp4_lawful.specs.Headline.{IsProperLine}
@@ -49,7 +50,6 @@ use Rattle.tp4_relay.specs.Reaction.{asked_options, begins, confirms, goes, inbo
 use Rattle.tp4_relay.specs.steps.Making.{HasSize}
 use Rattle.tp4_relay.proofs.Carried.{line_sized}
 use Rattle.tp4_relay.proofs.Telling.{rows_stay, rules_stay}
-use Rattle.tp4_world.specs.Laws.{IsNoInjection}
 use Rattle.tp4_world.specs.Run.{Calls, Connects, RunsLine, RunsLines, Settles, transport_address}
 use Rattle.tp4_world.specs.World.{World}
 use Rattle.law_relay.specs.Notes.{is_note, plain}
@@ -92,7 +92,7 @@ any_places [] = tt
 any_places (None ∷ places) = (tt, any_places places)
 any_places (Some piece ∷ places) = (tt, any_places places)
 
-any_stage : (stage : Stage) → IsStageOf Any tt any_both stage
+any_stage : (stage : StateData) → IsStageOf Any tt any_both stage
 any_stage (stages.CrWait w) = tt
 any_stage (stages.WaitBeforeClose w) = tt
 any_stage (stages.UserWait since) = tt
@@ -152,18 +152,17 @@ credit_says rules false (unit ∷ units) credit low is = let same : 0 ≡ credit
 
 module _ (titles : List (List ℕ)) where
   -- the request of a row
-  record IsRequest (system : ℕ) (call : ConnectCall) : Type 0 where
+  record IsRequest (system : ℕ) (request : ConnectRequest) : Type 0 where
     row : RelayRow
     heard : Indication
-    rules : Timers
     system_is : system ≡ row.system
-    call_is : call ≡ request_for rules row heard
+    request_is : request ≡ request_for row heard
     sized : IsSized (asked_options heard.options)
     leads : RowLeads titles row
 
   abbrev MayReact : Reaction → Type 0
   MayReact Nothing = Prim.Unit {0}
-  MayReact (Begin inbound system call) = IsRequest system call
+  MayReact (Begin inbound system request) = IsRequest system request
   MayReact (Ask end call) = MaySay call
 
   row_of_found : (rows : List RelayRow) (heard : Indication) → AllByRecursion (RowLeads titles) rows → (found : Option RelayRow) → row_for rows heard ≡ found → (row : RelayRow) → found ≡ Some row → RowLeads titles row
@@ -174,14 +173,13 @@ module _ (titles : List (List ℕ)) where
       by true here rest = let whole : Some first ≡ Some row = here ∙ some in let same : first ≡ row = cc whole in subst (RowLeads titles) same all.0
       by false here rest = rest here
 
-  begins_says : (kept : Kept) (heard : Indication) (found : Option RelayRow) → row_for kept.rows heard ≡ found → IsSized (asked_options heard.options) → AllByRecursion (RowLeads titles) kept.rows → MayReact (begins kept.rules heard found)
+  begins_says : (kept : Kept) (heard : Indication) (found : Option RelayRow) → row_for kept.rows heard ≡ found → IsSized (asked_options heard.options) → AllByRecursion (RowLeads titles) kept.rows → MayReact (begins heard found)
   begins_says kept heard None is sized leads = tt
   begins_says kept heard (Some row) is sized leads = record {
     row = row;
     heard = heard;
-    rules = kept.rules;
     system_is = refl;
-    call_is = refl;
+    request_is = refl;
     sized = sized;
     leads = row_of_found kept.rows heard leads (Some row) is row refl;
   }
@@ -227,7 +225,7 @@ line_sizes count kept (event ∷ line) all = (line_sized kept event all.0, line_
 -- ---- a script
 
 module _ {N : Type 0} (link : N → Link (List ℕ)) (steps : N → Call (List ℕ) → N → Type 0) (titles : List (List ℕ)) where
-  abbrev connects : World N → ℕ → ConnectCall → Bool → List Event → World N → Type 0
+  abbrev connects : World N → ℕ → ConnectRequest → Bool → List Event → World N → Type 0
   connects = AsksFor link steps
 
   abbrev calls : World N → ℕ → UserCall → Bool → List Event → World N → Type 0
@@ -238,7 +236,7 @@ module _ {N : Type 0} (link : N → Link (List ℕ)) (steps : N → Call (List �
     pub script : List Line
     pub runs : RunsLines link steps wire titles old script (plain journal) new
     pub proper : AllByRecursion IsProperLine script
-    pub honest : AllByRecursion IsNoInjection script
+    pub honest : HasNoInject script
 
   runs_both : (first second : List Line) (old mid new : World N) (here rest : List Event) → RunsLines link steps wire titles old first here mid → RunsLines link steps wire titles mid second rest new
       → RunsLines link steps wire titles old (first ++ second) (here ++ rest) new
@@ -288,31 +286,31 @@ module _ {N : Type 0} (link : N → Link (List ℕ)) (steps : N → Call (List �
   call_rebuilt old new end call done made may c =
       rebuilt_by (call_line end call) old new made (call_proper end call may) (call_honest end call) (call_runs link steps titles old end call made new c.calls)
 
-  request_rebuilt : (old new : World N) (row : RelayRow) (heard : Indication) (rules : Timers) (done : Bool) (made : List Event) → IsSized (asked_options heard.options) → RowLeads titles row
-      → connects old row.system (request_for rules row heard) done made new → Rebuilt old made new
-  request_rebuilt old new row heard rules done made sized leads c =
+  request_rebuilt : (old new : World N) (row : RelayRow) (heard : Indication) (done : Bool) (made : List Event) → IsSized (asked_options heard.options) → RowLeads titles row
+      → connects old row.system (request_for row heard) done made new → Rebuilt old made new
+  request_rebuilt old new row heard done made sized leads c =
       rebuilt_by (lines.Connect row.system row.selector leads.to row.to_selector heard.options heard.octets) old new made (sized, leads.selector_short, leads.called_short) tt
-      (leads.receiver, request_for rules row heard, leads.receiver_is, refl, (refl, leads.to_is, refl, refl, c.connects))
+      (leads.receiver, request_for row heard, leads.receiver_is, refl, (refl, leads.to_is, refl, refl, c.connects))
 
   -- ---- about an event
 
-  begin_rebuilt : (old new : World N) (inbound system : ℕ) (call : ConnectCall) (taken done : Bool) (made : List Event) → IsRequest titles system call → BeginsBy connects calls old inbound system call taken done made new → Rebuilt old made new
-  begin_rebuilt old new inbound system call true done made may b =
-      rebuilt_then old new new made b.0 (events.Joined inbound b.1.end ∷ []) (asked_rebuilt old new system call true b.0 may b.3) (rebuilt_none new new (events.Joined inbound b.1.end ∷ []) refl refl) b.5
+  begin_rebuilt : (old new : World N) (inbound system : ℕ) (request : ConnectRequest) (taken done : Bool) (made : List Event) → IsRequest titles system request → BeginsBy connects calls old inbound system request taken done made new → Rebuilt old made new
+  begin_rebuilt old new inbound system request true done made may b =
+      rebuilt_then old new new made b.0 (events.Joined inbound b.1.end ∷ []) (asked_rebuilt old new system request true b.0 may b.3) (rebuilt_none new new (events.Joined inbound b.1.end ∷ []) refl refl) b.5
     where
-      asked_rebuilt : (was next : World N) (at_system : ℕ) (asked : ConnectCall) (was_done : Bool) (told : List Event) → IsRequest titles at_system asked → connects was at_system asked was_done told next → Rebuilt was told next
+      asked_rebuilt : (was next : World N) (at_system : ℕ) (asked : ConnectRequest) (was_done : Bool) (told : List Event) → IsRequest titles at_system asked → connects was at_system asked was_done told next → Rebuilt was told next
       asked_rebuilt was next at_system asked was_done told r c =
-          request_rebuilt was next r.row r.heard r.rules was_done told r.sized r.leads
-          (subst (λ (x : ConnectCall). connects was (r.row).system x was_done told next) r.call_is (subst (λ (n : ℕ). connects was n asked was_done told next) r.system_is c))
-  begin_rebuilt old new inbound system call false done made may b =
+          request_rebuilt was next r.row r.heard was_done told r.sized r.leads
+          (subst (λ (x : ConnectRequest). connects was (r.row).system x was_done told next) r.request_is (subst (λ (n : ℕ). connects was n asked was_done told next) r.system_is c))
+  begin_rebuilt old new inbound system request false done made may b =
       rebuilt_then old b.0 new made b.1 b.2
-      (request_rebuilt old b.0 may.row may.heard may.rules false b.1 may.sized may.leads
-      (subst (λ (x : ConnectCall). connects old (may.row).system x false b.1 b.0) may.call_is (subst (λ (n : ℕ). connects old n call false b.1 b.0) may.system_is b.3)))
+      (request_rebuilt old b.0 may.row may.heard false b.1 may.sized may.leads
+      (subst (λ (x : ConnectRequest). connects old (may.row).system x false b.1 b.0) may.request_is (subst (λ (n : ℕ). connects old n request false b.1 b.0) may.system_is b.3)))
       (call_rebuilt b.0 new inbound (asks.Refuse []) done b.2 tt b.4) b.5
 
   does_rebuilt : (old new : World N) (to_do : Reaction) (done : Bool) (made : List Event) → MayReact titles to_do → Does connects calls old to_do done made new → Rebuilt old made new
   does_rebuilt old new Nothing done made may d = rebuilt_none old new made (ap plain d.1) d.2
-  does_rebuilt old new (Begin inbound system call) done made may d = begin_rebuilt old new inbound system call d.0 done made may d.1
+  does_rebuilt old new (Begin inbound system request) done made may d = begin_rebuilt old new inbound system request d.0 done made may d.1
   does_rebuilt old new (Ask end call) done made may d = call_rebuilt old new end call done made may d
 
   -- the rows lead, and the first credit is one, also after more events

@@ -5,11 +5,10 @@ use Rattle.osi_setup.specs.declared.relay.RelayLine.{RelayLine}
 use Rattle.tp4_relay.specs.declared.row.RelayRow.{RelayRow}
 use Rattle.tp4_world.specs.Run.{transport_address}
 
--- from the transport address of the one system to that of the other, by the titles of the systems
+-- from the one system to the transport address of the other, by the titles of the systems
 abbrev pub row_of : List (List ℕ) → RelayLine → RelayRow
 row_of titles line = record {
   system = line.system;
-  own = transport_address (get_or titles line.system []);
   selector = line.selector;
   to = transport_address (get_or titles line.to []);
   to_selector = line.called;

@@ -4,7 +4,7 @@ use Rattle.osi_base.specs.Link.{Link}
 use Rattle.osi_base.specs.Calls.{Call}
 use Rattle.osi_journal.specs.declared.event.Event.{Event}
 use Rattle.osi_journal.specs.declared.event.Event.TheVariants as events
-use Rattle.tp4_conn.specs.declared.call.ConnectCall.{ConnectCall}
+use Rattle.tp4_conn.specs.declared.call.ConnectRequest.{ConnectRequest}
 use Rattle.tp4_conn.specs.declared.call.UserCall.{UserCall}
 use Rattle.tp4_conn.specs.End.{End}
 use Rattle.tp4_number.specs.Number.{wire}
@@ -37,9 +37,9 @@ pub record IsInOrder {C : Type 0} (link : C → Link (List ℕ)) (world : World 
 
 module _ {C : Type 0} (link : C → Link (List ℕ)) (steps : C → Call (List ℕ) → C → Type 0) where
   -- a request for a connection, and whether it was done
-  pub record AsksFor (old : World C) (system : ℕ) (call : ConnectCall) (done : Bool) (made : List Event) (new : World C) : Type 0 where
+  pub record AsksFor (old : World C) (system : ℕ) (request : ConnectRequest) (done : Bool) (made : List Event) (new : World C) : Type 0 where
     pub order : IsInOrder link old
-    pub connects : Connects link steps old system call made new
+    pub connects : Connects link steps old system request made new
     pub done_is : done ≡ is_done made
 
   -- a call on an end, and whether it was done

@@ -5,7 +5,7 @@ ghost use Rattle.law_clnp_answers.specs.Standing.{is_nsap};
 ghost use Rattle.law_setup.specs.Lines.{RunsAt};
 ghost use Rattle.osi_journal.specs.declared.event.Event.{Event as Told};
 ghost use Rattle.osi_script.specs.Commands.{HasLine};
-ghost use Rattle.osi_script.specs.declared.form.Dialect.TheVariants.{Relay as OfRelay};
+ghost use Rattle.osi_script.specs.declared.words.Dialect.TheVariants.{Relay as OfRelay};
 ghost use Rattle.tp4_number.specs.Number.{wire};
 ghost use Rattle.tp4_world.specs.Run.{Settles};
 ghost use Rattle.tp4_world.specs.Total.{CanRun};

@@ -23,15 +23,13 @@ pub fn rows(alloc: Global, titles: &[Nsap], lines: &[RelayLine]) -> Result<Vec<R
     Ok(rows)
 }
 
-/// The row of a line: from the transport address of its system to that of another one.
+/// The row of a line: from its system to the transport address of another one.
 fn row(alloc: Global, titles: &[Nsap], line: &RelayLine) -> Result<RelayRow, NoMemory>
-    requires system { line.now.system < length titles.now }
-    requires to { line.now.to < length titles.now }
+    requires { line.now.to < length titles.now }
     ensures { IfOk result (λ row. row ≡ row_of titles.now line.now) }
 {
     Ok(RelayRow {
         system: line.system,
-        own: titles[usize::from(line.system)].with_selector(TRANSPORT),
         selector: Bytes::copy(alloc, line.selector.as_slice())?,
         to: titles[usize::from(line.to)].with_selector(TRANSPORT),
         to_selector: Bytes::copy(alloc, line.called.as_slice())?,

@@ -1,10 +1,10 @@
 //! The transport entities of a network as a relay sees them (X.214, service primitives).
 
-ghost use Rattle.std.specs.Prelude.{◌≡◌, [], length, OnOk, IfOk};
+ghost use Rattle.std.specs.Prelude.{◌≡◌, [], false, length, OnOk, IfOk};
 ghost use Rattle.law_clnp_answers.specs.Standing.{is_nsap};
 ghost use Rattle.law_setup.specs.Lines.{RunsAt};
 ghost use Rattle.osi_script.specs.Commands.{HasLine};
-ghost use Rattle.osi_script.specs.declared.form.Dialect.TheVariants.{Relay as OfRelay};
+ghost use Rattle.osi_script.specs.declared.words.Dialect.TheVariants.{Relay as OfRelay};
 ghost use Rattle.tp4_number.specs.Number.{wire};
 ghost use Rattle.tp4_world.specs.Run.{RunsLine, Settles};
 ghost use Rattle.tp4_world.specs.Total.{CanRun};
@@ -17,7 +17,7 @@ use osi_script::Line;
 use script_world::Network;
 use std::alloc::Global;
 use std::marker::Model;
-use tp4_conn::{ConnectCall, UserCall};
+use tp4_conn::{ConnectRequest, UserCall};
 use tp4_relay::Service;
 use tp4_world::TpWorld;
 
@@ -73,9 +73,7 @@ impl<N: Network + Drop> WorldService<N> {
         requires listed { HasLine OfRelay line }
         ensures { OnOk result (RunsLine N.link N.steps wire titles.now self.old line events.new.items self.new) }
     {
-        if self.stopped {
-            return Err(NoMemory);
-        }
+        go_on(self.stopped)?;
         self.stopped = true;
         script_world::run_line(&mut self.ends, titles, line, events)?;
         self.stopped = false;
@@ -89,9 +87,7 @@ impl<N: Network + Drop> WorldService<N> {
         requires none { events.old.items ≡ [] }
         ensures { OnOk result (Settles N.link N.steps wire 0 self.old events.new.items self.new) }
     {
-        if self.stopped {
-            return Err(NoMemory);
-        }
+        go_on(self.stopped)?;
         self.stopped = true;
         self.ends.settle(events)?;
         self.stopped = false;
@@ -116,15 +112,13 @@ impl<C: Carrier<Addr = Nsap> + Drop> Service for WorldService<C> {
     fn connect(
         &mut self,
         system: u8,
-        call: ConnectCall,
+        request: ConnectRequest,
         events: &mut Vec<Event>,
     ) -> Result<bool, NoMemory> {
-        if self.stopped {
-            return Err(NoMemory);
-        }
+        go_on(self.stopped)?;
         self.stopped = true;
         let mut made = Vec::new(self.alloc);
-        self.ends.connect(system, call, &mut made)?;
+        self.ends.connect(system, request, &mut made)?;
         let done = is_done(&made);
         events.append(&mut made)?;
         self.stopped = false;
@@ -137,9 +131,7 @@ impl<C: Carrier<Addr = Nsap> + Drop> Service for WorldService<C> {
         call: UserCall,
         events: &mut Vec<Event>,
     ) -> Result<bool, NoMemory> {
-        if self.stopped {
-            return Err(NoMemory);
-        }
+        go_on(self.stopped)?;
         self.stopped = true;
         let mut made = Vec::new(self.alloc);
         self.ends.call(end, call, &mut made)?;
@@ -150,6 +142,16 @@ impl<C: Carrier<Addr = Nsap> + Drop> Service for WorldService<C> {
     }
 
     ghost laws = { world_serves C.link C.steps C.keeps };
+}
+
+/// After a call that ended for want of memory each further one wants it again: what that one left half done is not known.
+fn go_on(stopped: bool) -> Result<(), NoMemory>
+    ensures { OnOk result (stopped ≡ false) }
+{
+    if stopped {
+        return Err(NoMemory);
+    }
+    Ok(())
 }
 
 /// Whether the events of a call are those of one that was done: a call that is refused tells the refusal alone.

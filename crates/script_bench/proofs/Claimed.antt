@@ -7,7 +7,7 @@ use Rattle.osi_journal.specs.declared.event.Event.{Event}
 use Rattle.osi_script.specs.declared.line.Line.{Line}
 use Rattle.script_bench.specs.Acts.{Acts}
 use Rattle.script_bench.specs.Bench.{Bench, FillsJournal, bench_meaning, first_bench, most_events}
-use Rattle.script_bench.specs.Claims.{IsLaw, IsRun, Shows, lines_handled, lines_over, lines_run, texts_in}
+use Rattle.script_bench.specs.Claims.{AllLines, IsLaw, IsRun, Shows, ToLimit, ToLimitAtEnd, WholeLines, lines_handled, lines_over, lines_run, texts_in}
 use Rattle.script_bench.proofs.Runs.{ran, ran_more}
 
 module _ {W : Type 0} (acts : Acts W) (Claim : List Line → List Event → W → Type 0) (law : IsLaw acts Claim) where
@@ -43,11 +43,11 @@ module _ {W : Type 0} (acts : Acts W) (Claim : List Line → List Event → W �
   over_holds texts front octet before part state last journal runs is (inr fills) = filled_holds texts before state (without_return (open_line front)) part journal last runs fills.2 is
 
   run_holds : (octets : List ℕ) (journal : List Event) (last : Bench W) (run : IsRun acts octets journal last) → Claim (lines_handled acts octets journal last run) journal last.world
-  run_holds octets journal last (inl read) = texts_hold (texts_in octets) journal last read.runs
-  run_holds octets journal last (inr (inl whole)) = texts_hold (texts_in octets ++ last_line (open_line octets)) journal last whole.runs
-  run_holds octets journal last (inr (inr (inl here))) =
+  run_holds octets journal last (WholeLines read) = texts_hold (texts_in octets) journal last read.runs
+  run_holds octets journal last (AllLines whole) = texts_hold (texts_in octets ++ last_line (open_line octets)) journal last whole.runs
+  run_holds octets journal last (ToLimit here) =
       over_holds (texts_in here.front) here.front here.octet here.before here.events here.state last journal here.so_far.runs here.journal_is here.over
-  run_holds octets journal last (inr (inr (inr at_end))) =
+  run_holds octets journal last (ToLimitAtEnd at_end) =
       filled_holds (texts_in octets) at_end.before at_end.state (open_line octets) at_end.events journal last at_end.so_far.runs at_end.fills at_end.journal_is
 
   pub shows : (octets : List ℕ) → Shows acts Claim octets

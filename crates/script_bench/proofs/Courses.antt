@@ -5,12 +5,12 @@ use Rattle.line_loop.specs.Lines.{most_lines}
 use Rattle.line_loop.specs.Total.{HasCourse, AsksSomething}
 use Rattle.line_loop.proofs.Totality.{asks_something}
 use Rattle.osi_journal.specs.declared.event.Event.{Event}
-use Rattle.osi_script.specs.declared.fault.LineFault.{LineFault}
+use Rattle.osi_script.specs.declared.cause.LineFault.{LineFault}
 use Rattle.osi_script.specs.declared.line.Line.{Line}
 use Rattle.osi_script.specs.Grammar.{Reading, line_read}
 use Rattle.osi_script.specs.Known.{Declared}
 use Rattle.script_bench.specs.Acts.{Acts, HasStep, Keeping, StageLaws}
-use Rattle.script_bench.specs.Bench.{Bench, RunsLine, bench_meaning, first_bench, most_events}
+use Rattle.script_bench.specs.Bench.{Bench, RunsText, bench_meaning, first_bench, most_events}
 use Rattle.script_bench.specs.steps.BenchLaws.{bench_laws}
 
 module _ {W : Type 0} (acts : Acts W) (keeping : Keeping W) (laws : StageLaws acts keeping) where
@@ -37,7 +37,7 @@ module _ {W : Type 0} (acts : Acts W) (keeping : Keeping W) (laws : StageLaws ac
   course_by bench octets (Err found) s few is = inr (inl (found, is))
   course_by bench octets (Ok reading) s few is = roomed bench octets reading.line reading.names is (laws.some_step bench.names reading.names bench.world bench.lines octets reading.line s few is)
 
-  stays : (old : Bench W) (octets : List ℕ) (made : List Event) (new : Bench W) → Stands old → old.lines < most_lines → RunsLine acts old octets made new → Stands new
+  stays : (old : Bench W) (octets : List ℕ) (made : List Event) (new : Bench W) → Stands old → old.lines < most_lines → RunsText acts old octets made new → Stands new
   stays old octets made new s few h =
       subst (λ (n : ℕ). keeping.agrees new.names new.world n) (sym h.lines) (laws.read_agrees old.names new.names old.world old.lines octets h.line made new.world s few h.meaning h.steps)
 

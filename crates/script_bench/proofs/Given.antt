@@ -13,10 +13,10 @@ use Rattle.line_loop.specs.Outcome.{Asks, AsksFor, Outcome}
 use Rattle.line_loop.proofs.Driving.{cut_of, Ran as RanOver}
 use Rattle.line_loop.proofs.Exclusion.{ran_exact, ran_accepted, complete}
 use Rattle.osi_journal.specs.declared.event.Event.{Event}
-use Rattle.osi_script.specs.declared.fault.LineFault.{LineFault}
+use Rattle.osi_script.specs.declared.cause.LineFault.{LineFault}
 use Rattle.script_bench.specs.Acts.{Acts, Keeping, StageLaws}
 use Rattle.script_bench.specs.Bench.{Bench, FillsJournal, bench_meaning, first_bench}
-use Rattle.script_bench.specs.Claims.{IsRun, texts_in}
+use Rattle.script_bench.specs.Claims.{AllLines, IsRun, ToLimit, ToLimitAtEnd, WholeLines, texts_in}
 use Rattle.script_bench.specs.Told.{AskedRun, OutcomeRun, OverRun, RanScript, RefusedRun, TooMuchRun}
 use Rattle.script_bench.specs.steps.BenchLaws.{bench_laws}
 
@@ -55,16 +55,16 @@ module _ {W : Type 0} (acts : Acts W) (Ran Filled : List (List ℕ) → List Eve
       filled (texts_in read) at_end.1.before at_end.1.state (open_line read) at_end.1.events journal last at_end.1.so_far.runs at_end.1.fills at_end.1.journal_is
 
   pub ran_script : (octets : List ℕ) (journal : List Event) (last : Bench W) (run : IsRun acts octets journal last) → RanScript acts Ran Filled octets journal last run
-  ran_script octets journal last (inl read) = ran (texts_in octets) journal last read.runs
-  ran_script octets journal last (inr (inl whole)) = ran (texts_in octets ++ last_line (open_line octets)) journal last whole.runs
-  ran_script octets journal last (inr (inr (inl here))) = over_run here.front here.octet here.before here.events here.state last journal here.so_far.runs here.journal_is here.over
-  ran_script octets journal last (inr (inr (inr at_end))) = filled (texts_in octets) at_end.before at_end.state (open_line octets) at_end.events journal last at_end.so_far.runs at_end.fills at_end.journal_is
+  ran_script octets journal last (WholeLines read) = ran (texts_in octets) journal last read.runs
+  ran_script octets journal last (AllLines whole) = ran (texts_in octets ++ last_line (open_line octets)) journal last whole.runs
+  ran_script octets journal last (ToLimit here) = over_run here.front here.octet here.before here.events here.state last journal here.so_far.runs here.journal_is here.over
+  ran_script octets journal last (ToLimitAtEnd at_end) = filled (texts_in octets) at_end.before at_end.state (open_line octets) at_end.events journal last at_end.so_far.runs at_end.fills at_end.journal_is
 
   asked_run : (end : Type 0) (read text : List ℕ) (status : Status) (asked : Asks (bench_meaning acts) end (first_bench acts) read text status) → AskedRun acts Ran Filled end read text status asked
-  asked_run end read text Done asked = ran (texts_in read ++ last_line (open_line read)) asked.0 asked.1 asked.3.runs
-  asked_run end read text RefusedLine asked = refused_run read asked.0 asked.1 asked.2 asked.3 asked.4
-  asked_run end read text TooMuch asked = too_much_run read asked.0 asked.1 asked.2
-  asked_run end read text ReadFault asked = ran (texts_in read) asked.0 asked.1 asked.2.runs
+  asked_run end read text Done asked = ran (texts_in read ++ last_line (open_line read)) asked.journal asked.last asked.whole.runs
+  asked_run end read text RefusedLine asked = refused_run read asked.line asked.said asked.journal asked.last asked.refused
+  asked_run end read text TooMuch asked = too_much_run read asked.journal asked.last asked.passed
+  asked_run end read text ReadFault asked = ran (texts_in read) asked.journal asked.last asked.so_far.runs
   asked_run end read text WriteFault asked = asked
   asked_run end read text NoMemory asked = asked
   asked_run end read text RefusedWords asked = asked

@@ -9,7 +9,7 @@ use Rattle.osi_script.specs.Grammar.{line_read}
 use Rattle.osi_script.specs.Known.{Declared, nothing_declared}
 use Rattle.osi_script.specs.Script.{Says}
 use Rattle.script_bench.specs.Acts.{Acts, RunsScript}
-use Rattle.script_bench.specs.Bench.{Bench, FillsJournal, RunsLine, bench_meaning, first_bench, most_events}
+use Rattle.script_bench.specs.Bench.{Bench, FillsJournal, RunsText, bench_meaning, first_bench, most_events}
 use Rattle.script_bench.specs.Claims.{lines_run}
 use Rattle.script_bench.specs.Told.{IsFilledRun, IsScriptRun}
 
@@ -42,7 +42,7 @@ module _ {W : Type 0} (acts : Acts W) where
       → Ran first texts (lines_run acts first texts journal last runs) journal last
   ran first [] journal last runs = record { says = ap (λ (b : Bench W). b.names) runs.1; runs = (runs.0, ap (λ (b : Bench W). b.world) runs.1) }
   ran first (text ∷ texts) journal last runs =
-      let one : RunsLine acts first text runs.0 runs.1 = runs.3 in
+      let one : RunsText acts first text runs.0 runs.1 = runs.3 in
       let rest = ran runs.1 texts runs.2 last runs.5 in
       record { says = (runs.1.names, one.meaning, rest.says); runs = (runs.1.world, runs.0, runs.2, one.steps, runs.4, rest.runs) }
 
@@ -81,7 +81,7 @@ module _ {W : Type 0} (acts : Acts W) where
       let none : length journal ≡ 0 = ap (λ (j : List Event). length j) h.0 in
       record { events = omega (arith, same, none); room = subst (λ (n : ℕ). n ≤ most_events) (sym same) room }
   counts first (text ∷ texts) journal last room h =
-      let one : RunsLine acts first text h.0 h.1 = h.3 in
+      let one : RunsText acts first text h.0 h.1 = h.3 in
       let rest = counts h.1 texts h.2 last one.room h.5 in
       let all : length journal ≡ length h.0 + length h.2 = ap (λ (j : List Event). length j) h.4 ∙ length-append h.0 h.2 in
       record { events = omega (arith, one.events, rest.events, all); room = rest.room }

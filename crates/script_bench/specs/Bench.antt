@@ -1,7 +1,7 @@
 -- The machine of scripts: what a line does to the names declared, to the stage and to the journal.
 use Rattle.std.specs.Prelude.{◌≡◌, ℕ, ◌+◌, ◌-◌, ◌<◌, ◌≤◌, false, List, [], length, take, Ok, Err}
-use Rattle.osi_script.specs.declared.fault.LineFault.{LineFault}
-use Rattle.osi_script.specs.declared.fault.LineCause.TheVariants as causes
+use Rattle.osi_script.specs.declared.cause.LineFault.{LineFault}
+use Rattle.osi_script.specs.declared.cause.LineCause.TheVariants as causes
 use Rattle.osi_script.specs.declared.line.Line.{Line}
 use Rattle.osi_script.specs.Grammar.{line_read, fault}
 use Rattle.osi_script.specs.Known.{Declared, nothing_declared}
@@ -28,7 +28,7 @@ module _ {W : Type 0} (acts : Acts W) where
   first_bench = record { names = nothing_declared acts.dialect; world = acts.first; lines = 0; events = 0 }
 
   -- a line of a script is read, declares its names, and takes its step, and the journal has room for its events
-  pub record RunsLine (old : Bench W) (octets : List ℕ) (made : List Event) (new : Bench W) : Type 0 where
+  pub record RunsText (old : Bench W) (octets : List ℕ) (made : List Event) (new : Bench W) : Type 0 where
     pub line : Line
     pub meaning : line_read old.names octets ≡ Ok (record { line = line; names = new.names })
     pub steps : acts.step old.world line made new.world
@@ -57,7 +57,7 @@ module _ {W : Type 0} (acts : Acts W) where
 
   abbrev pub bench_meaning : Meaning (Bench W) Event LineFault
   bench_meaning = record {
-    step = RunsLine;
+    step = RunsText;
     refuses = RefusesLine;
     fills = FillsJournal;
     too_long = λ bench. fault causes.Long 40001;

@@ -1,5 +1,5 @@
 -- Whatever part of the octets was run: the lines that were handled, and what holds of every run of a stage.
-use Rattle.std.specs.Prelude.{◌⊎◌, ℕ, List, [], ◌∷◌, ◌++◌, map}
+use Rattle.std.specs.Prelude.{ℕ, List, [], ◌∷◌, ◌++◌, map}
 use Rattle.std.proofs.Common.{inl, inr}
 use Rattle.line_loop.specs.Course.{Runs, IsRead, IsWhole, IsOver, IsTooMuch, IsTooMuchAtEnd}
 use Rattle.line_loop.specs.Lines.{whole_lines, open_line, without_return, last_line}
@@ -9,7 +9,7 @@ use Rattle.osi_script.specs.declared.line.Line.{Line}
 use Rattle.osi_script.specs.Known.{Declared, nothing_declared}
 use Rattle.osi_script.specs.Script.{Says}
 use Rattle.script_bench.specs.Acts.{Acts, RunsScript}
-use Rattle.script_bench.specs.Bench.{Bench, RunsLine, bench_meaning, first_bench}
+use Rattle.script_bench.specs.Bench.{Bench, RunsText, bench_meaning, first_bench}
 
 -- the lines that have their line feed, without their ends
 abbrev pub texts_in : List ℕ → List (List ℕ)
@@ -17,16 +17,16 @@ texts_in octets = map without_return (whole_lines octets)
 
 module _ {W : Type 0} (acts : Acts W) where
   -- how far octets were run: to the end of the lines that have their line feed, to the end of all lines, or to a limit
-  abbrev pub IsRun : List ℕ → List Event → Bench W → Type 0
-  IsRun octets journal last =
-      IsRead (bench_meaning acts) (first_bench acts) octets journal last
-      ⊎ (IsWhole (bench_meaning acts) (first_bench acts) octets journal last
-      ⊎ (IsTooMuch (bench_meaning acts) (first_bench acts) octets journal last ⊎ IsTooMuchAtEnd (bench_meaning acts) (first_bench acts) octets journal last))
+  pub data IsRun (octets : List ℕ) (journal : List Event) (last : Bench W) : Type 0 where
+    WholeLines : IsRead (bench_meaning acts) (first_bench acts) octets journal last → IsRun octets journal last
+    AllLines : IsWhole (bench_meaning acts) (first_bench acts) octets journal last → IsRun octets journal last
+    ToLimit : IsTooMuch (bench_meaning acts) (first_bench acts) octets journal last → IsRun octets journal last
+    ToLimitAtEnd : IsTooMuchAtEnd (bench_meaning acts) (first_bench acts) octets journal last → IsRun octets journal last
 
   -- the lines that ran
   abbrev pub lines_run : (first : Bench W) (texts : List (List ℕ)) (journal : List Event) (last : Bench W) → Runs (bench_meaning acts) first texts journal last → List Line
   lines_run first [] journal last runs = []
-  lines_run first (text ∷ texts) journal last runs = let one : RunsLine acts first text runs.0 runs.1 = runs.3 in one.line ∷ lines_run runs.1 texts runs.2 last runs.5
+  lines_run first (text ∷ texts) journal last runs = let one : RunsText acts first text runs.0 runs.1 = runs.3 in one.line ∷ lines_run runs.1 texts runs.2 last runs.5
 
   -- the line that fills the journal, where one does
   abbrev pub lines_over : (state : Bench W) (front : List ℕ) (octet : ℕ) (events : List Event) (last : Bench W) → IsOver (bench_meaning acts) state front octet events last → List Line
@@ -35,11 +35,11 @@ module _ {W : Type 0} (acts : Acts W) where
 
   -- the lines of the octets that were handled
   abbrev pub lines_handled : (octets : List ℕ) (journal : List Event) (last : Bench W) → IsRun octets journal last → List Line
-  lines_handled octets journal last (inl read) = lines_run (first_bench acts) (texts_in octets) journal last read.runs
-  lines_handled octets journal last (inr (inl whole)) = lines_run (first_bench acts) (texts_in octets ++ last_line (open_line octets)) journal last whole.runs
-  lines_handled octets journal last (inr (inr (inl here))) =
+  lines_handled octets journal last (WholeLines read) = lines_run (first_bench acts) (texts_in octets) journal last read.runs
+  lines_handled octets journal last (AllLines whole) = lines_run (first_bench acts) (texts_in octets ++ last_line (open_line octets)) journal last whole.runs
+  lines_handled octets journal last (ToLimit here) =
       lines_run (first_bench acts) (texts_in here.front) here.before here.state here.so_far.runs ++ lines_over here.state here.front here.octet here.events last here.over
-  lines_handled octets journal last (inr (inr (inr at_end))) =
+  lines_handled octets journal last (ToLimitAtEnd at_end) =
       lines_run (first_bench acts) (texts_in octets) at_end.before at_end.state at_end.so_far.runs ++ at_end.fills.line ∷ []
 
   -- what is claimed of a script, its journal and the state after it: it holds of each run of a script, and then of each front of the journal

@@ -1,7 +1,7 @@
 -- The closing lines of a transcript.
 use Rattle.std.specs.Prelude.{ℕ, List, [], ◌∷◌, ◌++◌, Option, Some, None, codes}
 use Rattle.std.specs.Fmt.{decimal}
-use Rattle.osi_script.specs.declared.fault.LineFault.{LineFault}
+use Rattle.osi_script.specs.declared.cause.LineFault.{LineFault}
 use Rattle.osi_script.specs.Causes.{cause_text}
 use Rattle.osi_journal.specs.Told.{line}
 

@@ -7,13 +7,13 @@ use Rattle.line_loop.specs.Course.{IsOver, IsTooMuch, IsTooMuchAtEnd, IsRefusedA
 use Rattle.line_loop.specs.Lines.{open_line, without_return, last_line}
 use Rattle.line_loop.specs.Outcome.{Asks, Outcome}
 use Rattle.osi_journal.specs.declared.event.Event.{Event}
-use Rattle.osi_script.specs.declared.fault.LineFault.{LineFault}
+use Rattle.osi_script.specs.declared.cause.LineFault.{LineFault}
 use Rattle.osi_script.specs.declared.line.Line.{Line}
 use Rattle.osi_script.specs.Known.{nothing_declared}
 use Rattle.osi_script.specs.Script.{Says}
 use Rattle.script_bench.specs.Acts.{Acts, RunsScript}
 use Rattle.script_bench.specs.Bench.{Bench, bench_meaning, first_bench, most_events}
-use Rattle.script_bench.specs.Claims.{IsRun, texts_in}
+use Rattle.script_bench.specs.Claims.{AllLines, IsRun, ToLimit, ToLimitAtEnd, WholeLines, texts_in}
 
 module _ {W : Type 0} (acts : Acts W) where
   -- the texts are the lines of a script, and the stage ran them with this journal up to that state
@@ -49,10 +49,10 @@ module _ {W : Type 0} (acts : Acts W) where
 
     -- where octets ask for a transcript: it is said of the lines whose journal it tells
     abbrev pub AskedRun : (end : Type 0) (read text : List ℕ) (status : Status) → Asks (bench_meaning acts) end (first_bench acts) read text status → Type 0
-    AskedRun end read text Done asked = Ran (texts_in read ++ last_line (open_line read)) asked.0 asked.1
-    AskedRun end read text RefusedLine asked = RefusedRun read asked.0 asked.1 asked.2 asked.3 asked.4
-    AskedRun end read text TooMuch asked = TooMuchRun read asked.0 asked.1 asked.2
-    AskedRun end read text ReadFault asked = Ran (texts_in read) asked.0 asked.1
+    AskedRun end read text Done asked = Ran (texts_in read ++ last_line (open_line read)) asked.journal asked.last
+    AskedRun end read text RefusedLine asked = RefusedRun read asked.line asked.said asked.journal asked.last asked.refused
+    AskedRun end read text TooMuch asked = TooMuchRun read asked.journal asked.last asked.passed
+    AskedRun end read text ReadFault asked = Ran (texts_in read) asked.journal asked.last
     AskedRun end read text WriteFault asked = ⊥
     AskedRun end read text NoMemory asked = ⊥
     AskedRun end read text RefusedWords asked = ⊥
@@ -71,7 +71,7 @@ module _ {W : Type 0} (acts : Acts W) where
 
     -- it is said of the lines of octets that were run, or of those before a limit
     abbrev pub RanScript : (octets : List ℕ) (journal : List Event) (last : Bench W) → IsRun acts octets journal last → Type 0
-    RanScript octets journal last (inl read) = Ran (texts_in octets) journal last
-    RanScript octets journal last (inr (inl whole)) = Ran (texts_in octets ++ last_line (open_line octets)) journal last
-    RanScript octets journal last (inr (inr (inl here))) = OverRun here.front here.octet here.events here.state last journal here.over
-    RanScript octets journal last (inr (inr (inr at_end))) = Filled (texts_in octets ++ open_line octets ∷ []) journal last
+    RanScript octets journal last (WholeLines read) = Ran (texts_in octets) journal last
+    RanScript octets journal last (AllLines whole) = Ran (texts_in octets ++ last_line (open_line octets)) journal last
+    RanScript octets journal last (ToLimit here) = OverRun here.front here.octet here.events here.state last journal here.over
+    RanScript octets journal last (ToLimitAtEnd at_end) = Filled (texts_in octets ++ open_line octets ∷ []) journal last

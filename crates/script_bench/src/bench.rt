@@ -1,11 +1,12 @@
 //! The machine of scripts: what a line does to the names declared, to the stage and to the journal.
 
-ghost use Rattle.std.specs.Prelude.{◌≡◌, ◌<◌, ◌≤◌, ◌+◌, ◌-◌, ◌++◌, OnErr, OnOk, IsErrOf};
+ghost use Rattle.std.specs.Prelude.{◌≡◌, ◌<◌, ◌++◌, OnErr, OnOk, IsErrOf};
 ghost use Rattle.line_loop.specs.Lines.{most_lines};
 ghost use Rattle.osi_journal.specs.Told.{journal_text};
 ghost use Rattle.osi_script.specs.Tags.{tags_of};
-ghost use Rattle.script_bench.specs.Bench.{FillsJournal, RefusesLine, RunsLine, most_events};
+ghost use Rattle.script_bench.specs.Bench.{FillsJournal, RefusesLine, RunsText};
 
+use crate::event_limit::told_of;
 use crate::stage::Stage;
 use crate::text::{push_done, push_events, push_refusal, push_strays, push_too_much};
 use line_loop::{LineError, Machine};
@@ -15,9 +16,6 @@ use osi_script::{LineCause, LineFault, LineRefusal, Names};
 use std::alloc::Global;
 use std::marker::Model;
 use std::mem;
-
-/// The most events of a transcript.
-const MOST_EVENTS: u32 = 4_194_304;
 
 /// The column of the first octet that is too many for a line.
 const TOO_LONG: u32 = 40_001;
@@ -79,7 +77,7 @@ impl<W: Stage + Drop> Bench<W> {
     /// does. After Full or NoMemory no line is run.
     pub fn run(&mut self, line: &[u8], events: &mut Vec<Event>) -> Result<(), LineError<LineFault>>
         requires { self.old.lines < most_lines }
-        ensures ok { OnOk result (RunsLine W.acts self.old line.now events.new.items self.new) }
+        ensures ok { OnOk result (RunsText W.acts self.old line.now events.new.items self.new) }
         ensures refused { (said : LineFault) → IsErrOf result (LineError.Refused said)
             → RefusesLine W.acts self.old line.now said × (self.new ≡ self.old) }
         ensures full { IsErrOf result LineError.Full → FillsJournal W.acts self.old line.now events.new.items self.new }
@@ -121,17 +119,6 @@ impl<W: Stage + Drop> Bench<W> {
         self.events = events;
         Ok(())
     }
-}
-
-/// How many of so many events of a line a journal has room for, after `count` events.
-fn told_of(count: u32, made: usize) -> usize
-    requires { count ≤ most_events }
-    ensures most { result ≤ made }
-    ensures room { count + result ≤ most_events }
-    ensures full { result < made → result ≡ most_events - count }
-{
-    let room = (MOST_EVENTS - count) as usize;
-    if made <= room { made } else { room }
 }
 
 impl<W: Stage + Drop> Machine for Bench<W> {

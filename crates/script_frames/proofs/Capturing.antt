@@ -37,7 +37,7 @@ behind_header written text begins = (begins.0, append_assoc header_octets writte
 capture_cut : (end : Type 0) (read written : List ℕ) → IsCut frames_meaning end first_bench read written → IsCutCapture end read (header_octets ++ written)
 capture_cut end read written h = record {
   front = h.front;
-  capture = header_octets ++ h.text;
+  text = header_octets ++ h.text;
   status = h.status;
   begins = h.begins;
   asked = capture_asked ((h.front ≡ read) × end) h.front h.text h.status h.asked;
@@ -59,10 +59,10 @@ capture_outcome end read written RefusedCapture h = absurd h
 header_cut : (end : Type 0) (front : List ℕ) → IsPrefix front header_octets → IsCutCapture end [] front
 header_cut end front begins = record {
   front = [];
-  capture = header_octets;
+  text = header_octets;
   status = ReadFault;
   begins = ([], refl);
-  asked = record { records = []; asks = ([], first_bench, read_none frames_meaning first_bench, refl); capture_is = sym (append-nil header_octets) };
+  asked = record { records = []; asks = record { journal = []; last = first_bench; so_far = read_none frames_meaning first_bench; text_is = refl }; capture_is = sym (append-nil header_octets) };
   cut = begins;
 }
 

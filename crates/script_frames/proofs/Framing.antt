@@ -8,10 +8,10 @@ use Rattle.lan_bag.specs.Frames.{Frame, frame_of, kept}
 use Rattle.line_loop.proofs.Calls.{on_ok}
 use Rattle.line_loop.specs.Meaning.{HasRun}
 use Rattle.line_loop.specs.declared.machine.LineError.{LineError}
-use Rattle.osi_script.specs.declared.fault.LineFault.{LineFault}
+use Rattle.osi_script.specs.declared.cause.LineFault.{LineFault}
 use Rattle.osi_journal.specs.declared.event.Event.{Event}
 use Rattle.tp4_world.proofs.Addressees.{all_append}
-use Rattle.law_run.specs.Bench.{Bench, RunsLine}
+use Rattle.law_run.specs.Bench.{Bench, RunsText}
 use Rattle.script_frames.specs.Frames.{AreMade, frames_meaning, sent_in, sent_of, slots_of}
 use Rattle.law_run.specs.World.{World}
 use Rattle.script_frames.specs.steps.FrameLaws.{told_after}
@@ -105,7 +105,7 @@ nothing_written slots before most old none =
     ([], record { are = sym (ap sent_in same); fit = tt }, sym (append-nil old))
 
 -- a line that ran, where all frames after the first `before` were written
-pub has_run : (old new : Bench) (octets : List ℕ) (made : List Event) (before : ℕ) (out after : List ℕ) (result : Result Unit (LineError LineFault)) → RunsLine old octets made new
+pub has_run : (old new : Bench) (octets : List ℕ) (made : List Event) (before : ℕ) (out after : List ℕ) (result : Result Unit (LineError LineFault)) → RunsText old octets made new
     → before ≡ length (slots_of old.world) → length (slots_of new.world) ≤ 4294967295 → OnOk result (Written (drop before (slots_of new.world)) 4294967295 out after)
     → OnOk result (HasRun frames_meaning old octets out new after)
 has_run old new octets made before out after result runs is numbers written =
@@ -125,12 +125,12 @@ has_run old new octets made before out after result runs is numbers written =
 
 -- the same, by what the calls answered
 pub ran_so : (old inside new : Bench) (octets : List ℕ) (made : List Event) (was world : World) (before : ℕ) (out after last : List ℕ) (result answer : Result Unit (LineError LineFault))
-    → inside ≡ old → RunsLine inside octets made new → was ≡ inside.world → before ≡ length (slots_of was) → world ≡ new.world → length (slots_of world) ≤ 4294967295
+    → inside ≡ old → RunsText inside octets made new → was ≡ inside.world → before ≡ length (slots_of was) → world ≡ new.world → length (slots_of world) ≤ 4294967295
     → OnOk result (Written (drop before (slots_of world)) 4294967295 out after) → answer ≡ result → last ≡ after → OnOk answer (HasRun frames_meaning old octets out new last)
 ran_so old inside new octets made was world before out after last result answer view runs was-is is world-is numbers written answer-is last-is =
     let counted : before ≡ length (slots_of old.world) = is ∙ ap (λ (w : World). length (slots_of w)) (was-is ∙ ap (λ (b : Bench). b.world) view) in
     let ran : OnOk result (HasRun frames_meaning old octets out new after) =
-    has_run old new octets made before out after result (subst (λ (b : Bench). RunsLine b octets made new) view runs) counted
+    has_run old new octets made before out after result (subst (λ (b : Bench). RunsText b octets made new) view runs) counted
     (subst (λ (w : World). length (slots_of w) ≤ 4294967295) world-is numbers)
     (subst (λ (w : World). OnOk result (Written (drop before (slots_of w)) 4294967295 out after)) world-is written) in
     let there : OnOk result (HasRun frames_meaning old octets out new last) = subst (λ (o : List ℕ). OnOk result (HasRun frames_meaning old octets out new o)) (sym last-is) ran in

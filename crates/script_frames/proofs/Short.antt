@@ -40,7 +40,7 @@ use Rattle.line_loop.proofs.Totality.{asks_something}
 use Rattle.osi_journal.specs.declared.event.Event.{Event}
 use Rattle.osi_storm.specs.Counted.{is_frame}
 use Rattle.osi_script.specs.declared.line.Line.{Line}
-use Rattle.osi_script.specs.declared.fault.LineFault.{LineFault}
+use Rattle.osi_script.specs.declared.cause.LineFault.{LineFault}
 use Rattle.osi_script.specs.Grammar.{Reading, line_read}
 use Rattle.osi_script.specs.Known.{Declared}
 use Rattle.osi_setup.specs.Fitting.{IsWell}
@@ -57,8 +57,8 @@ use Rattle.script_world.specs.declared.play.World.TheVariants.{SettingUp, Runnin
 use Rattle.script_world.specs.steps.Made.{comes, net_law, net_laws}
 use Rattle.script_world.specs.steps.OneLine.{one_begin, one_line}
 use Rattle.script_world.specs.steps.Placing.{entities_ready, titles_own}
-use Rattle.law_run.specs.Bench.{Bench, RunsLine, first_bench, most_events}
-use Rattle.law_run.specs.World.{Ends, Net, NetDoes, SetsUp, StartsUp, World, WorldStep, is_start, link_of_net, world_acts}
+use Rattle.law_run.specs.Bench.{Bench, RunsText, first_bench, most_events}
+use Rattle.law_run.specs.World.{TransportNet, Net, NetDoes, SetsUp, StartsUp, World, WorldStep, is_start, link_of_net, world_acts}
 use Rattle.law_run.specs.steps.WorldLaws.{ran_line, started, world_keeping, world_laws}
 use Rattle.script_frames.specs.Frames.{AsksSomeCapture, MakesFrames, frames_meaning, new_slots, sent_in, sent_of, slots_of}
 use Rattle.script_frames.specs.steps.FrameLaws.{frames_laws}
@@ -308,7 +308,7 @@ record Stands (bench : Bench) : Type 0 where
   agrees : world_keeping.agrees bench.names bench.world bench.lines
   writes : WorldWrites bench.world
 
-runs_writing : (old new : Bench) (octets : List ℕ) (made : List Event) → Stands old → old.lines < most_lines → RunsLine old octets made new → WorldWrites new.world
+runs_writing : (old new : Bench) (octets : List ℕ) (made : List Event) → Stands old → old.lines < most_lines → RunsText old octets made new → WorldWrites new.world
 runs_writing old new octets made s few h = line_writes old.names new.names old.world old.lines octets h.line made new.world s.agrees few h.meaning h.steps s.writes
 
 -- a line that was read has its step, and the journal has room for its events, or the line fills it
@@ -359,7 +359,7 @@ some_capture all =
     let asks : AsksSomething frames_meaning first_bench all =
     asks_something frames_meaning frames_laws Stands course stays first_bench refl all (record { agrees = world_laws.begins; writes = tt }) in
     record {
-      capture = header_octets ++ asks.text;
+      text = header_octets ++ asks.text;
       status = asks.status;
-      asks = (asks.asks.0, record { records = asks.text; asks = asks.asks.1; capture_is = refl });
+      asked = (asks.asked.0, record { records = asks.text; asks = asks.asked.1; capture_is = refl });
     }

@@ -30,7 +30,7 @@ use Rattle.osi_script.specs.declared.line.Line.{Line}
 use Rattle.osi_script.specs.declared.line.Line.TheVariants as lines
 use Rattle.net_world.specs.Run.{SendsUnit}
 use Rattle.net_world.specs.Told.{note_event, picked_event, sent_event, shown_at, told}
-use Rattle.tp4_conn.specs.declared.call.ConnectCall.{ConnectCall}
+use Rattle.tp4_conn.specs.declared.call.ConnectRequest.{ConnectRequest}
 use Rattle.tp4_conn.specs.declared.call.UserCall.{UserCall}
 use Rattle.tp4_conn.specs.declared.call.UserCall.TheVariants as asks
 use Rattle.tp4_entity.specs.declared.refusal.ConnectRefusal.{ConnectRefusal}
@@ -50,7 +50,7 @@ use Rattle.tp4_world.specs.World.{end_numbered, entity_at, latest}
 use Rattle.tp4_world.specs.declared.place.EndAt.{EndAt}
 use Rattle.tp4_world.specs.declared.place.Placed.{Placed}
 use Rattle.script_frames.specs.Frames.{AreTold, ToldFrame, new_slots, sent_in, slots_of, told_by, told_from}
-use Rattle.law_run.specs.World.{Ends, Net, NetDoes, SetsUp, StartsUp, WorldStep, is_start, link_of_net, running}
+use Rattle.law_run.specs.World.{TransportNet, Net, NetDoes, SetsUp, StartsUp, WorldStep, is_start, link_of_net, running}
 use Rattle.law_run.specs.steps.WorldLaws.{ran_line, started}
 use Rattle.law_run.specs.World.{World}
 use Rattle.script_world.specs.declared.play.World.TheVariants.{SettingUp, Running}
@@ -199,70 +199,70 @@ tpdus_tell (sent ∷ tpdus) old system own made new quiet h =
     (passed old _ one.ups h.0 (OffersUnit _ _ one.answer) quiet one.passes))
     (λ still. tpdus_tell tpdus h.0 system own h.2 new still h.4)
 
-acts_tell : (old : Ends) (system : ℕ) (own : List ℕ) (acted : Acted) (made : List Event) (new : Ends) → IsQuiet old.carrier → Acts link_of_net NetDoes old system own acted made new
+acts_tell : (old : TransportNet) (system : ℕ) (own : List ℕ) (acted : Acted) (made : List Event) (new : TransportNet) → IsQuiet old.carrier → Acts link_of_net NetDoes old system own acted made new
     → Tells old.carrier new.carrier made
 acts_tell old system own acted made new quiet h =
-    subst (λ (n : Net). Tells old.carrier n made) (sym (ap (λ (w : Ends). w.carrier) h.becomes))
+    subst (λ (n : Net). Tells old.carrier n made) (sym (ap (λ (w : TransportNet). w.carrier) h.becomes))
     (tells_on old.carrier old.carrier h.below (events_after old.ends system own acted.events) h.sent made h.made_is
     (tells_plain old.carrier (events_after old.ends system own acted.events) quiet (ends_plain acted.events old.ends system own))
     (λ still. tpdus_tell acted.tpdus old.carrier system own h.sent h.below still h.sends))
 
-refused_tells : (old new : Ends) (why : Option Refused) (made : List Event) → IsQuiet old.carrier → IsRefused link_of_net NetDoes old why made new → Tells old.carrier new.carrier made
+refused_tells : (old new : TransportNet) (why : Option Refused) (made : List Event) → IsQuiet old.carrier → IsRefused link_of_net NetDoes old why made new → Tells old.carrier new.carrier made
 refused_tells old new None made quiet h = absurd h
 refused_tells old new (Some why) made quiet h =
-    stays old.carrier new.carrier made quiet (subst (λ (m : List Event). ArePlain m) (sym h.0) (record { none = λ now. refl; clock = λ now. refl }, tt)) (ap (λ (w : Ends). w.carrier) h.1)
+    stays old.carrier new.carrier made quiet (subst (λ (m : List Event). ArePlain m) (sym h.0) (record { none = λ now. refl; clock = λ now. refl }, tt)) (ap (λ (w : TransportNet). w.carrier) h.1)
 
-begins_tell : (old new : Ends) (system : ℕ) (entity : Entity) (call : ConnectCall) (found : Option ℕ) (made : List Event) → IsQuiet old.carrier
-    → BeginsAt link_of_net NetDoes old system entity call found made new → Tells old.carrier new.carrier made
-begins_tell old new system entity call None made quiet h = absurd h
-begins_tell old new system entity call (Some reference) made quiet h =
-    let event : Event = connect_event (length old.ends + 1) system reference entity.own call in
+begins_tell : (old new : TransportNet) (system : ℕ) (entity : Entity) (request : ConnectRequest) (found : Option ℕ) (made : List Event) → IsQuiet old.carrier
+    → BeginsAt link_of_net NetDoes old system entity request found made new → Tells old.carrier new.carrier made
+begins_tell old new system entity request None made quiet h = absurd h
+begins_tell old new system entity request (Some reference) made quiet h =
+    let event : Event = connect_event (length old.ends + 1) system reference entity.own request in
     tells_on old.carrier old.carrier new.carrier (event ∷ []) h.0 made h.2
     (tells_plain old.carrier (event ∷ []) quiet (record { none = λ now. refl; clock = λ now. refl }, tt))
     (λ still. acts_tell (record old { ends = old.ends ++ record { system = system; reference = reference } ∷ [] }) system entity.own _ h.0 new still h.1)
 
-connect_tells : (old new : Ends) (system : ℕ) (entity : Entity) (call : ConnectCall) (why : Option ConnectRefusal) (made : List Event) → IsQuiet old.carrier
-    → ConnectsBy link_of_net NetDoes old system entity call why made new → Tells old.carrier new.carrier made
-connect_tells old new system entity call (Some why) made quiet h = refused_tells old new _ made quiet h
-connect_tells old new system entity call None made quiet h = begins_tell old new system entity call (least_free (clock_of link_of_net NetDoes old) entity) made quiet h
+connect_tells : (old new : TransportNet) (system : ℕ) (entity : Entity) (request : ConnectRequest) (why : Option ConnectRefusal) (made : List Event) → IsQuiet old.carrier
+    → ConnectsBy link_of_net NetDoes old system entity request why made new → Tells old.carrier new.carrier made
+connect_tells old new system entity request (Some why) made quiet h = refused_tells old new _ made quiet h
+connect_tells old new system entity request None made quiet h = begins_tell old new system entity request (least_free (clock_of link_of_net NetDoes old) entity) made quiet h
 
-call_by : (old new : Ends) (number : ℕ) (end : EndAt) (entity : Entity) (call : UserCall) (why : Option EntityRefusal) (made : List Event) → IsQuiet old.carrier
+call_by : (old new : TransportNet) (number : ℕ) (end : EndAt) (entity : Entity) (call : UserCall) (why : Option EntityRefusal) (made : List Event) → IsQuiet old.carrier
     → CallsBy link_of_net NetDoes wire old number end entity call why made new → Tells old.carrier new.carrier made
 call_by old new number end entity call (Some why) made quiet h = refused_tells old new _ made quiet h
 call_by old new number end entity call None made quiet h =
     tells_on old.carrier old.carrier new.carrier (call_events number call) h.0 made h.2 (tells_plain old.carrier (call_events number call) quiet (call_plain number call))
     (λ still. acts_tell old end.system entity.own _ h.0 new still h.1)
 
-call_end : (old new : Ends) (number : ℕ) (end : EndAt) (entity : Entity) (call : UserCall) (ended : Bool) (made : List Event) → IsQuiet old.carrier
+call_end : (old new : TransportNet) (number : ℕ) (end : EndAt) (entity : Entity) (call : UserCall) (ended : Bool) (made : List Event) → IsQuiet old.carrier
     → CallsEnd link_of_net NetDoes wire old number end entity call ended made new → Tells old.carrier new.carrier made
 call_end old new number end entity call true made quiet h = refused_tells old new (Some (refusals.WrongState Ended)) made quiet h
 call_end old new number end entity call false made quiet h = call_by old new number end entity call (user_refusal entity end.reference call) made quiet h
 
-call_at : (old new : Ends) (number : ℕ) (call : UserCall) (end : Option EndAt) (made : List Event) → IsQuiet old.carrier → CallsAt link_of_net NetDoes wire old number call end made new
+call_at : (old new : TransportNet) (number : ℕ) (call : UserCall) (end : Option EndAt) (made : List Event) → IsQuiet old.carrier → CallsAt link_of_net NetDoes wire old number call end made new
     → Tells old.carrier new.carrier made
 call_at old new number call None made quiet h = refused_tells old new (Some refusals.NoSuchEnd) made quiet h
 call_at old new number call (Some end) made quiet h = call_end old new number end h.0 call (has_ended (clock_of link_of_net NetDoes old) old.ends number end h.0) made quiet h.2
 
-called_tell : (old new : Ends) (number : ℕ) (call : UserCall) (made : List Event) → IsQuiet old.carrier → Calls link_of_net NetDoes wire old number call made new → Tells old.carrier new.carrier made
+called_tell : (old new : TransportNet) (number : ℕ) (call : UserCall) (made : List Event) → IsQuiet old.carrier → Calls link_of_net NetDoes wire old number call made new → Tells old.carrier new.carrier made
 called_tell old new number call made quiet h = call_at old new number call (end_numbered old.ends number) made quiet h
 
 -- ---- what comes up
 
-hears_tell : (old new : Ends) (arrival : Arrival (List ℕ)) (found : Option Entity) (fits : Bool) (made : List Event) → IsQuiet old.carrier
+hears_tell : (old new : TransportNet) (arrival : Arrival (List ℕ)) (found : Option Entity) (fits : Bool) (made : List Event) → IsQuiet old.carrier
     → HearsIf link_of_net NetDoes wire old arrival found fits made new → Tells old.carrier new.carrier made
-hears_tell old new arrival None fits made quiet h = nothing old.carrier new.carrier made quiet h.0 (ap (λ (w : Ends). w.carrier) h.1)
-hears_tell old new arrival (Some entity) false made quiet h = nothing old.carrier new.carrier made quiet h.0 (ap (λ (w : Ends). w.carrier) h.1)
+hears_tell old new arrival None fits made quiet h = nothing old.carrier new.carrier made quiet h.0 (ap (λ (w : TransportNet). w.carrier) h.1)
+hears_tell old new arrival (Some entity) false made quiet h = nothing old.carrier new.carrier made quiet h.0 (ap (λ (w : TransportNet). w.carrier) h.1)
 hears_tell old new arrival (Some entity) true made quiet h = acts_tell old arrival.system entity.own h.0 made new quiet h.2
 
-all_hear : (ups : List (Up (List ℕ))) (old new : Ends) (made : List Event) → IsQuiet old.carrier → HearsAll link_of_net NetDoes wire old ups made new → Tells old.carrier new.carrier made
-all_hear [] old new made quiet h = nothing old.carrier new.carrier made quiet h.0 (ap (λ (w : Ends). w.carrier) h.1)
+all_hear : (ups : List (Up (List ℕ))) (old new : TransportNet) (made : List Event) → IsQuiet old.carrier → HearsAll link_of_net NetDoes wire old ups made new → Tells old.carrier new.carrier made
+all_hear [] old new made quiet h = nothing old.carrier new.carrier made quiet h.0 (ap (λ (w : TransportNet). w.carrier) h.1)
 all_hear (Noted note ∷ ups) old new made quiet h = all_hear ups old new made quiet h
 all_hear (Came arrival ∷ ups) old new made quiet h =
     tells_on old.carrier h.0.carrier new.carrier h.1 h.2 made h.5
     (hears_tell old h.0 arrival (entity_at old.entities arrival.system) (is_for link_of_net NetDoes wire arrival.unit.to (entity_at old.entities arrival.system)) h.1 quiet h.3)
     (λ still. all_hear ups h.0 new h.2 still h.4)
 
-arrives_tell : (old new : Ends) (call : Call (List ℕ)) (own : Event) (made : List Event) → IsNoTick call → IsPlain own → IsQuiet old.carrier → Arrives link_of_net NetDoes wire old call own made new
+arrives_tell : (old new : TransportNet) (call : Call (List ℕ)) (own : Event) (made : List Event) → IsNoTick call → IsPlain own → IsQuiet old.carrier → Arrives link_of_net NetDoes wire old call own made new
     → Tells old.carrier new.carrier made
 arrives_tell old new call own made no_tick plain quiet h =
     tells_on old.carrier h.below new.carrier (own ∷ told h.ups) h.later made h.made_is
@@ -271,21 +271,21 @@ arrives_tell old new call own made no_tick plain quiet h =
 
 -- ---- ticks
 
-entity_tells : (system : ℕ) (old : Ends) (made : List Event) (new : Ends) → TicksEntity link_of_net NetDoes wire system old made new → IsQuiet old.carrier → Tells old.carrier new.carrier made
-entity_tells system old made new (NoneDue o m n entity there none made_is becomes) quiet = nothing old.carrier new.carrier made quiet made_is (ap (λ (w : Ends). w.carrier) becomes)
+entity_tells : (system : ℕ) (old : TransportNet) (made : List Event) (new : TransportNet) → TicksEntity link_of_net NetDoes wire system old made new → IsQuiet old.carrier → Tells old.carrier new.carrier made
+entity_tells system old made new (NoneDue o m n entity there none made_is becomes) quiet = nothing old.carrier new.carrier made quiet made_is (ap (λ (w : TransportNet). w.carrier) becomes)
 entity_tells system old made new (OneDue o m n entity reference mid here rest there due acts others made_is) quiet =
     tells_on old.carrier mid.carrier new.carrier here rest made made_is (acts_tell old system entity.own _ here mid quiet acts) (λ still. entity_tells system mid rest new others still)
 
-all_tick : (placed : List Placed) (old new : Ends) (made : List Event) → IsQuiet old.carrier → TicksAll link_of_net NetDoes wire old placed made new → Tells old.carrier new.carrier made
-all_tick [] old new made quiet h = nothing old.carrier new.carrier made quiet h.0 (ap (λ (w : Ends). w.carrier) h.1)
+all_tick : (placed : List Placed) (old new : TransportNet) (made : List Event) → IsQuiet old.carrier → TicksAll link_of_net NetDoes wire old placed made new → Tells old.carrier new.carrier made
+all_tick [] old new made quiet h = nothing old.carrier new.carrier made quiet h.0 (ap (λ (w : TransportNet). w.carrier) h.1)
 all_tick (one ∷ placed) old new made quiet h =
     tells_on old.carrier h.0.carrier new.carrier h.1 h.2 made h.5 (entity_tells one.system old h.1 h.0 h.3 quiet) (λ still. all_tick placed h.0 new h.2 still h.4)
 
-settles_tell : (count : ℕ) (old : Ends) (made : List Event) (new : Ends) → Settles link_of_net NetDoes wire count old made new → IsQuiet old.carrier → Tells old.carrier new.carrier made
+settles_tell : (count : ℕ) (old : TransportNet) (made : List Event) (new : TransportNet) → Settles link_of_net NetDoes wire count old made new → IsQuiet old.carrier → Tells old.carrier new.carrier made
 settles_tell count old made new (NoneLeft n o m l fresh made_is same) quiet =
-    stays old.carrier new.carrier made quiet (subst (λ (es : List Event). ArePlain es) (sym made_is) (record { none = λ now. refl; clock = λ now. refl }, tt)) (ap (λ (w : Ends). w.carrier) same)
+    stays old.carrier new.carrier made quiet (subst (λ (es : List Event). ArePlain es) (sym made_is) (record { none = λ now. refl; clock = λ now. refl }, tt)) (ap (λ (w : TransportNet). w.carrier) same)
 settles_tell count old made new (TooMany n o m l pair fresh most made_is same) quiet =
-    stays old.carrier new.carrier made quiet (subst (λ (es : List Event). ArePlain es) (sym made_is) (record { none = λ now. refl; clock = λ now. refl }, tt)) (ap (λ (w : Ends). w.carrier) same)
+    stays old.carrier new.carrier made quiet (subst (λ (es : List Event). ArePlain es) (sym made_is) (record { none = λ now. refl; clock = λ now. refl }, tt)) (ap (λ (w : TransportNet). w.carrier) same)
 settles_tell count old made new (OneMore n o m l pair mid here rest fresh low delivers settles made_is) quiet =
     tells_on old.carrier mid.carrier new.carrier here rest made made_is
     (arrives_tell old mid _ (picked_event pair.0 pair.1 picks.Taken) here (ChoosesFrame pair.0 pair.1 picks.Taken) (picked_plain pair.0 pair.1 picks.Taken) quiet delivers)
@@ -316,7 +316,7 @@ at_once old new made t = record {
   quiet = t.quiet;
 }
 
-ticks_tell : (old new : Ends) (made : List Event) → IsQuiet old.carrier → Ticks link_of_net NetDoes wire old made new → LineTells old.carrier new.carrier made
+ticks_tell : (old new : TransportNet) (made : List Event) → IsQuiet old.carrier → Ticks link_of_net NetDoes wire old made new → LineTells old.carrier new.carrier made
 ticks_tell old new made quiet h =
     let now : ℕ = old.carrier.link.clock + 1 in
     let p = tick_passed old.carrier h.ups h.below quiet h.passes in
@@ -344,9 +344,9 @@ raw_tells old new system sender receiver wish (octet ∷ octets) made quiet h =
     passes_tell old new (sent_event system (raw_address receiver) (octet ∷ octets) h.0 ∷ []) h.1 made quiet (sent_plain system (raw_address receiver) (octet ∷ octets) h.0, tt) h.3
     (passed old _ h.1 new (OffersUnit _ wish h.0) quiet h.2)
 
-pub line_tells : (titles : List (List ℕ)) (line : Line) (old new : Ends) (made : List Event) → IsQuiet old.carrier → RunsLine link_of_net NetDoes wire titles old line made new
+pub line_tells : (titles : List (List ℕ)) (line : Line) (old new : TransportNet) (made : List Event) → IsQuiet old.carrier → RunsLine link_of_net NetDoes wire titles old line made new
     → LineTells old.carrier new.carrier made
-line_tells titles lines.Nothing old new made quiet h = at_once old.carrier new.carrier made (nothing old.carrier new.carrier made quiet h.0 (ap (λ (w : Ends). w.carrier) h.1))
+line_tells titles lines.Nothing old new made quiet h = at_once old.carrier new.carrier made (nothing old.carrier new.carrier made quiet h.0 (ap (λ (w : TransportNet). w.carrier) h.1))
 line_tells titles (lines.Connect system selector to called options octets) old new made quiet h =
     let c = h.4.4 in
     at_once old.carrier new.carrier made (connect_tells old new system c.0 h.1 (connect_refusal (clock_of link_of_net NetDoes old) c.0 h.1.octets) made quiet c.2)
@@ -359,7 +359,7 @@ line_tells titles (lines.Window end credit) old new made quiet h = at_once old.c
 line_tells titles (lines.Unit system to wish octets) old new made quiet h =
     let raw = h.4 in
     at_once old.carrier new.carrier made
-    (subst (λ (n : Net). Tells old.carrier n made) (sym (ap (λ (w : Ends). w.carrier) raw.2)) (raw_tells old.carrier raw.0 system h.0 h.1 wish octets made quiet raw.1))
+    (subst (λ (n : Net). Tells old.carrier n made) (sym (ap (λ (w : TransportNet). w.carrier) raw.2)) (raw_tells old.carrier raw.0 system h.0 h.1 wish octets made quiet raw.1))
 line_tells titles lines.Tick old new made quiet h = ticks_tell old new made quiet h
 line_tells titles (lines.Deliver number system) old new made quiet h =
     at_once old.carrier new.carrier made (arrives_tell old new _ (picked_event number system h.0) made (ChoosesFrame number system h.0) (picked_plain number system h.0) quiet h.1)
@@ -368,7 +368,7 @@ line_tells titles (lines.Inject lan system octets) old new made quiet h =
     at_once old.carrier new.carrier made (arrives_tell old new _ (inject_event system h.0) made (InjectsOctets lan system octets h.0) (inject_plain system h.0) quiet h.1)
 line_tells titles (lines.Restart system) old new made quiet h =
     at_once old.carrier new.carrier made
-    (stays old.carrier new.carrier made quiet (subst (λ (m : List Event). ArePlain m) (sym h.2) (record { none = λ now. refl; clock = λ now. refl }, tt)) (ap (λ (w : Ends). w.carrier) h.3))
+    (stays old.carrier new.carrier made quiet (subst (λ (m : List Event). ArePlain m) (sym h.2) (record { none = λ now. refl; clock = λ now. refl }, tt)) (ap (λ (w : TransportNet). w.carrier) h.3))
 line_tells titles (lines.Send system selector to called octets) old new made quiet h = absurd h
 line_tells titles (lines.Version version) old new made quiet h = absurd h
 line_tells titles (lines.Set key value) old new made quiet h = absurd h
@@ -413,7 +413,7 @@ grown_count old new told before is g =
     counted old new told g ∙ ap (λ (n : ℕ). n + length g.entries) (sym is)
     ∙ ap (λ (n : ℕ). before + n) (sym (entries_length old.rows (length old.frames + 1) told g.entries g.are) ∙ told_length old.rows (before + 1) told (sent_in (drop before new.frames)) (new_told old new told before is g))
 
-from_line : (titles : List (List ℕ)) (timers : Timers) (old new : Ends) (made : List Event) → LineTells old.carrier new.carrier made → WorldTells (running titles timers old) (running titles timers new) made
+from_line : (titles : List (List ℕ)) (timers : Timers) (old new : TransportNet) (made : List Event) → LineTells old.carrier new.carrier made → WorldTells (running titles timers old) (running titles timers new) made
 from_line titles timers old new made l =
     let place : ℕ = length old.carrier.link.frames in
     record {
@@ -453,7 +453,7 @@ starts_tell setup new made starts =
       clock = ap (clock_from 0) s.made_is ∙ ups.1 ∙ sym p.grows.clock;
       quiet = p.quiet;
     } in
-    subst (λ (w : World). WorldTells (SettingUp setup) w made) (sym (h.4 ∙ ap (λ (ends : Ends). running (titles_said setup) (timers_of setup.life setup.limits) ends) s.becomes)) all
+    subst (λ (w : World). WorldTells (SettingUp setup) w made) (sym (h.4 ∙ ap (λ (ends : TransportNet). running (titles_said setup) (timers_of setup.life setup.limits) ends) s.becomes)) all
 
 -- a front of nothing
 none_first : (rows : List PortRow) (front more : List ToldFrame) → [] ≡ front ++ more → AreTold rows 1 front (sent_in (take (length front) []))

@@ -1,8 +1,7 @@
 -- The capture of a script: the frames that its lines make.
-use Rattle.std.specs.Prelude.{◌≡◌, ◌≢◌, ◌⊎◌, ℕ, ◌+◌, ◌≤◌, List, [], ◌∷◌, ◌++◌, Option, Some, None, length, drop, take, map, flat_map}
+use Rattle.std.specs.Prelude.{◌≡◌, ℕ, ◌+◌, ◌≤◌, List, [], ◌∷◌, ◌++◌, Option, Some, None, length, drop, take, map, flat_map}
 use Rattle.std.specs.List.{AllByRecursion, count_by}
 use Rattle.osi_base.specs.declared.status.Status.{Status}
-use Rattle.osi_base.specs.declared.status.Status.TheVariants.{Done, RefusedLine, RefusedWords, ReadFault, WriteFault, NoMemory, RefusedCapture, TooMuch}
 use Rattle.lan_frame.specs.Frame.{whole_frame}
 use Rattle.lan_bag.specs.Bag.{Bag}
 use Rattle.lan_bag.specs.Frames.{Frame}
@@ -13,19 +12,19 @@ use Rattle.line_loop.specs.Course.{Runs, IsTooMuch, IsTooMuchAtEnd}
 use Rattle.line_loop.specs.Limits.{most_octets, most_read}
 use Rattle.line_loop.specs.Meaning.{Meaning}
 use Rattle.line_loop.specs.Outcome.{Asks}
-use Rattle.line_loop.specs.Writing.{IsPrefix}
+use Rattle.octet_loop.specs.ByStatus as by_status
 use Rattle.osi_capture.specs.Capture.{IsCapture}
 use Rattle.osi_capture.specs.Course.{Finishes}
 use Rattle.osi_capture.specs.Show.{Shows, done_line}
-use Rattle.osi_script.specs.declared.fault.LineFault.{LineFault}
-use Rattle.osi_script.specs.declared.fault.LineCause.TheVariants as causes
+use Rattle.osi_script.specs.declared.cause.LineFault.{LineFault}
+use Rattle.osi_script.specs.declared.cause.LineCause.TheVariants as causes
 use Rattle.osi_script.specs.Grammar.{fault}
 use Rattle.osi_journal.specs.RawLawful.{clock_after}
 use Rattle.osi_journal.specs.declared.event.Event.{Event}
 use Rattle.osi_journal.specs.declared.event.Event.TheVariants as events
 use Rattle.osi_storm.specs.Counted.{is_frame}
-use Rattle.law_run.specs.Bench.{Bench, RunsLine, RefusesLine, FillsJournal, bench_meaning, first_bench}
-use Rattle.law_run.specs.Transcript.{ShowsSent, ShowsSilence, ShowsWhatWasSubmitted}
+use Rattle.law_run.specs.Bench.{Bench, RunsText, RefusesLine, FillsJournal, bench_meaning, first_bench}
+use Rattle.law_run.specs.Transcript.{ShowsSentUnits, ShowsSilence, ShowsWhatWasSubmitted}
 use Rattle.law_run.specs.World.{World}
 use Rattle.script_world.specs.declared.play.World.TheVariants.{SettingUp, Running}
 
@@ -59,7 +58,7 @@ pub record AreMade (slots : List (Option Frame)) (frames : List SentFrame) : Typ
 -- a line is run, and makes these frames
 pub record MakesFrames (old : Bench) (octets : List ℕ) (frames : List SentFrame) (new : Bench) : Type 0 where
   pub made : List Event
-  pub runs : RunsLine old octets made new
+  pub runs : RunsText old octets made new
   pub frames_are : AreMade (new_slots old.world new.world) frames
 
 -- the journal has no room for all events of a line: these are as many of its frames as were told
@@ -83,51 +82,33 @@ frames_meaning = record {
   too_much = λ bench. [];
 }
 
--- the capture that octets ask for, by how the run ends: the header, and the records of all frames of the lines that ran, with ReadFault of
--- their whole lines alone. `end` says that the input ends after them
+-- the capture that octets ask for: the header, and behind it what `Asks` of `line_loop` says for frames. `end` says that the input ends after them
 pub record AsksCapture (end : Type 0) (read capture : List ℕ) (status : Status) : Type 0 where
   pub records : List ℕ
   pub asks : Asks frames_meaning end first_bench read records status
   pub capture_is : capture ≡ header_octets ++ records
 
--- all octets of an input ask for this capture and this status, which is no failure
+-- what was written, by the status: the definitions that every command has, for captures
 abbrev pub AsksForCapture : List ℕ → List ℕ → Status → Type 0
-AsksForCapture all capture status = (status ≢ ReadFault) × AsksCapture (Unit {0}) all capture status
+AsksForCapture = by_status.AsksFor AsksCapture
 
--- a front of the capture that a front of the octets asks for; the input ends there only where it is all of them
-pub record IsCutCapture (end : Type 0) (read written : List ℕ) : Type 0 where
-  pub front : List ℕ
-  pub capture : List ℕ
-  pub status : Status
-  pub begins : IsPrefix front read
-  pub asked : AsksCapture ((front ≡ read) × end) front capture status
-  pub cut : IsPrefix written capture
+abbrev pub IsCutCapture : Type 0 → List ℕ → List ℕ → Type 0
+IsCutCapture = by_status.IsCut AsksCapture
 
--- what was written is the capture that the octets read ask for, or where a write or memory failed a front of one
 abbrev pub CaptureOutcome : Type 0 → List ℕ → List ℕ → Status → Type 0
-CaptureOutcome end read written Done = AsksCapture end read written Done
-CaptureOutcome end read written RefusedLine = AsksCapture end read written RefusedLine
-CaptureOutcome end read written TooMuch = AsksCapture end read written TooMuch
-CaptureOutcome end read written ReadFault = AsksCapture end read written ReadFault
-CaptureOutcome end read written WriteFault = IsCutCapture end read written
-CaptureOutcome end read written NoMemory = IsCutCapture end read written
-CaptureOutcome end read written RefusedWords = ⊥
-CaptureOutcome end read written RefusedCapture = ⊥
+CaptureOutcome = by_status.Outcome AsksCapture
 
--- all octets of an input ask for a capture and a status, and not for two
-pub record AsksSomeCapture (all : List ℕ) : Type 0 where
-  pub capture : List ℕ
-  pub status : Status
-  pub asks : AsksForCapture all capture status
+abbrev pub AsksSomeCapture : List ℕ → Type 0
+AsksSomeCapture = by_status.AsksSomething AsksCapture
 
 abbrev pub AsksOneCapture : Type 0
-AsksOneCapture = (all capture other : List ℕ) (status next : Status) → AsksForCapture all capture status → AsksForCapture all other next → (status ≡ next) × (capture ≡ other)
+AsksOneCapture = by_status.AsksOne AsksCapture
 
 -- of the octets read, what was written is told as the status says; whatever part of them was run, each raw unit that is shown was sent, and
 -- each end shows what its partner submitted, unless a frame was injected; a system that began again is silent; and no more was read than an input may have, and one read more
 pub record IsFramesRun (end : Type 0) (read written : List ℕ) (status : Status) : Type 0 where
   pub outcome : CaptureOutcome end read written status
-  pub sent : ShowsSent read
+  pub sent : ShowsSentUnits read
   pub lawful : ShowsWhatWasSubmitted read
   pub silent : ShowsSilence read
   pub within : length read ≤ most_octets + most_read

@@ -197,6 +197,8 @@ pub fn write_capture<S: Source, K: Sink>(alloc: Global, source: &mut S, sink: &m
     ensures asked { S.asked source.new ≤ max (S.asked source.old) most_read }
     ensures no_read_fault { result ≢ Status.ReadFault → S.faults source.new ≡ S.faults source.old }
     ensures one_read_fault { S.faults source.new ≤ S.faults source.old + 1 }
+    ensures no_write_fault { result ≢ Status.WriteFault → K.faults sink.new ≡ K.faults sink.old }
+    ensures one_write_fault { K.faults sink.new ≤ K.faults sink.old + 1 }
     ensures read_fault { result ≡ Status.ReadFault → HasRisen (S.faults source.old) (S.faults source.new) }
     ensures write_fault { result ≡ Status.WriteFault → HasRisen (K.faults sink.old) (K.faults sink.new) }
 {
@@ -212,6 +214,8 @@ pub fn write_capture<S: Source, K: Sink>(alloc: Global, source: &mut S, sink: &m
 fn write_header<K: Sink>(alloc: Global, sink: &mut K) -> Status
     ensures written { IsWritten K.held sink.old header_octets Status.Done sink.new result }
     ensures faults_stay { K.faults sink.old ≤ K.faults sink.new }
+    ensures no_write_fault { result ≢ Status.WriteFault → K.faults sink.new ≡ K.faults sink.old }
+    ensures one_write_fault { K.faults sink.new ≤ K.faults sink.old + 1 }
     ensures write_fault { result ≡ Status.WriteFault → HasRisen (K.faults sink.old) (K.faults sink.new) }
 {
     let mut header = Vec::new(alloc);

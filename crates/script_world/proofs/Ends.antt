@@ -7,7 +7,7 @@ use Rattle.tp4_number.specs.Number.{wire}
 use Rattle.tp4_world.specs.Run.{RunsLines}
 use Rattle.tp4_world.specs.World.{World as TransportWorld}
 use Rattle.osi_journal.specs.declared.event.Event.{Event}
-use Rattle.osi_script.specs.declared.form.Dialect.{Dialect}
+use Rattle.osi_script.specs.declared.words.Dialect.{Dialect}
 use Rattle.osi_script.specs.declared.line.Line.{Line}
 use Rattle.osi_setup.specs.SetUp.{SetUp}
 use Rattle.script_world.specs.Transports.{TransportRun, tp_play}

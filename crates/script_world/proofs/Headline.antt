@@ -1,22 +1,26 @@
--- What holds of every run of a script over a network that a set-up makes: where nothing is injected its journal is lawful; and a system that began again
--- is silent, also where octets are injected.
-use Rattle.std.proofs.Common.{◌≡◌, ◌⊎◌, ℕ, zero, suc, Bool, true, false, List, [], ◌∷◌, ◌++◌, Some, inl, inr, refl, sym, ◌∙◌, ap, subst, arith, append_assoc}
+-- What holds of every run of a script over a network that a set-up makes: where no injection was taken, and so no strays are told, its journal is lawful; and
+-- a system that began again is silent, also where octets are injected.
+use Rattle.std.proofs.Common.{◌≡◌, ◌⊎◌, ℕ, zero, suc, Bool, true, false, if◌then◌else◌, List, [], ◌∷◌, ◌++◌, Option, Some, None, inl, inr, refl, sym, ◌∙◌, ap, subst, arith, append_assoc}
 use Rattle.std.specs.Prelude.{slice_get}
 use Rattle.std.specs.List.{AllByRecursion}
 use Rattle.nsap.specs.Address.{is_same_system, system_part}
 use Rattle.nsap.proofs.AddressLemmas.{is_same_system-Decides}
 use Rattle.osi_base.specs.Link.{Link}
-use Rattle.osi_base.specs.Calls.{Call}
+use Rattle.osi_base.specs.Calls.{Call, Keeps}
 use Rattle.tp4_conn.specs.End.{frozen_for}
 use Rattle.tp4_conn.specs.declared.timers.Timers.{Timers}
-use Rattle.tp4_world.specs.Laws.{IsFirst, IsNoInjection}
+use Rattle.tp4_number.specs.Number.{wire}
+use Rattle.tp4_world.specs.Laws.{IsFirst}
+use Rattle.tp4_world.proofs.Lined.{lines_alike}
+use Rattle.tp4_world.proofs.Shown.{first_honest}
 use Rattle.osi_journal.specs.declared.event.Event.{Event}
 use Rattle.osi_journal.specs.declared.event.Event.TheVariants as events
 use Rattle.osi_journal.specs.Lawful.{IsLawful, KeepsSilence, Lawful}
 use Rattle.osi_script.specs.declared.line.Line.{Line}
+use Rattle.osi_script.specs.Injecting.{HasNoInject, IsNoInjection}
 use Rattle.osi_script.specs.Known.{Declared, nothing_declared}
 use Rattle.osi_script.specs.Script.{Says}
-use Rattle.osi_script.specs.declared.form.Dialect.{Dialect}
+use Rattle.osi_script.specs.declared.words.Dialect.{Dialect}
 use Rattle.law_tp4_lawful.specs.Headline.{AreDistinct, IsUntouched, ReceivesWhatWasSubmitted, StaysSilent}
 use Rattle.osi_setup.specs.Fitting.{AreTitlesApart, IsWell}
 use Rattle.osi_setup.specs.SetUp.{SetUp, entities_of, timers_of, titles_of as titles_said}
@@ -24,8 +28,8 @@ use Rattle.osi_setup.proofs.Entities.{are_timed}
 use Rattle.law_setup.proofs.Proper.{script_proper}
 use Rattle.script_bench.specs.Acts.{RunsScript}
 use Rattle.script_world.specs.Networks.{NetworkLaws}
-use Rattle.script_world.specs.Plays.{first_world, world_acts}
-use Rattle.script_world.specs.Transports.{HasNoInject, TransportRun, frozen_of, titles_of, tp_play}
+use Rattle.script_world.specs.Plays.{first_world, strays_of, world_acts}
+use Rattle.script_world.specs.Transports.{TransportRun, frozen_of, strays_in, titles_of, tp_play}
 use Rattle.script_world.specs.declared.play.World.{World}
 use Rattle.script_world.specs.declared.play.World.TheVariants.{Running, SettingUp}
 use Rattle.script_world.specs.steps.Peopled.{entities_new, of_systems}
@@ -100,7 +104,16 @@ all_behind P [] after script is all = subst (AllByRecursion P) is all
 all_behind P (line ∷ before) after [] is all = absurd (cc)
 all_behind P (line ∷ before) after (other ∷ script) is all = let same : script ≡ before ++ after = cc in all_behind P before after script same all.1
 
+-- strays are told where the network is not honest
+pub still_honest : (honest : Bool) (strays : ℕ) → (if honest then None else Some strays) ≡ None → honest ≡ true
+still_honest true strays none = refl
+still_honest false strays none = absurd (cc)
+
 module _ {N : Type 0} (link : N → Link (List ℕ)) (steps : N → Call (List ℕ) → N → Type 0) (makes : SetUp → N → Type 0) (dialect : Dialect) (laws : NetworkLaws link steps makes) where
+  -- no strays are told, since no injection was taken
+  abbrev NoStrays : World (TransportRun N) → Type 0
+  NoStrays last = strays_of (tp_play link steps makes dialect) last ≡ None
+
   -- ---- what started
 
   abbrev Started : List Line → Declared → List Event → World (TransportRun N) → Type 0
@@ -122,13 +135,25 @@ module _ {N : Type 0} (link : N → Link (List ℕ)) (steps : N → Call (List �
     first_is : IsFirst s.setup.life (titles_said s.setup) (link s.starts.0) (entities_of s.setup)
     first_is = record { carrier_is = laws.first s.setup s.starts.0 s.well s.within s.starts.2; entities = entities_new s.setup }
 
-    started_lawful : ReceivesWhatWasSubmitted link steps → HasNoInject script → Lawful (frozen_of last) (titles_of last) journal
+    none_told : strays_in link s.end.ends.carrier ≡ None → NoStrays last
+    none_told none = ap (λ (w : World (TransportRun N)). strays_of (tp_play link steps makes dialect) w) s.last_is ∙ none
+
+    honest : NoStrays last → (link s.end.ends.carrier).honest ≡ true
+    honest none = still_honest (link s.end.ends.carrier).honest (link s.end.ends.carrier).strays (sym (ap (λ (w : World (TransportRun N)). strays_of (tp_play link steps makes dialect) w) s.last_is) ∙ none)
+
+    started_unstrayed : ((old : N) (call : Call (List ℕ)) (new : N) → steps old call new → Keeps (link old) call (link new)) → HasNoInject script → NoStrays last
+    started_unstrayed keeps none =
+        none_told (ap (λ (h : Bool). if h then None else Some (link s.end.ends.carrier).strays)
+        (lines_alike link steps keeps wire run.titles s.after s.starts.1 s.end.ends s.rest (all_behind IsNoInjection s.before s.after script s.script_is none) on.runs
+        ∙ first_honest link steps s.setup.life (titles_said s.setup) s.starts.0 (entities_of s.setup) s.made s.starts.1 first_is s.starts.3))
+
+    started_lawful : ReceivesWhatWasSubmitted link steps → NoStrays last → Lawful (frozen_of last) (titles_of last) journal
     started_lawful law none =
         subst (λ (w : World (TransportRun N)). Lawful (frozen_of w) (titles_of w) journal) (sym s.last_is)
         (carry (λ timers titles events. Lawful (frozen_for timers) titles events)
         (law (titles_said s.setup) run.timers s.starts.0 (entities_of s.setup) s.made s.rest s.after s.starts.1 s.end.ends
         (are_timed s.setup.life s.setup.limits s.well.limits s.well.times.most_life) s.well.limits.least_inactive (distinct (titles_said s.setup) s.well.distinct) first_is (untouched s.setup) s.starts.3
-        (all_behind IsNoInjection s.before s.after script s.script_is none) (script_proper s.declared s.texts s.after names s.begun s.says) on.runs))
+        (honest none) (script_proper s.declared s.texts s.after names s.begun s.says) on.runs))
 
     started_silent : StaysSilent link steps → KeepsSilence (frozen_of last) journal
     started_silent law =
@@ -139,9 +164,14 @@ module _ {N : Type 0} (link : N → Link (List ℕ)) (steps : N → Call (List �
   -- ---- each run
 
   by_lawful : ReceivesWhatWasSubmitted link steps → (script : List Line) (names : Declared) (journal : List Event) (last : World (TransportRun N)) → Went (tp_play link steps makes dialect) script names journal last
-      → HasNoInject script → Lawful (frozen_of last) (titles_of last) journal
+      → NoStrays last → Lawful (frozen_of last) (titles_of last) journal
   by_lawful law script names journal last (inl s) none = none_lawful (frozen_of last) (titles_of last) journal s.journal_is
   by_lawful law script names journal last (inr s) none = started_lawful script names journal last s law none
+
+  by_unstrayed : ((old : N) (call : Call (List ℕ)) (new : N) → steps old call new → Keeps (link old) call (link new)) → (script : List Line) (names : Declared) (journal : List Event) (last : World (TransportRun N))
+      → Went (tp_play link steps makes dialect) script names journal last → HasNoInject script → NoStrays last
+  by_unstrayed keeps script names journal last (inl s) none = ap (λ (w : World (TransportRun N)). strays_of (tp_play link steps makes dialect) w) s.last_is
+  by_unstrayed keeps script names journal last (inr s) none = started_unstrayed script names journal last s keeps none
 
   by_silent : StaysSilent link steps → (script : List Line) (names : Declared) (journal : List Event) (last : World (TransportRun N)) → Went (tp_play link steps makes dialect) script names journal last
       → KeepsSilence (frozen_of last) journal
@@ -152,7 +182,11 @@ module _ {N : Type 0} (link : N → Link (List ℕ)) (steps : N → Call (List �
   OfScripts Claim = (texts : List (List ℕ)) (script : List Line) (names : Declared) (journal : List Event) (last : World (TransportRun N)) → Says (nothing_declared dialect) texts script names
       → RunsScript (world_acts (tp_play link steps makes dialect)) first_world script journal last → Claim script journal last
 
-  pub script_lawful : ReceivesWhatWasSubmitted link steps → OfScripts (λ script journal last. HasNoInject script → Lawful (frozen_of last) (titles_of last) journal)
+  -- no strays are told where no line of the script is an `inject` line
+  pub script_unstrayed : ((old : N) (call : Call (List ℕ)) (new : N) → steps old call new → Keeps (link old) call (link new)) → OfScripts (λ script journal last. HasNoInject script → NoStrays last)
+  script_unstrayed keeps texts script names journal last says runs none = by_unstrayed keeps script names journal last (went (tp_play link steps makes dialect) texts script names journal last says runs) none
+
+  pub script_lawful : ReceivesWhatWasSubmitted link steps → OfScripts (λ script journal last. NoStrays last → Lawful (frozen_of last) (titles_of last) journal)
   script_lawful law texts script names journal last says runs none = by_lawful law script names journal last (went (tp_play link steps makes dialect) texts script names journal last says runs) none
 
   pub script_silent : StaysSilent link steps → OfScripts (λ script journal last. KeepsSilence (frozen_of last) journal)

@@ -7,7 +7,7 @@ use Rattle.law_clnp_answers.specs.Standing.{is_nsap}
 use Rattle.net_world.specs.Laws.{IsFirst}
 use Rattle.tp4_world.specs.Total.{ServesOn}
 use Rattle.osi_script.specs.Commands.{HasLine}
-use Rattle.osi_script.specs.declared.form.Dialect.{Dialect}
+use Rattle.osi_script.specs.declared.words.Dialect.{Dialect}
 use Rattle.osi_script.specs.declared.line.Line.{Line}
 use Rattle.osi_script.specs.declared.line.Line.TheVariants as lines
 use Rattle.osi_setup.specs.Fitting.{Fits, IsWell}

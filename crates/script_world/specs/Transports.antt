@@ -1,16 +1,14 @@
 -- A network with its transport entities, which a script runs once it is set up.
 use Rattle.std.specs.Prelude.{◌≡◌, ℕ, if◌then◌else◌, List, Option, Some, None}
-use Rattle.std.specs.List.{AllByRecursion}
 use Rattle.osi_base.specs.Link.{Link}
 use Rattle.osi_base.specs.Calls.{Call}
 use Rattle.tp4_conn.specs.declared.timers.Timers.{Timers}
 use Rattle.tp4_conn.specs.End.{frozen_for}
 use Rattle.tp4_number.specs.Number.{wire}
-use Rattle.tp4_world.specs.Laws.{IsNoInjection}
 use Rattle.tp4_world.specs.Run.{RunsLine, Starts}
 use Rattle.tp4_world.specs.World.{World as TransportWorld}
 use Rattle.osi_journal.specs.declared.event.Event.{Event}
-use Rattle.osi_script.specs.declared.form.Dialect.{Dialect}
+use Rattle.osi_script.specs.declared.words.Dialect.{Dialect}
 use Rattle.osi_script.specs.declared.line.Line.{Line}
 use Rattle.osi_setup.specs.SetUp.{SetUp, entities_of, timers_of, titles_of as titles_said}
 use Rattle.script_world.specs.Plays.{Playing}
@@ -36,10 +34,6 @@ life_of (Running run) = run.timers.life
 abbrev pub frozen_of : {N : Type 0} → World (TransportRun N) → ℕ
 frozen_of (SettingUp setup) = frozen_for (timers_of setup.life setup.limits)
 frozen_of (Running run) = frozen_for run.timers
-
--- no line of the script is an `inject` line
-abbrev pub HasNoInject : List Line → Type 0
-HasNoInject script = AllByRecursion IsNoInjection script
 
 module _ {N : Type 0} (link : N → Link (List ℕ)) where
   -- how many arrivals equalled no unit afloat, where something was injected

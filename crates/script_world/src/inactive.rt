@@ -93,7 +93,7 @@ impl Carrier for SubsetNet {
 }
 
 impl Network for SubsetNet {
-    ghost use Rattle.osi_script.specs.declared.form.Dialect.TheVariants.{Inactive as OfInactive};
+    ghost use Rattle.osi_script.specs.declared.words.Dialect.TheVariants.{Inactive as OfInactive};
     ghost use Rattle.script_world.specs.InactiveNets.{MakesInactive};
     ghost use Rattle.script_world.specs.steps.MadeInactive.{inactive_laws, none_sent};
 

@@ -10,7 +10,7 @@ use std::alloc::Global;
 
 /// A carrier that a set-up makes.
 pub trait Network: Carrier<Addr = Nsap> + Sized {
-    ghost use Rattle.osi_script.specs.declared.form.Dialect.{Dialect};
+    ghost use Rattle.osi_script.specs.declared.words.Dialect.{Dialect};
     ghost use Rattle.osi_script.specs.Known.{nothing_declared};
     ghost use Rattle.osi_setup.specs.SetUp.{SetUp as Said};
     ghost use Rattle.script_world.specs.Networks.{NetworkLaws, SendsNoDatagrams};

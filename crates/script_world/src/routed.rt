@@ -105,7 +105,7 @@ impl Carrier for RoutedNet {
 }
 
 impl Network for RoutedNet {
-    ghost use Rattle.osi_script.specs.declared.form.Dialect.TheVariants.{Run};
+    ghost use Rattle.osi_script.specs.declared.words.Dialect.TheVariants.{Run};
     ghost use Rattle.script_world.specs.ClnpNets.{MakesNet};
     ghost use Rattle.script_world.specs.steps.Made.{net_laws, none_sent};
 

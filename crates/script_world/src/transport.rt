@@ -8,7 +8,7 @@ ghost use Rattle.law_setup.specs.Lines.{RunsAt};
 ghost use Rattle.tp4_world.specs.Total.{CanRun};
 ghost use Rattle.script_world.specs.Transports.{strays_in};
 
-use crate::asking::connect_call;
+use crate::asking::connect_request;
 use crate::network::Network;
 use crate::play::Play;
 use nsap::Nsap;
@@ -115,8 +115,8 @@ pub fn run_line<N: Network + Drop>(
             octets,
         } => {
             let to = &titles[usize::from(to)];
-            let call = connect_call(selector, to, called, options, octets);
-            ends.connect(system, call, events)
+            let request = connect_request(selector, to, called, options, octets);
+            ends.connect(system, request, events)
         }
         Line::Accept {
             end,

@@ -5,6 +5,7 @@ use std::test::Fail;
 
 const DIGITS_42: &str = "470005800000000000000000000000000000000A00";
 
+/// Each fault of a text, with the digit at fault, and both limits of length.
 #[test]
 fn the_first_fault_is_told(rt: HostRuntime) {
     for (text, fault) in [("", Empty), ("4g", BadDigit(2)), ("49f", OddDigits)] {
@@ -19,6 +20,7 @@ fn the_first_fault_is_told(rt: HostRuntime) {
     assert!(rt; Nsap::read(&DIGITS_42[2..]).is_ok() && Nsap::of(&[7; 21]).is_none());
 }
 
+/// What is printed stands in no clause of `Display`.
 #[test]
 fn addresses_print_in_lower_case(rt: HostRuntime) -> Result<(), Fail> {
     let alloc = rt.alloc();
@@ -32,6 +34,7 @@ fn addresses_print_in_lower_case(rt: HostRuntime) -> Result<(), Fail> {
     Ok(())
 }
 
+/// The last octet is the selector, and the others are the system; an SNPA is a group by one bit.
 #[test]
 fn an_address_has_a_system_and_a_selector(rt: HostRuntime) -> Result<(), Fail> {
     let address = Nsap::read("490a02")?;
@@ -41,6 +44,7 @@ fn an_address_has_a_system_and_a_selector(rt: HostRuntime) -> Result<(), Fail> {
     Ok(())
 }
 
+/// A prefix that is longer than the address, and the empty one.
 #[test]
 fn a_prefix_covers_what_begins_with_it(rt: HostRuntime) -> Result<(), Fail> {
     let prefix = Prefix::read("490a")?;

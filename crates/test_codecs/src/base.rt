@@ -18,6 +18,7 @@ impl Read for Broken {
     }
 }
 
+/// The double of a source, on which other tests rest: it cuts and fails where it is told to.
 #[test]
 fn a_read_in_memory_is_cut_and_fails_by_its_number(rt: HostRuntime) -> Result<(), Fail> {
     let rows: [(&[usize], &[u32], &[Result<usize, Failed>]); 2] = [
@@ -33,6 +34,7 @@ fn a_read_in_memory_is_cut_and_fails_by_its_number(rt: HostRuntime) -> Result<()
     Ok(())
 }
 
+/// The cursor past its end, and an address whose length passes its octets.
 #[test]
 fn octets_come_in_order(rt: HostRuntime) {
     let mut octets = Octets::new(b"\x01\x02\x03");
@@ -43,6 +45,7 @@ fn octets_come_in_order(rt: HostRuntime) {
     assert_eq!(rt; address.as_slice(), [7; 20].as_slice());
 }
 
+/// What std's streams do stands in no clause: each kind of source and sink once.
 #[test]
 fn streams_and_memory_give_and_take(rt: HostRuntime) -> Result<(), Fail> {
     let mut into = [0; 4];
@@ -73,6 +76,7 @@ fn unit(alloc: Global, to: u8) -> Result<Unit<u8>, Fail> {
     })
 }
 
+/// A unit goes one tick after its bound, and not at it.
 #[test]
 fn old_units_are_given_up(rt: HostRuntime) -> Result<(), Fail> {
     let alloc = rt.alloc();
@@ -91,6 +95,7 @@ fn old_units_are_given_up(rt: HostRuntime) -> Result<(), Fail> {
     Ok(())
 }
 
+/// A checksum from outside, and one octet off.
 #[test]
 fn a_changed_header_is_not_ok(rt: HostRuntime) {
     let mut header = *HEADER;
@@ -99,6 +104,7 @@ fn a_changed_header_is_not_ok(rt: HostRuntime) {
     assert!(rt; !fletcher_ok(&header));
 }
 
+/// The octets of the checksum come from outside.
 #[test]
 fn the_header_is_sealed_by_1553(rt: HostRuntime) {
     let mut header = *HEADER;
@@ -107,6 +113,7 @@ fn the_header_is_sealed_by_1553(rt: HostRuntime) {
     assert_eq!(rt; &header, HEADER);
 }
 
+/// As many octets of 255 as there may be: the sums do not wrap.
 #[test]
 fn the_largest_octets_pass(rt: HostRuntime) {
     assert!(rt; fletcher_ok(&[255; 65_535]));

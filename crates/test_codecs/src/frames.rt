@@ -17,6 +17,7 @@ fn reads(count: usize, length: u16, llc: [u8; 3]) -> bool
     read_frame(&octets[..count]).is_some()
 }
 
+/// A frame of less than 60 octets is padded on the wire, so what stands behind its length is not read.
 #[test]
 fn a_frame_is_written_and_read_with_padding_behind_it(rt: HostRuntime) -> Result<(), Fail> {
     let to = Snpa::of([0x02, 0x00, 0x00, 0x00, 0x00, 0x0b]);
@@ -32,6 +33,7 @@ fn a_frame_is_written_and_read_with_padding_behind_it(rt: HostRuntime) -> Result
     Ok(())
 }
 
+/// Both bounds of the length field, and each octet of LLC off by one bit.
 #[test]
 fn octets_of_another_length_or_llc_are_no_frame(rt: HostRuntime) {
     assert!(rt; reads(35, 21, NETWORK));

@@ -32,6 +32,7 @@ const LONG: &[u8] =
 const OTHER_LONG: &[u8] =
     b"\x15\x16\x17\x18\x19\x1a\x1b\x1c\x1d\x1e\x1f\x20\x21\x22\x23\x24\x25\x26\x27\x28";
 
+/// Two addresses and none: octets from outside, both ways, so that reading and writing do not share a mistake.
 #[test]
 fn an_esh_is_read_and_written(rt: HostRuntime) -> Result<(), Fail> {
     let alloc = rt.alloc();
@@ -40,6 +41,7 @@ fn an_esh_is_read_and_written(rt: HostRuntime) -> Result<(), Fail> {
     both(&rt, alloc, NO_ADDRESS, &esh(0, Vec::new(alloc)))
 }
 
+/// The shortest and the longest title, at both ends of the holding time.
 #[test]
 fn an_ish_is_read_and_written(rt: HostRuntime) -> Result<(), Fail> {
     let least = Hello::Ish {
@@ -54,6 +56,7 @@ fn an_ish_is_read_and_written(rt: HostRuntime) -> Result<(), Fail> {
     both(&rt, rt.alloc(), FULL_ISH, &full)
 }
 
+/// The shortest and the longest RD, without and with a title.
 #[test]
 fn an_rd_is_read_and_written(rt: HostRuntime) -> Result<(), Fail> {
     let least = Hello::Rd {
@@ -73,6 +76,7 @@ fn an_rd_is_read_and_written(rt: HostRuntime) -> Result<(), Fail> {
     both(&rt, rt.alloc(), FULL_RD, &full)
 }
 
+/// 122 addresses of one octet fill a length indicator of 254: the most that an ESH can count.
 #[test]
 fn as_many_addresses_as_fit(rt: HostRuntime) -> Result<(), Fail> {
     let alloc = rt.alloc();
@@ -85,6 +89,7 @@ fn as_many_addresses_as_fit(rt: HostRuntime) -> Result<(), Fail> {
     both(&rt, alloc, &octets, &esh(20, addresses))
 }
 
+/// Addresses up to the last octet of the header: one octet less than what is refused below.
 #[test]
 fn as_many_octets_as_fit(rt: HostRuntime) -> Result<(), Fail> {
     let alloc = rt.alloc();
@@ -101,6 +106,7 @@ fn as_many_octets_as_fit(rt: HostRuntime) -> Result<(), Fail> {
     both(&rt, alloc, &octets, &esh(20, addresses))
 }
 
+/// The limit from the other side.
 #[test]
 fn one_octet_more_is_too_long(rt: HostRuntime) -> Result<(), Fail> {
     let alloc = rt.alloc();
@@ -113,6 +119,7 @@ fn one_octet_more_is_too_long(rt: HostRuntime) -> Result<(), Fail> {
     Ok(())
 }
 
+/// Octets that the standard has ignored: the reserved one, the high bits of the type, and those behind the header.
 #[test]
 fn options_are_lent_and_what_follows_is_not_looked_at(rt: HostRuntime) -> Result<(), Fail> {
     // the reserved octet and the high bits of the type are set, and the checksum is not used
@@ -131,6 +138,7 @@ fn options_are_lent_and_what_follows_is_not_looked_at(rt: HostRuntime) -> Result
     Ok(())
 }
 
+/// An option that fills the header: its length is added to a place, and must not pass an octet.
 #[test]
 fn options_up_to_the_greatest_length(rt: HostRuntime) -> Result<(), Fail> {
     let mut octets = [0x01; 254];

@@ -16,6 +16,7 @@ fn fault_of(octets: &[u8], kind: PduKind) -> Option<(u8, u8)> {
     Some((fault.reason.code(), fault.place))
 }
 
+/// Which fault is first is an order of the standard: one row for each, and rows with two.
 #[test]
 fn the_first_fault_is_told(rt: HostRuntime) {
     let rows: [(PduKind, &[u8], Option<(u8, u8)>); 15] = [
@@ -40,6 +41,7 @@ fn the_first_fault_is_told(rt: HostRuntime) {
     }
 }
 
+/// Two options behind one another, and one that does not fit and changes nothing: the octets by hand.
 #[test]
 fn what_is_written_is_read(rt: HostRuntime) -> Result<(), Fail> {
     let mut octets = [7; 6];
@@ -92,6 +94,7 @@ fn passed(octets: &[u8]) -> Option<Option<(Nsap, u8)>> {
     Some(Some((title, *moved.get(1)?)))
 }
 
+/// Offsets at the first entry, at a later one and past the last, and each way to be no route: where a count that is one off shows.
 #[test]
 fn a_source_route_is_read_at_its_offset(rt: HostRuntime) {
     // The option, the title at the offset, which is none where the route has expired, and the offset behind it.
@@ -151,6 +154,7 @@ fn recorded<'a>(octets: &[u8], title: &Nsap, held: &'a mut [u8]) -> Option<&'a [
     Some(after)
 }
 
+/// A title that just fits, one that does not, a recording that has ended, and each way to be no recording.
 #[test]
 fn a_title_is_recorded_where_it_fits(rt: HostRuntime) -> Result<(), Fail> {
     let title = Nsap::of(b"ab").ok_or("a title")?;

@@ -1,6 +1,7 @@
 use pdu_parts::{are_parameters, push_field, push_number, push_parameter};
 use std::test::Fail;
 
+/// Each writer once with ample memory, the octets by hand.
 #[test]
 fn parts_are_read_and_written(rt: HostRuntime) -> Result<(), Fail> {
     let mut octets = Vec::new(rt.alloc());

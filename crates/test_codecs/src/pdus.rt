@@ -73,6 +73,7 @@ fn pdu(alloc: Global, kind: PduKind, options: &[(u8, &[u8])], body: &[u8]) -> Re
     })
 }
 
+/// A whole PDU with its checksum from outside, both ways.
 #[test]
 fn a_pdu_reads_and_is_written_again(rt: HostRuntime) -> Result<(), Fail> {
     let Ok(read) = read_pdu(&HELLO) else {
@@ -92,6 +93,7 @@ fn a_pdu_reads_and_is_written_again(rt: HostRuntime) -> Result<(), Fail> {
     Ok(())
 }
 
+/// Both parts that a header may have, in their order.
 #[test]
 fn a_segment_with_an_option_reads_and_is_written_again(rt: HostRuntime) -> Result<(), Fail> {
     let part = SegmentPart {
@@ -118,6 +120,7 @@ fn a_segment_with_an_option_reads_and_is_written_again(rt: HostRuntime) -> Resul
     Ok(())
 }
 
+/// Of the flags of an ER those that mean nothing are not told and not written; one without its reason is none.
 #[test]
 fn a_report_reads_without_its_flags_and_is_written_without(rt: HostRuntime) -> Result<(), Fail> {
     for flags in [0x01, 0x21, 0x41, 0x61] {
@@ -136,6 +139,7 @@ fn a_report_reads_without_its_flags_and_is_written_without(rt: HostRuntime) -> R
     Ok(())
 }
 
+/// Both octets 0 say that none is used; one of them alone is a fault.
 #[test]
 fn a_checksum_of_zeros_is_unused(rt: HostRuntime) {
     let mut octets = HELLO;
@@ -145,6 +149,7 @@ fn a_checksum_of_zeros_is_unused(rt: HostRuntime) {
     assert!(rt; matches!(read_pdu(&octets), Ok(read) if !read.checksum_used));
 }
 
+/// Each fault of the header alone, with its place and whether it may be reported.
 #[test]
 fn each_step_fails_where_no_earlier_one_does(rt: HostRuntime) {
     assert_eq!(rt; fault_of(&SEGMENT[..8]), Some((0x06, 0, false)));
@@ -184,6 +189,7 @@ fn each_step_fails_where_no_earlier_one_does(rt: HostRuntime) {
     }
 }
 
+/// Neighbours in the order of the faults, two at a time.
 #[test]
 fn of_two_steps_that_fail_the_earlier_answers(rt: HostRuntime) {
     let mut short = SEGMENT;
@@ -225,6 +231,7 @@ fn lower(octets: &mut [u8], by: u8) -> bool {
     true
 }
 
+/// The checksum is adjusted and not counted anew, and has to hold afterwards.
 #[test]
 fn a_lowered_lifetime_keeps_the_pdu(rt: HostRuntime) {
     let mut hello = HELLO;

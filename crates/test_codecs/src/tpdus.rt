@@ -37,6 +37,7 @@ fn check_row(rt: &impl Abort, alloc: Global, row: &str) -> Result<(), Fail> {
     Ok(())
 }
 
+/// Each kind in both formats, in its least and its fullest form, and each cause at each kind.
 #[test]
 fn each_row_of_the_table_is_read(rt: HostRuntime) -> Result<(), Fail> {
     assert_eq!(rt; TABLE.lines().count(), 139);
@@ -46,6 +47,7 @@ fn each_row_of_the_table_is_read(rt: HostRuntime) -> Result<(), Fail> {
     Ok(())
 }
 
+/// Of the four bits one alone decides the formats; a sender may set the others.
 #[test]
 fn every_low_half_of_a_class_octet_is_read(rt: HostRuntime) -> Result<(), Fail> {
     for low in 0..16u8 {
@@ -109,6 +111,7 @@ fn data(alloc: Global, last: bool, number: u32, octets: &[u8]) -> Result<Tpdu, F
     })
 }
 
+/// A CR with its checksum from outside, and parameters in the order in which they are written.
 #[test]
 fn a_request_is_written(rt: HostRuntime) -> Result<(), Fail> {
     let octets = written(
@@ -124,6 +127,7 @@ fn a_request_is_written(rt: HostRuntime) -> Result<(), Fail> {
     Ok(())
 }
 
+/// The preferred size stands behind the listed one, and both are there.
 #[test]
 fn a_request_with_a_preferred_size_is_written(rt: HostRuntime) -> Result<(), Fail> {
     let request = Tpdu::Cr {
@@ -148,6 +152,7 @@ fn a_request_with_a_preferred_size_is_written(rt: HostRuntime) -> Result<(), Fai
     Ok(())
 }
 
+/// An AK in normal formats, its credit in the low half of its code.
 #[test]
 fn an_acknowledgement_is_written(rt: HostRuntime) -> Result<(), Fail> {
     let octets = written(rt.alloc(), &acknowledgement(0, 8, 0), Format::Normal, true)?;
@@ -158,6 +163,7 @@ fn an_acknowledgement_is_written(rt: HostRuntime) -> Result<(), Fail> {
     Ok(())
 }
 
+/// An AK in extended formats, with the one parameter that is left out at 0.
 #[test]
 fn an_acknowledgement_with_a_subsequence_is_written(rt: HostRuntime) -> Result<(), Fail> {
     let octets = written(
@@ -173,6 +179,7 @@ fn an_acknowledgement_with_a_subsequence_is_written(rt: HostRuntime) -> Result<(
     Ok(())
 }
 
+/// A DT with its checksum over the data too, from outside.
 #[test]
 fn data_is_written(rt: HostRuntime) -> Result<(), Fail> {
     let octets = written(
@@ -188,6 +195,7 @@ fn data_is_written(rt: HostRuntime) -> Result<(), Fail> {
     Ok(())
 }
 
+/// The least selector whose header passes a length indicator of 254.
 #[test]
 fn a_long_selector_is_too_long(rt: HostRuntime) -> Result<(), Fail> {
     let tpdu = request(rt.alloc(), &[0; 234])?;
@@ -196,6 +204,7 @@ fn a_long_selector_is_too_long(rt: HostRuntime) -> Result<(), Fail> {
     Ok(())
 }
 
+/// More octets than a sum of 16 bits has room for: the checksum still holds.
 #[test]
 fn long_data_is_summed(rt: HostRuntime) -> Result<(), Fail> {
     let tpdu = data(rt.alloc(), false, 5, &[0xff; 70_000])?;

@@ -31,6 +31,7 @@ fn check_row(rt: &impl Abort, alloc: Global, row: &str) -> Result<(), Fail> {
     Ok(())
 }
 
+/// A grammar may be wrong in both its definition and its code: these octets come from an encoder of its own.
 #[test]
 fn each_row_of_the_table_is_read(rt: HostRuntime) -> Result<(), Fail> {
     assert_eq!(rt; TABLE.lines().count(), 76);
@@ -40,6 +41,7 @@ fn each_row_of_the_table_is_read(rt: HostRuntime) -> Result<(), Fail> {
     Ok(())
 }
 
+/// That it is written at all, with ample memory, stands in no clause; the octets come from outside.
 #[test]
 fn the_vector_is_written(rt: HostRuntime) -> Result<(), Fail> {
     let alloc = rt.alloc();
@@ -51,6 +53,7 @@ fn the_vector_is_written(rt: HostRuntime) -> Result<(), Fail> {
     Ok(())
 }
 
+/// The largest sizes there are: no length wraps, and memory is not wanted where there is enough.
 #[test]
 fn the_longest_is_read_back(rt: HostRuntime) -> Result<(), Fail> {
     let alloc = rt.alloc();

@@ -285,6 +285,7 @@ fn has_numbers(rt: &impl Abort, net: &Net, to: &[u8], ticks: u32, octets: u32) {
     assert_eq!(*rt; room(net, to), Some(octets));
 }
 
+/// The octets of the frame by hand: an octet 0 and the unit, and it may be delivered again.
 #[test]
 fn a_unit_is_one_frame_of_an_octet_more(rt: HostRuntime) {
     let alloc = rt.alloc();
@@ -299,6 +300,7 @@ fn a_unit_is_one_frame_of_an_octet_more(rt: HostRuntime) {
     comes_nothing(&rt, &mut net);
 }
 
+/// The length that is told: 17 of the frame and one of the protocol, for an empty unit too.
 #[test]
 fn a_frame_has_18_octets_more_than_its_unit(rt: HostRuntime) {
     let alloc = rt.alloc();
@@ -311,6 +313,7 @@ fn a_frame_has_18_octets_more_than_its_unit(rt: HostRuntime) {
     comes_unit(&rt, &mut net, 2, near(alloc, &[]));
 }
 
+/// Which offers have no route: to oneself, to another LAN, to an address that no system has.
 #[test]
 fn a_unit_has_a_way_between_two_systems_on_one_lan(rt: HostRuntime) {
     let alloc = rt.alloc();
@@ -323,6 +326,7 @@ fn a_unit_has_a_way_between_two_systems_on_one_lan(rt: HostRuntime) {
     comes_nothing(&rt, &mut net);
 }
 
+/// Bound and room by address, and the first unit that is too long.
 #[test]
 fn a_unit_has_the_room_of_its_frame_less_one(rt: HostRuntime) {
     let alloc = rt.alloc();
@@ -340,6 +344,7 @@ fn a_unit_has_the_room_of_its_frame_less_one(rt: HostRuntime) {
     sends(&rt, alloc, &mut net, 1, &[7; 263], 281);
 }
 
+/// The last tick at which it is taken and the first at which it is late, and who may not take it.
 #[test]
 fn a_unit_arrives_within_the_bound_of_its_frame(rt: HostRuntime) {
     let alloc = rt.alloc();
@@ -356,6 +361,7 @@ fn a_unit_arrives_within_the_bound_of_its_frame(rt: HostRuntime) {
     assert!(rt; is_honest(&net));
 }
 
+/// A system must not take what is CLNP's, what is empty, or what an unknown port sent.
 #[test]
 fn a_frame_of_another_protocol_or_port_is_alien(rt: HostRuntime) {
     let alloc = rt.alloc();
@@ -369,6 +375,7 @@ fn a_frame_of_another_protocol_or_port_is_alien(rt: HostRuntime) {
     assert!(rt; !is_honest(&net));
 }
 
+/// What is injected counts only where nothing equal is afloat, at the border of its time.
 #[test]
 fn an_arrival_that_equals_no_unit_afloat_is_a_stray(rt: HostRuntime) {
     let alloc = rt.alloc();
@@ -387,6 +394,7 @@ fn an_arrival_that_equals_no_unit_afloat_is_a_stray(rt: HostRuntime) {
     has_strays(&rt, &net, 2);
 }
 
+/// The 16,385th live frame: the limit of the LANs is handed on.
 #[test]
 fn a_unit_is_dropped_where_the_lans_are_full(rt: HostRuntime) {
     let alloc = rt.alloc();

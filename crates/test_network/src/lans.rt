@@ -282,6 +282,7 @@ fn fill(rt: &impl Abort, alloc: Global, bag: &mut LanBag) {
     }
 }
 
+/// A frame may be repeated: its octets by hand, twice.
 #[test]
 fn a_frame_comes_unaltered_and_more_than_once(rt: HostRuntime) {
     let alloc = rt.alloc();
@@ -296,6 +297,7 @@ fn a_frame_comes_unaltered_and_more_than_once(rt: HostRuntime) {
     comes_nothing(&rt, &mut bag);
 }
 
+/// The order of the answers, each at its border.
 #[test]
 fn a_choice_is_answered_by_the_first_that_applies(rt: HostRuntime) {
     let alloc = rt.alloc();
@@ -320,6 +322,7 @@ fn a_choice_is_answered_by_the_first_that_applies(rt: HostRuntime) {
     has_now(&rt, &bag, 2);
 }
 
+/// The order of the causes, each at its border.
 #[test]
 fn an_offer_is_dropped_for_the_first_cause(rt: HostRuntime) {
     let alloc = rt.alloc();
@@ -351,6 +354,7 @@ fn an_offer_is_dropped_for_the_first_cause(rt: HostRuntime) {
     );
 }
 
+/// A group is heard by systems of its kind and not by its sender; the least pair moves on as they take it.
 #[test]
 fn a_group_frame_goes_to_the_systems_of_its_kind(rt: HostRuntime) {
     let alloc = rt.alloc();
@@ -369,6 +373,7 @@ fn a_group_frame_goes_to_the_systems_of_its_kind(rt: HostRuntime) {
     has_fresh(&rt, &bag, None);
 }
 
+/// The least pair over ticks: it leaves frames out at the tick after their bound.
 #[test]
 fn fresh_frames_are_forgotten_once_they_are_late(rt: HostRuntime) {
     let alloc = rt.alloc();
@@ -384,6 +389,7 @@ fn fresh_frames_are_forgotten_once_they_are_late(rt: HostRuntime) {
     has_fresh(&rt, &bag, Some((3, 2)));
 }
 
+/// What is injected is a frame or alien, and a stray where nothing equal is afloat.
 #[test]
 fn injected_octets_are_read_as_a_frame(rt: HostRuntime) {
     let alloc = rt.alloc();
@@ -402,6 +408,7 @@ fn injected_octets_are_read_as_a_frame(rt: HostRuntime) {
     has_strays(&rt, &bag, 1);
 }
 
+/// The bound and the room are total: an answer stands for a LAN that there is not.
 #[test]
 fn frames_of_a_lan_that_is_not_listed_have_the_least_numbers(rt: HostRuntime) {
     let bag = bag(rt.alloc()).expect(&rt, "memory");
@@ -409,6 +416,7 @@ fn frames_of_a_lan_that_is_not_listed_have_the_least_numbers(rt: HostRuntime) {
     has_room(&rt, &bag, port(7, 1), 264);
 }
 
+/// One that waits stands beside the list of the others: the order goes over both.
 #[test]
 fn all_that_waits_is_taken_up_in_order(rt: HostRuntime) {
     let alloc = rt.alloc();

@@ -36,6 +36,7 @@ const MIDDLE: &[u8] = b"\x82\x0c\x01\x00\x04\x00\x0a\x00\x00\x02\x63\x01";
 
 const LEAST: &[u8] = b"\x82\x0b\x01\x00\x04\x00\x05\x00\x00\x01\x63";
 
+/// The limit of the table: a new address is refused, one that is there is heard, and room comes as rows end.
 #[test]
 fn a_257th_address_is_refused(rt: HostRuntime) {
     let mut table = Neighbours::new(rt.alloc());
@@ -47,6 +48,7 @@ fn a_257th_address_is_refused(rt: HostRuntime) {
     assert_eq!(rt; hear(&mut table, 40, NINE, 2), Ok(()));
 }
 
+/// The last tick of a row, and the next one: seconds are two ticks.
 #[test]
 fn an_address_is_known_for_its_holding_time(rt: HostRuntime) {
     let mut table = Neighbours::new(rt.alloc());
@@ -56,6 +58,7 @@ fn an_address_is_known_for_its_holding_time(rt: HostRuntime) {
     finds(&rt, &table, 43, None);
 }
 
+/// The latest hello counts, not the longest.
 #[test]
 fn a_shorter_holding_time_counts(rt: HostRuntime) {
     let mut table = Neighbours::new(rt.alloc());
@@ -65,6 +68,7 @@ fn a_shorter_holding_time_counts(rt: HostRuntime) {
     finds(&rt, &table, 4, None);
 }
 
+/// A hello may take a row back.
 #[test]
 fn a_holding_time_of_0_makes_nothing_known(rt: HostRuntime) {
     let mut table = Neighbours::new(rt.alloc());
@@ -73,6 +77,7 @@ fn a_holding_time_of_0_makes_nothing_known(rt: HostRuntime) {
     finds(&rt, &table, 0, None);
 }
 
+/// The latest hello counts for the port too.
 #[test]
 fn an_address_moves_to_another_port(rt: HostRuntime) {
     let mut table = Neighbours::new(rt.alloc());
@@ -81,6 +86,7 @@ fn an_address_moves_to_another_port(rt: HostRuntime) {
     finds(&rt, &table, 1, Some(hop(2, None)));
 }
 
+/// Titles compare as lists of octets, a shorter one first; an ESH makes no router.
 #[test]
 fn the_router_of_least_title_is_told(rt: HostRuntime) {
     let mut table = Neighbours::new(rt.alloc());
@@ -109,6 +115,7 @@ fn a_hello_without_memory_is_not_heard(rt: HostRuntime) {
     assert!(rt; table.is_empty());
 }
 
+/// A sweep over rows that are due one after another, one of them renewed in between.
 #[test]
 fn only_the_rows_that_are_past_go(rt: HostRuntime) {
     let mut table = Neighbours::new(rt.alloc());

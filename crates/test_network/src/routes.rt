@@ -13,6 +13,7 @@ fn hop(lan: u8) -> Hop {
     }
 }
 
+/// Prefixes that cover one another, added out of order, and the empty one.
 #[test]
 fn the_longest_prefix_gives_the_hop(rt: HostRuntime) -> Result<(), Fail> {
     let mut table = Table::new(rt.alloc());
@@ -29,6 +30,7 @@ fn the_longest_prefix_gives_the_hop(rt: HostRuntime) -> Result<(), Fail> {
     Ok(())
 }
 
+/// The limit of the table, and which refusal is first.
 #[test]
 fn a_prefix_twice_and_a_257th_are_refused(rt: HostRuntime) -> Result<(), Fail> {
     let alloc = rt.alloc();

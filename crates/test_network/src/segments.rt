@@ -24,6 +24,7 @@ const TWO: &[u8] =
 const OTHER: &[u8] =
     b"\x81\x17\x01\x09\xbc\x00\x27\x00\x00\x03\x49\x0b\x02\x03\x49\x0a\x02\x00\x07\x00\x08\x00\x2fijklmnoXqrstuvwx";
 
+/// Segments out of order, the one between last: two runs become one.
 #[test]
 fn the_segment_between_two_makes_the_unit_whole(rt: HostRuntime) -> Result<(), Fail> {
     let mut store = Store::new(rt.alloc(), 32, 262_144)?;
@@ -33,6 +34,7 @@ fn the_segment_between_two_makes_the_unit_whole(rt: HostRuntime) -> Result<(), F
     Ok(())
 }
 
+/// After interference nothing of the unit is held, and it can still come.
 #[test]
 fn another_octet_at_a_position_that_is_held_interferes(rt: HostRuntime) -> Result<(), Fail> {
     let mut store = Store::new(rt.alloc(), 32, 262_144)?;

@@ -5,7 +5,7 @@ ghost use Rattle.clnp_system.specs.Setting.{IsSetting};
 
 use clnp_header::{Reason, read_pdu};
 use clnp_route::Table;
-use clnp_system::{Reported, SystemSetup};
+use clnp_system::{Reported, SystemSetup, UnitFrames};
 use nsap::{ALL_END_SYSTEMS, Hop, Nsap, Port, Snpa};
 use osi_base::{Bytes, Unit, Wish};
 use std::alloc::Global;
@@ -120,7 +120,12 @@ fn send(alloc: Global, octets: &[u8], cut: bool, room: u32) -> Result<Vec<Unit<P
         return Err(Fail::from("a port"));
     };
     match setup.send(alloc, &unit, wish, 7, &hop)? {
-        Some(frames) => Ok(frames),
+        Some(UnitFrames::One(frame)) => {
+            let mut frames = Vec::new(alloc);
+            frames.push(frame)?;
+            Ok(frames)
+        }
+        Some(UnitFrames::List(frames)) => Ok(frames),
         None => Err(Fail::from("frames")),
     }
 }
@@ -181,6 +186,7 @@ fn have_lengths(frames: &[Unit<Port>], lengths: &[usize]) -> bool {
         .eq(lengths.iter().copied())
 }
 
+/// The octets of an ESH come from outside.
 #[test]
 fn an_end_system_tells_its_addresses(rt: HostRuntime) -> Result<(), Fail> {
     let alloc = rt.alloc();
@@ -193,6 +199,7 @@ fn an_end_system_tells_its_addresses(rt: HostRuntime) -> Result<(), Fail> {
     Ok(())
 }
 
+/// The ESH by which an end system answers is the one that it sends by itself.
 #[test]
 fn a_group_frame_is_answered(rt: HostRuntime) -> Result<(), Fail> {
     let alloc = rt.alloc();
@@ -211,6 +218,7 @@ fn a_group_frame_is_answered(rt: HostRuntime) -> Result<(), Fail> {
     Ok(())
 }
 
+/// What an ER carries, and its length, counted by hand.
 #[test]
 fn a_report_has_the_header_as_its_data(rt: HostRuntime) -> Result<(), Fail> {
     let frame = report(rt.alloc(), HELLO)?;
@@ -219,6 +227,7 @@ fn a_report_has_the_header_as_its_data(rt: HostRuntime) -> Result<(), Fail> {
     Ok(())
 }
 
+/// A redirect goes out exactly where the PDU leaves on the LAN that it came on.
 #[test]
 fn a_unit_goes_on_with_a_redirect(rt: HostRuntime) -> Result<(), Fail> {
     let alloc = rt.alloc();
@@ -232,6 +241,7 @@ fn a_unit_goes_on_with_a_redirect(rt: HostRuntime) -> Result<(), Fail> {
     Ok(())
 }
 
+/// Lengths of the segments of a segment, counted by hand.
 #[test]
 fn a_unit_is_cut_twice(rt: HostRuntime) -> Result<(), Fail> {
     let alloc = rt.alloc();

@@ -121,6 +121,7 @@ fn expect_of(
     Ok(())
 }
 
+/// Whole scripts through the whole program: the transcripts were written by hand, from what the standards ask.
 #[test]
 fn scripts_have_their_transcripts(rt: HostRuntime) -> Result<(), Fail> {
     for [script, transcript] in RUNS {
@@ -135,6 +136,7 @@ fn scripts_have_their_transcripts(rt: HostRuntime) -> Result<(), Fail> {
     expect(&rt, rt.alloc(), &[SET_UP, THIRD], &[THIRD_SHOWN])
 }
 
+/// One line of each kind behind one set-up: what is taken, and what is answered.
 #[test]
 fn lines_have_their_answers(rt: HostRuntime) -> Result<(), Fail> {
     for [events, shown] in EVENTS {
@@ -165,6 +167,7 @@ fn lines_have_their_answers(rt: HostRuntime) -> Result<(), Fail> {
     Ok(())
 }
 
+/// Each way that an open connection can go on, with octets and numbers counted by hand.
 #[test]
 fn connections_have_their_transcripts(rt: HostRuntime) -> Result<(), Fail> {
     for [events, shown] in connected::OPENED {
@@ -192,6 +195,7 @@ fn connections_have_their_transcripts(rt: HostRuntime) -> Result<(), Fail> {
     Ok(())
 }
 
+/// Which size is agreed where one end, both or none prefers one.
 #[test]
 fn preferred_sizes_have_their_transcripts(rt: HostRuntime) -> Result<(), Fail> {
     for [answer, shown] in sizes::ANSWERED {
@@ -278,6 +282,7 @@ fn identifiers_are_spent(rt: HostRuntime) -> Result<(), Fail> {
     )
 }
 
+/// The 40,001st unit afloat: the limit, through the program.
 #[test]
 fn a_network_is_full(rt: HostRuntime) -> Result<(), Fail> {
     let alloc = rt.alloc();
@@ -312,6 +317,7 @@ fn expect_answer(
     Ok(())
 }
 
+/// One octet below each limit of a unit and one above it.
 #[test]
 fn a_long_unit_is_refused(rt: HostRuntime) -> Result<(), Fail> {
     for (line, count, answer) in LONG {
@@ -374,6 +380,7 @@ fn expect_failures(rt: &impl Abort, alloc: Global, script: &str, whole: &[u8]) -
     Ok(())
 }
 
+/// Each read and each write failing in turn, with input in pieces of each size: an answer that comes one call late shows here.
 #[test]
 fn a_failed_call_ends_the_run(rt: HostRuntime) -> Result<(), Fail> {
     let alloc = rt.alloc();
@@ -414,6 +421,7 @@ fn expect_end(
     Ok(())
 }
 
+/// What an input, its lines and one line may have, from both sides.
 #[test]
 fn an_input_has_limits(rt: HostRuntime) -> Result<(), Fail> {
     for (size, count, rest, transcript) in LIMITS {
@@ -429,6 +437,7 @@ const CAPTURE: &[u8] =
         \x02\x00\x00\x00\x00\x0b\x02\x00\x00\x00\x00\x0a\x00\x19\xfe\xfe\x03\
         \x81\x11\x01\x20\x1c\x00\x16\x15S\x03I\x0b\x02\x03I\x0a\x02hello\x00\x00\x00\x00\x00\x00\x00\x00\x00\x00";
 
+/// Words that are none of the forms of a call: the usage line, and status 2.
 #[test]
 fn other_words_are_refused(rt: HostRuntime) -> Result<(), Fail> {
     let calls: [&[&str]; 5] = [
@@ -458,6 +467,7 @@ fn other_words_are_refused(rt: HostRuntime) -> Result<(), Fail> {
     Ok(())
 }
 
+/// `decode` through the program: a frame and a record that is cut short.
 #[test]
 fn a_capture_is_decoded(rt: HostRuntime) -> Result<(), Fail> {
     let alloc = rt.alloc();

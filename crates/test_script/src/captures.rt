@@ -19,6 +19,7 @@ const HELLO: &[u8] =
 /// What is shown of it.
 const SHOWN: &[u8] = b"1 1 2 39 dt 49.0b.02 49.0a.02 32 - - - 5\nrefused 79 short\n";
 
+/// A part that lies in one piece is not copied: whole, octet by octet, and cut inside each part.
 #[test]
 fn a_capture_gives_its_lines_in_whatever_pieces_it_comes(rt: HostRuntime) -> Result<(), Fail> {
     let all = [1; 100].as_slice();
@@ -32,6 +33,7 @@ fn a_capture_gives_its_lines_in_whatever_pieces_it_comes(rt: HostRuntime) -> Res
     Ok(())
 }
 
+/// The shortest capture, in the order of octets that no other test has.
 #[test]
 fn a_header_alone_is_a_capture(rt: HostRuntime) -> Result<(), Fail> {
     let mut source = PlainSource::new(rt.alloc(), &BIG)?;

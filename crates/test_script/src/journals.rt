@@ -65,6 +65,7 @@ fn address(last: u8) -> Address {
     Address::of(&[0x49, last, 1])
 }
 
+/// A journal with ample memory: what is added stands there.
 #[test]
 fn a_journal_has_its_events_in_order(rt: HostRuntime) {
     let mut journal = Journal::new(rt.alloc());
@@ -78,6 +79,7 @@ fn a_journal_has_its_events_in_order(rt: HostRuntime) {
     );
 }
 
+/// The fields of each line, in their order and form, by hand.
 #[test]
 fn an_event_of_a_network_has_its_line(rt: HostRuntime) -> Result<(), Fail> {
     let (number, system, lan, snpa) = (2, 1, 0, SNPA);
@@ -199,6 +201,7 @@ fn carry(alloc: Global, events: &mut Vec<Event>) -> Result<(), Fail> {
     Ok(())
 }
 
+/// The fields of each line, in their order and form, by hand.
 #[test]
 fn an_event_of_an_end_has_its_line(rt: HostRuntime) -> Result<(), Fail> {
     let mut events = connecting(rt.alloc())?;
@@ -218,6 +221,7 @@ fn an_event_of_an_end_has_its_line(rt: HostRuntime) -> Result<(), Fail> {
     Ok(())
 }
 
+/// Each word as it is printed: scripts of users read them.
 #[test]
 fn a_cause_has_its_word(rt: HostRuntime) -> Result<(), Fail> {
     let mut events = Vec::new(rt.alloc());
@@ -258,6 +262,7 @@ fn a_cause_has_its_word(rt: HostRuntime) -> Result<(), Fail> {
     Ok(())
 }
 
+/// Each word as it is printed: scripts of users read them.
 #[test]
 fn a_network_cause_has_its_word(rt: HostRuntime) -> Result<(), Fail> {
     let (mut events, system, snpa) = (Vec::new(rt.alloc()), 0, SNPA);
@@ -290,6 +295,7 @@ fn a_network_cause_has_its_word(rt: HostRuntime) -> Result<(), Fail> {
     Ok(())
 }
 
+/// Each word as it is printed: scripts of users read them.
 #[test]
 fn a_tpdu_has_its_words(rt: HostRuntime) -> Result<(), Fail> {
     let (mut events, system, place) = (Vec::new(rt.alloc()), 0, 10);
@@ -327,6 +333,7 @@ fn a_tpdu_has_its_words(rt: HostRuntime) -> Result<(), Fail> {
     Ok(())
 }
 
+/// The fields of each line, in their order and form, by hand.
 #[test]
 fn an_event_of_datagrams_has_its_line(rt: HostRuntime) -> Result<(), Fail> {
     let (alloc, system) = (rt.alloc(), 1);

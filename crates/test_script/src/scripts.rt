@@ -178,6 +178,7 @@ fn check(rt: &impl Abort, alloc: Global, names: &mut Names, rows: &str) -> Resul
     Ok(())
 }
 
+/// Each cause of a refusal with its column, and the order in which they are tested.
 #[test]
 fn a_line_has_its_answer(rt: HostRuntime) -> Result<(), Fail> {
     for rows in [LINES, FULL, LIFE, SHORT_LIFE, LATE] {
@@ -191,6 +192,7 @@ fn a_line_has_its_answer(rt: HostRuntime) -> Result<(), Fail> {
     Ok(())
 }
 
+/// Where `version` may stand, and what version 2 adds.
 #[test]
 fn a_version_is_named_first(rt: HostRuntime) -> Result<(), Fail> {
     for rows in [VERSION_1, VERSION_2] {
@@ -210,6 +212,7 @@ fn a_version_is_named_first(rt: HostRuntime) -> Result<(), Fail> {
     Ok(())
 }
 
+/// The same word in each dialect: taken, or none of its words.
 #[test]
 fn a_command_has_its_lines(rt: HostRuntime) -> Result<(), Fail> {
     let mut names = Names::datagrams(rt.alloc());
@@ -245,6 +248,7 @@ fn a_preferred_size_is_told_apart(rt: HostRuntime) -> Result<(), Fail> {
     Ok(())
 }
 
+/// The limit of routes, and which refusal is first.
 #[test]
 fn a_system_has_256_routes(rt: HostRuntime) -> Result<(), Fail> {
     let mut names = Names::new(rt.alloc());
@@ -257,6 +261,7 @@ fn a_system_has_256_routes(rt: HostRuntime) -> Result<(), Fail> {
     check(&rt, rt.alloc(), &mut names, more)
 }
 
+/// The longest line that is read, and which octet of a longer one is told.
 #[test]
 fn a_line_has_at_most_40000_octets(rt: HostRuntime) -> Result<(), Fail> {
     let mut names = Names::new(rt.alloc());

@@ -15,6 +15,7 @@ fn frame_of(alloc: Global, digits: &str) -> Result<Vec<u8>, Fail> {
     Ok(hex::decode(alloc, text.as_str())?)
 }
 
+/// What is written for each kind of PDU, TPDU and fault, as the format of captures states it.
 #[test]
 fn each_frame_of_the_table_has_its_lines(rt: HostRuntime) -> Result<(), Fail> {
     let mut ends = ExtendedEnds::new(rt.alloc());
@@ -34,6 +35,7 @@ fn each_frame_of_the_table_has_its_lines(rt: HostRuntime) -> Result<(), Fail> {
     Ok(())
 }
 
+/// 1,024 ends, and which one goes: the oldest, where naming makes young again.
 #[test]
 fn the_last_ends_that_were_named_are_kept(rt: HostRuntime) -> Result<(), Fail> {
     let address = Nsap::of(b"\x49\x0b\x01").ok_or("an address")?;

@@ -56,6 +56,7 @@ fn line(alloc: Global, word: u32, frames: u32, ends: u32) -> Result<Vec<u8>, Fai
     Ok(out)
 }
 
+/// Words for each kind of line, with no, few and many frames and ends: the lines by hand.
 #[test]
 fn a_word_has_its_line(rt: HostRuntime) -> Result<(), Fail> {
     for (word, [frames, ends], text) in LINES {
@@ -75,6 +76,7 @@ fn a_word_has_its_line(rt: HostRuntime) -> Result<(), Fail> {
     Ok(())
 }
 
+/// A generated script is a script: no line of it is refused.
 #[test]
 fn a_script_is_read(rt: HostRuntime) -> Result<(), Fail> {
     let mut names = Names::new(rt.alloc());
@@ -88,6 +90,7 @@ fn a_script_is_read(rt: HostRuntime) -> Result<(), Fail> {
     Ok(())
 }
 
+/// The words come from a program of its own: a seed means the same everywhere.
 #[test]
 fn the_words_are_those_of_the_generator(rt: HostRuntime) {
     let mut words = Words::new(storm(1, 8));
@@ -108,6 +111,7 @@ fn the_words_are_those_of_the_generator(rt: HostRuntime) {
     assert_eq!(rt; Words::new(storm(999_999_999, 1)).next(), Some(0x06cb_e736));
 }
 
+/// The limits of both numbers, and forms that std would read as numbers.
 #[test]
 fn two_numbers_ask_for_a_script(rt: HostRuntime) {
     for [seed, count] in [["1", "2000"], ["0", "0"], ["999999999", "20000"]] {
@@ -170,6 +174,7 @@ fn two_ends(alloc: Global) -> Result<[Event; 2], Fail> {
     Ok([Event::Connect(request), Event::Incoming(indication)])
 }
 
+/// Which events count, and where an end is made: by hand.
 #[test]
 fn a_summary_has_the_counts_of_the_events(rt: HostRuntime) -> Result<(), Fail> {
     let mut counts = Counts::new();

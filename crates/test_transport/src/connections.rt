@@ -25,7 +25,7 @@ use shown::{show_event, show_tpdu};
 use std::alloc::Global;
 use std::process::Abort;
 use std::test::Fail;
-use tp4_conn::{ConnectCall, Connection, Options, State, Timers, UserCall};
+use tp4_conn::{ConnectCall, ConnectRequest, Connection, Options, State, Timers, UserCall};
 use tp4_flow::Step;
 use tpdu::TpduRef;
 use tpdus::tpdu;
@@ -42,6 +42,7 @@ struct Play {
     ghost low: { clock ≤ 4000000000 },
 }
 
+/// The state table is a definition, and the code follows it: these rows were counted by hand.
 #[test]
 fn each_row_of_each_state(rt: HostRuntime) -> Result<(), Fail> {
     let alloc = rt.alloc();
@@ -215,16 +216,19 @@ fn system(octet: u8) -> Result<Nsap, Fail> {
 }
 
 fn call(alloc: Global, options: Options, octets: Bytes) -> Result<ConnectCall, Fail>
-    ensures { IfOk result (λ call. (call.options ≡ options) × IsTimed call.rules) }
+    ensures { IfOk result (λ call. (call.request.options ≡ options) × IsTimed call.rules) }
 {
-    Ok(ConnectCall {
-        own: 1,
-        from: system(0x0a)?,
+    let request = ConnectRequest {
         from_selector: bytes(alloc, "aa")?,
         to: system(0x0b)?,
         to_selector: bytes(alloc, "bb")?,
         options,
         octets,
+    };
+    Ok(ConnectCall {
+        own: 1,
+        from: system(0x0a)?,
+        request,
         rules: TIMERS,
     })
 }

@@ -2,6 +2,7 @@
 use due_links::Due;
 use std::test::Fail;
 
+/// Ids set out of order at one tick: the order is by id, as settling counts on.
 #[test]
 fn ids_come_by_tick_and_then_by_id(rt: HostRuntime) -> Result<(), Fail> {
     let mut due = Due::new(rt.alloc(), 6)?;
@@ -16,6 +17,7 @@ fn ids_come_by_tick_and_then_by_id(rt: HostRuntime) -> Result<(), Fail> {
     Ok(())
 }
 
+/// An id that is set again leaves its old tick, in another bucket too.
 #[test]
 fn an_id_has_one_tick(rt: HostRuntime) -> Result<(), Fail> {
     let mut due = Due::new(rt.alloc(), 4)?;

@@ -14,7 +14,7 @@ use script::SCRIPT;
 use std::alloc::Global;
 use std::process::Abort;
 use std::test::Fail;
-use tp4_conn::{ConnectCall, Options, Timers, UserCall};
+use tp4_conn::{ConnectRequest, Options, Timers, UserCall};
 use tp4_entity::{EntityRefusal, TpEntity};
 use tp4_flow::{EndEvent, Sent, Step, What};
 use tpdu::{Format, write_tpdu};
@@ -40,6 +40,7 @@ struct Play {
     ghost low: { clock ≤ 4000000000 },
 }
 
+/// Each call of an entity with ample memory, and what it tells and sends, counted by hand.
 #[test]
 fn each_call_by_hand(rt: HostRuntime) -> Result<(), Fail> {
     let alloc = rt.alloc();
@@ -131,9 +132,9 @@ impl Play {
     }
 
     fn call(&mut self, words: &[&str]) -> Result<String, Fail> {
-        let call = connect_call(self.alloc, bytes(self.alloc, word(words, 1))?)?;
+        let request = connect_request(self.alloc, bytes(self.alloc, word(words, 1))?)?;
         self.in_time()?;
-        match self.entity.connect(self.clock, call, &mut self.out) {
+        match self.entity.connect(self.clock, request, &mut self.out) {
             Ok(reference) => Ok(format!(in self.alloc; "{reference}")?),
             Err(why) => Ok(format!(in self.alloc; "no {why:?}")?),
         }
@@ -170,9 +171,9 @@ impl Play {
     /// 64 ends call, and each is refused.
     fn spend(&mut self) -> Result<String, Fail> {
         for reference in 1..=64 {
-            let call = connect_call(self.alloc, Bytes::of(Vec::new(self.alloc)))?;
+            let request = connect_request(self.alloc, Bytes::of(Vec::new(self.alloc)))?;
             self.in_time()?;
-            self.entity.connect(self.clock, call, &mut self.out)?;
+            self.entity.connect(self.clock, request, &mut self.out)?;
             let refusal = [6, 0x80, 0, reference, 0, 0, 3];
             self.entity
                 .on_unit(self.clock, address("490a01")?, &refusal, &mut self.out)?;
@@ -250,18 +251,15 @@ const OPTIONS: Options = Options {
 };
 
 #[tactic(auto, using(tp4_conn::proofs::Sizes::size_known))]
-fn connect_call(alloc: Global, octets: Bytes) -> Result<ConnectCall, Fail>
-    ensures { IfOk result (λ call. IsSized call.options) }
+fn connect_request(alloc: Global, octets: Bytes) -> Result<ConnectRequest, Fail>
+    ensures { IfOk result (λ request. IsSized request.options) }
 {
-    Ok(ConnectCall {
-        own: 0,
-        from: address("490b01")?,
+    Ok(ConnectRequest {
         from_selector: bytes(alloc, "aa")?,
         to: address("490a01")?,
         to_selector: bytes(alloc, "bb")?,
         options: OPTIONS,
         octets,
-        rules: TIMERS,
     })
 }
 

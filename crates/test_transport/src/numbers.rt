@@ -3,6 +3,7 @@
 use tp4_number::{Blocks, block, distance};
 use tpdu::Format;
 
+/// The modulus of both formats, at the wrap.
 #[test]
 fn wire_numbers_lie_ahead_around_their_wrap(rt: HostRuntime) {
     assert_eq!(rt; block(Format::Normal), 32);
@@ -11,6 +12,7 @@ fn wire_numbers_lie_ahead_around_their_wrap(rt: HostRuntime) {
     assert_eq!(rt; distance(Format::Extended, 0x7FFF_FFFF, 0), 1);
 }
 
+/// The number rule by its numbers alone: the last tick that holds, and the first that does not.
 #[test]
 fn the_fourth_block_waits_for_the_first(rt: HostRuntime) {
     let blocks = Blocks {
@@ -26,6 +28,7 @@ fn the_fourth_block_waits_for_the_first(rt: HostRuntime) {
     assert!(rt; blocks.may_send(Format::Normal, 89, 96, 97));
 }
 
+/// The ticks of three blocks are kept, and move as a new one begins.
 #[test]
 fn a_block_begins_with_its_first_number(rt: HostRuntime) {
     let mut blocks = Blocks::none();

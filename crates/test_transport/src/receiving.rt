@@ -59,6 +59,7 @@ impl Play {
     }
 }
 
+/// A later DT first: kept, old where it comes again, and shown behind the one before it.
 #[test]
 fn units_are_shown_in_order(rt: HostRuntime) -> Result<(), Fail> {
     let mut play = Play::begin(rt.alloc())?;
@@ -70,6 +71,7 @@ fn units_are_shown_in_order(rt: HostRuntime) -> Result<(), Fail> {
     Ok(())
 }
 
+/// The last number within the window, the first outside, and those that are old around the wrap.
 #[test]
 fn wire_numbers_are_read_from_the_one_expected(rt: HostRuntime) -> Result<(), Fail> {
     let mut play = Play::begin(rt.alloc())?;
@@ -88,6 +90,7 @@ fn wire_numbers_are_read_from_the_one_expected(rt: HostRuntime) -> Result<(), Fa
     Ok(())
 }
 
+/// The limit of a unit, with its last piece and with one that is not.
 #[test]
 fn a_unit_ends_at_16_384_octets(rt: HostRuntime) -> Result<(), Fail> {
     let unit = vec![in rt.alloc(); 7; 16_384]?;
@@ -99,6 +102,7 @@ fn a_unit_ends_at_16_384_octets(rt: HostRuntime) -> Result<(), Fail> {
     Ok(())
 }
 
+/// An ED that came before is answered again and not shown again.
 #[test]
 fn eds_and_grants_are_answered(rt: HostRuntime) -> Result<(), Fail> {
     let mut play = Play::begin(rt.alloc())?;

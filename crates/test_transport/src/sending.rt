@@ -4,7 +4,7 @@ ghost use Rattle.std.specs.Prelude.{◌≡◌, ◌<◌, ◌≤◌, true, IfOk};
 ghost use Rattle.tpdu.specs.declared.tpdu.Format.TheVariants.{Normal};
 
 use nsap::Nsap;
-use osi_base::Tick;
+use osi_base::{Bytes, Tick};
 use std::alloc::Global;
 use std::test::Fail;
 use tp4_flow::{FlowRules, Life, Step, SubmitRefusal};
@@ -51,17 +51,21 @@ impl Play {
         })
     }
 
-    /// A unit of so many octets.
+    /// A unit of so many octets, which is not refused.
     fn unit(&mut self, octets: usize) -> Result<(), Fail> {
-        let unit = vec![in self.alloc; 7; octets]?;
-        self.half.submit(self.now, unit, &mut self.out)?;
-        Ok(())
+        if self.half.refusal(octets).is_some() {
+            return Err(Fail::from("a unit is refused"));
+        }
+        let unit = Bytes::of(vec![in self.alloc; 7; octets]?);
+        Ok(self.half.submit(self.now, unit, &mut self.out)?)
     }
 
     fn urgent(&mut self, octets: usize) -> Result<(), Fail> {
-        let unit = vec![in self.alloc; 7; octets]?;
-        self.half.submit_expedited(self.now, unit, &mut self.out)?;
-        Ok(())
+        if self.half.urgent_refusal(octets).is_some() {
+            return Err(Fail::from("an expedited unit is refused"));
+        }
+        let unit = Bytes::of(vec![in self.alloc; 7; octets]?);
+        Ok(self.half.submit_expedited(self.now, unit, &mut self.out)?)
     }
 
     fn ak(&mut self, wire: u32, credit: u16, subsequence: u16) -> Result<bool, Fail>
@@ -93,12 +97,6 @@ impl Play {
 }
 
 impl Play {
-    /// Why a unit of so many octets is not taken.
-    fn refusal(&mut self, octets: usize) -> Result<Option<SubmitRefusal>, Fail> {
-        let unit = vec![in self.alloc; 7; octets]?;
-        Ok(self.half.submit(self.now, unit, &mut self.out).err())
-    }
-
     /// The numbers 0 to 95 go at the first tick, each with its AK.
     fn three_blocks(&mut self) -> Result<(), Fail> {
         for n in 0..96 {
@@ -117,6 +115,7 @@ impl Play {
     }
 }
 
+/// The order of AKs is by subsequence: what goes out after an older one, counted by hand.
 #[test]
 fn an_older_ak_does_not_widen_a_reduced_window(rt: HostRuntime) -> Result<(), Fail> {
     let mut play = Play::begin(rt.alloc(), 5)?;
@@ -135,6 +134,7 @@ fn an_older_ak_does_not_widen_a_reduced_window(rt: HostRuntime) -> Result<(), Fa
     Ok(())
 }
 
+/// The number rule at its first border, at the tick before it opens and at the next one.
 #[test]
 fn number_96_waits_for_the_first_block(rt: HostRuntime) -> Result<(), Fail> {
     let mut play = Play::begin(rt.alloc(), 15)?;
@@ -152,6 +152,7 @@ fn number_96_waits_for_the_first_block(rt: HostRuntime) -> Result<(), Fail> {
     Ok(())
 }
 
+/// One ED is outstanding at most, a DT waits behind it, and EDs have the number rule too.
 #[test]
 fn an_ed_goes_alone_and_is_held_like_a_dt(rt: HostRuntime) -> Result<(), Fail> {
     let mut play = Play::begin(rt.alloc(), 15)?;
@@ -175,6 +176,7 @@ fn an_ed_goes_alone_and_is_held_like_a_dt(rt: HostRuntime) -> Result<(), Fail> {
     Ok(())
 }
 
+/// N sendings T1 apart, and the tick at which the half gives up.
 #[test]
 fn a_dt_is_sent_four_times(rt: HostRuntime) -> Result<(), Fail> {
     let mut play = Play::begin(rt.alloc(), 15)?;
@@ -189,14 +191,16 @@ fn a_dt_is_sent_four_times(rt: HostRuntime) -> Result<(), Fail> {
     Ok(())
 }
 
+/// Each limit of the queue, from both sides.
 #[test]
 fn units_are_refused_beyond_the_queue(rt: HostRuntime) -> Result<(), Fail> {
     let mut play = Play::begin(rt.alloc(), 0)?;
-    assert_eq!(rt; play.refusal(0)?, Some(SubmitRefusal::EmptyUnit));
-    assert_eq!(rt; play.refusal(16_385)?, Some(SubmitRefusal::TooLong));
+    assert_eq!(rt; play.half.refusal(0), Some(SubmitRefusal::EmptyUnit));
+    assert_eq!(rt; play.half.refusal(16_385), Some(SubmitRefusal::TooLong));
     for _ in 0..64 {
-        assert_eq!(rt; play.refusal(1)?, None);
+        assert_eq!(rt; play.half.refusal(1), None);
+        play.unit(1)?;
     }
-    assert_eq!(rt; play.refusal(1)?, Some(SubmitRefusal::QueueFull));
+    assert_eq!(rt; play.half.refusal(1), Some(SubmitRefusal::QueueFull));
     Ok(())
 }

@@ -1,6 +1,6 @@
 //! Octets in hexadecimal, in lower case.
 
-ghost use Rattle.std.specs.Prelude.{◌≡◌, ◌*◌, ◌/◌, ◌%◌, ◌++◌, length, slice_index, OnOk};
+ghost use Rattle.std.specs.Prelude.{◌≡◌, ◌*◌, ◌/◌, ◌%◌, ◌++◌, length, replicate, slice_index, OnOk};
 ghost use Rattle.hex.specs.Hex.{encode_lower, lower_digits};
 
 use osi_base::NoMemory;
@@ -16,15 +16,20 @@ pub fn push_hex(octets: &[u8], out: &mut Vec<u8>) -> Result<(), NoMemory>
     ensures { OnOk result (out.new.items ≡ out.old.items ++ encode_lower octets.now) }
 {
     let before = out.len();
-    let Some(after) = octets
-        .len()
-        .checked_mul(2)
-        .and_then(|more| before.checked_add(more))
-    else {
-        return Err(NoMemory);
-    };
-    out.resize(after, 0)?;
+    make_room(out, octets.len())?;
     fill_hex(octets, &mut out.as_mut_slice()[before..]);
+    Ok(())
+}
+
+/// Makes room for so many pairs of digits.
+// Inlined: beside a known count the sum is short.
+#[inline(always)]
+fn make_room(out: &mut Vec<u8>, pairs: usize) -> Result<(), NoMemory>
+    ensures { OnOk result (out.new.items ≡ out.old.items ++ replicate (2 * pairs) 0) }
+{
+    // A count that has no room of its own is more than there is memory for, too.
+    let count = out.len().saturating_add(pairs.saturating_mul(2));
+    out.resize(count, 0)?;
     Ok(())
 }
 

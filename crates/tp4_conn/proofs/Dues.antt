@@ -13,11 +13,11 @@ use Rattle.tp4_sending.specs.Pieces.{again, sooner}
 use Rattle.tp4_sending.specs.Settled.{IsDue}
 use Rattle.tp4_sending.proofs.Dues.{before_due, least}
 use Rattle.tp4_sending.proofs.Laters.{tick_later}
-use Rattle.tp4_conn.specs.declared.base.Base.{Base}
-use Rattle.tp4_conn.specs.declared.stage.Answering.{Answering}
-use Rattle.tp4_conn.specs.declared.stage.Open.{Open}
-use Rattle.tp4_conn.specs.declared.stage.Stage.{Stage}
-use Rattle.tp4_conn.specs.declared.stage.Stage.TheVariants.{CrWait, WaitBeforeClose, UserWait, AkWait, Opened, Closing, Frozen}
+use Rattle.tp4_conn.specs.declared.end_record.EndRecord.{EndRecord}
+use Rattle.tp4_conn.specs.declared.states.InAkWait.{InAkWait}
+use Rattle.tp4_conn.specs.declared.states.InOpened.{InOpened}
+use Rattle.tp4_conn.specs.declared.states.StateData.{StateData}
+use Rattle.tp4_conn.specs.declared.states.StateData.TheVariants.{CrWait, WaitBeforeClose, UserWait, AkWait, Opened, Closing, Frozen}
 use Rattle.tp4_conn.specs.declared.timers.Timers.{Timers}
 use Rattle.tp4_conn.specs.AkWait.{ak_wait_tick}
 use Rattle.tp4_conn.specs.Closing.{closing_tick}
@@ -40,12 +40,12 @@ record IsPunctual (s : FlowSender) (now : ℕ) : Type 0 where
   there : IsDue (due_of s) now → life_of (at now s) ≡ Goes → ticked (at now s) ≢ nothing (at now s)
   after : life_of (at now s) ≡ Goes → IsBefore (due_of (ticked (at now s)).sender) now
 
-abbrev ArePunctual : Stage → ℕ → Type 0
+abbrev ArePunctual : StateData → ℕ → Type 0
 ArePunctual (Opened o) now = IsPunctual o.halves.sending now
 ArePunctual stage now = Unit {0}
 
 -- where it goes on, it is due later
-abbrev ArePrompt : Stage → ℕ → Type 0
+abbrev ArePrompt : StateData → ℕ → Type 0
 ArePrompt (Opened o) now = life_of (at now o.halves.sending) ≡ Goes → IsBefore (due_of (ticked (at now o.halves.sending)).sender) now
 ArePrompt stage now = Unit {0}
 
@@ -80,7 +80,7 @@ punctual s now o some = record {
     goes-exhausted : Goes ≡ Exhausted → ⊥
     goes-exhausted e = subst (λ (l : Ends). IsGoing l) e tt
 
-stage_punctual : (stage : Stage) (now : ℕ) → IsRunning stage → ArePunctual stage now
+stage_punctual : (stage : StateData) (now : ℕ) → IsRunning stage → ArePunctual stage now
 stage_punctual (Opened o) now p = punctual o.halves.sending now p.0 p.1
 stage_punctual (CrWait w) now p = tt
 stage_punctual (WaitBeforeClose w) now p = tt
@@ -89,7 +89,7 @@ stage_punctual (AkWait w) now p = tt
 stage_punctual (Closing c) now p = tt
 stage_punctual (Frozen when) now p = tt
 
-punctual_prompt : (stage : Stage) (now : ℕ) → ArePunctual stage now → ArePrompt stage now
+punctual_prompt : (stage : StateData) (now : ℕ) → ArePunctual stage now → ArePrompt stage now
 punctual_prompt (Opened o) now s = s.after
 punctual_prompt (CrWait w) now s = tt
 punctual_prompt (WaitBeforeClose w) now s = tt
@@ -120,7 +120,7 @@ before_all x y None now first second third = omega arith
 before_all x y (Some z) now first second third = omega arith
 
 -- before it is due
-opened_before : (b : Base) (o : Open) → IsPunctual o.halves.sending b.clock
+opened_before : (b : EndRecord) (o : InOpened) → IsPunctual o.halves.sending b.clock
     → AllBefore (o.took + b.timers.inactive) (o.acked + b.timers.window) (due_of o.halves.sending) b.clock
     → opened_tick b o ≡ stays b (clocked b.clock (Opened o))
 unfolding opened_tick
@@ -130,7 +130,7 @@ opened_before b o settled a =
     ∙ ap (λ (s : Sendings). opened_goes b o s) (settled.before a.third)
     ∙ if_false (nat_le (o.acked + b.timers.window) b.clock) _ _ (lt-leb _ _ a.second)
 
-tick_before : (b : Base) (stage : Stage) → ArePunctual stage b.clock → IsBefore (due b stage) b.clock → on_tick b stage ≡ stays b (clocked b.clock stage)
+tick_before : (b : EndRecord) (stage : StateData) → ArePunctual stage b.clock → IsBefore (due b stage) b.clock → on_tick b stage ≡ stays b (clocked b.clock stage)
 unfolding cr_wait_tick wait_before_close_tick user_wait_tick ak_wait_tick closing_tick
 tick_before b (CrWait w) s h = if_true (nat_lt b.clock (w.tries.last + b.timers.t1)) _ _ (lt-ltb _ _ h)
 tick_before b (WaitBeforeClose w) s h = if_true (nat_lt b.clock (w.request.tries.last + b.timers.t1)) _ _ (lt-ltb _ _ h)
@@ -146,7 +146,7 @@ tick_before b (Frozen when) s h = refl
 abbrev pub Later : ℕ → Moved → Type 0
 Later now m = IsBefore (due m.base m.stage) now
 
-frozen_later : (b : Base) (when : ℕ) → IsBefore (frozen_due b when) b.clock
+frozen_later : (b : EndRecord) (when : ℕ) → IsBefore (frozen_due b when) b.clock
 frozen_later b when =
     if_kept (λ (d : Option ℕ). IsBefore d b.clock) (nat_lt (when + frozen_for b.timers) b.clock) _ _
     (λ _. tt)
@@ -156,7 +156,7 @@ span_some : (t : Timers) → IsTimed t → 0 < span t
 span_some t timed = let some : 1 * t.t1 ≤ t.sendings * t.t1 = mul-le-mul_right t.t1 (omega (arith, timed.sendings_least)) in
     let least : 1 ≤ t.t1 = timed.t1_least in omega arith
 
-opened_life : (life : Ends) (b : Base) (o : Open) → IsTimed b.timers → b.clock < o.took + b.timers.inactive
+opened_life : (life : Ends) (b : EndRecord) (o : InOpened) → IsTimed b.timers → b.clock < o.took + b.timers.inactive
     → (life ≡ Goes → IsBefore (due_of (ticked (at b.clock o.halves.sending)).sender) b.clock) → Later b.clock (opened_as life b o)
 opened_life Exhausted b o timed low settled =
     let some : 0 < span b.timers = span_some b.timers timed in let least : 1 ≤ b.timers.t1 = timed.t1_least in omega arith
@@ -165,7 +165,7 @@ opened_life Goes b o timed low settled =
     (λ _. before_all _ (b.clock + b.timers.window) (due_of (ticked (at b.clock o.halves.sending)).sender) _ low (omega (arith, timed.window_least)) (settled refl))
     (λ f. before_all _ (o.acked + b.timers.window) (due_of (ticked (at b.clock o.halves.sending)).sender) _ low (leb-false _ _ f) (settled refl))
 
-tick_after : (b : Base) (stage : Stage) → IsTimed b.timers → ArePrompt stage b.clock → Later b.clock (on_tick b stage)
+tick_after : (b : EndRecord) (stage : StateData) → IsTimed b.timers → ArePrompt stage b.clock → Later b.clock (on_tick b stage)
 unfolding cr_wait_tick wait_before_close_tick user_wait_tick ak_wait_tick opened_tick closing_tick
 tick_after b (CrWait w) timed s =
     if_kept (Later b.clock) (nat_lt b.clock (w.tries.last + b.timers.t1)) _ _
@@ -195,26 +195,26 @@ tick_after b (Closing c) timed s =
 tick_after b (Frozen when) timed s = frozen_later b when
 
 -- when it is due: a TPDU is sent, or the end is frozen, or counts one more sending
-abbrev Moves : Base → Stage → Moved → Type 0
+abbrev Moves : EndRecord → StateData → Moved → Type 0
 Moves b old m = m ≢ stays b old
 
-sends_some : (b : Base) (old stage : Stage) (events : List EndEvent) (sent : Sent) (tpdus : List Sent)
+sends_some : (b : EndRecord) (old stage : StateData) (events : List EndEvent) (sent : Sent) (tpdus : List Sent)
     → Moves b old (record { base = b; stage = stage; events = events; tpdus = sent ∷ tpdus })
 sends_some b old stage events sent tpdus e = let none : length (sent ∷ tpdus) ≡ 0 = ap (λ (m : Moved). length m.tpdus) e in absurd (omega (arith, none))
 
-is_frozen : Stage → Bool
+is_frozen : StateData → Bool
 is_frozen (Frozen when) = true
 is_frozen stage = false
 
-freezes : (b : Base) (old : Stage) (events : List EndEvent) (tpdus : List Sent) → is_frozen old ≡ false → Moves b old (frozen b events tpdus)
+freezes : (b : EndRecord) (old : StateData) (events : List EndEvent) (tpdus : List Sent) → is_frozen old ≡ false → Moves b old (frozen b events tpdus)
 unfolding is_frozen
 freezes b old events tpdus live e = let is : true ≡ is_frozen old = ap (λ (m : Moved). is_frozen m.stage) e in absurd (cc (is, live))
 
-count_of : Stage → ℕ
+count_of : StateData → ℕ
 count_of (AkWait w) = w.tries.count
 count_of stage = 0
 
-sends_again : (b : Base) (w : Answering) (tpdus : List Sent)
+sends_again : (b : EndRecord) (w : InAkWait) (tpdus : List Sent)
     → Moves b (AkWait w) (record { base = b; stage = AkWait (record w { tries = again b.clock w.tries }); events = []; tpdus = tpdus })
 unfolding count_of
 sends_again b w tpdus e = let more : w.tries.count + 1 ≡ w.tries.count = ap (λ (m : Moved). count_of m.stage) e in absurd (omega (arith, more))
@@ -224,11 +224,11 @@ third : (x y now : ℕ) (z : Option ℕ) → IsDue (sooner (sooner (Some x) (Som
 third x y now None e first second = absurd (omega (arith, e, first, second))
 third x y now (Some z) e first second = omega (arith, e, first, second)
 
-sender_in : FlowSender → Stage → FlowSender
+sender_in : FlowSender → StateData → FlowSender
 sender_in none (Opened o) = o.halves.sending
 sender_in none stage = none
 
-sending_moves : (b : Base) (o : Open) (x : Sendings) → x ≢ nothing (at b.clock o.halves.sending) → Moves b (clocked b.clock (Opened o)) (sending b o x)
+sending_moves : (b : EndRecord) (o : InOpened) (x : Sendings) → x ≢ nothing (at b.clock o.halves.sending) → Moves b (clocked b.clock (Opened o)) (sending b o x)
 unfolding sender_in
 sending_moves b o x some e = some (λ i. record {
   sender = ap (λ (m : Moved). sender_in x.sender m.stage) e i;
@@ -236,13 +236,13 @@ sending_moves b o x some e = some (λ i. record {
   tpdus = ap (λ (m : Moved). m.tpdus) e i;
 })
 
-led_some : (b : Base) (old stage : Stage) (events : List EndEvent) (tpdus : List Sent) (sent : Sent)
+led_some : (b : EndRecord) (old stage : StateData) (events : List EndEvent) (tpdus : List Sent) (sent : Sent)
     → Moves b old (record { base = b; stage = stage; events = events; tpdus = tpdus ++ sent ∷ [] })
 led_some b old stage events [] sent e = let none : length (sent ∷ []) ≡ 0 = ap (λ (m : Moved). length m.tpdus) e in absurd (omega (arith, none))
 led_some b old stage events (first ∷ tpdus) sent e =
     let none : length (first ∷ (tpdus ++ sent ∷ [])) ≡ 0 = ap (λ (m : Moved). length m.tpdus) e in absurd (omega (arith, none))
 
-opened_moves : (life : Ends) (b : Base) (o : Open) → life_of (at b.clock o.halves.sending) ≡ life → IsPunctual o.halves.sending b.clock
+opened_moves : (life : Ends) (b : EndRecord) (o : InOpened) → life_of (at b.clock o.halves.sending) ≡ life → IsPunctual o.halves.sending b.clock
     → IsDue (due b (Opened o)) b.clock → b.clock < o.took + b.timers.inactive → Moves b (clocked b.clock (Opened o)) (opened_as life b o)
 opened_moves Exhausted b o life settled e early = sends_some b _ _ _ _ []
 opened_moves Goes b o life settled e early =
@@ -250,13 +250,13 @@ opened_moves Goes b o life settled e early =
     (λ _. led_some b _ _ _ (ticked (at b.clock o.halves.sending)).tpdus _)
     (λ f. sending_moves b o _ (settled.there (third (o.took + b.timers.inactive) (o.acked + b.timers.window) b.clock (due_of o.halves.sending) e early (leb-false _ _ f)) life))
 
-frozen_past : (b : Base) (when : ℕ) → IsDue (frozen_due b when) b.clock → ⊥
+frozen_past : (b : EndRecord) (when : ℕ) → IsDue (frozen_due b when) b.clock → ⊥
 frozen_past b when =
     if_kept (λ (d : Option ℕ). IsDue d b.clock → ⊥) (nat_lt (when + frozen_for b.timers) b.clock) _ _
     (λ _ e. e)
     (λ f e. let low : b.clock ≤ when + frozen_for b.timers = ltb-false _ _ f in absurd (omega (arith, low, e)))
 
-tick_there : (b : Base) (stage : Stage) → ArePunctual stage b.clock → IsDue (due b stage) b.clock → Moves b (clocked b.clock stage) (on_tick b stage)
+tick_there : (b : EndRecord) (stage : StateData) → ArePunctual stage b.clock → IsDue (due b stage) b.clock → Moves b (clocked b.clock stage) (on_tick b stage)
 unfolding cr_wait_tick wait_before_close_tick user_wait_tick ak_wait_tick opened_tick closing_tick is_frozen
 tick_there b (CrWait w) s e =
     let now : w.tries.last + b.timers.t1 ≤ b.clock = e in
@@ -292,13 +292,13 @@ tick_there b (Closing c) s e =
     (λ _. sends_some b _ _ _ _ []))
 tick_there b (Frozen when) s e = absurd (frozen_past b when e)
 
-pub running_due : (b : Base) (stage : Stage) → IsTimed b.timers → IsRunning stage → TickDue b stage
+pub running_due : (b : EndRecord) (stage : StateData) → IsTimed b.timers → IsRunning stage → TickDue b stage
 running_due b stage timed runs =
     let s = stage_punctual stage b.clock runs in
     record { before = tick_before b stage s; there = tick_there b stage s; after = tick_after b stage timed (punctual_prompt stage b.clock s) }
 
 -- what holds of each end between calls is enough for that
-sound_prompt : (b : Base) (stage : Stage) (now : ℕ) → IsSound b stage → ArePrompt stage now
+sound_prompt : (b : EndRecord) (stage : StateData) (now : ℕ) → IsSound b stage → ArePrompt stage now
 sound_prompt b (Opened o) now sound = later o.halves.sending now sound.3 sound.2.t1
 sound_prompt b (CrWait w) now sound = tt
 sound_prompt b (WaitBeforeClose w) now sound = tt
@@ -307,7 +307,7 @@ sound_prompt b (AkWait w) now sound = tt
 sound_prompt b (Closing c) now sound = tt
 sound_prompt b (Frozen when) now sound = tt
 
-sound_runs : (b : Base) (stage : Stage) → IsSound b stage → IsRunning stage
+sound_runs : (b : EndRecord) (stage : StateData) → IsSound b stage → IsRunning stage
 sound_runs b (Opened o) sound = (sound.3, sound.2.t1)
 sound_runs b (CrWait w) sound = tt
 sound_runs b (WaitBeforeClose w) sound = tt
@@ -316,18 +316,18 @@ sound_runs b (AkWait w) sound = tt
 sound_runs b (Closing c) sound = tt
 sound_runs b (Frozen when) sound = tt
 
-pub end_due : (b : Base) (stage : Stage) (now : ℕ) → IsEnd b stage → TickDue (now_at now b) stage
+pub end_due : (b : EndRecord) (stage : StateData) (now : ℕ) → IsEnd b stage → TickDue (now_at now b) stage
 end_due b stage now is = running_due (now_at now b) stage is.timers (sound_runs b stage is.sound)
 
 -- an end that ticked is due later
-pub ticked_later : (b : Base) (stage : Stage) (now : ℕ) → IsEnd b stage → Later now (on_tick (now_at now b) stage)
+pub ticked_later : (b : EndRecord) (stage : StateData) (now : ℕ) → IsEnd b stage → Later now (on_tick (now_at now b) stage)
 ticked_later b stage now is = tick_after (now_at now b) stage is.timers (sound_prompt b stage now is.sound)
 
 -- the same, of what a tick did
-pub ticked_so : (b : Base) (stage was after : Stage) (now : ℕ) (told new : Told) → IsEnd b stage → was ≡ stage → Does (on_tick (now_at now b) was) (now_at now b) after told new
+pub ticked_so : (b : EndRecord) (stage was after : StateData) (now : ℕ) (told new : Told) → IsEnd b stage → was ≡ stage → Does (on_tick (now_at now b) was) (now_at now b) after told new
     → IsBefore (due (now_at now b) after) now
 ticked_so b stage was after now told new is same did =
     let m = on_tick (now_at now b) was in
     let end_is : record { base = now_at now b; stage = after } ≡ end_of m = λ i. record { base = did.base_is i; stage = did.stage_is i } in
     subst (λ (e : End). IsBefore (due e.base e.stage) now) (sym end_is)
-    (ticked_later b was now (subst (λ (x : Stage). IsEnd b x) (sym same) is))
+    (ticked_later b was now (subst (λ (x : StateData). IsEnd b x) (sym same) is))

@@ -9,5 +9,6 @@ pub mod Propers
 pub mod Rests
 pub mod Sendables
 pub mod Sizes
+pub mod Takings
 pub mod Timely
 pub mod Wires

@@ -1,10 +1,10 @@
 -- The bounds hold along every list of events, and a frozen end stays as it is and sends nothing.
 use Rattle.std.proofs.Common.{◌≡◌, ◌≤◌, ℕ, ◌+◌, Bool, true, false, ◌&&◌, not, List, [], ◌∷◌, Option, Some, None, refl, ap, sym, subst, arith, if◌then◌else◌}
 use Rattle.tpdu.specs.declared.tpdu.Tpdu.{Tpdu}
-use Rattle.tp4_conn.specs.declared.base.Base.{Base}
+use Rattle.tp4_conn.specs.declared.end_record.EndRecord.{EndRecord}
 use Rattle.tp4_conn.specs.declared.call.UserCall.{UserCall}
-use Rattle.tp4_conn.specs.declared.stage.Stage.{Stage}
-use Rattle.tp4_conn.specs.declared.stage.Stage.TheVariants.{CrWait, WaitBeforeClose, UserWait, AkWait, Opened, Closing, Frozen}
+use Rattle.tp4_conn.specs.declared.states.StateData.{StateData}
+use Rattle.tp4_conn.specs.declared.states.StateData.TheVariants.{CrWait, WaitBeforeClose, UserWait, AkWait, Opened, Closing, Frozen}
 use Rattle.tp4_conn.specs.declared.timers.Timers.{Timers}
 use Rattle.tp4_conn.specs.End.{Moved, IsTimed, end_of, span}
 use Rattle.tp4_conn.specs.Living.{Life, May, after, Leads, sent_by, IsInTime, IsOver, IsOverBy}
@@ -17,12 +17,12 @@ pub record Lives (t : Timers) (life : Life) : Type 0 where
   pub timely : Timely t life.took life.end.stage
   pub low : life.took ≤ life.clock
 
-abbrev IsNotFrozen : Stage → Type 0
+abbrev IsNotFrozen : StateData → Type 0
 IsNotFrozen (Frozen when) = ⊥
 IsNotFrozen stage = Unit {0}
 
 -- the due tick does not look at the clock, but for a frozen end, whose due tick bounds nothing
-in_time : (b : Base) (stage : Stage) (now : ℕ) → IsInTime (due b stage) now → IsNotFrozen stage → IsInTime (due (at now b) stage) now
+in_time : (b : EndRecord) (stage : StateData) (now : ℕ) → IsInTime (due b stage) now → IsNotFrozen stage → IsInTime (due (at now b) stage) now
 in_time b (CrWait w) now h n = h
 in_time b (WaitBeforeClose w) now h n = h
 in_time b (UserWait since) now h n = h
@@ -32,7 +32,7 @@ in_time b (Closing c) now h n = h
 in_time b (Frozen when) now h n = absurd n
 
 -- an event keeps the bounds
-called_lives : (b : Base) (stage : Stage) (now took : ℕ) (call : UserCall) → IsTimed b.timers → Timely b.timers took stage → IsInTime (due b stage) now
+called_lives : (b : EndRecord) (stage : StateData) (now took : ℕ) (call : UserCall) → IsTimed b.timers → Timely b.timers took stage → IsInTime (due b stage) now
     → Holds b.timers took (on_call (at now b) stage call)
 called_lives b (Frozen when) now took call t h soon = record { timers = refl; timely = h }
 called_lives b (CrWait w) now took call t h soon = call_holds (at now b) (CrWait w) call took t h soon
@@ -42,7 +42,7 @@ called_lives b (AkWait w) now took call t h soon = call_holds (at now b) (AkWait
 called_lives b (Opened o) now took call t h soon = call_holds (at now b) (Opened o) call took t h soon
 called_lives b (Closing c) now took call t h soon = call_holds (at now b) (Closing c) call took t h soon
 
-ticked_lives : (b : Base) (stage : Stage) (now took : ℕ) → Timely b.timers took stage → IsInTime (due b stage) now
+ticked_lives : (b : EndRecord) (stage : StateData) (now took : ℕ) → Timely b.timers took stage → IsInTime (due b stage) now
     → Holds b.timers took (on_tick (at now b) stage)
 ticked_lives b (Frozen when) now took h soon = record { timers = refl; timely = h }
 ticked_lives b (CrWait w) now took h soon = tick_holds (at now b) (CrWait w) took h soon
@@ -56,7 +56,7 @@ lives : (t : Timers) (took now : ℕ) (m : Moved) → Holds t took m → took �
 lives t took now m h low = record { timers = h.timers; timely = h.timely; low = low }
 
 -- a TPDU that is taken, or one that lacks a checksum
-took_lives : (wrap : ℕ → ℕ → ℕ) (b : Base) (stage : Stage) (tpdu : Tpdu) (sum : Bool) (now took : ℕ) (lacks : Bool) → took ≤ now → Timely b.timers took stage
+took_lives : (wrap : ℕ → ℕ → ℕ) (b : EndRecord) (stage : StateData) (tpdu : Tpdu) (sum : Bool) (now took : ℕ) (lacks : Bool) → took ≤ now → Timely b.timers took stage
     → Lives b.timers (record {
       end = end_of (if lacks then untaken b stage else on_tpdu wrap (at now b) stage tpdu);
       clock = now;
@@ -89,7 +89,7 @@ over_by t life h = subst (λ (u : Timers). IsOverBy life.end (life.took + u.inac
     (over life.end.base life.end.stage life.took (subst (λ (u : Timers). Timely u life.took life.end.stage) (sym h.timers) h.timely))
 
 -- what holds by a tick holds by a later one
-pub over_later : (stage : Stage) (next : Option ℕ) (one other : ℕ) → one ≤ other → IsOver stage next one → IsOver stage next other
+pub over_later : (stage : StateData) (next : Option ℕ) (one other : ℕ) → one ≤ other → IsOver stage next one → IsOver stage next other
 over_later (Frozen when) next one other low h = omega arith
 over_later (CrWait w) (Some tick) one other low h = omega arith
 over_later (WaitBeforeClose w) (Some tick) one other low h = omega arith
@@ -113,10 +113,10 @@ unfolding IsNever
 never h = absurd (subst (λ (b : Bool). IsNever b) h tt)
 
 -- a frozen end
-abbrev pub frozen_life : Base → ℕ → ℕ → ℕ → Life
+abbrev pub frozen_life : EndRecord → ℕ → ℕ → ℕ → Life
 frozen_life base when clock took = record { end = record { base = base; stage = Frozen when }; clock = clock; took = took }
 
-pub all_still : (wrap : ℕ → ℕ → ℕ) (base : Base) (when clock took : ℕ) (xs : List (ℕ × Event)) (last : Life)
+pub all_still : (wrap : ℕ → ℕ → ℕ) (base : EndRecord) (when clock took : ℕ) (xs : List (ℕ × Event)) (last : Life)
     → Leads wrap (frozen_life base when clock took) xs last → (last.end.stage ≡ Frozen when) × (sent_by wrap (frozen_life base when clock took) xs ≡ [])
 all_still wrap base when clock took [] last leads = (ap (λ (l : Life). l.end.stage) leads, refl)
 all_still wrap base when clock took ((now, Called call) ∷ xs) last leads = all_still wrap (at now base) when now took xs last leads.1

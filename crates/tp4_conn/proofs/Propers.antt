@@ -23,19 +23,19 @@ use Rattle.tp4_sending.specs.FlowSender.{FlowSender, Sendings, at, life_of, open
 use Rattle.tp4_sending.specs.Settled.{IsSettled}
 use Rattle.tp4_sending.proofs.Dues.{later}
 use Rattle.tp4_sending.proofs.Settles.{new_settled, taken_settled, done_settled, tick_settled}
-use Rattle.tp4_conn.specs.declared.base.Base.{Base}
+use Rattle.tp4_conn.specs.declared.end_record.EndRecord.{EndRecord}
 use Rattle.tp4_conn.specs.declared.call.CallRefusal.TheVariants as refused
 use Rattle.tp4_conn.specs.declared.call.ConnectCall.{ConnectCall}
 use Rattle.tp4_conn.specs.declared.call.UserCall.{UserCall}
 use Rattle.tp4_conn.specs.declared.call.UserCall.TheVariants.{Accept, Refuse, Normal, Urgent, Window, Disconnect}
 use Rattle.tp4_conn.specs.declared.halves.Halves.{Halves}
-use Rattle.tp4_conn.specs.declared.stage.Answering.{Answering}
-use Rattle.tp4_conn.specs.declared.stage.Open.{Open}
-use Rattle.tp4_conn.specs.declared.stage.Parting.{Parting}
-use Rattle.tp4_conn.specs.declared.stage.Releasing.{Releasing}
-use Rattle.tp4_conn.specs.declared.stage.Requesting.{Requesting}
-use Rattle.tp4_conn.specs.declared.stage.Stage.{Stage}
-use Rattle.tp4_conn.specs.declared.stage.Stage.TheVariants.{CrWait, WaitBeforeClose, UserWait, AkWait, Opened, Closing, Frozen}
+use Rattle.tp4_conn.specs.declared.states.InAkWait.{InAkWait}
+use Rattle.tp4_conn.specs.declared.states.InOpened.{InOpened}
+use Rattle.tp4_conn.specs.declared.states.InWaitBeforeClose.{InWaitBeforeClose}
+use Rattle.tp4_conn.specs.declared.states.InClosing.{InClosing}
+use Rattle.tp4_conn.specs.declared.states.InCrWait.{InCrWait}
+use Rattle.tp4_conn.specs.declared.states.StateData.{StateData}
+use Rattle.tp4_conn.specs.declared.states.StateData.TheVariants.{CrWait, WaitBeforeClose, UserWait, AkWait, Opened, Closing, Frozen}
 use Rattle.tp4_conn.specs.declared.timers.Timers.{Timers}
 use Rattle.tp4_conn.specs.Agreeing.{options_in, proposed_in, is_within, agreed_by, halves_of, request, confirm, confirms_again}
 use Rattle.tp4_conn.specs.AkWait.{ak_wait_tpdu, ak_wait_tick, opening, queueing}
@@ -57,39 +57,39 @@ use Rattle.tp4_conn.proofs.Sizes.{agreed_sized, confirmed_known, known_size, num
 use Rattle.tp4_conn.proofs.Timely.{if_kept}
 
 -- what an end keeps for good
-record Steady (b : Base) : Type 0 where
+record Steady (b : EndRecord) : Type 0 where
   timers : IsTimed b.timers
   calling : length b.calling ≤ 32
   called : length b.called ≤ 32
   size : IsProposal b.proposed
 
-steady : (b : Base) (stage : Stage) → IsProper b stage → Steady b
+steady : (b : EndRecord) (stage : StateData) → IsProper b stage → Steady b
 steady b stage p = record { timers = p.timers; calling = p.calling; called = p.called; size = p.size }
 
 -- a row that goes into this state and sends these TPDUs
-row : (b : Base) (stage : Stage) (events : List EndEvent) (tpdus : List Sent) → Steady b → IsProperStage b.agreed stage → AreSendable tpdus
+row : (b : EndRecord) (stage : StateData) (events : List EndEvent) (tpdus : List Sent) → Steady b → IsProperStage b.agreed stage → AreSendable tpdus
     → IsProperRow (record { base = b; stage = stage; events = events; tpdus = tpdus })
 row b stage events tpdus s p fits = record { proper = record { timers = s.timers; calling = s.calling; called = s.called; size = s.size; state = p }; tpdus = fits }
 
 -- the TPDUs of an end
-cr_fits : (b : Base) (octets : List ℕ) → Steady b → length octets ≤ 32 → AreSendable (request b octets ∷ [])
+cr_fits : (b : EndRecord) (octets : List ℕ) → Steady b → length octets ≤ 32 → AreSendable (request b octets ∷ [])
 cr_fits b octets s few =
     let n = number_known b.proposed.options s.size.sized in
     (((n.0, refl, refl, refl), record { few_credits = omega (arith, s.timers.credit); calling_fits = s.calling; called_fits = s.called; size_known = known_size b.proposed.listed s.size.listed; preferred_known = n.1; octets_fit = few }), tt)
 
-cc_fits : (b : Base) (o : Options) (octets : List ℕ) → Steady b → IsSized o → length octets ≤ 32 → AreSendable (confirm b o octets ∷ [])
+cc_fits : (b : EndRecord) (o : Options) (octets : List ℕ) → Steady b → IsSized o → length octets ≤ 32 → AreSendable (confirm b o octets ∷ [])
 cc_fits b o octets s size few =
     let n = number_known o size in
     (((n.0, refl, refl, refl), record { few_credits = omega (arith, s.timers.credit); calling_fits = s.calling; called_fits = s.called; size_known = confirmed_known o size; preferred_known = n.1; octets_fit = few }), tt)
 
-confirms_fit : (b : Base) (agreed : Option Options) (octets : List ℕ) → Steady b → HasSize agreed → length octets ≤ 32 → AreSendable (confirms_again b agreed octets)
+confirms_fit : (b : EndRecord) (agreed : Option Options) (octets : List ℕ) → Steady b → HasSize agreed → length octets ≤ 32 → AreSendable (confirms_again b agreed octets)
 confirms_fit b None octets s size few = tt
 confirms_fit b (Some o) octets s size few = cc_fits b o octets s size few
 
-dr_fits : (b : Base) (source reason : ℕ) (octets : List ℕ) → length octets ≤ 64 → AreSendable (send b (Dr b.partner source reason None octets) ∷ [])
+dr_fits : (b : EndRecord) (source reason : ℕ) (octets : List ℕ) → length octets ≤ 64 → AreSendable (send b (Dr b.partner source reason None octets) ∷ [])
 dr_fits b source reason octets few = ((refl, few), tt)
 
-dc_fits : (b : Base) (source : ℕ) → AreSendable (confirms b source)
+dc_fits : (b : EndRecord) (source : ℕ) → AreSendable (confirms b source)
 dc_fits b source = if_kept AreSendable (source == 0) _ _ (λ _. tt) (λ _. ((tt, tt), tt))
 
 -- the halves
@@ -97,7 +97,7 @@ credit_low : (format : Format) (credit : ℕ) → credit ≤ 15 → IsCredit for
 credit_low Plain credit low = omega arith
 credit_low Extended credit low = tt
 
-fresh_halves : (b : Base) (o : Options) → IsTimed b.timers → AreHalves (Some o) (halves_of b o)
+fresh_halves : (b : EndRecord) (o : Options) → IsTimed b.timers → AreHalves (Some o) (halves_of b o)
 fresh_halves b o timed = record { t1 = timed.t1_least; expedited = tt; format = refl; credit = credit_low o.format b.timers.credit timed.credit }
 
 ready : (agreed : Option Options) (h : Halves) (now : ℕ) (o : Bool) → AreHalves agreed h → h.sending.is_open ≡ o → Ready o (at now h.sending)
@@ -124,20 +124,20 @@ led : (events : List EndEvent) (tpdus : List Sent) (m : Moved) → AreSendable t
 led events tpdus m first p = record { proper = p.proper; tpdus = appended tpdus m.tpdus first p.tpdus }
 
 -- Opened
-protocol_row : (b : Base) → Steady b → IsProperRow (protocol_error b)
+protocol_row : (b : EndRecord) → Steady b → IsProperRow (protocol_error b)
 protocol_row b s = row b _ _ _ s (omega arith) (dr_fits b b.own 133 [] (omega arith))
 
 arrived_credit : (h : Half) (w : ℕ) (piece : Piece) → (dt_arrival h w piece).inbox.credit ≡ h.receiver.inbox.credit
 arrived_credit h w piece =
     same_credit (judged (block_in h) h.receiver.inbox (ahead (block_in h) (wire (block_in h) h.receiver.expected) w)) h.receiver.inbox (ahead (block_in h) (wire (block_in h) h.receiver.expected) w) piece
 
-dt_row : (got : Got) (b : Base) (o : Open) (r : Received) → Steady b → AreOpen b.agreed (record o.halves { receiving = r.half }) → AreSendable r.tpdus → IsProperRow (dt_as got b o r)
+dt_row : (got : Got) (b : EndRecord) (o : InOpened) (r : Received) → Steady b → AreOpen b.agreed (record o.halves { receiving = r.half }) → AreSendable r.tpdus → IsProperRow (dt_as got b o r)
 dt_row TooLarge b o r s p fits = led r.events r.tpdus _ fits (protocol_row b s)
 dt_row Kept b o r s p fits = row b _ _ _ s p fits
 dt_row Old b o r s p fits = row b _ _ _ s p fits
 dt_row Outside b o r s p fits = row b _ _ _ s p fits
 
-on_dt_row : (wrap : ℕ → ℕ → ℕ) (b : Base) (o : Open) (w : ℕ) (piece : Piece) → Steady b → AreOpen b.agreed o.halves → IsProperRow (on_dt wrap b o w piece)
+on_dt_row : (wrap : ℕ → ℕ → ℕ) (b : EndRecord) (o : InOpened) (w : ℕ) (piece : Piece) → Steady b → AreOpen b.agreed o.halves → IsProperRow (on_dt wrap b o w piece)
 on_dt_row wrap b o w piece s p =
     let h = o.halves.receiving in
     let half = half_after wrap h (dt_arrival h w piece) in
@@ -145,7 +145,7 @@ on_dt_row wrap b o w piece s p =
     subst (λ (n : ℕ). IsCredit h.rules.format n) (sym (arrived_credit h w piece)) p.halves.credit in
     dt_row (dt_arrival h w piece).got b o (taken_dt wrap h w piece) s (got_open b.agreed o.halves half p p.halves.format credit) (aks_fit (dt_arrival h w piece).got half credit)
 
-on_ed_row : (wrap : ℕ → ℕ → ℕ) (b : Base) (o : Open) (w : ℕ) (octets : List ℕ) → Steady b → AreOpen b.agreed o.halves → IsNumber (agreed_format b.agreed) w
+on_ed_row : (wrap : ℕ → ℕ → ℕ) (b : EndRecord) (o : InOpened) (w : ℕ) (octets : List ℕ) → Steady b → AreOpen b.agreed o.halves → IsNumber (agreed_format b.agreed) w
     → IsProperRow (receiving b o (taken_ed wrap o.halves.receiving w octets))
 on_ed_row wrap b o w octets s p number =
     let h = o.halves.receiving in
@@ -155,10 +155,10 @@ on_ed_row wrap b o w octets s p number =
     (λ _. got_open b.agreed o.halves _ p p.halves.format p.halves.credit))
     (ea_fits wrap h w octets (subst (λ (f : Format). IsNumber f w) (sym p.halves.format) number))
 
-sending_row : (b : Base) (o : Open) (x : Sendings) → Steady b → AreOpen b.agreed o.halves → Sends true x → IsSettled x.sender → IsProperRow (sending b o x)
+sending_row : (b : EndRecord) (o : InOpened) (x : Sendings) → Steady b → AreOpen b.agreed o.halves → Sends true x → IsSettled x.sender → IsProperRow (sending b o x)
 sending_row b o x s p sends settled = row b _ _ _ s (sent_open b.agreed o.halves x p.halves sends settled) sends.tpdus
 
-opened_tpdu_row : (wrap : ℕ → ℕ → ℕ) (b : Base) (o : Open) (tpdu : Tpdu) → Steady b → AreOpen b.agreed o.halves → IsAllowed (agreed_format b.agreed) tpdu
+opened_tpdu_row : (wrap : ℕ → ℕ → ℕ) (b : EndRecord) (o : InOpened) (tpdu : Tpdu) → Steady b → AreOpen b.agreed o.halves → IsAllowed (agreed_format b.agreed) tpdu
     → IsProperRow (opened_tpdu wrap b o tpdu)
 unfolding opened_tpdu
 opened_tpdu_row wrap b o (Cr credit source width calling called size preferred extra version classes ack_time text) s p a = row b _ _ _ s p tt
@@ -177,19 +177,19 @@ opened_tpdu_row wrap b o (Ea destination number) s p a =
     sending_row b o _ s p (done_fits true (at b.clock o.halves.sending) number (ready b.agreed o.halves b.clock true p.halves p.is_open))
     (done_settled (at b.clock o.halves.sending) number p.is_open (later o.halves.sending b.clock p.settled))
 
-goes_row : (b : Base) (o : Open) (x : Sendings) → Steady b → AreOpen b.agreed o.halves → Sends true x → IsSettled x.sender → IsProperRow (opened_goes b o x)
+goes_row : (b : EndRecord) (o : InOpened) (x : Sendings) → Steady b → AreOpen b.agreed o.halves → Sends true x → IsSettled x.sender → IsProperRow (opened_goes b o x)
 goes_row b o x s p sends settled =
     if_kept IsProperRow (nat_le (o.acked + b.timers.window) b.clock) _ _
     (λ _. led x.events x.tpdus _ sends.tpdus (row b _ _ _ s (sent_open b.agreed o.halves x p.halves sends settled) (ak_fits o.halves.receiving p.halves.credit)))
     (λ _. sending_row b o x s p sends settled)
 
-life_row : (life : Ends) (b : Base) (o : Open) → Steady b → AreOpen b.agreed o.halves → IsProperRow (opened_as life b o)
+life_row : (life : Ends) (b : EndRecord) (o : InOpened) → Steady b → AreOpen b.agreed o.halves → IsProperRow (opened_as life b o)
 life_row Exhausted b o s p = row b _ _ _ s (omega arith) (dr_fits b b.own 128 [] (omega arith))
 life_row Goes b o s p =
     goes_row b o _ s p (ticked_fits true (at b.clock o.halves.sending) (ready b.agreed o.halves b.clock true p.halves p.is_open))
     (tick_settled (at b.clock o.halves.sending) p.is_open (later o.halves.sending b.clock p.settled))
 
-opened_tick_row : (b : Base) (o : Open) → Steady b → AreOpen b.agreed o.halves → IsProperRow (opened_tick b o)
+opened_tick_row : (b : EndRecord) (o : InOpened) → Steady b → AreOpen b.agreed o.halves → IsProperRow (opened_tick b o)
 unfolding opened_tick
 opened_tick_row b o s p =
     if_kept IsProperRow (nat_le (o.took + b.timers.inactive) b.clock) _ _
@@ -197,7 +197,7 @@ opened_tick_row b o s p =
     (λ _. life_row (life_of (at b.clock o.halves.sending)) b o s p)
 
 -- a matching TPDU
-confirmed_row : (b : Base) (o : Options) (octets : List ℕ) → Steady b → b.agreed ≡ Some o → IsProperRow (confirmed b o octets)
+confirmed_row : (b : EndRecord) (o : Options) (octets : List ℕ) → Steady b → b.agreed ≡ Some o → IsProperRow (confirmed b o octets)
 confirmed_row b o octets s agreed =
     let h = halves_of b o in
     let p : AreHalves b.agreed h = subst (λ (a : Option Options). AreHalves a h) (sym agreed) (fresh_halves b o s.timers) in
@@ -205,10 +205,10 @@ confirmed_row b o octets s agreed =
     let settled : IsSettled (opened (at b.clock h.sending)).sender = new_settled (record (at b.clock h.sending) { is_open = true }) refl in
     row b _ _ _ s (sent_open b.agreed h _ p sends settled) (appended (opened (at b.clock h.sending)).tpdus (ak h.receiving ∷ []) sends.tpdus (ak_fits h.receiving p.credit))
 
-partner_known : (b : Base) (partner : ℕ) → Steady b → Steady (record b { partner = partner })
+partner_known : (b : EndRecord) (partner : ℕ) → Steady b → Steady (record b { partner = partner })
 partner_known b partner s = record { timers = s.timers; calling = s.calling; called = s.called; size = s.size }
 
-cr_wait_row : (b : Base) (w : Requesting) (tpdu : Tpdu) → Steady b → length w.octets ≤ 32 → IsProperRow (cr_wait_tpdu b w tpdu)
+cr_wait_row : (b : EndRecord) (w : InCrWait) (tpdu : Tpdu) → Steady b → length w.octets ≤ 32 → IsProperRow (cr_wait_tpdu b w tpdu)
 unfolding cr_wait_tpdu
 cr_wait_row b w (Cc credit destination source width calling called size preferred extra version classes ack_time text) s few =
     if_kept IsProperRow (is_within b.proposed width size preferred extra) _ _
@@ -218,14 +218,14 @@ cr_wait_row b w (Cc credit destination source width calling called size preferre
 cr_wait_row b w (Dr destination source reason info text) s few = row b _ _ _ s tt (dc_fits b source)
 cr_wait_row b w other s few = row b _ _ _ s few tt
 
-wait_row : (b : Base) (w : Parting) (tpdu : Tpdu) → Steady b → (length w.request.octets ≤ 32) × (length w.octets ≤ 64) → IsProperRow (wait_before_close_tpdu b w tpdu)
+wait_row : (b : EndRecord) (w : InWaitBeforeClose) (tpdu : Tpdu) → Steady b → (length w.request.octets ≤ 32) × (length w.octets ≤ 64) → IsProperRow (wait_before_close_tpdu b w tpdu)
 unfolding wait_before_close_tpdu
 wait_row b w (Cc credit destination source width calling called size preferred extra version classes ack_time text) s few =
     row (record b { partner = source }) _ _ _ (partner_known b source s) few.1 (dr_fits (record b { partner = source }) b.own 128 w.octets few.1)
 wait_row b w (Dr destination source reason info text) s few = row b _ _ _ s tt (dc_fits b source)
 wait_row b w other s few = row b _ _ _ s few tt
 
-opening_row : (wrap : ℕ → ℕ → ℕ) (b : Base) (h : Halves) (tpdu : Tpdu) → Steady b → AreHalves b.agreed h → IsAllowed (agreed_format b.agreed) tpdu → IsProperRow (opening wrap b h tpdu)
+opening_row : (wrap : ℕ → ℕ → ℕ) (b : EndRecord) (h : Halves) (tpdu : Tpdu) → Steady b → AreHalves b.agreed h → IsAllowed (agreed_format b.agreed) tpdu → IsProperRow (opening wrap b h tpdu)
 opening_row wrap b h tpdu s p a =
     let x = opened (at b.clock h.sending) in
     let sends : Sends true x = opened_fits h.sending.is_open (at b.clock h.sending) (ready_self b.agreed h b.clock p) in
@@ -233,7 +233,7 @@ opening_row wrap b h tpdu s p a =
     led x.events x.tpdus _ sends.tpdus
     (opened_tpdu_row wrap b (record { took = b.clock; acked = b.clock; halves = record h { sending = x.sender } }) tpdu s (sent_open b.agreed h x p sends settled) a)
 
-ak_wait_row : (wrap : ℕ → ℕ → ℕ) (b : Base) (w : Answering) (tpdu : Tpdu) → Steady b → IsProperStage b.agreed (AkWait w) → IsAllowed (agreed_format b.agreed) tpdu
+ak_wait_row : (wrap : ℕ → ℕ → ℕ) (b : EndRecord) (w : InAkWait) (tpdu : Tpdu) → Steady b → IsProperStage b.agreed (AkWait w) → IsAllowed (agreed_format b.agreed) tpdu
     → IsProperRow (ak_wait_tpdu wrap b w tpdu)
 unfolding ak_wait_tpdu
 ak_wait_row wrap b w (Ak destination number credit subsequence confirmation) s p a = opening_row wrap b w.halves (Ak destination number credit subsequence confirmation) s p.2 a
@@ -244,13 +244,13 @@ ak_wait_row wrap b w (Dr destination source reason info text) s p a = row b _ _ 
 ak_wait_row wrap b w (Er destination cause rejected) s p a = row b _ _ _ s (omega arith) (dr_fits b b.own 133 [] (omega arith))
 ak_wait_row wrap b w other s p a = row b _ _ _ s p tt
 
-closing_row : (b : Base) (c : Releasing) (tpdu : Tpdu) → Steady b → length c.octets ≤ 64 → IsProperRow (closing_tpdu b c tpdu)
+closing_row : (b : EndRecord) (c : InClosing) (tpdu : Tpdu) → Steady b → length c.octets ≤ 64 → IsProperRow (closing_tpdu b c tpdu)
 unfolding closing_tpdu
 closing_row b c (Dc destination source) s few = row b _ _ _ s tt tt
 closing_row b c (Dr destination source cause info text) s few = row b _ _ _ s tt tt
 closing_row b c other s few = row b _ _ _ s few tt
 
-tpdu_row : (wrap : ℕ → ℕ → ℕ) (b : Base) (stage : Stage) (tpdu : Tpdu) → Steady b → IsProperStage b.agreed stage → IsAllowed (agreed_format b.agreed) tpdu
+tpdu_row : (wrap : ℕ → ℕ → ℕ) (b : EndRecord) (stage : StateData) (tpdu : Tpdu) → Steady b → IsProperStage b.agreed stage → IsAllowed (agreed_format b.agreed) tpdu
     → IsProperRow (on_tpdu wrap b stage tpdu)
 tpdu_row wrap b (CrWait w) tpdu s p a = cr_wait_row b w tpdu s p
 tpdu_row wrap b (WaitBeforeClose w) tpdu s p a = wait_row b w tpdu s p
@@ -261,7 +261,7 @@ tpdu_row wrap b (Closing c) tpdu s p a = closing_row b c tpdu s p
 tpdu_row wrap b (Frozen when) tpdu s p a = row b _ _ _ s tt tt
 
 -- a tick
-tick_row : (b : Base) (stage : Stage) → Steady b → IsProperStage b.agreed stage → IsProperRow (on_tick b stage)
+tick_row : (b : EndRecord) (stage : StateData) → Steady b → IsProperStage b.agreed stage → IsProperRow (on_tick b stage)
 unfolding cr_wait_tick wait_before_close_tick user_wait_tick ak_wait_tick closing_tick
 tick_row b (CrWait w) s p =
     if_kept IsProperRow (nat_lt b.clock (w.tries.last + b.timers.t1)) _ _
@@ -310,7 +310,7 @@ urgent_unit agreed s n e = by (n == 0) refl (nat_lt 16 n) refl e
         let low : n ≤ 16 = ltb-false 16 n l in
         let some : 1 ≤ n = omega (arith, eqb-false n 0 z) in record { some = some; few = low }
 
-granting_row : (b : Base) (o : Open) (credit : ℕ) → Steady b → AreOpen b.agreed o.halves → IsProperRow (granting b o (half_granted o.halves.receiving credit))
+granting_row : (b : EndRecord) (o : InOpened) (credit : ℕ) → Steady b → AreOpen b.agreed o.halves → IsProperRow (granting b o (half_granted o.halves.receiving credit))
 granting_row b o credit s p =
     let new = half_granted o.halves.receiving credit in
     let fits = granted_fits o.halves.receiving credit p.halves.credit in
@@ -319,10 +319,10 @@ granting_row b o credit s p =
     (λ _. row b _ _ _ s is_open tt)
     (λ _. row b _ _ _ s is_open (ak_fits new fits))
 
-at_steady : (now : ℕ) (b : Base) → Steady b → Steady (base_at now b)
+at_steady : (now : ℕ) (b : EndRecord) → Steady b → Steady (base_at now b)
 at_steady now b s = record { timers = s.timers; calling = s.calling; called = s.called; size = s.size }
 
-accepted_row : (b : Base) (asked : Options) (octets : List ℕ) → Steady b → IsSized asked → length octets ≤ 32 → IsProperRow (user_wait_accept b asked octets)
+accepted_row : (b : EndRecord) (asked : Options) (octets : List ℕ) → Steady b → IsSized asked → length octets ≤ 32 → IsProperRow (user_wait_accept b asked octets)
 unfolding user_wait_accept
 accepted_row b asked octets s size few =
     let o = agreed_by b.proposed asked in
@@ -331,17 +331,17 @@ accepted_row b asked octets s size few =
     let agreed : IsSized o = agreed_sized b.proposed asked s.size size in
     row c _ _ _ steady (few, agreed, fresh_halves c o s.timers) (cc_fits c o octets steady agreed few)
 
-refused_row : (b : Base) (octets : List ℕ) → Steady b → length octets ≤ 64 → IsProperRow (user_wait_refuse b octets)
+refused_row : (b : EndRecord) (octets : List ℕ) → Steady b → length octets ≤ 64 → IsProperRow (user_wait_refuse b octets)
 unfolding user_wait_refuse
 refused_row b octets s few = row b _ _ _ s tt (dr_fits b 0 128 octets few)
 
-ak_sends : (b : Base) (now : ℕ) (w : Answering) (x : Sendings) → Steady b → IsProperStage b.agreed (AkWait w) → Sends w.halves.sending.is_open x
+ak_sends : (b : EndRecord) (now : ℕ) (w : InAkWait) (x : Sendings) → Steady b → IsProperStage b.agreed (AkWait w) → Sends w.halves.sending.is_open x
     → IsProperRow (queueing (base_at now b) w x)
 ak_sends b now w x s p sends =
     row (base_at now b) _ _ _ (at_steady now b s) (p.0, p.1, sent_halves b.agreed w.halves w.halves.sending.is_open x p.2 sends) sends.tpdus
 
 -- a call of the user that is not refused
-call_row : (b : Base) (now : ℕ) (stage : Stage) (call : UserCall) → Steady b → IsProperStage b.agreed stage → call_refusal b stage call ≡ None → IsCall call
+call_row : (b : EndRecord) (now : ℕ) (stage : StateData) (call : UserCall) → Steady b → IsProperStage b.agreed stage → call_refusal b stage call ≡ None → IsCall call
     → IsProperRow (on_call (base_at now b) stage call)
 call_row b now (CrWait w) (Disconnect octets) s p e c = row (base_at now b) _ _ _ (at_steady now b s) (p, not_long 64 octets e) tt
 call_row b now (CrWait w) other s p e c = row (base_at now b) _ _ _ (at_steady now b s) p tt
@@ -384,8 +384,8 @@ step_row wrap now e Ticked p may = tick_row (base_at now e.base) e.stage (at_ste
 -- the two ways in which an end is made
 pub connected_row : (now : ℕ) (call : ConnectCall) → IsProperCall call → IsProperRow (connected now call)
 connected_row now call c =
-    let steady : Steady (caller now call) = record { timers = c.timers; calling = c.calling; called = c.called; size = proposal_by call.options c.size } in
-    row (caller now call) _ _ _ steady c.octets (cr_fits (caller now call) call.octets steady c.octets)
+    let steady : Steady (caller now call) = record { timers = c.timers; calling = c.calling; called = c.called; size = proposal_by call.request.options c.size } in
+    row (caller now call) _ _ _ steady c.octets (cr_fits (caller now call) call.request.octets steady c.octets)
 
 pub called_row : (now own : ℕ) (from : List ℕ) (rules : Timers) (tpdu : Tpdu) (m : Moved) → IsTimed rules → IsAllowed Plain tpdu
     → on_cr now own from rules tpdu ≡ Some m → IsProperRow m

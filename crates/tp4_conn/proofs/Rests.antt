@@ -19,17 +19,17 @@ use Rattle.tp4_flow.specs.declared.step.Sent.{Sent}
 use Rattle.tp4_sending.specs.FlowSender.{FlowSender, Sendings, at, due_of, life_of, new_sends, normals_where, nothing, one_urgent, opened, then_sends}
 use Rattle.tp4_sending.specs.Pieces.{again, sooner}
 use Rattle.tp4_sending.specs.Settled.{IsDue}
-use Rattle.tp4_conn.specs.declared.base.Base.{Base}
+use Rattle.tp4_conn.specs.declared.end_record.EndRecord.{EndRecord}
 use Rattle.tp4_conn.specs.declared.call.UserCall.{UserCall}
 use Rattle.tp4_conn.specs.declared.call.UserCall.TheVariants.{Accept, Refuse, Normal, Urgent, Window, Disconnect}
 use Rattle.tp4_conn.specs.declared.halves.Halves.{Halves}
-use Rattle.tp4_conn.specs.declared.stage.Answering.{Answering}
-use Rattle.tp4_conn.specs.declared.stage.Open.{Open}
-use Rattle.tp4_conn.specs.declared.stage.Parting.{Parting}
-use Rattle.tp4_conn.specs.declared.stage.Releasing.{Releasing}
-use Rattle.tp4_conn.specs.declared.stage.Requesting.{Requesting}
-use Rattle.tp4_conn.specs.declared.stage.Stage.{Stage}
-use Rattle.tp4_conn.specs.declared.stage.Stage.TheVariants.{CrWait, WaitBeforeClose, UserWait, AkWait, Opened, Closing, Frozen}
+use Rattle.tp4_conn.specs.declared.states.InAkWait.{InAkWait}
+use Rattle.tp4_conn.specs.declared.states.InOpened.{InOpened}
+use Rattle.tp4_conn.specs.declared.states.InWaitBeforeClose.{InWaitBeforeClose}
+use Rattle.tp4_conn.specs.declared.states.InClosing.{InClosing}
+use Rattle.tp4_conn.specs.declared.states.InCrWait.{InCrWait}
+use Rattle.tp4_conn.specs.declared.states.StateData.{StateData}
+use Rattle.tp4_conn.specs.declared.states.StateData.TheVariants.{CrWait, WaitBeforeClose, UserWait, AkWait, Opened, Closing, Frozen}
 use Rattle.tp4_conn.specs.declared.timers.Timers.{Timers}
 use Rattle.tp4_conn.specs.Agreeing.{halves_of, is_within, options_in}
 use Rattle.tp4_conn.specs.AkWait.{ak_wait_tick, ak_wait_tpdu, opening}
@@ -65,7 +65,7 @@ span_some t timed =
     let some : 1 * t.t1 ≤ t.sendings * t.t1 = mul-le-mul_right t.t1 (omega (arith, timed.sendings_least)) in
     let least : 1 ≤ t.t1 = timed.t1_least in omega arith
 
-frozen_before : (b : Base) (when : ℕ) → IsBefore (frozen_due b when) b.clock
+frozen_before : (b : EndRecord) (when : ℕ) → IsBefore (frozen_due b when) b.clock
 frozen_before b when =
     if_kept (λ (d : Option ℕ). IsBefore d b.clock) (nat_lt (when + frozen_for b.timers) b.clock) _ _
     (λ _. tt)
@@ -75,19 +75,19 @@ before_late : (due : Option ℕ) (n now : ℕ) → n ≤ now → IsBefore due no
 before_late None n now bound h k = k
 before_late (Some tick) n now bound h k = absurd (omega (arith, bound, h, k))
 
-frozen_late : (n : ℕ) (b : Base) (when : ℕ) → n ≤ b.clock → IsDue (frozen_due b when) n → ⊥
+frozen_late : (n : ℕ) (b : EndRecord) (when : ℕ) → n ≤ b.clock → IsDue (frozen_due b when) n → ⊥
 frozen_late n b when bound = before_late (frozen_due b when) n b.clock bound (frozen_before b when)
 
-frozen_lasts : (n : ℕ) (b : Base) (events : List EndEvent) (tpdus : List Sent) → n ≤ b.clock → Lasts b.timers n (frozen b events tpdus)
+frozen_lasts : (n : ℕ) (b : EndRecord) (events : List EndEvent) (tpdus : List Sent) → n ≤ b.clock → Lasts b.timers n (frozen b events tpdus)
 frozen_lasts n b events tpdus bound = record { timers = refl; waiting = tt; late = frozen_late n b b.clock bound }
 
-closing_lasts : (n : ℕ) (b : Base) (events : List EndEvent) (reason : ℕ) (octets : List ℕ) (from : ℕ) → Passes b.timers n b.clock → n < from + span b.timers
+closing_lasts : (n : ℕ) (b : EndRecord) (events : List EndEvent) (reason : ℕ) (octets : List ℕ) (from : ℕ) → Passes b.timers n b.clock → n < from + span b.timers
     → Lasts b.timers n (closing b events reason octets from)
 closing_lasts n b events reason octets from p low =
     let least : 1 ≤ b.timers.t1 = p.timed.t1_least in
     record { timers = refl; waiting = tt; late = λ k. absurd (omega (arith, k, low, least, p.bound)) }
 
-closing_now : (n : ℕ) (b : Base) (events : List EndEvent) (reason : ℕ) (octets : List ℕ) → Passes b.timers n b.clock → Lasts b.timers n (closing b events reason octets b.clock)
+closing_now : (n : ℕ) (b : EndRecord) (events : List EndEvent) (reason : ℕ) (octets : List ℕ) → Passes b.timers n b.clock → Lasts b.timers n (closing b events reason octets b.clock)
 closing_now n b events reason octets p = closing_lasts n b events reason octets b.clock p (let some = span_some b.timers p.timed in omega (arith, some, p.bound))
 
 led : (t : Timers) (n : ℕ) (events : List EndEvent) (tpdus : List Sent) (m : Moved) → Lasts t n m → Lasts t n (led_by events tpdus m)
@@ -116,35 +116,35 @@ joined x y None n p k = absurd (omega (arith, p.took, p.acked, k))
 joined x y (Some z) n p k = let last : n < z = less n z p.half in absurd (omega (arith, p.took, p.acked, last, k))
 
 -- it goes on in Opened
-abbrev Waits : ℕ → Base → Open → Type 0
+abbrev Waits : ℕ → EndRecord → InOpened → Type 0
 Waits n b o = Parts (o.took + b.timers.inactive) (o.acked + b.timers.window) (due_of o.halves.sending) n
 
-record Runs (n : ℕ) (b : Base) (o : Open) : Type 0 where
+record Runs (n : ℕ) (b : EndRecord) (o : InOpened) : Type 0 where
   passes : Passes b.timers n b.clock
   is_open : o.halves.sending.is_open ≡ true
   t1 : 1 ≤ o.halves.sending.rules.t1
   waits : Waits n b o
 
-open_lasts : (n : ℕ) (b : Base) (o : Open) (events : List EndEvent) (tpdus : List Sent) → Waits n b o
+open_lasts : (n : ℕ) (b : EndRecord) (o : InOpened) (events : List EndEvent) (tpdus : List Sent) → Waits n b o
     → Lasts b.timers n (record { base = b; stage = Opened o; events = events; tpdus = tpdus })
 open_lasts n b o events tpdus w = record { timers = refl; waiting = tt; late = joined _ _ (due_of o.halves.sending) n w }
 
-sending_lasts : (n : ℕ) (b : Base) (o : Open) (x : Sendings) → Runs n b o → (IsDue (due_of x.sender) n → ⊥) → Lasts b.timers n (sending b o x)
+sending_lasts : (n : ℕ) (b : EndRecord) (o : InOpened) (x : Sendings) → Runs n b o → (IsDue (due_of x.sender) n → ⊥) → Lasts b.timers n (sending b o x)
 sending_lasts n b o x r half = open_lasts n b _ _ _ (record { took = r.waits.took; acked = r.waits.acked; half = half })
 
-acking_waits : (n : ℕ) (b : Base) (o : Open) → Runs n b o → n < b.clock + b.timers.window
+acking_waits : (n : ℕ) (b : EndRecord) (o : InOpened) → Runs n b o → n < b.clock + b.timers.window
 acking_waits n b o r = let least : 1 ≤ b.timers.window = r.passes.timed.window_least in omega (arith, r.passes.bound)
 
-dt_lasts : (got : Got) (n : ℕ) (b : Base) (o : Open) (x : Received) → Runs n b o → Lasts b.timers n (dt_as got b o x)
+dt_lasts : (got : Got) (n : ℕ) (b : EndRecord) (o : InOpened) (x : Received) → Runs n b o → Lasts b.timers n (dt_as got b o x)
 dt_lasts TooLarge n b o x r = led _ _ x.events x.tpdus _ (closing_now n b _ 133 [] r.passes)
 dt_lasts Kept n b o x r = open_lasts n b _ _ _ (record { took = r.waits.took; acked = acking_waits n b o r; half = r.waits.half })
 dt_lasts Old n b o x r = open_lasts n b _ _ _ (record { took = r.waits.took; acked = acking_waits n b o r; half = r.waits.half })
 dt_lasts Outside n b o x r = open_lasts n b _ _ _ (record { took = r.waits.took; acked = acking_waits n b o r; half = r.waits.half })
 
-calm_at : (n : ℕ) (b : Base) (o : Open) → Runs n b o → IsCalm n (at b.clock o.halves.sending)
+calm_at : (n : ℕ) (b : EndRecord) (o : InOpened) → Runs n b o → IsCalm n (at b.clock o.halves.sending)
 calm_at n b o r = calm n (at b.clock o.halves.sending) r.is_open r.t1 r.passes.bound r.waits.half
 
-opened_tpdu_lasts : (wrap : ℕ → ℕ → ℕ) (n : ℕ) (b : Base) (o : Open) (tpdu : Tpdu) → Runs n b o → Lasts b.timers n (opened_tpdu wrap b o tpdu)
+opened_tpdu_lasts : (wrap : ℕ → ℕ → ℕ) (n : ℕ) (b : EndRecord) (o : InOpened) (tpdu : Tpdu) → Runs n b o → Lasts b.timers n (opened_tpdu wrap b o tpdu)
 unfolding opened_tpdu
 opened_tpdu_lasts wrap n b o (Cc credit destination source width calling called size preferred extra version classes ack_time text) r =
     open_lasts n b _ _ _ (record { took = r.waits.took; acked = acking_waits n b o r; half = r.waits.half })
@@ -163,7 +163,7 @@ opened_tpdu_lasts wrap n b o other r = open_lasts n b o _ _ r.waits
 
 -- ---- a matching TPDU
 
-confirmed_lasts : (n : ℕ) (b : Base) (o : Options) (events : List EndEvent) (tpdus : List Sent) → Passes b.timers n b.clock
+confirmed_lasts : (n : ℕ) (b : EndRecord) (o : Options) (events : List EndEvent) (tpdus : List Sent) → Passes b.timers n b.clock
     → Lasts b.timers n (record {
       base = b;
       stage = Opened (record { took = b.clock; acked = b.clock; halves = record (halves_of b o) { sending = (opened (at b.clock (halves_of b o).sending)).sender } });
@@ -175,7 +175,7 @@ confirmed_lasts n b o events tpdus p =
     let some : 1 ≤ b.timers.inactive = p.timed.inactive_least in
     open_lasts n b _ _ _ (record { took = omega (arith, some, p.bound); acked = omega (arith, low, p.bound); half = opened_late n (at b.clock (halves_of b o).sending) p.timed.t1_least p.bound refl refl })
 
-cr_wait_lasts : (n : ℕ) (b : Base) (w : Requesting) (tpdu : Tpdu) → Passes b.timers n b.clock → (w.tries.last + b.timers.t1 ≤ n → ⊥) → Lasts b.timers n (cr_wait_tpdu b w tpdu)
+cr_wait_lasts : (n : ℕ) (b : EndRecord) (w : InCrWait) (tpdu : Tpdu) → Passes b.timers n b.clock → (w.tries.last + b.timers.t1 ≤ n → ⊥) → Lasts b.timers n (cr_wait_tpdu b w tpdu)
 unfolding cr_wait_tpdu
 cr_wait_lasts n b w (Cc credit destination source width calling called size preferred extra version classes ack_time text) p low =
     if_kept (Lasts b.timers n) (is_within b.proposed width size preferred extra) _ _
@@ -184,7 +184,7 @@ cr_wait_lasts n b w (Cc credit destination source width calling called size pref
 cr_wait_lasts n b w (Dr destination source reason info text) p low = frozen_lasts n b _ _ p.bound
 cr_wait_lasts n b w other p low = record { timers = refl; waiting = tt; late = low }
 
-wait_lasts : (n : ℕ) (b : Base) (w : Parting) (tpdu : Tpdu) → Passes b.timers n b.clock → (w.request.tries.last + b.timers.t1 ≤ n → ⊥) → Lasts b.timers n (wait_before_close_tpdu b w tpdu)
+wait_lasts : (n : ℕ) (b : EndRecord) (w : InWaitBeforeClose) (tpdu : Tpdu) → Passes b.timers n b.clock → (w.request.tries.last + b.timers.t1 ≤ n → ⊥) → Lasts b.timers n (wait_before_close_tpdu b w tpdu)
 unfolding wait_before_close_tpdu
 wait_lasts n b w (Cc credit destination source width calling called size preferred extra version classes ack_time text) p low =
     closing_now n (record b { partner = source }) [] 128 w.octets p
@@ -192,13 +192,13 @@ wait_lasts n b w (Dr destination source reason info text) p low = frozen_lasts n
 wait_lasts n b w other p low = record { timers = refl; waiting = tt; late = low }
 
 -- its time counts from the first CC, and is not over
-first_late : (n : ℕ) (b : Base) (w : Answering) → IsUnanswered b.timers w → (w.tries.last + b.timers.t1 ≤ n → ⊥) → n < w.first + span b.timers
+first_late : (n : ℕ) (b : EndRecord) (w : InAkWait) → IsUnanswered b.timers w → (w.tries.last + b.timers.t1 ≤ n → ⊥) → n < w.first + span b.timers
 first_late n b w u low =
     let all : w.tries.count * b.timers.t1 ≤ b.timers.sendings * b.timers.t1 = mul-le-mul_right b.timers.t1 u.few in
     let soon : n < w.tries.last + b.timers.t1 = less n (w.tries.last + b.timers.t1) low in
     omega (arith, u.runs, soon, all)
 
-opening_lasts : (wrap : ℕ → ℕ → ℕ) (n : ℕ) (b : Base) (h : Halves) (tpdu : Tpdu) → Passes b.timers n b.clock → 1 ≤ h.sending.rules.t1 → h.sending.window ≡ [] → h.sending.urgent.out ≡ None
+opening_lasts : (wrap : ℕ → ℕ → ℕ) (n : ℕ) (b : EndRecord) (h : Halves) (tpdu : Tpdu) → Passes b.timers n b.clock → 1 ≤ h.sending.rules.t1 → h.sending.window ≡ [] → h.sending.urgent.out ≡ None
     → Lasts b.timers n (opening wrap b h tpdu)
 opening_lasts wrap n b h tpdu p t1 window out =
     let x = opened (at b.clock h.sending) in
@@ -213,7 +213,7 @@ opening_lasts wrap n b h tpdu p t1 window out =
       waits = record { took = omega (arith, some, p.bound); acked = omega (arith, low, p.bound); half = opened_late n (at b.clock h.sending) t1 p.bound window out };
     }))
 
-ak_wait_lasts : (wrap : ℕ → ℕ → ℕ) (n : ℕ) (b : Base) (w : Answering) (tpdu : Tpdu) → Passes b.timers n b.clock → 1 ≤ w.halves.sending.rules.t1 → IsUnanswered b.timers w
+ak_wait_lasts : (wrap : ℕ → ℕ → ℕ) (n : ℕ) (b : EndRecord) (w : InAkWait) (tpdu : Tpdu) → Passes b.timers n b.clock → 1 ≤ w.halves.sending.rules.t1 → IsUnanswered b.timers w
     → (w.tries.last + b.timers.t1 ≤ n → ⊥) → Lasts b.timers n (ak_wait_tpdu wrap b w tpdu)
 unfolding ak_wait_tpdu
 ak_wait_lasts wrap n b w (Ak destination number credit subsequence confirmation) p h u low =
@@ -225,19 +225,19 @@ ak_wait_lasts wrap n b w (Dr destination source reason info text) p h u low = fr
 ak_wait_lasts wrap n b w (Er destination cause rejected) p h u low = closing_lasts n b _ 133 [] w.first p (first_late n b w u low)
 ak_wait_lasts wrap n b w other p h u low = record { timers = refl; waiting = u; late = low }
 
-closing_tpdu_lasts : (n : ℕ) (b : Base) (c : Releasing) (tpdu : Tpdu) → n ≤ b.clock → (IsDue (due b (Closing c)) n → ⊥) → Lasts b.timers n (closing_tpdu b c tpdu)
+closing_tpdu_lasts : (n : ℕ) (b : EndRecord) (c : InClosing) (tpdu : Tpdu) → n ≤ b.clock → (IsDue (due b (Closing c)) n → ⊥) → Lasts b.timers n (closing_tpdu b c tpdu)
 unfolding closing_tpdu
 closing_tpdu_lasts n b c (Dc destination source) bound low = frozen_lasts n b _ _ bound
 closing_tpdu_lasts n b c (Dr destination source cause info text) bound low = frozen_lasts n b _ _ bound
 closing_tpdu_lasts n b c other bound low = record { timers = refl; waiting = tt; late = low }
 
 -- T1 passes, and the sending half of an end that is Opened is open
-abbrev pub MaySend : Stage → Type 0
+abbrev pub MaySend : StateData → Type 0
 MaySend (AkWait w) = 1 ≤ w.halves.sending.rules.t1
 MaySend (Opened o) = (o.halves.sending.is_open ≡ true) × (1 ≤ o.halves.sending.rules.t1)
 MaySend stage = Unit {0}
 
-may_send : (b : Base) (stage : Stage) → IsSound b stage → MaySend stage
+may_send : (b : EndRecord) (stage : StateData) → IsSound b stage → MaySend stage
 may_send b (CrWait w) s = tt
 may_send b (WaitBeforeClose w) s = tt
 may_send b (UserWait since) s = tt
@@ -246,10 +246,10 @@ may_send b (Opened o) s = (s.3, s.2.t1)
 may_send b (Closing c) s = tt
 may_send b (Frozen when) s = tt
 
-running : (n : ℕ) (b : Base) (o : Open) → Passes b.timers n b.clock → MaySend (Opened o) → (IsDue (due b (Opened o)) n → ⊥) → Runs n b o
+running : (n : ℕ) (b : EndRecord) (o : InOpened) → Passes b.timers n b.clock → MaySend (Opened o) → (IsDue (due b (Opened o)) n → ⊥) → Runs n b o
 running n b o p sends low = record { passes = p; is_open = sends.0; t1 = sends.1; waits = parts _ _ (due_of o.halves.sending) n low }
 
-heard : (n : ℕ) (b : Base) (o : Open) → Runs n b o → Runs n b (hearing b o)
+heard : (n : ℕ) (b : EndRecord) (o : InOpened) → Runs n b o → Runs n b (hearing b o)
 heard n b o r = record {
   passes = r.passes;
   is_open = r.is_open;
@@ -257,7 +257,7 @@ heard n b o r = record {
   waits = record { took = omega (arith, r.passes.timed.inactive_least, r.passes.bound); acked = r.waits.acked; half = r.waits.half };
 }
 
-pub tpdu_lasts : (wrap : ℕ → ℕ → ℕ) (n : ℕ) (b : Base) (stage : Stage) (tpdu : Tpdu) → Passes b.timers n b.clock → MaySend stage → IsWaiting b.timers stage → (IsDue (due b stage) n → ⊥)
+pub tpdu_lasts : (wrap : ℕ → ℕ → ℕ) (n : ℕ) (b : EndRecord) (stage : StateData) (tpdu : Tpdu) → Passes b.timers n b.clock → MaySend stage → IsWaiting b.timers stage → (IsDue (due b stage) n → ⊥)
     → Lasts b.timers n (on_tpdu wrap b stage tpdu)
 tpdu_lasts wrap n b (CrWait w) tpdu p sends u low = cr_wait_lasts n b w tpdu p low
 tpdu_lasts wrap n b (WaitBeforeClose w) tpdu p sends u low = wait_lasts n b w tpdu p low
@@ -269,35 +269,35 @@ tpdu_lasts wrap n b (Frozen when) tpdu p sends u low = record { timers = refl; w
 
 -- ---- a call
 
-accepted_lasts : (n : ℕ) (b : Base) (asked : Options) (octets : List ℕ) → Passes b.timers n b.clock → Lasts b.timers n (user_wait_accept b asked octets)
+accepted_lasts : (n : ℕ) (b : EndRecord) (asked : Options) (octets : List ℕ) → Passes b.timers n b.clock → Lasts b.timers n (user_wait_accept b asked octets)
 unfolding user_wait_accept
 accepted_lasts n b asked octets p =
     let some : 1 ≤ b.timers.t1 = p.timed.t1_least in
     let two : 2 ≤ b.timers.sendings = p.timed.sendings_least in
     record { timers = refl; waiting = record { shut = refl; window = refl; urgent = refl; runs = omega arith; few = omega arith }; late = λ k. absurd (omega (arith, k, some, p.bound)) }
 
-accept_waits : (b : Base) (asked : Options) (octets : List ℕ) → IsTimed b.timers → IsWaiting b.timers (user_wait_accept b asked octets).stage
+accept_waits : (b : EndRecord) (asked : Options) (octets : List ℕ) → IsTimed b.timers → IsWaiting b.timers (user_wait_accept b asked octets).stage
 unfolding user_wait_accept
 accept_waits b asked octets timed =
     let two : 2 ≤ b.timers.sendings = timed.sendings_least in
     record { shut = refl; window = refl; urgent = refl; runs = omega arith; few = omega arith }
 
-refuse_waits : (b : Base) (octets : List ℕ) → IsWaiting b.timers (user_wait_refuse b octets).stage
+refuse_waits : (b : EndRecord) (octets : List ℕ) → IsWaiting b.timers (user_wait_refuse b octets).stage
 unfolding user_wait_refuse
 refuse_waits b octets = tt
 
-refused_lasts : (n : ℕ) (b : Base) (octets : List ℕ) → n ≤ b.clock → Lasts b.timers n (user_wait_refuse b octets)
+refused_lasts : (n : ℕ) (b : EndRecord) (octets : List ℕ) → n ≤ b.clock → Lasts b.timers n (user_wait_refuse b octets)
 unfolding user_wait_refuse
 refused_lasts n b octets bound = frozen_lasts n b _ _ bound
 
-granting_lasts : (n : ℕ) (b : Base) (o : Open) (new : Half) → Runs n b o → Lasts b.timers n (granting b o new)
+granting_lasts : (n : ℕ) (b : EndRecord) (o : InOpened) (new : Half) → Runs n b o → Lasts b.timers n (granting b o new)
 granting_lasts n b o new r =
     if_kept (Lasts b.timers n) (new.receiver.inbox.credit == o.halves.receiving.receiver.inbox.credit) _ _
     (λ _. open_lasts n b _ _ _ (record { took = r.waits.took; acked = r.waits.acked; half = r.waits.half }))
     (λ _. open_lasts n b _ _ _ (record { took = r.waits.took; acked = acking_waits n b o r; half = r.waits.half }))
 
 -- a half that is not open sends nothing
-shut_waits : (t : Timers) (w : Answering) (s : FlowSender) → s.is_open ≡ false → s.window ≡ [] → s.urgent.out ≡ None → IsUnanswered t w
+shut_waits : (t : Timers) (w : InAkWait) (s : FlowSender) → s.is_open ≡ false → s.window ≡ [] → s.urgent.out ≡ None → IsUnanswered t w
     → IsUnanswered t (record w { halves = record w.halves { sending = (new_sends s).sender } })
 shut_waits t w s shut window out u =
     let same : (new_sends s).sender ≡ s = ap (λ (b : Bool). (if b then then_sends (one_urgent s) normals_where else nothing s).sender) shut in
@@ -309,7 +309,7 @@ shut_waits t w s shut window out u =
       few = u.few;
     }
 
-pub call_lasts : (n : ℕ) (b : Base) (stage : Stage) (call : UserCall) → Passes b.timers n b.clock → MaySend stage → IsWaiting b.timers stage → (IsDue (due b stage) n → ⊥)
+pub call_lasts : (n : ℕ) (b : EndRecord) (stage : StateData) (call : UserCall) → Passes b.timers n b.clock → MaySend stage → IsWaiting b.timers stage → (IsDue (due b stage) n → ⊥)
     → Lasts b.timers n (on_call b stage call)
 call_lasts n b (CrWait w) (Disconnect octets) p sends u low = record { timers = refl; waiting = tt; late = low }
 call_lasts n b (CrWait w) other p sends u low = record { timers = refl; waiting = tt; late = low }
@@ -339,7 +339,7 @@ pub record Keeps (t : Timers) (m : Moved) : Type 0 where
   pub timers : m.base.timers ≡ t
   pub waiting : IsWaiting m.base.timers m.stage
 
-once_more : (b : Base) (w : Answering) → IsUnanswered b.timers w → b.clock ≤ w.tries.last + b.timers.t1 → w.tries.count < b.timers.sendings
+once_more : (b : EndRecord) (w : InAkWait) → IsUnanswered b.timers w → b.clock ≤ w.tries.last + b.timers.t1 → w.tries.count < b.timers.sendings
     → IsUnanswered b.timers (record w { tries = again b.clock w.tries })
 once_more b w u soon few = record {
   shut = u.shut;
@@ -349,11 +349,11 @@ once_more b w u soon few = record {
   few = omega (arith, few);
 }
 
-goes_keeps : (life : Ends) (b : Base) (o : Open) → Keeps b.timers (opened_as life b o)
+goes_keeps : (life : Ends) (b : EndRecord) (o : InOpened) → Keeps b.timers (opened_as life b o)
 goes_keeps Exhausted b o = record { timers = refl; waiting = tt }
 goes_keeps Goes b o = if_kept (Keeps b.timers) (nat_le (o.acked + b.timers.window) b.clock) _ _ (λ _. record { timers = refl; waiting = tt }) (λ _. record { timers = refl; waiting = tt })
 
-pub tick_keeps : (b : Base) (stage : Stage) → IsWaiting b.timers stage → IsInTime (due b stage) b.clock → Keeps b.timers (on_tick b stage)
+pub tick_keeps : (b : EndRecord) (stage : StateData) → IsWaiting b.timers stage → IsInTime (due b stage) b.clock → Keeps b.timers (on_tick b stage)
 unfolding cr_wait_tick wait_before_close_tick user_wait_tick ak_wait_tick opened_tick closing_tick
 tick_keeps b (CrWait w) u soon =
     if_kept (Keeps b.timers) (nat_lt b.clock (w.tries.last + b.timers.t1)) _ _
@@ -383,7 +383,7 @@ tick_keeps b (Frozen when) u soon = record { timers = refl; waiting = tt }
 
 -- ---- one end, by what holds of it between calls
 
-late_at : (n : ℕ) (b : Base) (stage : Stage) (now : ℕ) → n ≤ now → (IsDue (due b stage) n → ⊥) → IsDue (due (base_at now b) stage) n → ⊥
+late_at : (n : ℕ) (b : EndRecord) (stage : StateData) (now : ℕ) → n ≤ now → (IsDue (due b stage) n → ⊥) → IsDue (due (base_at now b) stage) n → ⊥
 late_at n b (Frozen when) now bound low = frozen_late n (base_at now b) when bound
 late_at n b (CrWait w) now bound low = low
 late_at n b (WaitBeforeClose w) now bound low = low
@@ -392,12 +392,12 @@ late_at n b (AkWait w) now bound low = low
 late_at n b (Opened o) now bound low = low
 late_at n b (Closing c) now bound low = low
 
-pub call_late : (n now : ℕ) (b : Base) (stage : Stage) (call : UserCall) → IsTimed b.timers → MaySend stage → IsWaiting b.timers stage → n ≤ now → (IsDue (due b stage) n → ⊥)
+pub call_late : (n now : ℕ) (b : EndRecord) (stage : StateData) (call : UserCall) → IsTimed b.timers → MaySend stage → IsWaiting b.timers stage → n ≤ now → (IsDue (due b stage) n → ⊥)
     → Lasts b.timers n (on_call (base_at now b) stage call)
 call_late n now b stage call timed sends waits bound low =
     call_lasts n (base_at now b) stage call (record { timed = timed; bound = bound }) sends waits (late_at n b stage now bound low)
 
-pub tpdu_late : (wrap : ℕ → ℕ → ℕ) (n now : ℕ) (b : Base) (stage : Stage) (tpdu : Tpdu) → IsTimed b.timers → MaySend stage → IsWaiting b.timers stage → n ≤ now → (IsDue (due b stage) n → ⊥)
+pub tpdu_late : (wrap : ℕ → ℕ → ℕ) (n now : ℕ) (b : EndRecord) (stage : StateData) (tpdu : Tpdu) → IsTimed b.timers → MaySend stage → IsWaiting b.timers stage → n ≤ now → (IsDue (due b stage) n → ⊥)
     → Lasts b.timers n (on_tpdu wrap (base_at now b) stage tpdu)
 tpdu_late wrap n now b stage tpdu timed sends waits bound low =
     tpdu_lasts wrap n (base_at now b) stage tpdu (record { timed = timed; bound = bound }) sends waits (late_at n b stage now bound low)
@@ -424,7 +424,7 @@ in_time_not (Some tick) n now low h k = absurd (omega (arith, low, h, k))
 
 -- ---- an end that sent a CC sent nothing else, whenever it is called
 
-opened_waits : (wrap : ℕ → ℕ → ℕ) (t : Timers) (b : Base) (o : Open) (tpdu : Tpdu) → IsWaiting t (opened_tpdu wrap b o tpdu).stage
+opened_waits : (wrap : ℕ → ℕ → ℕ) (t : Timers) (b : EndRecord) (o : InOpened) (tpdu : Tpdu) → IsWaiting t (opened_tpdu wrap b o tpdu).stage
 unfolding opened_tpdu
 opened_waits wrap t b o (Cc credit destination source width calling called size preferred extra version classes ack_time text) = tt
 opened_waits wrap t b o (Dr destination source reason info text) = tt
@@ -441,7 +441,7 @@ opened_waits wrap t b o (Ak destination number credit subsequence confirmation) 
 opened_waits wrap t b o (Ea destination number) = tt
 opened_waits wrap t b o other = tt
 
-tpdu_waits : (wrap : ℕ → ℕ → ℕ) (t : Timers) (b : Base) (stage : Stage) (tpdu : Tpdu) → IsWaiting t stage → IsWaiting t (on_tpdu wrap b stage tpdu).stage
+tpdu_waits : (wrap : ℕ → ℕ → ℕ) (t : Timers) (b : EndRecord) (stage : StateData) (tpdu : Tpdu) → IsWaiting t stage → IsWaiting t (on_tpdu wrap b stage tpdu).stage
 unfolding cr_wait_tpdu wait_before_close_tpdu ak_wait_tpdu closing_tpdu
 tpdu_waits wrap t b (CrWait w) (Cc credit destination source width calling called size preferred extra version classes ack_time text) u =
     if_kept (λ (m : Moved). IsWaiting t m.stage) (is_within b.proposed width size preferred extra) _ _ (λ _. tt) (λ _. tt)
@@ -464,7 +464,7 @@ tpdu_waits wrap t b (Closing c) (Dr destination source cause info text) u = tt
 tpdu_waits wrap t b (Closing c) other u = tt
 tpdu_waits wrap t b (Frozen when) tpdu u = tt
 
-call_waits : (b : Base) (stage : Stage) (call : UserCall) → IsTimed b.timers → IsWaiting b.timers stage → IsWaiting b.timers (on_call b stage call).stage
+call_waits : (b : EndRecord) (stage : StateData) (call : UserCall) → IsTimed b.timers → IsWaiting b.timers stage → IsWaiting b.timers (on_call b stage call).stage
 call_waits b (CrWait w) (Disconnect octets) timed u = tt
 call_waits b (CrWait w) other timed u = tt
 call_waits b (WaitBeforeClose w) call timed u = tt
@@ -485,64 +485,64 @@ call_waits b (Frozen when) call timed u = tt
 
 -- ---- by what a call says that it did
 
-call_here : (base new : Base) (stage was after : Stage) (now : ℕ) (call : UserCall) (before told : Told) → was ≡ stage → Does (on_call (base_at now base) was call) new after before told
+call_here : (base new : EndRecord) (stage was after : StateData) (now : ℕ) (call : UserCall) (before told : Told) → was ≡ stage → Does (on_call (base_at now base) was call) new after before told
     → Does (on_call (base_at now base) stage call) new after before told
-call_here base new stage was after now call before told same does = subst (λ (s : Stage). Does (on_call (base_at now base) s call) new after before told) same does
+call_here base new stage was after now call before told same does = subst (λ (s : StateData). Does (on_call (base_at now base) s call) new after before told) same does
 
-tpdu_here : (base new : Base) (stage was after : Stage) (now : ℕ) (tpdu : Tpdu) (before told : Told) → was ≡ stage → Does (on_tpdu wire (base_at now base) was tpdu) new after before told
+tpdu_here : (base new : EndRecord) (stage was after : StateData) (now : ℕ) (tpdu : Tpdu) (before told : Told) → was ≡ stage → Does (on_tpdu wire (base_at now base) was tpdu) new after before told
     → Does (on_tpdu wire (base_at now base) stage tpdu) new after before told
-tpdu_here base new stage was after now tpdu before told same does = subst (λ (s : Stage). Does (on_tpdu wire (base_at now base) s tpdu) new after before told) same does
+tpdu_here base new stage was after now tpdu before told same does = subst (λ (s : StateData). Does (on_tpdu wire (base_at now base) s tpdu) new after before told) same does
 
-did : (n : ℕ) (m : Moved) (base : Base) (stage : Stage) (was new : Told) → Does m base stage was new → (IsDue (due m.base m.stage) n → ⊥) → IsDue (due base stage) n → ⊥
+did : (n : ℕ) (m : Moved) (base : EndRecord) (stage : StateData) (was new : Told) → Does m base stage was new → (IsDue (due m.base m.stage) n → ⊥) → IsDue (due base stage) n → ⊥
 did n m base stage was new does h = subst (λ (e : End). IsDue (due e.base e.stage) n → ⊥) (λ i. record { base = sym does.base_is i; stage = sym does.stage_is i }) h
 
-called_late : (n : ℕ) (base new : Base) (stage was after : Stage) (now : ℕ) (call : UserCall) (before told : Told) → IsEnd base stage → IsWaiting base.timers stage → was ≡ stage
+called_late : (n : ℕ) (base new : EndRecord) (stage was after : StateData) (now : ℕ) (call : UserCall) (before told : Told) → IsEnd base stage → IsWaiting base.timers stage → was ≡ stage
     → Does (on_call (base_at now base) was call) new after before told → n ≤ now → (IsDue (due base stage) n → ⊥) → IsDue (due new after) n → ⊥
 called_late n base new stage was after now call before told is waits same does bound low =
     did n (on_call (base_at now base) stage call) new after before told (call_here base new stage was after now call before told same does)
     (call_late n now base stage call is.timers (may_send base stage is.sound) waits bound low).late
 
-took_late : (n : ℕ) (base new : Base) (stage was after : Stage) (now : ℕ) (tpdu : Tpdu) (before told : Told) → IsEnd base stage → IsWaiting base.timers stage → was ≡ stage
+took_late : (n : ℕ) (base new : EndRecord) (stage was after : StateData) (now : ℕ) (tpdu : Tpdu) (before told : Told) → IsEnd base stage → IsWaiting base.timers stage → was ≡ stage
     → Does (on_tpdu wire (base_at now base) was tpdu) new after before told → n ≤ now → (IsDue (due base stage) n → ⊥) → IsDue (due new after) n → ⊥
 took_late n base new stage was after now tpdu before told is waits same does bound low =
     did n (on_tpdu wire (base_at now base) stage tpdu) new after before told (tpdu_here base new stage was after now tpdu before told same does)
     (tpdu_late wire n now base stage tpdu is.timers (may_send base stage is.sound) waits bound low).late
 
-pub called_later : (base new : Base) (stage was after : Stage) (now : ℕ) (call : UserCall) (before told : Told) → IsEnd base stage → IsWaiting base.timers stage → was ≡ stage
+pub called_later : (base new : EndRecord) (stage was after : StateData) (now : ℕ) (call : UserCall) (before told : Told) → IsEnd base stage → IsWaiting base.timers stage → was ≡ stage
     → Does (on_call (base_at now base) was call) new after before told → IsBefore (due base stage) now → IsBefore (due new after) now
 called_later base new stage was after now call before told is waits same does low =
     before_of (due new after) now (called_late now base new stage was after now call before told is waits same does (omega arith) (before_not (due base stage) now low))
 
-pub called_from : (base new : Base) (stage was after : Stage) (now : ℕ) (call : UserCall) (before told : Told) → IsEnd base stage → IsWaiting base.timers stage → was ≡ stage
+pub called_from : (base new : EndRecord) (stage was after : StateData) (now : ℕ) (call : UserCall) (before told : Told) → IsEnd base stage → IsWaiting base.timers stage → was ≡ stage
     → Does (on_call (base_at now base) was call) new after before told → IsInTime (due base stage) now → IsInTime (due new after) now
 called_from base new stage was after now call before told is waits same does soon =
     in_time_of (due new after) now (λ n low. called_late n base new stage was after now call before told is waits same does (omega (arith, low)) (in_time_not (due base stage) n now low soon))
 
-pub called_waits : (base new : Base) (stage was after : Stage) (now : ℕ) (call : UserCall) (before told : Told) → IsEnd base stage → IsWaiting base.timers stage → was ≡ stage
+pub called_waits : (base new : EndRecord) (stage was after : StateData) (now : ℕ) (call : UserCall) (before told : Told) → IsEnd base stage → IsWaiting base.timers stage → was ≡ stage
     → Does (on_call (base_at now base) was call) new after before told → new.timers ≡ base.timers → IsWaiting new.timers after
 called_waits base new stage was after now call before told is waits same does kept =
     let here = call_here base new stage was after now call before told same does in
     subst (λ (t : Timers). IsWaiting t after) (sym kept)
-    (subst (λ (s : Stage). IsWaiting base.timers s) (sym here.stage_is) (call_waits (base_at now base) stage call is.timers waits))
+    (subst (λ (s : StateData). IsWaiting base.timers s) (sym here.stage_is) (call_waits (base_at now base) stage call is.timers waits))
 
-pub took_later : (base new : Base) (stage was after : Stage) (now : ℕ) (tpdu : Tpdu) (before told : Told) → IsEnd base stage → IsWaiting base.timers stage → was ≡ stage
+pub took_later : (base new : EndRecord) (stage was after : StateData) (now : ℕ) (tpdu : Tpdu) (before told : Told) → IsEnd base stage → IsWaiting base.timers stage → was ≡ stage
     → Does (on_tpdu wire (base_at now base) was tpdu) new after before told → IsBefore (due base stage) now → IsBefore (due new after) now
 took_later base new stage was after now tpdu before told is waits same does low =
     before_of (due new after) now (took_late now base new stage was after now tpdu before told is waits same does (omega arith) (before_not (due base stage) now low))
 
-pub took_from : (base new : Base) (stage was after : Stage) (now : ℕ) (tpdu : Tpdu) (before told : Told) → IsEnd base stage → IsWaiting base.timers stage → was ≡ stage
+pub took_from : (base new : EndRecord) (stage was after : StateData) (now : ℕ) (tpdu : Tpdu) (before told : Told) → IsEnd base stage → IsWaiting base.timers stage → was ≡ stage
     → Does (on_tpdu wire (base_at now base) was tpdu) new after before told → IsInTime (due base stage) now → IsInTime (due new after) now
 took_from base new stage was after now tpdu before told is waits same does soon =
     in_time_of (due new after) now (λ n low. took_late n base new stage was after now tpdu before told is waits same does (omega (arith, low)) (in_time_not (due base stage) n now low soon))
 
-pub took_waits : (base new : Base) (stage was after : Stage) (now : ℕ) (tpdu : Tpdu) (before told : Told) → IsWaiting base.timers stage → was ≡ stage
+pub took_waits : (base new : EndRecord) (stage was after : StateData) (now : ℕ) (tpdu : Tpdu) (before told : Told) → IsWaiting base.timers stage → was ≡ stage
     → Does (on_tpdu wire (base_at now base) was tpdu) new after before told → new.timers ≡ base.timers → IsWaiting new.timers after
 took_waits base new stage was after now tpdu before told waits same does kept =
     let here = tpdu_here base new stage was after now tpdu before told same does in
     subst (λ (t : Timers). IsWaiting t after) (sym kept)
-    (subst (λ (s : Stage). IsWaiting base.timers s) (sym here.stage_is) (tpdu_waits wire base.timers (base_at now base) stage tpdu waits))
+    (subst (λ (s : StateData). IsWaiting base.timers s) (sym here.stage_is) (tpdu_waits wire base.timers (base_at now base) stage tpdu waits))
 
-pub in_time_at : (b : Base) (stage : Stage) (now : ℕ) → IsInTime (due b stage) now → IsInTime (due (base_at now b) stage) now
+pub in_time_at : (b : EndRecord) (stage : StateData) (now : ℕ) → IsInTime (due b stage) now → IsInTime (due (base_at now b) stage) now
 in_time_at b (Frozen when) now soon = by (due (base_at now b) (Frozen when)) (frozen_before (base_at now b) when)
   where
     by : (d : Option ℕ) → IsBefore d now → IsInTime d now
@@ -555,10 +555,10 @@ in_time_at b (AkWait w) now soon = soon
 in_time_at b (Opened o) now soon = soon
 in_time_at b (Closing c) now soon = soon
 
-pub ticked_waits : (base : Base) (stage was after : Stage) (now : ℕ) (before told : Told) → IsWaiting base.timers stage → IsInTime (due base stage) now → was ≡ stage
+pub ticked_waits : (base : EndRecord) (stage was after : StateData) (now : ℕ) (before told : Told) → IsWaiting base.timers stage → IsInTime (due base stage) now → was ≡ stage
     → Does (on_tick (base_at now base) was) (base_at now base) after before told → IsWaiting base.timers after
 ticked_waits base stage was after now before told waits soon same does =
-    let here : Does (on_tick (base_at now base) stage) (base_at now base) after before told = subst (λ (s : Stage). Does (on_tick (base_at now base) s) (base_at now base) after before told) same does in
+    let here : Does (on_tick (base_at now base) stage) (base_at now base) after before told = subst (λ (s : StateData). Does (on_tick (base_at now base) s) (base_at now base) after before told) same does in
     let kept = tick_keeps (base_at now base) stage waits (in_time_at base stage now soon) in
     subst (λ (t : Timers). IsWaiting t after) kept.timers
-    (subst (λ (s : Stage). IsWaiting (on_tick (base_at now base) stage).base.timers s) (sym here.stage_is) kept.waiting)
+    (subst (λ (s : StateData). IsWaiting (on_tick (base_at now base) stage).base.timers s) (sym here.stage_is) kept.waiting)

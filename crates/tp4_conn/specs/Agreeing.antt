@@ -8,7 +8,7 @@ use Rattle.tp4_flow.specs.declared.rules.FlowRules.{FlowRules}
 use Rattle.tp4_flow.specs.declared.rules.Options.{Options}
 use Rattle.tp4_flow.specs.declared.step.Sent.{Sent}
 use Rattle.tp4_sending.specs.FlowSender.{fresh}
-use Rattle.tp4_conn.specs.declared.base.Base.{Base}
+use Rattle.tp4_conn.specs.declared.end_record.EndRecord.{EndRecord}
 use Rattle.tp4_conn.specs.declared.proposed.Proposed.{Proposed}
 use Rattle.tp4_conn.specs.declared.halves.Halves.{Halves}
 use Rattle.tp4_conn.specs.End.{send, in_use}
@@ -100,7 +100,7 @@ abbrev pub header_of : Options → ℕ
 header_of o = (if is_extended o.format then 8 else 5) + (if o.sum then 4 else 0)
 
 -- the terms of its halves. A piece has the size without the header of a DT
-abbrev pub flow_rules : Base → Options → FlowRules
+abbrev pub flow_rules : EndRecord → Options → FlowRules
 flow_rules b o = record {
   own = b.own;
   partner = b.partner;
@@ -114,19 +114,19 @@ flow_rules b o = record {
 }
 
 -- the halves of an end that agrees
-abbrev pub halves_of : Base → Options → Halves
+abbrev pub halves_of : EndRecord → Options → Halves
 halves_of b o = record { sending = fresh (flow_rules b o) b.credit; receiving = empty (flow_rules b o) b.timers.credit }
 
 -- the CR of a calling end
-abbrev pub request : Base → List ℕ → Sent
+abbrev pub request : EndRecord → List ℕ → Sent
 request b octets =
     send b (Cr b.timers.credit b.own b.proposed.options.format b.calling b.called (Some b.proposed.listed) (number_of b.proposed.options) (extra_of b.proposed.options) None None None octets)
 
 -- the CC of an end that agreed on this
-abbrev pub confirm : Base → Options → List ℕ → Sent
+abbrev pub confirm : EndRecord → Options → List ℕ → Sent
 confirm b o octets =
     send b (Cc b.timers.credit b.partner b.own o.format b.calling b.called (confirmed_size o) (number_of o) (extra_of o) None None None octets)
 
-abbrev pub confirms_again : Base → Option Options → List ℕ → List Sent
+abbrev pub confirms_again : EndRecord → Option Options → List ℕ → List Sent
 confirms_again b None octets = []
 confirms_again b (Some o) octets = confirm b o octets ∷ []

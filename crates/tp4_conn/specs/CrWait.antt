@@ -8,15 +8,15 @@ use Rattle.tp4_flow.specs.declared.step.GoneCause.TheVariants.{Reason, Protocol,
 use Rattle.tp4_flow.specs.declared.step.What.TheVariants.{Confirm}
 use Rattle.tp4_sending.specs.FlowSender.{at, opened}
 use Rattle.tp4_sending.specs.Pieces.{again}
-use Rattle.tp4_conn.specs.declared.base.Base.{Base}
+use Rattle.tp4_conn.specs.declared.end_record.EndRecord.{EndRecord}
 use Rattle.tp4_conn.specs.declared.halves.Halves.{Halves}
-use Rattle.tp4_conn.specs.declared.stage.Requesting.{Requesting}
-use Rattle.tp4_conn.specs.declared.stage.Stage.TheVariants.{CrWait, WaitBeforeClose, Opened}
+use Rattle.tp4_conn.specs.declared.states.InCrWait.{InCrWait}
+use Rattle.tp4_conn.specs.declared.states.StateData.TheVariants.{CrWait, WaitBeforeClose, Opened}
 use Rattle.tp4_conn.specs.Agreeing.{options_in, is_within, halves_of, request}
 use Rattle.tp4_conn.specs.End.{Moved, stays, tell, gone, confirms, closing, frozen}
 
 -- confirm; AK; Opened
-abbrev pub confirmed_with : Base → Options → List ℕ → Halves → Moved
+abbrev pub confirmed_with : EndRecord → Options → List ℕ → Halves → Moved
 confirmed_with b o octets h = let s = opened (at b.clock h.sending) in record {
   base = b;
   stage = Opened (record { took = b.clock; acked = b.clock; halves = record h { sending = s.sender } });
@@ -24,10 +24,10 @@ confirmed_with b o octets h = let s = opened (at b.clock h.sending) in record {
   tpdus = s.tpdus ++ ak h.receiving ∷ [];
 }
 
-abbrev pub confirmed : Base → Options → List ℕ → Moved
+abbrev pub confirmed : EndRecord → Options → List ℕ → Moved
 confirmed b o octets = confirmed_with b o octets (halves_of b o)
 
-unfoldable pub cr_wait_tpdu : Base → Requesting → Tpdu → Moved
+unfoldable pub cr_wait_tpdu : EndRecord → InCrWait → Tpdu → Moved
 -- CC: partner reference set; where it is within what was proposed, confirm, AK, Opened; else gone protocol, DR 133, Closing
 cr_wait_tpdu b w (Cc credit destination source width calling called size preferred extra version classes ack_time text) =
     if is_within b.proposed width size preferred extra
@@ -38,7 +38,7 @@ cr_wait_tpdu b w (Dr destination source reason info text) = frozen b (gone b (Re
 cr_wait_tpdu b w other = stays b (CrWait w)
 
 -- T1 since the last sending: CR again; after N sendings gone exhausted, Frozen
-unfoldable pub cr_wait_tick : Base → Requesting → Moved
+unfoldable pub cr_wait_tick : EndRecord → InCrWait → Moved
 cr_wait_tick b w =
     if nat_lt b.clock (w.tries.last + b.timers.t1) then stays b (CrWait w)
     else if nat_lt w.tries.count b.timers.sendings
@@ -46,5 +46,5 @@ cr_wait_tick b w =
     else frozen b (gone b Exhausted []) []
 
 -- disconnect: WaitBeforeClose
-abbrev pub cr_wait_disconnect : Base → Requesting → List ℕ → Moved
+abbrev pub cr_wait_disconnect : EndRecord → InCrWait → List ℕ → Moved
 cr_wait_disconnect b w octets = stays b (WaitBeforeClose (record { request = w; octets = octets }))

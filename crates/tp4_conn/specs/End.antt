@@ -13,20 +13,20 @@ use Rattle.tp4_flow.specs.declared.step.GoneCause.{GoneCause}
 use Rattle.tp4_flow.specs.declared.step.Sent.{Sent}
 use Rattle.tp4_flow.specs.declared.step.What.{What}
 use Rattle.tp4_flow.specs.declared.step.What.TheVariants.{Gone}
-use Rattle.tp4_conn.specs.declared.base.Base.{Base}
+use Rattle.tp4_conn.specs.declared.end_record.EndRecord.{EndRecord}
 use Rattle.tp4_conn.specs.declared.proposed.Proposed.{Proposed}
-use Rattle.tp4_conn.specs.declared.stage.Stage.{Stage}
-use Rattle.tp4_conn.specs.declared.stage.Stage.TheVariants.{Closing, Frozen}
+use Rattle.tp4_conn.specs.declared.states.StateData.{StateData}
+use Rattle.tp4_conn.specs.declared.states.StateData.TheVariants.{Closing, Frozen}
 use Rattle.tp4_conn.specs.declared.timers.Timers.{Timers}
 
 pub record End : Type 0 where
-  pub base : Base  -- what it has in every state. Its clock is the tick of the latest call that was not refused
-  pub stage : Stage  -- its state, with what it has there alone
+  pub base : EndRecord  -- what it has in every state. Its clock is the tick of the latest call that was not refused
+  pub stage : StateData  -- its state, with what it has there alone
 
 -- what a row does: the end after it, the events and the TPDUs, each in order
 pub record Moved : Type 0 where
-  pub base : Base
-  pub stage : Stage
+  pub base : EndRecord
+  pub stage : StateData
   pub events : List EndEvent
   pub tpdus : List Sent
 
@@ -35,7 +35,7 @@ abbrev pub end_of : Moved → End
 end_of m = record { base = m.base; stage = m.stage }
 
 -- nothing happens
-abbrev pub stays : Base → Stage → Moved
+abbrev pub stays : EndRecord → StateData → Moved
 stays b stage = record { base = b; stage = stage; events = []; tpdus = [] }
 
 -- these events and TPDUs came first
@@ -64,27 +64,27 @@ agreed_sum None = true
 agreed_sum (Some options) = options.sum
 
 -- an event of this end
-abbrev pub tell : Base → What → EndEvent
+abbrev pub tell : EndRecord → What → EndEvent
 tell b what = record { reference = b.own; what = what }
 
 -- a TPDU to its partner
-abbrev pub send : Base → Tpdu → Sent
+abbrev pub send : EndRecord → Tpdu → Sent
 send b tpdu = record { to = b.to; tpdu = tpdu; format = agreed_format b.agreed; sum = agreed_sum b.agreed }
 
 -- a DC, where the source of the DR is not 0
-abbrev pub confirms : Base → ℕ → List Sent
+abbrev pub confirms : EndRecord → ℕ → List Sent
 confirms b source = if source == 0 then [] else send b (Dc source b.own) ∷ []
 
 -- gone with a cause and octets
-abbrev pub gone : Base → GoneCause → List ℕ → List EndEvent
+abbrev pub gone : EndRecord → GoneCause → List ℕ → List EndEvent
 gone b cause octets = tell b (Gone cause octets) ∷ []
 
 -- the DR of an end that parts
-abbrev pub release : Base → ℕ → List ℕ → Sent
+abbrev pub release : EndRecord → ℕ → List ℕ → Sent
 release b reason octets = send b (Dr b.partner b.own reason None octets)
 
 -- .. ; DR; Closing, whose time counts from that tick
-abbrev pub closing : Base → List EndEvent → ℕ → List ℕ → ℕ → Moved
+abbrev pub closing : EndRecord → List EndEvent → ℕ → List ℕ → ℕ → Moved
 closing b events reason octets from = record {
   base = b;
   stage = Closing (record { reason = reason; octets = octets; from = from; last = b.clock });
@@ -93,17 +93,17 @@ closing b events reason octets from = record {
 }
 
 -- .. ; Frozen
-abbrev pub frozen : Base → List EndEvent → List Sent → Moved
+abbrev pub frozen : EndRecord → List EndEvent → List Sent → Moved
 frozen b events tpdus = record { base = b; stage = Frozen b.clock; events = events; tpdus = tpdus }
 
 -- an end did what the row says
-pub record Does (m : Moved) (base : Base) (stage : Stage) (was new : Told) : Type 0 where
+pub record Does (m : Moved) (base : EndRecord) (stage : StateData) (was new : Told) : Type 0 where
   pub base_is : base ≡ m.base
   pub stage_is : stage ≡ m.stage
   pub told : Grows was m.events m.tpdus new
 
 -- what an end keeps for good
-pub record IsSame (old new : Base) : Type 0 where
+pub record IsSame (old new : EndRecord) : Type 0 where
   pub own : new.own ≡ old.own
   pub to : new.to ≡ old.to
   pub is_called : new.is_called ≡ old.is_called

@@ -1,8 +1,8 @@
 -- An end through a list of events, in which no tick is left out at which it is due (X.224, class 4 state tables).
 use Rattle.std.specs.Prelude.{◌≡◌, ◌≤◌, ℕ, true, ◌&&◌, not, List, [], ◌∷◌, ◌++◌, Option, Some, None, if◌then◌else◌}
 use Rattle.tp4_flow.specs.declared.step.Sent.{Sent}
-use Rattle.tp4_conn.specs.declared.stage.Stage.{Stage}
-use Rattle.tp4_conn.specs.declared.stage.Stage.TheVariants.{Frozen}
+use Rattle.tp4_conn.specs.declared.states.StateData.{StateData}
+use Rattle.tp4_conn.specs.declared.states.StateData.TheVariants.{Frozen}
 use Rattle.tp4_conn.specs.End.{End, end_of}
 use Rattle.tp4_conn.specs.Matching.{fits, wants_sum}
 use Rattle.tp4_conn.specs.Table.{Event, Called, Took, Ticked, stepped, due}
@@ -54,7 +54,7 @@ sent_by wrap life [] = []
 sent_by wrap life (x ∷ xs) = (stepped wrap x.0 life.end x.1).tpdus ++ sent_by wrap (after wrap life x.0 x.1) xs
 
 -- it is frozen, and was so by that tick; or it is due by that tick
-abbrev pub IsOver : Stage → Option ℕ → ℕ → Type 0
+abbrev pub IsOver : StateData → Option ℕ → ℕ → Type 0
 IsOver (Frozen when) next last = when ≤ last
 IsOver stage None last = ⊥
 IsOver stage (Some tick) last = tick ≤ last

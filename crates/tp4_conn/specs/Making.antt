@@ -5,22 +5,22 @@ use Rattle.tpdu.specs.declared.tpdu.Tpdu.TheVariants.{Cr}
 use Rattle.tp4_conn.specs.declared.proposed.Proposed.{Proposed}
 use Rattle.tp4_flow.specs.declared.step.What.TheVariants.{Incoming}
 use Rattle.tp4_sending.specs.Pieces.{once}
-use Rattle.tp4_conn.specs.declared.base.Base.{Base}
+use Rattle.tp4_conn.specs.declared.end_record.EndRecord.{EndRecord}
 use Rattle.tp4_conn.specs.declared.call.ConnectCall.{ConnectCall}
-use Rattle.tp4_conn.specs.declared.stage.Stage.TheVariants.{CrWait, UserWait}
+use Rattle.tp4_conn.specs.declared.states.StateData.TheVariants.{CrWait, UserWait}
 use Rattle.tp4_conn.specs.declared.timers.Timers.{Timers}
 use Rattle.tp4_conn.specs.Agreeing.{proposed_by, proposed_in, request}
 use Rattle.tp4_conn.specs.End.{Moved, tell}
 
 -- connect: CR, its first sending
-abbrev pub caller : ℕ → ConnectCall → Base
+abbrev pub caller : ℕ → ConnectCall → EndRecord
 caller now call = record {
   own = call.own;
-  to = call.to;
+  to = call.request.to;
   is_called = false;
-  calling = call.from_selector;
-  called = call.to_selector;
-  proposed = proposed_by call.options;
+  calling = call.request.from_selector;
+  called = call.request.to_selector;
+  proposed = proposed_by call.request.options;
   timers = call.rules;
   partner = 0;
   credit = 0;
@@ -31,13 +31,13 @@ caller now call = record {
 abbrev pub connected : ℕ → ConnectCall → Moved
 connected now call = record {
   base = caller now call;
-  stage = CrWait (record { octets = call.octets; tries = once now });
+  stage = CrWait (record { octets = call.request.octets; tries = once now });
   events = [];
-  tpdus = request (caller now call) call.octets ∷ [];
+  tpdus = request (caller now call) call.request.octets ∷ [];
 }
 
 -- a CR came: the indication
-abbrev pub indicated : Base → List ℕ → Moved
+abbrev pub indicated : EndRecord → List ℕ → Moved
 indicated b text = record {
   base = b;
   stage = UserWait b.clock;
@@ -45,7 +45,7 @@ indicated b text = record {
   tpdus = [];
 }
 
-abbrev pub called_end : ℕ → ℕ → List ℕ → Timers → ℕ → ℕ → List ℕ → List ℕ → Proposed → Base
+abbrev pub called_end : ℕ → ℕ → List ℕ → Timers → ℕ → ℕ → List ℕ → List ℕ → Proposed → EndRecord
 called_end now own from rules credit source calling called proposed = record {
   own = own;
   to = from;

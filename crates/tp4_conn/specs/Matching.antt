@@ -4,12 +4,12 @@ use Rattle.std.specs.Cmp.Lexicographic.{pointwise}
 use Rattle.tpdu.specs.declared.tpdu.Tpdu.{Tpdu}
 use Rattle.tpdu.specs.declared.tpdu.Tpdu.TheVariants.{Cc, Dr, Dc}
 use Rattle.tp4_flow.specs.declared.rules.Options.{Options}
-use Rattle.tp4_conn.specs.declared.base.Base.{Base}
-use Rattle.tp4_conn.specs.declared.stage.Stage.{Stage}
-use Rattle.tp4_conn.specs.declared.stage.Stage.TheVariants.{CrWait, WaitBeforeClose, UserWait, AkWait, Opened, Closing, Frozen}
+use Rattle.tp4_conn.specs.declared.end_record.EndRecord.{EndRecord}
+use Rattle.tp4_conn.specs.declared.states.StateData.{StateData}
+use Rattle.tp4_conn.specs.declared.states.StateData.TheVariants.{CrWait, WaitBeforeClose, UserWait, AkWait, Opened, Closing, Frozen}
 
 -- the source of a CC, DR or DC is the partner's reference
-abbrev pub is_source : Base → Tpdu → Bool
+abbrev pub is_source : EndRecord → Tpdu → Bool
 is_source b (Cc credit destination source width calling called size preferred extra version classes ack_time text) = source == b.partner
 is_source b (Dc destination source) = source == b.partner
 is_source b (Dr destination source reason info text) = source == b.partner
@@ -27,7 +27,7 @@ is_answer (Dr destination source reason info text) = true
 is_answer other = false
 
 -- the state takes the TPDU
-abbrev pub fits : Base → Stage → Tpdu → Bool
+abbrev pub fits : EndRecord → StateData → Tpdu → Bool
 fits b (CrWait w) tpdu = is_answer tpdu
 fits b (WaitBeforeClose w) tpdu = is_answer tpdu
 fits b (UserWait since) tpdu = false
@@ -37,11 +37,11 @@ fits b (Closing c) tpdu = is_source b tpdu
 fits b (Frozen when) tpdu = false
 
 -- a TPDU that is no CR, with the end's reference as destination, matches it from this address
-abbrev pub is_match : Base → Stage → List ℕ → Tpdu → Bool
+abbrev pub is_match : EndRecord → StateData → List ℕ → Tpdu → Bool
 is_match b stage from tpdu = pointwise nat_eq b.to from && fits b stage tpdu
 
 -- a called end of this calling address and reference
-abbrev pub is_called_by : Base → List ℕ → ℕ → Bool
+abbrev pub is_called_by : EndRecord → List ℕ → ℕ → Bool
 is_called_by b from reference = b.is_called && (pointwise nat_eq b.to from && b.partner == reference)
 
 -- a checksum is agreed
@@ -55,7 +55,7 @@ is_summed_confirm (Cc credit destination source width calling called size prefer
 is_summed_confirm other = false
 
 -- the TPDU has to have a checksum
-abbrev pub wants_sum : Base → Stage → Tpdu → Bool
+abbrev pub wants_sum : EndRecord → StateData → Tpdu → Bool
 wants_sum b (CrWait w) tpdu = is_summed_confirm tpdu
 wants_sum b (WaitBeforeClose w) tpdu = is_summed_confirm tpdu
 wants_sum b stage tpdu = sum_agreed b.agreed

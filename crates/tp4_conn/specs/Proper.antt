@@ -5,11 +5,11 @@ use Rattle.tpdu.specs.Writing.{IsPlain, IsAllowed, IsCredit}
 use Rattle.tp4_flow.specs.declared.rules.Options.{Options}
 use Rattle.tp4_flow.specs.declared.step.Sent.{Sent}
 use Rattle.tp4_sending.specs.Settled.{IsSettled}
-use Rattle.tp4_conn.specs.declared.base.Base.{Base}
+use Rattle.tp4_conn.specs.declared.end_record.EndRecord.{EndRecord}
 use Rattle.tp4_conn.specs.declared.call.ConnectCall.{ConnectCall}
 use Rattle.tp4_conn.specs.declared.halves.Halves.{Halves}
-use Rattle.tp4_conn.specs.declared.stage.Stage.{Stage}
-use Rattle.tp4_conn.specs.declared.stage.Stage.TheVariants.{CrWait, WaitBeforeClose, UserWait, AkWait, Opened, Closing, Frozen}
+use Rattle.tp4_conn.specs.declared.states.StateData.{StateData}
+use Rattle.tp4_conn.specs.declared.states.StateData.TheVariants.{CrWait, WaitBeforeClose, UserWait, AkWait, Opened, Closing, Frozen}
 use Rattle.tp4_conn.specs.Calls.{IsCall, call_refusal}
 use Rattle.tp4_conn.specs.End.{End, Moved, IsProposal, IsSized, IsTimed, agreed_format}
 use Rattle.tp4_conn.specs.Living.{Life, after}
@@ -46,7 +46,7 @@ HasSize None = Unit {0}
 HasSize (Some o) = IsSized o
 
 -- the octets that a state keeps are those of a CR, a CC or a DR
-abbrev pub IsProperStage : Option Options → Stage → Type 0
+abbrev pub IsProperStage : Option Options → StateData → Type 0
 IsProperStage agreed (CrWait w) = length w.octets ≤ 32
 IsProperStage agreed (WaitBeforeClose w) = (length w.request.octets ≤ 32) × (length w.octets ≤ 64)
 IsProperStage agreed (UserWait since) = Unit {0}
@@ -55,7 +55,7 @@ IsProperStage agreed (Opened o) = AreOpen agreed o.halves
 IsProperStage agreed (Closing c) = length c.octets ≤ 64
 IsProperStage agreed (Frozen when) = Unit {0}
 
-pub record IsProper (b : Base) (stage : Stage) : Type 0 where
+pub record IsProper (b : EndRecord) (stage : StateData) : Type 0 where
   pub timers : IsTimed b.timers
   pub calling : length b.calling ≤ 32
   pub called : length b.called ≤ 32
@@ -65,10 +65,10 @@ pub record IsProper (b : Base) (stage : Stage) : Type 0 where
 -- a connect call whose CR has octets
 pub record IsProperCall (call : ConnectCall) : Type 0 where
   pub timers : IsTimed call.rules
-  pub size : IsSized call.options
-  pub calling : length call.from_selector ≤ 32
-  pub called : length call.to_selector ≤ 32
-  pub octets : length call.octets ≤ 32
+  pub size : IsSized call.request.options
+  pub calling : length call.request.from_selector ≤ 32
+  pub called : length call.request.to_selector ≤ 32
+  pub octets : length call.request.octets ≤ 32
 
 -- a call that is not refused, a TPDU of the agreed format, or a tick
 abbrev pub IsProperEvent : End → Event → Type 0

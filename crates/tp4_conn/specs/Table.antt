@@ -7,11 +7,11 @@ use Rattle.tp4_flow.specs.declared.step.Sent.{Sent}
 use Rattle.tp4_flow.specs.declared.step.What.TheVariants.{BadTpdu}
 use Rattle.tp4_sending.specs.FlowSender.{due_of}
 use Rattle.tp4_sending.specs.Pieces.{sooner}
-use Rattle.tp4_conn.specs.declared.base.Base.{Base}
+use Rattle.tp4_conn.specs.declared.end_record.EndRecord.{EndRecord}
 use Rattle.tp4_conn.specs.declared.call.UserCall.{UserCall}
 use Rattle.tp4_conn.specs.declared.call.UserCall.TheVariants.{Accept, Refuse, Normal, Urgent, Window, Disconnect}
-use Rattle.tp4_conn.specs.declared.stage.Stage.{Stage}
-use Rattle.tp4_conn.specs.declared.stage.Stage.TheVariants.{CrWait, WaitBeforeClose, UserWait, AkWait, Opened, Closing, Frozen}
+use Rattle.tp4_conn.specs.declared.states.StateData.{StateData}
+use Rattle.tp4_conn.specs.declared.states.StateData.TheVariants.{CrWait, WaitBeforeClose, UserWait, AkWait, Opened, Closing, Frozen}
 use Rattle.tp4_conn.specs.AkWait.{ak_wait_tpdu, ak_wait_tick, ak_wait_normal, ak_wait_urgent, ak_wait_disconnect}
 use Rattle.tp4_conn.specs.Closing.{closing_tpdu, closing_tick}
 use Rattle.tp4_conn.specs.CrWait.{cr_wait_tpdu, cr_wait_tick, cr_wait_disconnect}
@@ -23,11 +23,11 @@ use Rattle.tp4_conn.specs.UserWait.{user_wait_accept, user_wait_refuse, user_wai
 use Rattle.tp4_conn.specs.WaitBeforeClose.{wait_before_close_tpdu, wait_before_close_tick}
 
 -- it is now this tick
-abbrev pub at : ℕ → Base → Base
+abbrev pub at : ℕ → EndRecord → EndRecord
 at now b = record b { clock = now }
 
 -- A matching TPDU. `wrap` is what a receiving half keeps of a number, by its block: the number itself, or its wire number
-abbrev pub on_tpdu : (ℕ → ℕ → ℕ) → Base → Stage → Tpdu → Moved
+abbrev pub on_tpdu : (ℕ → ℕ → ℕ) → EndRecord → StateData → Tpdu → Moved
 on_tpdu wrap b (CrWait w) tpdu = cr_wait_tpdu b w tpdu
 on_tpdu wrap b (WaitBeforeClose w) tpdu = wait_before_close_tpdu b w tpdu
 on_tpdu wrap b (UserWait since) tpdu = stays b (UserWait since)
@@ -37,7 +37,7 @@ on_tpdu wrap b (Closing c) tpdu = closing_tpdu b c tpdu
 on_tpdu wrap b (Frozen when) tpdu = stays b (Frozen when)
 
 -- a tick of the clock
-abbrev pub on_tick : Base → Stage → Moved
+abbrev pub on_tick : EndRecord → StateData → Moved
 on_tick b (CrWait w) = cr_wait_tick b w
 on_tick b (WaitBeforeClose w) = wait_before_close_tick b w
 on_tick b (UserWait since) = user_wait_tick b since
@@ -47,7 +47,7 @@ on_tick b (Closing c) = closing_tick b c
 on_tick b (Frozen when) = frozen_tick b when
 
 -- a call of the user that is not refused
-abbrev pub on_call : Base → Stage → UserCall → Moved
+abbrev pub on_call : EndRecord → StateData → UserCall → Moved
 on_call b (CrWait w) (Disconnect octets) = cr_wait_disconnect b w octets
 on_call b (UserWait since) (Accept asked octets) = user_wait_accept b asked octets
 on_call b (UserWait since) (Refuse octets) = user_wait_refuse b octets
@@ -61,7 +61,7 @@ on_call b (Opened o) (Disconnect octets) = opened_disconnect b octets
 on_call b stage call = stays b stage
 
 -- the least tick at which a tick changes more than the clock, or sends
-abbrev pub due : Base → Stage → Option ℕ
+abbrev pub due : EndRecord → StateData → Option ℕ
 due b (CrWait w) = Some (w.tries.last + b.timers.t1)
 due b (WaitBeforeClose w) = Some (w.request.tries.last + b.timers.t1)
 due b (UserWait since) = Some (since + b.timers.inactive)
@@ -71,11 +71,11 @@ due b (Closing c) = sooner (Some (c.from + span b.timers)) (Some (c.last + b.tim
 due b (Frozen when) = frozen_due b when
 
 -- a TPDU that lacks an agreed checksum is told, and not taken
-abbrev pub untaken : Base → Stage → Moved
+abbrev pub untaken : EndRecord → StateData → Moved
 untaken b stage = record { base = b; stage = stage; events = record { reference = 0; what = BadTpdu Checksum 0 } ∷ []; tpdus = [] }
 
 -- a matching TPDU, with a checksum or without
-abbrev pub takes : (ℕ → ℕ → ℕ) → ℕ → Base → Stage → Tpdu → Bool → Moved
+abbrev pub takes : (ℕ → ℕ → ℕ) → ℕ → EndRecord → StateData → Tpdu → Bool → Moved
 takes wrap now b stage tpdu sum = if wants_sum b stage tpdu && not sum then untaken b stage else on_tpdu wrap (at now b) stage tpdu
 
 -- what happens to an end

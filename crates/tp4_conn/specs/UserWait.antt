@@ -6,17 +6,17 @@ use Rattle.tp4_flow.specs.declared.step.GoneCause.TheVariants.{AnswerTime}
 use Rattle.tp4_flow.specs.declared.step.Sent.{Sent}
 use Rattle.tp4_flow.specs.declared.step.What.TheVariants.{Accept}
 use Rattle.tp4_sending.specs.Pieces.{once}
-use Rattle.tp4_conn.specs.declared.base.Base.{Base}
-use Rattle.tp4_conn.specs.declared.stage.Stage.TheVariants.{UserWait, AkWait}
+use Rattle.tp4_conn.specs.declared.end_record.EndRecord.{EndRecord}
+use Rattle.tp4_conn.specs.declared.states.StateData.TheVariants.{UserWait, AkWait}
 use Rattle.tp4_conn.specs.Agreeing.{agreed_by, halves_of, confirm}
 use Rattle.tp4_conn.specs.End.{Moved, stays, tell, send, gone, frozen}
 
 -- DR 128 with source 0
-abbrev pub refusing : Base → List ℕ → Sent
+abbrev pub refusing : EndRecord → List ℕ → Sent
 refusing b octets = send b (Dr b.partner 0 128 None octets)
 
 -- accept: CC; AkWait
-abbrev pub accepted : Base → Options → List ℕ → Moved
+abbrev pub accepted : EndRecord → Options → List ℕ → Moved
 accepted b o octets = record {
   base = b;
   stage = AkWait (record { octets = octets; first = b.clock; tries = once b.clock; halves = halves_of b o });
@@ -24,15 +24,15 @@ accepted b o octets = record {
   tpdus = confirm b o octets ∷ [];
 }
 
-unfoldable pub user_wait_accept : Base → Options → List ℕ → Moved
+unfoldable pub user_wait_accept : EndRecord → Options → List ℕ → Moved
 user_wait_accept b asked octets = accepted (record b { agreed = Some (agreed_by b.proposed asked) }) (agreed_by b.proposed asked) octets
 
 -- refuse: DR 128 with source 0; Frozen
-unfoldable pub user_wait_refuse : Base → List ℕ → Moved
+unfoldable pub user_wait_refuse : EndRecord → List ℕ → Moved
 user_wait_refuse b octets = frozen b [] (refusing b octets ∷ [])
 
 -- I ticks since the indication: gone answertime; DR 128 with source 0; Frozen
-unfoldable pub user_wait_tick : Base → ℕ → Moved
+unfoldable pub user_wait_tick : EndRecord → ℕ → Moved
 user_wait_tick b since =
     if nat_lt b.clock (since + b.timers.inactive) then stays b (UserWait since)
     else frozen b (gone b AnswerTime []) (refusing b [] ∷ [])

@@ -1,14 +1,14 @@
 -- An end as the code keeps it: the two numbers that its receiving half expects, as they stand on the wire.
 use Rattle.tp4_flow.specs.Half.{on_wire}
 use Rattle.tp4_conn.specs.declared.halves.Halves.{Halves}
-use Rattle.tp4_conn.specs.declared.stage.Stage.{Stage}
-use Rattle.tp4_conn.specs.declared.stage.Stage.TheVariants.{AkWait, Opened}
+use Rattle.tp4_conn.specs.declared.states.StateData.{StateData}
+use Rattle.tp4_conn.specs.declared.states.StateData.TheVariants.{AkWait, Opened}
 use Rattle.tp4_conn.specs.End.{End}
 
 abbrev pub halves_on_wire : Halves → Halves
 halves_on_wire h = record h { receiving = on_wire h.receiving }
 
-abbrev pub stage_on_wire : Stage → Stage
+abbrev pub stage_on_wire : StateData → StateData
 stage_on_wire (AkWait w) = AkWait (record w { halves = halves_on_wire w.halves })
 stage_on_wire (Opened o) = Opened (record o { halves = halves_on_wire o.halves })
 stage_on_wire stage = stage

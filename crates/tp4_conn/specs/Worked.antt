@@ -15,10 +15,10 @@ use Rattle.tp4_flow.specs.declared.step.What.{What}
 use Rattle.tp4_flow.specs.declared.step.What.TheVariants as tells
 use Rattle.tp4_conn.specs.declared.call.ConnectCall.{ConnectCall}
 use Rattle.tp4_conn.specs.declared.call.UserCall.TheVariants.{Accept, Normal, Urgent, Window, Disconnect}
-use Rattle.tp4_conn.specs.declared.stage.Stage.{Stage}
-use Rattle.tp4_conn.specs.declared.stage.Stage.TheVariants.{Opened}
-use Rattle.tp4_conn.specs.declared.stage.State.{State}
-use Rattle.tp4_conn.specs.declared.stage.State.TheVariants as states
+use Rattle.tp4_conn.specs.declared.states.StateData.{StateData}
+use Rattle.tp4_conn.specs.declared.states.StateData.TheVariants.{Opened}
+use Rattle.tp4_conn.specs.declared.states.State.{State}
+use Rattle.tp4_conn.specs.declared.states.State.TheVariants as states
 use Rattle.tp4_conn.specs.declared.timers.Timers.{Timers}
 use Rattle.tp4_conn.specs.Calls.{state_of}
 use Rattle.tp4_conn.specs.End.{End, Moved, end_of}
@@ -62,11 +62,7 @@ abbrev pub call : Options → ConnectCall
 call options = record {
   own = 1;
   from = 0x49 ∷ 0x0A ∷ 1 ∷ [];
-  from_selector = 0xAA ∷ [];
-  to = 0x49 ∷ 0x0B ∷ 1 ∷ [];
-  to_selector = 0xBB ∷ [];
-  options = options;
-  octets = [];
+  request = record { from_selector = 0xAA ∷ []; to = 0x49 ∷ 0x0B ∷ 1 ∷ []; to_selector = 0xBB ∷ []; options = options; octets = [] };
   rules = timers;
 }
 
@@ -110,7 +106,7 @@ er = Took (tpdus.Er 1 0 None) true
 abbrev pub unit : Event
 unit = Called (Normal (1 ∷ []))
 
-abbrev pub numbers_of : Stage → Option Sender
+abbrev pub numbers_of : StateData → Option Sender
 numbers_of (Opened o) = Some o.halves.sending.numbers
 numbers_of stage = None
 

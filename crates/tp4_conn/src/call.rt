@@ -40,11 +40,7 @@ pub enum CallRefusal {
 
 /// What a user asks for who wants a connection.
 #[derive(Drop, Debug)]
-pub struct ConnectCall {
-    /// The reference of the new end.
-    pub own: u16,
-    /// The address of the user's own system.
-    pub from: Nsap,
+pub struct ConnectRequest {
     /// The calling selector, of 1 to 32 octets.
     pub from_selector: Bytes,
     /// The address of the partner.
@@ -55,5 +51,16 @@ pub struct ConnectCall {
     pub options: Options,
     /// The octets of the CR, 32 at most.
     pub octets: Bytes,
+}
+
+/// What an end that calls is made by.
+#[derive(Drop, Debug)]
+pub struct ConnectCall {
+    /// The reference of the new end.
+    pub own: u16,
+    /// The address of the user's own system.
+    pub from: Nsap,
+    /// What the user asks for.
+    pub request: ConnectRequest,
     pub rules: Timers,
 }

@@ -2,12 +2,12 @@
 
 ghost use Rattle.std.specs.Prelude.{◌≡◌, IfOk};
 ghost use Rattle.tpdu.specs.Values.{tpdu_of};
-ghost use Rattle.tp4_conn.specs.declared.stage.Stage.TheVariants.{Closing};
+ghost use Rattle.tp4_conn.specs.declared.states.StateData.TheVariants.{Closing};
 ghost use Rattle.tp4_conn.specs.Closing.{closing_tpdu, closing_tick};
 ghost use Rattle.tp4_conn.specs.End.{Does};
 ghost use Rattle.tp4_conn.specs.steps.Kept.{IsEnd, IsSound};
 
-use crate::{Base, Releasing, Stage};
+use crate::{EndRecord, InClosing, StateData};
 use osi_base::NoMemory;
 use std::alloc::Global;
 use tp4_flow::Step;
@@ -16,20 +16,25 @@ use tpdu::TpduRef;
 
 /// A TPDU came.
 #[tactic(auto, unfolding(crate::specs::Closing::closing_tpdu))]
-pub(crate) fn on_tpdu(base: &Base, close: Releasing, tpdu: &TpduRef<'_>, out: &Step) -> Stage
+pub(crate) fn on_tpdu(
+    base: &EndRecord,
+    close: InClosing,
+    tpdu: &TpduRef<'_>,
+    out: &Step,
+) -> StateData
     requires end { IsEnd base.now (Closing close) }
     ensures step { Does (closing_tpdu base.now close (tpdu_of tpdu.now)) base.now result out.now out.now }
     ensures sound { IsSound base.now result }
 {
     match *tpdu {
-        TpduRef::Dc { .. } | TpduRef::Dr { .. } => Stage::Frozen { at: base.clock },
+        TpduRef::Dc { .. } | TpduRef::Dr { .. } => StateData::Frozen { at: base.clock },
         TpduRef::Cr { .. }
         | TpduRef::Cc { .. }
         | TpduRef::Dt { .. }
         | TpduRef::Ed { .. }
         | TpduRef::Ak { .. }
         | TpduRef::Ea { .. }
-        | TpduRef::Er { .. } => Stage::Closing(close),
+        | TpduRef::Er { .. } => StateData::Closing(close),
     }
 }
 
@@ -37,21 +42,21 @@ pub(crate) fn on_tpdu(base: &Base, close: Releasing, tpdu: &TpduRef<'_>, out: &S
 #[tactic(auto, unfolding(crate::specs::Closing::closing_tick))]
 pub(crate) fn on_tick(
     alloc: Global,
-    base: &Base,
-    mut close: Releasing,
+    base: &EndRecord,
+    mut close: InClosing,
     out: &mut Step,
-) -> Result<Stage, NoMemory>
+) -> Result<StateData, NoMemory>
     requires end { IsEnd base.now (Closing close) }
     ensures step { IfOk result (λ stage. Does (closing_tick base.now close) base.now stage out.old out.new) }
     ensures sound { IfOk result (λ stage. IsSound base.now stage) }
 {
     let span = base.timers.span();
     if is_past(close.from, span, base.clock) {
-        return Ok(Stage::Frozen { at: base.clock });
+        return Ok(StateData::Frozen { at: base.clock });
     }
     if is_past(close.last, base.timers.t1, base.clock) {
         base.send_release(alloc, close.reason, close.octets.as_slice(), out)?;
         close.last = base.clock;
     }
-    Ok(Stage::Closing(close))
+    Ok(StateData::Closing(close))
 }

@@ -17,11 +17,13 @@ ghost use Rattle.tp4_conn.specs.Living.{IsInTime};
 ghost use Rattle.tp4_conn.specs.Matching.{is_called_by, is_match};
 ghost use Rattle.tp4_conn.specs.Table.{Called, Took, Ticked, at, stepped, due};
 
-use crate::base::{Base, copied};
+use crate::end_record::{EndRecord, copied};
 use crate::matching::{fits, has_sum, wants_sum};
 use crate::proposed::{proposed_by, proposed_in};
 use crate::refusal::refusal;
-use crate::{CallRefusal, ConnectCall, Requesting, Stage, State, Steps, Timers, UserCall, rows};
+use crate::{
+    CallRefusal, ConnectCall, InCrWait, State, StateData, Steps, Timers, UserCall, state_table,
+};
 use nsap::Nsap;
 use osi_base::{NoMemory, Tick};
 use std::alloc::Global;
@@ -36,8 +38,8 @@ use tpdu::{Format, TpduCause, TpduRef};
 #[derive(Drop)]
 pub struct Connection {
     alloc: Global,
-    base: Base,
-    stage: Stage,
+    base: EndRecord,
+    stage: StateData,
 }
 
 // The timers are in their ranges, and no tick is ahead of the clock; where a CC was sent and not answered, its sendings are at most T1 apart.
@@ -63,26 +65,27 @@ impl Connection {
     ) -> Result<Connection, NoMemory>
         requires now { now ≤ 4000000000 }
         requires timers { IsTimed call.rules }
-        requires size { IsSized call.options }
+        requires size { IsSized call.request.options }
         ensures later { IfOk result (λ made. IsBefore (due made.base made.stage) now) }
         ensures step { IfOk result (λ made. Does (connected now call) made.base made.stage out.old out.new) }
     {
-        let base = Base {
+        let request = call.request;
+        let base = EndRecord {
             own: call.own,
-            to: call.to,
+            to: request.to,
             is_called: false,
-            calling: call.from_selector,
-            called: call.to_selector,
-            proposed: proposed_by(call.options),
+            calling: request.from_selector,
+            called: request.to_selector,
+            proposed: proposed_by(request.options),
             timers: call.rules,
             partner: 0,
             credit: 0,
             agreed: None,
             clock: now,
         };
-        base.send_request(alloc, call.octets.as_slice(), out)?;
-        let stage = Stage::CrWait(Requesting {
-            octets: call.octets,
+        base.send_request(alloc, request.octets.as_slice(), out)?;
+        let stage = StateData::CrWait(InCrWait {
+            octets: request.octets,
             tries: Tries::once(now),
         });
         Ok(Connection { alloc, base, stage })
@@ -119,9 +122,9 @@ impl Connection {
             ..
         } = *cr
         else {
-            return Err(NoMemory);
+            unreachable!();
         };
-        let base = Base {
+        let base = EndRecord {
             own,
             to: from,
             is_called: true,
@@ -135,7 +138,7 @@ impl Connection {
             clock: now,
         };
         base.indicate(alloc, octets, out)?;
-        let stage = Stage::UserWait { since: now };
+        let stage = StateData::UserWait { since: now };
         Ok(Connection { alloc, base, stage })
     }
 
@@ -178,22 +181,22 @@ impl Connection {
         steps.add();
         let timers = self.base.timers;
         match &self.stage {
-            Stage::CrWait(wait) => Some(wait.tries.last + timers.t1),
-            Stage::WaitBeforeClose(wait) => Some(wait.request.tries.last + timers.t1),
-            Stage::UserWait { since } => Some(*since + timers.inactive),
-            Stage::AkWait(wait) => Some(wait.tries.last + timers.t1),
-            Stage::Opened(flow) => sooner(
+            StateData::CrWait(wait) => Some(wait.tries.last + timers.t1),
+            StateData::WaitBeforeClose(wait) => Some(wait.request.tries.last + timers.t1),
+            StateData::UserWait { since } => Some(*since + timers.inactive),
+            StateData::AkWait(wait) => Some(wait.tries.last + timers.t1),
+            StateData::Opened(flow) => sooner(
                 sooner(
                     Some(flow.took + timers.inactive),
                     Some(flow.acked + timers.window),
                 ),
                 flow.halves.get().sending.next_due(),
             ),
-            Stage::Closing(close) => sooner(
+            StateData::Closing(close) => sooner(
                 Some(close.from + timers.span()),
                 Some(close.last + timers.t1),
             ),
-            Stage::Frozen { at } => {
+            StateData::Frozen { at } => {
                 let last = *at + timers.frozen();
                 if last < self.base.clock {
                     None
@@ -207,6 +210,7 @@ impl Connection {
     /// A call of the user.
     ///
     /// A refused call changes nothing, but where memory ran out: the end is then Frozen.
+    #[tactic(auto, using(crate::proofs::Takings::refused_later))]
     pub fn user(&mut self, now: Tick, call: UserCall, out: &mut Step) -> Result<(), CallRefusal>
         requires clock { self.old.base.clock ≤ now }
         requires now { now ≤ 4000000000 }
@@ -216,7 +220,7 @@ impl Connection {
         ensures step { OnOk result (Does (stepped wire now self.old (Called call)) self.new.base self.new.stage out.old out.new) }
         ensures refused { (why : CallRefusal) → call_refusal self.old.base self.old.stage call ≡ Some why → result ≡ Err why }
         ensures why { IfErr result (λ why. why ≢ OutOfMemory → call_refusal self.old.base self.old.stage call ≡ Some why) }
-        ensures same { IfErr result (λ why. why ≢ OutOfMemory → (self.new ≡ self.old) × (out.new ≡ out.old)) }
+        ensures err { IfErr result (λ why. why ≢ OutOfMemory → (self.new ≡ self.old) × (out.new ≡ out.old)) }
         ensures from { OnOk result (IsInTime (due self.new.base self.new.stage) now) }
         ensures later { OnOk result (IsBefore (due self.old.base self.old.stage) now → IsBefore (due self.new.base self.new.stage) now) }
         ensures kept { IsSame self.old.base self.new.base }
@@ -226,8 +230,8 @@ impl Connection {
             return Err(why);
         }
         self.base.clock = now;
-        let stage = mem::replace(&mut self.stage, Stage::Frozen { at: now });
-        match rows::ask(self.alloc, &mut self.base, stage, call, out) {
+        let stage = mem::replace(&mut self.stage, StateData::Frozen { at: now });
+        match state_table::on_call(self.alloc, &mut self.base, stage, call, out) {
             Ok(stage) => {
                 self.stage = stage;
                 Ok(())
@@ -257,8 +261,8 @@ impl Connection {
             });
         }
         self.base.clock = now;
-        let stage = mem::replace(&mut self.stage, Stage::Frozen { at: now });
-        self.stage = rows::take(self.alloc, &mut self.base, stage, tpdu, out)?;
+        let stage = mem::replace(&mut self.stage, StateData::Frozen { at: now });
+        self.stage = state_table::on_tpdu(self.alloc, &mut self.base, stage, tpdu, out)?;
         Ok(())
     }
 
@@ -280,8 +284,8 @@ impl Connection {
     {
         steps.add();
         self.base.clock = now;
-        let stage = mem::replace(&mut self.stage, Stage::Frozen { at: now });
-        self.stage = rows::pass(self.alloc, &self.base, stage, out)?;
+        let stage = mem::replace(&mut self.stage, StateData::Frozen { at: now });
+        self.stage = state_table::on_tick(self.alloc, &self.base, stage, out)?;
         Ok(())
     }
 }

@@ -3,14 +3,14 @@
 ghost use Rattle.std.specs.Prelude.{◌≡◌, ◌≤◌, IfOk, Some};
 ghost use Rattle.tpdu.specs.Values.{tpdu_of};
 ghost use Rattle.tpdu.specs.Writing.{IsAllowed};
-ghost use Rattle.tp4_conn.specs.declared.stage.Stage.TheVariants.{CrWait};
+ghost use Rattle.tp4_conn.specs.declared.states.StateData.TheVariants.{CrWait};
 ghost use Rattle.tp4_conn.specs.CrWait.{cr_wait_tpdu, cr_wait_tick, confirmed};
 ghost use Rattle.tp4_conn.specs.End.{Does, IsSized, IsTimed, agreed_format};
 ghost use Rattle.tp4_conn.specs.steps.Kept.{IsEnd, IsKept, IsSound};
 
-use crate::base::{Base, PROTOCOL_ERROR, copied};
+use crate::end_record::{EndRecord, PROTOCOL_ERROR, copied};
 use crate::proposed::{is_within, options_in};
-use crate::{Open, Options, Requesting, Stage};
+use crate::{InCrWait, InOpened, Options, StateData};
 use osi_base::NoMemory;
 use std::alloc::Global;
 use tp4_flow::{GoneCause, Step, What};
@@ -20,11 +20,11 @@ use tpdu::TpduRef;
 #[tactic(auto, using(crate::proofs::Sizes::read_sized), unfolding(crate::specs::CrWait::cr_wait_tpdu))]
 pub(crate) fn on_tpdu(
     alloc: Global,
-    base: &mut Base,
-    wait: Requesting,
+    base: &mut EndRecord,
+    wait: InCrWait,
     tpdu: &TpduRef<'_>,
     out: &mut Step,
-) -> Result<Stage, NoMemory>
+) -> Result<StateData, NoMemory>
     requires end { IsEnd base.old (CrWait wait) }
     requires allowed { IsAllowed (agreed_format base.old.agreed) (tpdu_of tpdu.now) }
     ensures step { IfOk result (λ stage. Does (cr_wait_tpdu base.old wait (tpdu_of tpdu.now)) base.new stage out.old out.new) }
@@ -63,18 +63,18 @@ pub(crate) fn on_tpdu(
         | TpduRef::Ed { .. }
         | TpduRef::Ak { .. }
         | TpduRef::Ea { .. }
-        | TpduRef::Er { .. } => Ok(Stage::CrWait(wait)),
+        | TpduRef::Er { .. } => Ok(StateData::CrWait(wait)),
     }
 }
 
 /// Confirm; AK; Opened.
 fn open(
     alloc: Global,
-    base: &Base,
+    base: &EndRecord,
     options: Options,
     octets: &[u8],
     out: &mut Step,
-) -> Result<Stage, NoMemory>
+) -> Result<StateData, NoMemory>
     requires timers { IsTimed base.now.timers }
     requires size { IsSized options }
     requires credit { base.now.credit ≤ 15 }
@@ -88,7 +88,7 @@ fn open(
     base.tell(What::Confirm { options, octets }, out)?;
     halves.get_mut().sending.open(base.clock, out)?;
     halves.get().receiving.acknowledge(out)?;
-    Ok(Stage::Opened(Open {
+    Ok(StateData::Opened(InOpened {
         took: base.clock,
         acked: base.clock,
         halves,
@@ -99,22 +99,22 @@ fn open(
 #[tactic(auto, unfolding(crate::specs::CrWait::cr_wait_tick))]
 pub(crate) fn on_tick(
     alloc: Global,
-    base: &Base,
-    mut wait: Requesting,
+    base: &EndRecord,
+    mut wait: InCrWait,
     out: &mut Step,
-) -> Result<Stage, NoMemory>
+) -> Result<StateData, NoMemory>
     requires end { IsEnd base.now (CrWait wait) }
     ensures step { IfOk result (λ stage. Does (cr_wait_tick base.now wait) base.now stage out.old out.new) }
     ensures sound { IfOk result (λ stage. IsSound base.now stage) }
 {
     if !wait.tries.is_due(base.timers.t1, base.clock) {
-        return Ok(Stage::CrWait(wait));
+        return Ok(StateData::CrWait(wait));
     }
     if wait.tries.count < base.timers.sendings {
         base.send_request(alloc, wait.octets.as_slice(), out)?;
         wait.tries = wait.tries.again(base.clock);
-        return Ok(Stage::CrWait(wait));
+        return Ok(StateData::CrWait(wait));
     }
     base.gone(alloc, GoneCause::Exhausted, out)?;
-    Ok(Stage::Frozen { at: base.clock })
+    Ok(StateData::Frozen { at: base.clock })
 }

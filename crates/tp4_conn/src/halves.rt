@@ -1,14 +1,14 @@
 //! The two halves of the flow of an end that has agreed (X.224, class 4: flow control, expedited data).
 
-ghost use Rattle.std.specs.Prelude.{◌≡◌, ◌≤◌, IfOk, OnOk};
+ghost use Rattle.std.specs.Prelude.{◌≡◌, ◌≤◌, IfOk, None, OnOk, length};
 ghost use Rattle.std.specs.Borrow.{Lends, sem};
 ghost use Rattle.tp4_conn.specs.contracts.halves.BoxedHalves.{the_row};
 ghost use Rattle.tp4_conn.specs.contracts.halves.Halves.{the_row as halves_row};
-ghost use Rattle.tp4_sending.specs.FlowSender.{Keeps, Sends, at, submitted, urged};
+ghost use Rattle.tp4_sending.specs.FlowSender.{Keeps, Sends, at, refusal, submitted, urged, urgent_refusal};
 ghost use Rattle.tp4_conn.specs.Agreeing.{flow_rules, halves_of};
 ghost use Rattle.tp4_conn.specs.End.{IsTimed, IsSized};
 
-use crate::{Base, Options};
+use crate::{EndRecord, Options};
 use osi_base::{Bytes, NoMemory, Tick};
 use std::alloc::Global;
 use std::marker::Model;
@@ -62,7 +62,7 @@ impl BoxedHalves {
     }
 }
 
-impl Base {
+impl EndRecord {
     /// The halves of an end that has agreed.
     #[tactic(auto, using(crate::proofs::Credits::granted_low, crate::proofs::Sizes::sized_least, crate::proofs::Sizes::sized_most))]
     pub(crate) fn halves(&self, alloc: Global, options: Options) -> Result<BoxedHalves, NoMemory>
@@ -105,31 +105,32 @@ impl Base {
 }
 
 impl Halves {
-    /// A normal unit of the user is queued, and goes where it may. It was asked that it is not refused.
+    /// A normal unit of the user, which is not refused, is queued, and goes where it may.
     pub(crate) fn submit(&mut self, now: Tick, unit: Bytes, out: &mut Step) -> Result<(), NoMemory>
         requires clock { self.old.sending.clock ≤ now }
         requires low { now ≤ 4000000000 }
+        requires taken { refusal self.old.sending (length unit) ≡ None }
         ensures step { OnOk result (Sends (submitted (at now self.old.sending) unit) self.new.sending out.old out.new) }
         ensures kept { OnOk result (Keeps self.old.sending self.new.sending now) }
         ensures receiving { self.new.receiving ≡ self.old.receiving }
     {
-        let Ok(()) = self.sending.submit(now, unit.into_vec(), out) else {
-            return Err(NoMemory);
-        };
-        Ok(())
+        self.sending.submit(now, unit, out)
     }
 
-    /// An expedited unit of the user is queued, and goes where it may. It was asked that it is not refused.
-    pub(crate) fn urge(&mut self, now: Tick, unit: Bytes, out: &mut Step) -> Result<(), NoMemory>
+    /// An expedited unit of the user, which is not refused, is queued, and goes where it may.
+    pub(crate) fn expedite(
+        &mut self,
+        now: Tick,
+        unit: Bytes,
+        out: &mut Step,
+    ) -> Result<(), NoMemory>
         requires clock { self.old.sending.clock ≤ now }
         requires low { now ≤ 4000000000 }
+        requires taken { urgent_refusal self.old.sending (length unit) ≡ None }
         ensures step { OnOk result (Sends (urged (at now self.old.sending) unit) self.new.sending out.old out.new) }
         ensures kept { OnOk result (Keeps self.old.sending self.new.sending now) }
         ensures receiving { self.new.receiving ≡ self.old.receiving }
     {
-        let Ok(()) = self.sending.submit_expedited(now, unit.into_vec(), out) else {
-            return Err(NoMemory);
-        };
-        Ok(())
+        self.sending.submit_expedited(now, unit, out)
     }
 }

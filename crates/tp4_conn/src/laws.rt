@@ -8,10 +8,10 @@ ghost use Rattle.tp4_flow.specs.declared.rules.Options.{Options};
 ghost use Rattle.tp4_flow.specs.declared.step.EndEvent.{EndEvent};
 ghost use Rattle.tp4_flow.specs.declared.step.Sent.{Sent};
 ghost use Rattle.tp4_number.specs.Number.{whole, wire};
-ghost use Rattle.tp4_conn.specs.declared.base.Base.{Base};
+ghost use Rattle.tp4_conn.specs.declared.end_record.EndRecord.{EndRecord};
 ghost use Rattle.tp4_conn.specs.declared.call.ConnectCall.{ConnectCall};
-ghost use Rattle.tp4_conn.specs.declared.stage.Stage.{Stage};
-ghost use Rattle.tp4_conn.specs.declared.stage.Stage.TheVariants.{Frozen};
+ghost use Rattle.tp4_conn.specs.declared.states.StateData.{StateData};
+ghost use Rattle.tp4_conn.specs.declared.states.StateData.TheVariants.{Frozen};
 ghost use Rattle.tp4_conn.specs.declared.timers.Timers.{Timers};
 ghost use Rattle.tp4_conn.specs.declared.proposed.Proposed.{Proposed};
 ghost use Rattle.tp4_conn.specs.Agreeing.{agreed_by, confirmed_size, extra_of, is_confirmed, listed_of, number_of, options_in, proposed_by, proposed_in};
@@ -27,20 +27,20 @@ ghost use Rattle.tp4_conn.specs.Worked.{Refused, Unanswered, Beyond, Waited, Lat
 /// A frozen end stays as it is and sends nothing. An end that was made, or took its last matching TPDU, at u at the
 /// latest is Frozen at most I and N times T1 later: it is, or it is due by then.
 pub fn over_lives()
-    ensures still { (wrap : ℕ → ℕ → ℕ) (base : Base) (when clock took : ℕ) (events : List (ℕ × Event)) (last : Life)
+    ensures still { (wrap : ℕ → ℕ → ℕ) (base : EndRecord) (when clock took : ℕ) (events : List (ℕ × Event)) (last : Life)
         → Leads wrap (record { end = record { base = base; stage = Frozen when }; clock = clock; took = took }) events last
         → (last.end.stage ≡ Frozen when) × (sent_by wrap (record { end = record { base = base; stage = Frozen when }; clock = clock; took = took }) events ≡ []) }
     ensures calling { (wrap : ℕ → ℕ → ℕ) (made u : ℕ) (call : ConnectCall) (events : List (ℕ × Event)) (last : Life) → IsTimed call.rules
         → Leads wrap (record { end = end_of (connected made call); clock = made; took = made }) events last
         → last.took ≤ u → IsOverBy last.end (u + call.rules.inactive + span call.rules) }
-    ensures called { (wrap : ℕ → ℕ → ℕ) (u : ℕ) (base : Base) (text : List ℕ) (events : List (ℕ × Event)) (last : Life) → IsTimed base.timers
+    ensures called { (wrap : ℕ → ℕ → ℕ) (u : ℕ) (base : EndRecord) (text : List ℕ) (events : List (ℕ × Event)) (last : Life) → IsTimed base.timers
         → Leads wrap (record { end = end_of (indicated base text); clock = base.clock; took = base.clock }) events last
         → last.took ≤ u → IsOverBy last.end (u + base.timers.inactive + span base.timers) }
 {}
 
 /// Before its due tick a tick changes the clock alone, and from it on more; after a tick an end is due later, or no more.
 pub fn over_dues()
-    ensures { (base : Base) (stage : Stage) → IsTimed base.timers → IsRunning stage → IsDue base stage }
+    ensures { (base : EndRecord) (stage : StateData) → IsTimed base.timers → IsRunning stage → IsDue base stage }
 {}
 
 /// An end that a proper call or a CR made is proper, and stays so through each proper event; and each TPDU that it sends

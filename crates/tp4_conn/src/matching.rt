@@ -4,7 +4,7 @@ ghost use Rattle.std.specs.Prelude.{◌≡◌};
 ghost use Rattle.tpdu.specs.Values.{tpdu_of, sum_of};
 ghost use Rattle.tp4_conn.specs.Matching.{fits, is_answer, is_source, is_summed_confirm, wants_sum};
 
-use crate::{Base, Stage};
+use crate::{EndRecord, StateData};
 use tpdu::TpduRef;
 
 /// Whether a TPDU has a checksum.
@@ -32,16 +32,16 @@ fn is_summed_confirm(tpdu: &TpduRef<'_>) -> bool
 }
 
 /// Whether a TPDU has to have a checksum.
-pub(crate) fn wants_sum(base: &Base, stage: &Stage, tpdu: &TpduRef<'_>) -> bool
+pub(crate) fn wants_sum(base: &EndRecord, stage: &StateData, tpdu: &TpduRef<'_>) -> bool
     ensures { result ≡ wants_sum base.now stage.now (tpdu_of tpdu.now) }
 {
     match stage {
-        Stage::CrWait(_) | Stage::WaitBeforeClose(_) => is_summed_confirm(tpdu),
-        Stage::UserWait { .. }
-        | Stage::AkWait(_)
-        | Stage::Opened(_)
-        | Stage::Closing(_)
-        | Stage::Frozen { .. } => match base.agreed {
+        StateData::CrWait(_) | StateData::WaitBeforeClose(_) => is_summed_confirm(tpdu),
+        StateData::UserWait { .. }
+        | StateData::AkWait(_)
+        | StateData::Opened(_)
+        | StateData::Closing(_)
+        | StateData::Frozen { .. } => match base.agreed {
             Some(options) => options.sum,
             None => false,
         },
@@ -49,16 +49,16 @@ pub(crate) fn wants_sum(base: &Base, stage: &Stage, tpdu: &TpduRef<'_>) -> bool
 }
 
 /// Whether the state takes the TPDU, and its source is right.
-pub(crate) fn fits(base: &Base, stage: &Stage, tpdu: &TpduRef<'_>) -> bool
+pub(crate) fn fits(base: &EndRecord, stage: &StateData, tpdu: &TpduRef<'_>) -> bool
     ensures { result ≡ fits base.now stage.now (tpdu_of tpdu.now) }
 {
     match stage {
-        Stage::CrWait(_) | Stage::WaitBeforeClose(_) => is_answer(tpdu),
-        Stage::UserWait { .. } | Stage::Frozen { .. } => false,
-        Stage::AkWait(_) => {
+        StateData::CrWait(_) | StateData::WaitBeforeClose(_) => is_answer(tpdu),
+        StateData::UserWait { .. } | StateData::Frozen { .. } => false,
+        StateData::AkWait(_) => {
             is_source(base, tpdu) || matches!(*tpdu, TpduRef::Dr { source: 0, .. })
         }
-        Stage::Opened(_) | Stage::Closing(_) => is_source(base, tpdu),
+        StateData::Opened(_) | StateData::Closing(_) => is_source(base, tpdu),
     }
 }
 
@@ -70,7 +70,7 @@ fn is_answer(tpdu: &TpduRef<'_>) -> bool
 }
 
 /// Whether the source of a CC, DR or DC is the partner's reference.
-fn is_source(base: &Base, tpdu: &TpduRef<'_>) -> bool
+fn is_source(base: &EndRecord, tpdu: &TpduRef<'_>) -> bool
     ensures { result ≡ is_source base.now (tpdu_of tpdu.now) }
 {
     match *tpdu {

@@ -1,19 +1,20 @@
 //! Opened: data flow both ways (X.224, class 4 state tables; flow control; inactivity control).
 
-ghost use Rattle.std.specs.Prelude.{◌≡◌, ◌<◌, ◌≤◌, ◌*◌, IfOk};
+ghost use Rattle.std.specs.Prelude.{◌≡◌, ◌<◌, ◌≤◌, ◌*◌, IfOk, None};
 ghost use Rattle.tpdu.specs.Values.{tpdu_of};
 ghost use Rattle.tpdu.specs.Writing.{IsAllowed};
 ghost use Rattle.tp4_number.specs.Formats.{block_of};
 ghost use Rattle.tp4_number.specs.Number;
-ghost use Rattle.tp4_conn.specs.declared.stage.Stage.TheVariants.{Opened};
+ghost use Rattle.tp4_conn.specs.declared.states.StateData.TheVariants.{Opened};
 ghost use Rattle.tp4_conn.specs.End.{Does, agreed_format};
-ghost use Rattle.tp4_conn.specs.Calls.{IsCall};
+ghost use Rattle.tp4_conn.specs.Calls.{IsCall, call_refusal};
 ghost use Rattle.tp4_conn.specs.Opened.{opened_tpdu, opened_tick, opened_window, on_dt};
 ghost use Rattle.tp4_conn.specs.Table.{on_call};
 ghost use Rattle.tp4_conn.specs.steps.Kept.{IsEnd, IsSound};
 
-use crate::base::{Base, NORMAL, PROTOCOL_ERROR, copied};
-use crate::{Open, Stage, UserCall};
+use crate::end_record::{EndRecord, NORMAL, PROTOCOL_ERROR, copied};
+use crate::inactivity::is_inactive;
+use crate::{InOpened, StateData, UserCall};
 use osi_base::NoMemory;
 use std::alloc::Global;
 use tp4_flow::{GoneCause, Life, Step, What};
@@ -25,11 +26,11 @@ use tpdu::TpduRef;
 #[tactic(auto, using(crate::proofs::Credits::granted_any), unfolding(crate::specs::Opened::opened_tpdu))]
 pub(crate) fn on_tpdu(
     alloc: Global,
-    base: &Base,
-    mut flow: Open,
+    base: &EndRecord,
+    mut flow: InOpened,
     tpdu: &TpduRef<'_>,
     out: &mut Step,
-) -> Result<Stage, NoMemory>
+) -> Result<StateData, NoMemory>
     requires end { IsEnd base.now (Opened flow) }
     requires allowed { IsAllowed (agreed_format base.now.agreed) (tpdu_of tpdu.now) }
     ensures step { IfOk result (λ stage. Does (opened_tpdu Number.wire base.now flow (tpdu_of tpdu.now)) base.now stage out.old out.new) }
@@ -39,7 +40,7 @@ pub(crate) fn on_tpdu(
         TpduRef::Cc { .. } => {
             flow.halves.get().receiving.acknowledge(out)?;
             flow.acked = base.clock;
-            Ok(Stage::Opened(flow))
+            Ok(StateData::Opened(flow))
         }
         TpduRef::Dr {
             source,
@@ -68,7 +69,7 @@ pub(crate) fn on_tpdu(
             Got::TooLarge => base.fail(alloc, GoneCause::Protocol, PROTOCOL_ERROR, base.clock, out),
             Got::Kept | Got::Old | Got::Outside => {
                 flow.acked = base.clock;
-                Ok(Stage::Opened(flow))
+                Ok(StateData::Opened(flow))
             }
         },
         TpduRef::Ed { number, octets, .. } => {
@@ -76,7 +77,7 @@ pub(crate) fn on_tpdu(
                 return base.fail(alloc, GoneCause::Protocol, PROTOCOL_ERROR, base.clock, out);
             }
             flow.halves.get_mut().receiving.on_ed(number, octets, out)?;
-            Ok(Stage::Opened(flow))
+            Ok(StateData::Opened(flow))
         }
         TpduRef::Ak {
             number,
@@ -88,17 +89,17 @@ pub(crate) fn on_tpdu(
                 .get_mut()
                 .sending
                 .on_ak(base.clock, number, credit, subsequence, out)?;
-            Ok(Stage::Opened(flow))
+            Ok(StateData::Opened(flow))
         }
         TpduRef::Ea { number, .. } => {
             flow.halves
                 .get_mut()
                 .sending
                 .on_ea(base.clock, number, out)?;
-            Ok(Stage::Opened(flow))
+            Ok(StateData::Opened(flow))
         }
-        TpduRef::Cr { .. } => Ok(Stage::Opened(flow)),
-        TpduRef::Dc { .. } => Ok(Stage::Opened(flow)),
+        TpduRef::Cr { .. } => Ok(StateData::Opened(flow)),
+        TpduRef::Dc { .. } => Ok(StateData::Opened(flow)),
     }
 }
 
@@ -106,15 +107,15 @@ pub(crate) fn on_tpdu(
 #[tactic(auto, unfolding(crate::specs::Opened::opened_tick))]
 pub(crate) fn on_tick(
     alloc: Global,
-    base: &Base,
-    mut flow: Open,
+    base: &EndRecord,
+    mut flow: InOpened,
     out: &mut Step,
-) -> Result<Stage, NoMemory>
+) -> Result<StateData, NoMemory>
     requires end { IsEnd base.now (Opened flow) }
     ensures step { IfOk result (λ stage. Does (opened_tick base.now flow) base.now stage out.old out.new) }
     ensures sound { IfOk result (λ stage. IsSound base.now stage) }
 {
-    if is_past(flow.took, base.timers.inactive, base.clock) {
+    if is_inactive(base, flow.took) {
         return base.fail(alloc, GoneCause::Inactive, NORMAL, base.clock, out);
     }
     match flow.halves.get_mut().sending.tick(base.clock, out)? {
@@ -122,44 +123,50 @@ pub(crate) fn on_tick(
         Life::Goes => {}
     }
     if !is_past(flow.acked, base.timers.window, base.clock) {
-        return Ok(Stage::Opened(flow));
+        return Ok(StateData::Opened(flow));
     }
     flow.halves.get().receiving.acknowledge(out)?;
     flow.acked = base.clock;
-    Ok(Stage::Opened(flow))
+    Ok(StateData::Opened(flow))
 }
 
-/// A call of the user.
+/// A call of the user that is not refused.
+#[tactic(auto, using(crate::proofs::Takings::normal_opened, crate::proofs::Takings::urgent_opened))]
 pub(crate) fn on_call(
     alloc: Global,
-    base: &Base,
-    mut flow: Open,
+    base: &EndRecord,
+    mut flow: InOpened,
     call: UserCall,
     out: &mut Step,
-) -> Result<Stage, NoMemory>
+) -> Result<StateData, NoMemory>
     requires end { IsEnd base.now (Opened flow) }
     requires call { IsCall call }
+    requires allowed { call_refusal base.now (Opened flow) call ≡ None }
     ensures step { IfOk result (λ stage. Does (on_call base.now (Opened flow) call) base.now stage out.old out.new) }
     ensures sound { IfOk result (λ stage. IsSound base.now stage) }
 {
     match call {
         UserCall::Normal(unit) => {
             flow.halves.get_mut().submit(base.clock, unit, out)?;
-            Ok(Stage::Opened(flow))
+            Ok(StateData::Opened(flow))
         }
         UserCall::Urgent(unit) => {
-            flow.halves.get_mut().urge(base.clock, unit, out)?;
-            Ok(Stage::Opened(flow))
+            flow.halves.get_mut().expedite(base.clock, unit, out)?;
+            Ok(StateData::Opened(flow))
         }
         UserCall::Window(credit) => grant(base, flow, credit, out),
         UserCall::Disconnect(octets) => base.disconnect(alloc, octets, base.clock, out),
-        UserCall::Accept(..) => Ok(Stage::Opened(flow)),
-        UserCall::Refuse(_) => Ok(Stage::Opened(flow)),
+        UserCall::Accept(..) | UserCall::Refuse(_) => unreachable!(),
     }
 }
 
 /// The user wants this credit.
-fn grant(base: &Base, mut flow: Open, credit: u16, out: &mut Step) -> Result<Stage, NoMemory>
+fn grant(
+    base: &EndRecord,
+    mut flow: InOpened,
+    credit: u16,
+    out: &mut Step,
+) -> Result<StateData, NoMemory>
     requires end { IsEnd base.now (Opened flow) }
     requires credit { credit ≤ 255 }
     ensures step { IfOk result (λ stage. Does (opened_window base.now flow credit) base.now stage out.old out.new) }
@@ -172,5 +179,5 @@ fn grant(base: &Base, mut flow: Open, credit: u16, out: &mut Step) -> Result<Sta
         flow.halves.get().receiving.acknowledge(out)?;
         flow.acked = base.clock;
     }
-    Ok(Stage::Opened(flow))
+    Ok(StateData::Opened(flow))
 }

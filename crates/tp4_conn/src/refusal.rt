@@ -3,13 +3,13 @@
 ghost use Rattle.std.specs.Prelude.{◌≡◌, length, option_copied};
 ghost use Rattle.tp4_conn.specs.Calls.{call_refusal, is_listed, sending_of, too_long, unit_refusal, urgent_unit_refusal};
 
-use crate::{Base, CallRefusal, Stage, UserCall};
+use crate::{CallRefusal, EndRecord, StateData, UserCall};
 use osi_base::Bytes;
 use tp4_flow::SubmitRefusal;
 use tp4_sending::Sending;
 
 /// Why a call is refused, the first that applies.
-pub(crate) fn refusal(base: &Base, stage: &Stage, call: &UserCall) -> Option<CallRefusal>
+pub(crate) fn refusal(base: &EndRecord, stage: &StateData, call: &UserCall) -> Option<CallRefusal>
     ensures { result ≡ call_refusal base.now stage.now call.now }
 {
     if !is_listed(stage, call) {
@@ -35,39 +35,39 @@ pub(crate) fn refusal(base: &Base, stage: &Stage, call: &UserCall) -> Option<Cal
 }
 
 /// Whether the state has a row for the call.
-fn is_listed(stage: &Stage, call: &UserCall) -> bool
+fn is_listed(stage: &StateData, call: &UserCall) -> bool
     ensures { result ≡ is_listed stage.now call.now }
 {
     match stage {
-        Stage::CrWait(_) => matches!(call, UserCall::Disconnect(_)),
-        Stage::UserWait { .. } => matches!(call, UserCall::Accept(..) | UserCall::Refuse(_)),
-        Stage::AkWait(_) => matches!(
+        StateData::CrWait(_) => matches!(call, UserCall::Disconnect(_)),
+        StateData::UserWait { .. } => matches!(call, UserCall::Accept(..) | UserCall::Refuse(_)),
+        StateData::AkWait(_) => matches!(
             call,
             UserCall::Normal(_) | UserCall::Urgent(_) | UserCall::Disconnect(_)
         ),
-        Stage::Opened(_) => matches!(
+        StateData::Opened(_) => matches!(
             call,
             UserCall::Normal(_)
                 | UserCall::Urgent(_)
                 | UserCall::Window(_)
                 | UserCall::Disconnect(_)
         ),
-        Stage::WaitBeforeClose(_) | Stage::Closing(_) | Stage::Frozen { .. } => false,
+        StateData::WaitBeforeClose(_) | StateData::Closing(_) | StateData::Frozen { .. } => false,
     }
 }
 
 /// The sending half of a state that has one.
-fn sending_of(stage: &Stage) -> Option<&Sending>
+fn sending_of(stage: &StateData) -> Option<&Sending>
     ensures { option_copied result ≡ sending_of stage.now }
 {
     match stage {
-        Stage::AkWait(wait) => Some(&wait.halves.get().sending),
-        Stage::Opened(flow) => Some(&flow.halves.get().sending),
-        Stage::CrWait(_)
-        | Stage::WaitBeforeClose(_)
-        | Stage::UserWait { .. }
-        | Stage::Closing(_)
-        | Stage::Frozen { .. } => None,
+        StateData::AkWait(wait) => Some(&wait.halves.get().sending),
+        StateData::Opened(flow) => Some(&flow.halves.get().sending),
+        StateData::CrWait(_)
+        | StateData::WaitBeforeClose(_)
+        | StateData::UserWait { .. }
+        | StateData::Closing(_)
+        | StateData::Frozen { .. } => None,
     }
 }
 
@@ -90,7 +90,6 @@ fn unit_refusal(why: Option<SubmitRefusal>) -> Option<CallRefusal>
         SubmitRefusal::EmptyUnit => Some(CallRefusal::EmptyUnit),
         SubmitRefusal::TooLong => Some(CallRefusal::TooLong),
         SubmitRefusal::QueueFull => Some(CallRefusal::QueueFull),
-        SubmitRefusal::NoMemory => Some(CallRefusal::NoMemory),
     }
 }
 
@@ -101,7 +100,6 @@ fn urgent_unit_refusal(is_agreed: bool, why: Option<SubmitRefusal>) -> Option<Ca
     match why {
         Some(SubmitRefusal::EmptyUnit) => Some(CallRefusal::EmptyUnit),
         Some(SubmitRefusal::TooLong) => Some(CallRefusal::TooLong),
-        Some(SubmitRefusal::NoMemory) => Some(CallRefusal::NoMemory),
         Some(SubmitRefusal::QueueFull) if is_agreed => Some(CallRefusal::QueueFull),
         None if is_agreed => None,
         Some(SubmitRefusal::QueueFull) | None => Some(CallRefusal::NoExpedited),

@@ -2,13 +2,13 @@
 
 ghost use Rattle.std.specs.Prelude.{◌≡◌, IfOk};
 ghost use Rattle.tpdu.specs.Values.{tpdu_of};
-ghost use Rattle.tp4_conn.specs.declared.stage.Stage.TheVariants.{WaitBeforeClose};
+ghost use Rattle.tp4_conn.specs.declared.states.StateData.TheVariants.{WaitBeforeClose};
 ghost use Rattle.tp4_conn.specs.End.{Does};
 ghost use Rattle.tp4_conn.specs.WaitBeforeClose.{wait_before_close_tpdu, wait_before_close_tick};
 ghost use Rattle.tp4_conn.specs.steps.Kept.{IsEnd, IsKept, IsSound};
 
-use crate::base::{Base, NORMAL};
-use crate::{Parting, Stage};
+use crate::end_record::{EndRecord, NORMAL};
+use crate::{InWaitBeforeClose, StateData};
 use osi_base::NoMemory;
 use std::alloc::Global;
 use tp4_flow::Step;
@@ -18,11 +18,11 @@ use tpdu::TpduRef;
 #[tactic(auto, unfolding(crate::specs::WaitBeforeClose::wait_before_close_tpdu))]
 pub(crate) fn on_tpdu(
     alloc: Global,
-    base: &mut Base,
-    wait: Parting,
+    base: &mut EndRecord,
+    wait: InWaitBeforeClose,
     tpdu: &TpduRef<'_>,
     out: &mut Step,
-) -> Result<Stage, NoMemory>
+) -> Result<StateData, NoMemory>
     requires end { IsEnd base.old (WaitBeforeClose wait) }
     ensures step { IfOk result (λ stage. Does (wait_before_close_tpdu base.old wait (tpdu_of tpdu.now)) base.new stage out.old out.new) }
     ensures sound { IfOk result (λ stage. IsSound base.new stage) }
@@ -35,7 +35,7 @@ pub(crate) fn on_tpdu(
         }
         TpduRef::Dr { source, .. } => {
             base.send_dc(source, out)?;
-            Ok(Stage::Frozen { at: base.clock })
+            Ok(StateData::Frozen { at: base.clock })
         }
         TpduRef::Cr { .. }
         | TpduRef::Dc { .. }
@@ -43,7 +43,7 @@ pub(crate) fn on_tpdu(
         | TpduRef::Ed { .. }
         | TpduRef::Ak { .. }
         | TpduRef::Ea { .. }
-        | TpduRef::Er { .. } => Ok(Stage::WaitBeforeClose(wait)),
+        | TpduRef::Er { .. } => Ok(StateData::WaitBeforeClose(wait)),
     }
 }
 
@@ -51,22 +51,22 @@ pub(crate) fn on_tpdu(
 #[tactic(auto, unfolding(crate::specs::WaitBeforeClose::wait_before_close_tick))]
 pub(crate) fn on_tick(
     alloc: Global,
-    base: &Base,
-    mut wait: Parting,
+    base: &EndRecord,
+    mut wait: InWaitBeforeClose,
     out: &mut Step,
-) -> Result<Stage, NoMemory>
+) -> Result<StateData, NoMemory>
     requires end { IsEnd base.now (WaitBeforeClose wait) }
     ensures step { IfOk result (λ stage. Does (wait_before_close_tick base.now wait) base.now stage out.old out.new) }
     ensures sound { IfOk result (λ stage. IsSound base.now stage) }
 {
     let tries = wait.request.tries;
     if !tries.is_due(base.timers.t1, base.clock) {
-        return Ok(Stage::WaitBeforeClose(wait));
+        return Ok(StateData::WaitBeforeClose(wait));
     }
     if tries.count < base.timers.sendings {
         base.send_request(alloc, wait.request.octets.as_slice(), out)?;
         wait.request.tries = tries.again(base.clock);
-        return Ok(Stage::WaitBeforeClose(wait));
+        return Ok(StateData::WaitBeforeClose(wait));
     }
-    Ok(Stage::Frozen { at: base.clock })
+    Ok(StateData::Frozen { at: base.clock })
 }

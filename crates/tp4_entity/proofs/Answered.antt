@@ -5,9 +5,9 @@ use Rattle.std.specs.List.{list_any}
 use Rattle.tpdu.specs.Values.{TpduAndSum}
 use Rattle.tpdu.specs.declared.tpdu.Tpdu.{Tpdu}
 use Rattle.tpdu.specs.declared.tpdu.Tpdu.TheVariants.{Cr, Cc, Dr, Dc, Dt, Ed, Ak, Ea, Er}
-use Rattle.tp4_conn.specs.declared.base.Base.{Base}
-use Rattle.tp4_conn.specs.declared.stage.Stage.{Stage}
-use Rattle.tp4_conn.specs.declared.stage.Stage.TheVariants.{CrWait, WaitBeforeClose, UserWait, AkWait, Opened, Closing, Frozen}
+use Rattle.tp4_conn.specs.declared.end_record.EndRecord.{EndRecord}
+use Rattle.tp4_conn.specs.declared.states.StateData.{StateData}
+use Rattle.tp4_conn.specs.declared.states.StateData.TheVariants.{CrWait, WaitBeforeClose, UserWait, AkWait, Opened, Closing, Frozen}
 use Rattle.tp4_conn.specs.AkWait.{ak_wait_tpdu}
 use Rattle.tp4_conn.specs.Closing.{closing_tpdu}
 use Rattle.tp4_conn.specs.CrWait.{cr_wait_tpdu}
@@ -86,7 +86,7 @@ meets wrap now e from (Er destination cause rejected, sum) = by_meets wrap now e
 
 -- ---- a DR with source 0
 
-tpdu_quiet : (wrap : ℕ → ℕ → ℕ) (b : Base) (stage : Stage) (destination reason : ℕ) (info : Option (List ℕ)) (text : List ℕ) → (on_tpdu wrap b stage (Dr destination 0 reason info text)).tpdus ≡ []
+tpdu_quiet : (wrap : ℕ → ℕ → ℕ) (b : EndRecord) (stage : StateData) (destination reason : ℕ) (info : Option (List ℕ)) (text : List ℕ) → (on_tpdu wrap b stage (Dr destination 0 reason info text)).tpdus ≡ []
 unfolding cr_wait_tpdu wait_before_close_tpdu ak_wait_tpdu opened_tpdu closing_tpdu
 tpdu_quiet wrap b (CrWait w) destination reason info text = refl
 tpdu_quiet wrap b (WaitBeforeClose w) destination reason info text = refl

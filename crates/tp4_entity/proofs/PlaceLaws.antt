@@ -16,7 +16,7 @@ use Rattle.tp4_number.specs.Number.{wire}
 use Rattle.tp4_conn.specs.declared.call.UserCall.{UserCall}
 use Rattle.tp4_conn.specs.declared.call.CallRefusal.TheVariants.{NoMemory}
 use Rattle.tp4_conn.specs.declared.timers.Timers.{Timers}
-use Rattle.tp4_conn.specs.declared.base.Base.{Base}
+use Rattle.tp4_conn.specs.declared.end_record.EndRecord.{EndRecord}
 use Rattle.tp4_conn.specs.Agreeing.{proposed_in}
 use Rattle.tp4_conn.specs.End.{Does, End, IsTimed, Moved, end_of}
 use Rattle.tp4_conn.specs.Making.{called_end, indicated, on_cr}
@@ -344,9 +344,9 @@ pub made_own : (inside e : Entity) (own : ℕ) (from : List ℕ) (tpdu : Tpdu) (
 made_own inside e own from tpdu end was told same kind made =
     let m = makes inside.clock own from inside.timers tpdu kind in
     let d = made m.moved m.made in
-    let clock_is : end.base.clock ≡ inside.clock = ap (λ (b : Base). b.clock) d.base_is ∙ m.clock in
+    let clock_is : end.base.clock ≡ inside.clock = ap (λ (b : EndRecord). b.clock) d.base_is ∙ m.clock in
     subst (λ (x : Entity). IsOwn x.timers x.clock own end) same
-    (record { own = ap (λ (b : Base). b.own) d.base_is ∙ m.own_is; timed = ap (λ (b : Base). b.timers) d.base_is ∙ m.timed; behind = omega (arith, clock_is) })
+    (record { own = ap (λ (b : EndRecord). b.own) d.base_is ∙ m.own_is; timed = ap (λ (b : EndRecord). b.timers) d.base_is ∙ m.timed; behind = omega (arith, clock_is) })
 
 pub made_done : (inside e new : Entity) (place source : ℕ) (from : List ℕ) (tpdu : Tpdu) (end : End) (was told : Told) → inside ≡ e → kind_for tpdu ≡ CrKind
     → position (is_free_place inside.clock) inside.ends ≡ Some place → IsMade inside.clock (place + 1) from inside.timers tpdu end was told → new ≡ with_end e (place + 1) (Some end)

@@ -9,7 +9,7 @@ use Rattle.tpdu.specs.declared.tpdu.Tpdu.TheVariants as wires
 use Rattle.tp4_conn.specs.End.{End, Moved}
 use Rattle.tp4_conn.specs.Making.{on_cr}
 use Rattle.tp4_conn.specs.Matching.{is_match}
-use Rattle.tp4_conn.specs.declared.call.ConnectCall.{ConnectCall}
+use Rattle.tp4_conn.specs.declared.call.ConnectRequest.{ConnectRequest}
 use Rattle.tp4_conn.specs.declared.call.UserCall.{UserCall}
 use Rattle.tp4_entity.specs.Association.{calls, is_called, is_registered, met, met_at, met_by, new_end, requested}
 use Rattle.tp4_entity.specs.Entity.{Acted, Entity, at, end_at, there}
@@ -44,8 +44,8 @@ either : (e : Entity) (b : Bool) (one other : Acted) → Same e one → Same e o
 either e true one other h k = h
 either e false one other h k = k
 
-pub connecting_same : (now reference : ℕ) (e : Entity) (call : ConnectCall) → Same e (connecting now e reference call)
-connecting_same now reference e call = refl
+pub connecting_same : (now reference : ℕ) (e : Entity) (request : ConnectRequest) → Same e (connecting now e reference request)
+connecting_same now reference e request = refl
 
 pub calling_same : (wrap : ℕ → ℕ → ℕ) (now reference : ℕ) (e : Entity) (call : UserCall) → Same e (calling wrap now e reference call)
 calling_same wrap now reference e call = by (end_at e reference)

@@ -15,16 +15,16 @@ use Rattle.tp4_flow.specs.declared.step.EndEvent.{EndEvent}
 use Rattle.tp4_flow.specs.declared.step.Sent.{Sent}
 use Rattle.tp4_sending.specs.FlowSender.{at as sender_at, due_of, life_of}
 use Rattle.tp4_sending.specs.Pieces.{sooner}
-use Rattle.tp4_conn.specs.declared.base.Base.{Base}
-use Rattle.tp4_conn.specs.declared.call.ConnectCall.{ConnectCall}
+use Rattle.tp4_conn.specs.declared.end_record.EndRecord.{EndRecord}
+use Rattle.tp4_conn.specs.declared.call.ConnectRequest.{ConnectRequest}
 use Rattle.tp4_conn.specs.declared.call.UserCall.{UserCall}
-use Rattle.tp4_conn.specs.declared.stage.Answering.{Answering}
-use Rattle.tp4_conn.specs.declared.stage.Open.{Open}
-use Rattle.tp4_conn.specs.declared.stage.Parting.{Parting}
-use Rattle.tp4_conn.specs.declared.stage.Releasing.{Releasing}
-use Rattle.tp4_conn.specs.declared.stage.Requesting.{Requesting}
-use Rattle.tp4_conn.specs.declared.stage.Stage.{Stage}
-use Rattle.tp4_conn.specs.declared.stage.Stage.TheVariants.{CrWait, WaitBeforeClose, UserWait, AkWait, Opened, Closing, Frozen}
+use Rattle.tp4_conn.specs.declared.states.InAkWait.{InAkWait}
+use Rattle.tp4_conn.specs.declared.states.InOpened.{InOpened}
+use Rattle.tp4_conn.specs.declared.states.InWaitBeforeClose.{InWaitBeforeClose}
+use Rattle.tp4_conn.specs.declared.states.InClosing.{InClosing}
+use Rattle.tp4_conn.specs.declared.states.InCrWait.{InCrWait}
+use Rattle.tp4_conn.specs.declared.states.StateData.{StateData}
+use Rattle.tp4_conn.specs.declared.states.StateData.TheVariants.{CrWait, WaitBeforeClose, UserWait, AkWait, Opened, Closing, Frozen}
 use Rattle.tp4_conn.specs.AkWait.{ak_wait_tick}
 use Rattle.tp4_conn.specs.Closing.{closing_tick}
 use Rattle.tp4_conn.specs.CrWait.{cr_wait_tick}
@@ -44,7 +44,7 @@ use Rattle.tp4_entity.proofs.PlaceLaws.{Place, end_at_of}
 
 -- ---- places that are free
 
-over_by : (now : ℕ) (end : End) (stage : Stage) → end.stage ≡ stage → was_frozen now (frozen_for end.base.timers) stage ≡ true → IsFreeAt now (Some end)
+over_by : (now : ℕ) (end : End) (stage : StateData) → end.stage ≡ stage → was_frozen now (frozen_for end.base.timers) stage ≡ true → IsFreeAt now (Some end)
 over_by now end (Frozen when) is h = Over end when refl is (ltb-true (when + frozen_for end.base.timers) now h)
 over_by now end other is h = absurd cc
 
@@ -178,10 +178,10 @@ all_stay wrap now e reference end is = inl (Stays is)
 
 -- ---- the steps
 
-pub connecting_keeps : (wrap : ℕ → ℕ → ℕ) (now reference : ℕ) (e : Entity) (call : ConnectCall) → least_free now e ≡ Some reference → KeepsEnds wrap now e (connecting now e reference call).entity
-connecting_keeps wrap now reference e call h =
+pub connecting_keeps : (wrap : ℕ → ℕ → ℕ) (now reference : ℕ) (e : Entity) (request : ConnectRequest) → least_free now e ≡ Some reference → KeepsEnds wrap now e (connecting now e reference request).entity
+connecting_keeps wrap now reference e request h =
     let f = free_least now reference e h in
-    new_keeps wrap now (at now e) reference (connected now (call_of e reference call)) (record { least = f.least; most = f.most; free = f.free })
+    new_keeps wrap now (at now e) reference (connected now (call_of e reference request)) (record { least = f.least; most = f.most; free = f.free })
 
 called_keeps : (wrap : ℕ → ℕ → ℕ) (now : ℕ) (e : Entity) (reference : ℕ) (call : UserCall) (place : Place) → end_at e reference ≡ place → KeepsEnds wrap now e (calling_end wrap now e reference call place).entity
 called_keeps wrap now e reference call None is = all_stay wrap now e
@@ -241,56 +241,56 @@ late_if : (b : Bool) (one other : Moved) → Late one → Late other → Late (c
 late_if true one other h k = h
 late_if false one other h k = k
 
-late_frozen : (b : Base) (events : List EndEvent) (tpdus : List Sent) → Late (frozen b events tpdus)
+late_frozen : (b : EndRecord) (events : List EndEvent) (tpdus : List Sent) → Late (frozen b events tpdus)
 late_frozen b events tpdus = record { late = λ when is. frozen_is b.clock when is }
   where
     frozen_is : (clock when : ℕ) → Frozen clock ≡ Frozen when → when ≡ clock
     frozen_is clock when is = let same : clock ≡ when = cc is in sym same
 
-abbrev IsOther : Stage → Type 0
+abbrev IsOther : StateData → Type 0
 IsOther (Frozen when) = ⊥
 IsOther stage = Unit {0}
 
 other_late : (m : Moved) → IsOther m.stage → Late m
 other_late m other = record { late = λ when is. absurd (subst IsOther is other) }
 
-cr_late : (b : Base) (w : Requesting) → Late (cr_wait_tick b w)
+cr_late : (b : EndRecord) (w : InCrWait) → Late (cr_wait_tick b w)
 unfolding cr_wait_tick
 cr_late b w =
     late_if (nat_lt b.clock (w.tries.last + b.timers.t1)) _ _ (other_late _ tt)
     (late_if (nat_lt w.tries.count b.timers.sendings) _ _ (other_late _ tt) (late_frozen b (gone_with b Spent []) []))
 
-wait_late : (b : Base) (w : Parting) → Late (wait_before_close_tick b w)
+wait_late : (b : EndRecord) (w : InWaitBeforeClose) → Late (wait_before_close_tick b w)
 unfolding wait_before_close_tick
 wait_late b w =
     late_if (nat_lt b.clock (w.request.tries.last + b.timers.t1)) _ _ (other_late _ tt)
     (late_if (nat_lt w.request.tries.count b.timers.sendings) _ _ (other_late _ tt) (late_frozen b [] []))
 
-user_late : (b : Base) (since : ℕ) → Late (user_wait_tick b since)
+user_late : (b : EndRecord) (since : ℕ) → Late (user_wait_tick b since)
 unfolding user_wait_tick
 user_late b since = late_if (nat_lt b.clock (since + b.timers.inactive)) _ _ (other_late _ tt) (late_frozen b (gone_with b AnswerTime []) (refusing b [] ∷ []))
 
-ak_late : (b : Base) (w : Answering) → Late (ak_wait_tick b w)
+ak_late : (b : EndRecord) (w : InAkWait) → Late (ak_wait_tick b w)
 unfolding ak_wait_tick
 ak_late b w =
     late_if (nat_lt b.clock (w.tries.last + b.timers.t1)) _ _ (other_late _ tt)
     (late_if (nat_lt w.tries.count b.timers.sendings) _ _ (other_late _ tt) (late_frozen b (gone_with b Spent []) []))
 
-as_late : (life : Life) (b : Base) (o : Open) → Late (opened_as life b o)
+as_late : (life : Life) (b : EndRecord) (o : InOpened) → Late (opened_as life b o)
 as_late Exhausted b o = other_late _ tt
 as_late GoesOn b o = late_if (nat_le (o.acked + b.timers.window) b.clock) _ _ (other_late _ tt) (other_late _ tt)
 
-opened_late : (b : Base) (o : Open) → Late (opened_tick b o)
+opened_late : (b : EndRecord) (o : InOpened) → Late (opened_tick b o)
 unfolding opened_tick
 opened_late b o = late_if (nat_le (o.took + b.timers.inactive) b.clock) _ _ (other_late _ tt) (as_late (life_of (sender_at b.clock o.halves.sending)) b o)
 
-closing_late : (b : Base) (c : Releasing) → Late (closing_tick b c)
+closing_late : (b : EndRecord) (c : InClosing) → Late (closing_tick b c)
 unfolding closing_tick
 closing_late b c =
     late_if (nat_le (c.from + span b.timers) b.clock) _ _ (late_frozen b [] []) (late_if (nat_lt b.clock (c.last + b.timers.t1)) _ _ (other_late _ tt) (other_late _ tt))
 
 -- an end without a due tick
-pub record Gone (b : Base) (stage : Stage) : Type 0 where
+pub record Gone (b : EndRecord) (stage : StateData) : Type 0 where
   pub when : ℕ
   pub is : stage ≡ Frozen when
   pub past : when + frozen_for b.timers < b.clock
@@ -299,7 +299,7 @@ sooner_some : (one : ℕ) (other : Option ℕ) → sooner (Some one) other ≡ N
 sooner_some one None h = cc h
 sooner_some one (Some two) h = cc h
 
-gone : (b : Base) (stage : Stage) → due b stage ≡ None → Gone b stage
+gone : (b : EndRecord) (stage : StateData) → due b stage ≡ None → Gone b stage
 gone b (CrWait w) h = absurd cc
 gone b (WaitBeforeClose w) h = absurd cc
 gone b (UserWait since) h = absurd cc
@@ -325,7 +325,7 @@ over_frozen now end when is h =
     when_is : (one other : ℕ) → Frozen one ≡ Frozen other → one ≡ other
     when_is one other h = cc h
 
-over_tick : (now : ℕ) (end : End) (stage : Stage) → end.stage ≡ stage → due (on_tick (base_at now end.base) stage).base (on_tick (base_at now end.base) stage).stage ≡ None → IsFreeAt now (Some end)
+over_tick : (now : ℕ) (end : End) (stage : StateData) → end.stage ≡ stage → due (on_tick (base_at now end.base) stage).base (on_tick (base_at now end.base) stage).stage ≡ None → IsFreeAt now (Some end)
 over_tick now end (CrWait w) is h = absurd (late_stays (cr_wait_tick (base_at now end.base) w) (cr_late (base_at now end.base) w) h)
 over_tick now end (WaitBeforeClose w) is h = absurd (late_stays (wait_before_close_tick (base_at now end.base) w) (wait_late (base_at now end.base) w) h)
 over_tick now end (UserWait since) is h = absurd (late_stays (user_wait_tick (base_at now end.base) since) (user_late (base_at now end.base) since) h)

@@ -81,6 +81,11 @@ pub first_from : (inside old : Entity) (now at : ℕ) (new : Place) → inside �
 first_from inside old now at new same from later =
     from_set now at inside.ends new (subst (λ (x : Entity). AreFrom now x.ends) (sym same) from) (before_in_time (due_at new) now (before_at now new later))
 
+-- an end that is due stands there
+some_due : (now : ℕ) (place : Place) → is_due now place ≡ true → is_some place ≡ true
+some_due now None e = absurd (cc e)
+some_due now (Some end) e = refl
+
 -- ---- the same, by what was taken out of the due ticks
 
 pub record Takes (inside old : Entity) (now place : ℕ) (due new : List (Option ℕ)) (there : Place) : Type 0 where
@@ -108,6 +113,11 @@ module _ (inside old : Entity) (now place : ℕ) (due new : List (Option ℕ)) (
 
   pub takes_behind : IsEntity inside → IsBehind now there
   takes_behind is = place_behind inside.timers inside.clock now (place + 1) there (omega (arith, clock_is)) (entity_at inside place there is there_is)
+
+  pub takes_there : is_some there ≡ true
+  takes_there =
+      let found = position-Some (is_due now) inside.ends place there is_first in
+      some_due now there (subst (λ (p : Place). is_due now p ≡ true) (sym t.read) found.1)
 
   pub takes_from : IsInTime (due_at there) now
   takes_from = popped_from now place there inside.ends from_inside place_low t.read

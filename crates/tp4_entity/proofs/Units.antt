@@ -15,14 +15,14 @@ use Rattle.tp4_flow.specs.declared.step.EndEvent.{EndEvent}
 use Rattle.tp4_flow.specs.declared.step.Sent.{Sent}
 use Rattle.tp4_flow.specs.declared.step.What.TheVariants.{BadTpdu}
 use Rattle.tp4_number.specs.Number.{wire}
-use Rattle.tp4_conn.specs.declared.base.Base.{Base}
-use Rattle.tp4_conn.specs.declared.stage.Answering.{Answering}
-use Rattle.tp4_conn.specs.declared.stage.Open.{Open}
-use Rattle.tp4_conn.specs.declared.stage.Parting.{Parting}
-use Rattle.tp4_conn.specs.declared.stage.Releasing.{Releasing}
-use Rattle.tp4_conn.specs.declared.stage.Requesting.{Requesting}
-use Rattle.tp4_conn.specs.declared.stage.Stage.{Stage}
-use Rattle.tp4_conn.specs.declared.stage.Stage.TheVariants.{CrWait, WaitBeforeClose, UserWait, AkWait, Opened, Closing, Frozen}
+use Rattle.tp4_conn.specs.declared.end_record.EndRecord.{EndRecord}
+use Rattle.tp4_conn.specs.declared.states.InAkWait.{InAkWait}
+use Rattle.tp4_conn.specs.declared.states.InOpened.{InOpened}
+use Rattle.tp4_conn.specs.declared.states.InWaitBeforeClose.{InWaitBeforeClose}
+use Rattle.tp4_conn.specs.declared.states.InClosing.{InClosing}
+use Rattle.tp4_conn.specs.declared.states.InCrWait.{InCrWait}
+use Rattle.tp4_conn.specs.declared.states.StateData.{StateData}
+use Rattle.tp4_conn.specs.declared.states.StateData.TheVariants.{CrWait, WaitBeforeClose, UserWait, AkWait, Opened, Closing, Frozen}
 use Rattle.tp4_conn.specs.AkWait.{ak_wait_tpdu}
 use Rattle.tp4_conn.specs.Closing.{closing_tpdu}
 use Rattle.tp4_conn.specs.CrWait.{cr_wait_tpdu}
@@ -59,7 +59,7 @@ all_more wrap now e from (first ∷ tpdus) tpdu =
 
 -- ---- a TPDU behind which others may follow changes nothing that was agreed
 
-cr_wait_keeps : (b : Base) (w : Requesting) (tpdu : Tpdu) → reaches_end tpdu ≡ false → (cr_wait_tpdu b w tpdu).base.agreed ≡ b.agreed
+cr_wait_keeps : (b : EndRecord) (w : InCrWait) (tpdu : Tpdu) → reaches_end tpdu ≡ false → (cr_wait_tpdu b w tpdu).base.agreed ≡ b.agreed
 unfolding cr_wait_tpdu
 cr_wait_keeps b w (Dc destination source) h = refl
 cr_wait_keeps b w (Ak destination number credit subsequence confirmation) h = refl
@@ -67,7 +67,7 @@ cr_wait_keeps b w (Ea destination number) h = refl
 cr_wait_keeps b w (Er destination cause rejected) h = refl
 cr_wait_keeps b w other h = absurd cc
 
-wait_keeps : (b : Base) (w : Parting) (tpdu : Tpdu) → reaches_end tpdu ≡ false → (wait_before_close_tpdu b w tpdu).base.agreed ≡ b.agreed
+wait_keeps : (b : EndRecord) (w : InWaitBeforeClose) (tpdu : Tpdu) → reaches_end tpdu ≡ false → (wait_before_close_tpdu b w tpdu).base.agreed ≡ b.agreed
 unfolding wait_before_close_tpdu
 wait_keeps b w (Dc destination source) h = refl
 wait_keeps b w (Ak destination number credit subsequence confirmation) h = refl
@@ -75,7 +75,7 @@ wait_keeps b w (Ea destination number) h = refl
 wait_keeps b w (Er destination cause rejected) h = refl
 wait_keeps b w other h = absurd cc
 
-opened_keeps : (wrap : ℕ → ℕ → ℕ) (b : Base) (o : Open) (tpdu : Tpdu) → reaches_end tpdu ≡ false → (opened_tpdu wrap b o tpdu).base.agreed ≡ b.agreed
+opened_keeps : (wrap : ℕ → ℕ → ℕ) (b : EndRecord) (o : InOpened) (tpdu : Tpdu) → reaches_end tpdu ≡ false → (opened_tpdu wrap b o tpdu).base.agreed ≡ b.agreed
 unfolding opened_tpdu
 opened_keeps wrap b o (Dc destination source) h = refl
 opened_keeps wrap b o (Ak destination number credit subsequence confirmation) h = refl
@@ -83,7 +83,7 @@ opened_keeps wrap b o (Ea destination number) h = refl
 opened_keeps wrap b o (Er destination cause rejected) h = refl
 opened_keeps wrap b o other h = absurd cc
 
-ak_wait_keeps : (wrap : ℕ → ℕ → ℕ) (b : Base) (w : Answering) (tpdu : Tpdu) → reaches_end tpdu ≡ false → (ak_wait_tpdu wrap b w tpdu).base.agreed ≡ b.agreed
+ak_wait_keeps : (wrap : ℕ → ℕ → ℕ) (b : EndRecord) (w : InAkWait) (tpdu : Tpdu) → reaches_end tpdu ≡ false → (ak_wait_tpdu wrap b w tpdu).base.agreed ≡ b.agreed
 unfolding ak_wait_tpdu opened_tpdu
 ak_wait_keeps wrap b w (Dc destination source) h = refl
 ak_wait_keeps wrap b w (Ak destination number credit subsequence confirmation) h = refl
@@ -91,7 +91,7 @@ ak_wait_keeps wrap b w (Ea destination number) h = refl
 ak_wait_keeps wrap b w (Er destination cause rejected) h = refl
 ak_wait_keeps wrap b w other h = absurd cc
 
-closing_keeps : (b : Base) (c : Releasing) (tpdu : Tpdu) → reaches_end tpdu ≡ false → (closing_tpdu b c tpdu).base.agreed ≡ b.agreed
+closing_keeps : (b : EndRecord) (c : InClosing) (tpdu : Tpdu) → reaches_end tpdu ≡ false → (closing_tpdu b c tpdu).base.agreed ≡ b.agreed
 unfolding closing_tpdu
 closing_keeps b c (Dc destination source) h = refl
 closing_keeps b c (Ak destination number credit subsequence confirmation) h = refl
@@ -99,7 +99,7 @@ closing_keeps b c (Ea destination number) h = refl
 closing_keeps b c (Er destination cause rejected) h = refl
 closing_keeps b c other h = absurd cc
 
-tpdu_keeps : (wrap : ℕ → ℕ → ℕ) (b : Base) (stage : Stage) (tpdu : Tpdu) → reaches_end tpdu ≡ false → (on_tpdu wrap b stage tpdu).base.agreed ≡ b.agreed
+tpdu_keeps : (wrap : ℕ → ℕ → ℕ) (b : EndRecord) (stage : StateData) (tpdu : Tpdu) → reaches_end tpdu ≡ false → (on_tpdu wrap b stage tpdu).base.agreed ≡ b.agreed
 tpdu_keeps wrap b (CrWait w) tpdu h = cr_wait_keeps b w tpdu h
 tpdu_keeps wrap b (WaitBeforeClose w) tpdu h = wait_keeps b w tpdu h
 tpdu_keeps wrap b (UserWait since) tpdu h = refl
@@ -108,7 +108,7 @@ tpdu_keeps wrap b (Opened o) tpdu h = opened_keeps wrap b (hearing b o) tpdu h
 tpdu_keeps wrap b (Closing c) tpdu h = closing_keeps b c tpdu h
 tpdu_keeps wrap b (Frozen when) tpdu h = refl
 
-either_keeps : (lacks : Bool) (b : Base) (one two : Moved) → one.base.agreed ≡ b.agreed → two.base.agreed ≡ b.agreed → (cond lacks one two).base.agreed ≡ b.agreed
+either_keeps : (lacks : Bool) (b : EndRecord) (one two : Moved) → one.base.agreed ≡ b.agreed → two.base.agreed ≡ b.agreed → (cond lacks one two).base.agreed ≡ b.agreed
 either_keeps true b one two h k = h
 either_keeps false b one two h k = k
 

@@ -7,11 +7,11 @@ use Rattle.tpdu.specs.Values.{TpduAndSum}
 use Rattle.tpdu.specs.declared.tpdu.Tpdu.{Tpdu}
 use Rattle.tpdu.specs.declared.tpdu.Tpdu.TheVariants.{Cr, Cc, Dr, Dc, Dt, Ed, Ak, Ea, Er}
 use Rattle.tp4_number.specs.Number.{whole, wire}
-use Rattle.tp4_conn.specs.declared.base.Base.{Base}
-use Rattle.tp4_conn.specs.declared.call.ConnectCall.{ConnectCall}
+use Rattle.tp4_conn.specs.declared.end_record.EndRecord.{EndRecord}
+use Rattle.tp4_conn.specs.declared.call.ConnectRequest.{ConnectRequest}
 use Rattle.tp4_conn.specs.declared.call.UserCall.{UserCall}
-use Rattle.tp4_conn.specs.declared.stage.Stage.{Stage}
-use Rattle.tp4_conn.specs.declared.stage.Stage.TheVariants.{CrWait, WaitBeforeClose, UserWait, AkWait, Opened, Closing, Frozen}
+use Rattle.tp4_conn.specs.declared.states.StateData.{StateData}
+use Rattle.tp4_conn.specs.declared.states.StateData.TheVariants.{CrWait, WaitBeforeClose, UserWait, AkWait, Opened, Closing, Frozen}
 use Rattle.tp4_conn.specs.End.{End, Moved, agreed_format, end_of, frozen_for}
 use Rattle.tp4_conn.specs.Making.{connected}
 use Rattle.tp4_conn.specs.Matching.{fits, is_called_by, is_match}
@@ -32,7 +32,7 @@ on place = option_map end_on_wire place
 
 -- ---- what is looked at
 
-due_on : (b : Base) (stage : Stage) → due b (stage_on_wire stage) ≡ due b stage
+due_on : (b : EndRecord) (stage : StateData) → due b (stage_on_wire stage) ≡ due b stage
 due_on b (CrWait w) = refl
 due_on b (WaitBeforeClose w) = refl
 due_on b (UserWait since) = refl
@@ -41,7 +41,7 @@ due_on b (Opened o) = refl
 due_on b (Closing c) = refl
 due_on b (Frozen when) = refl
 
-fits_on : (b : Base) (stage : Stage) (tpdu : Tpdu) → fits b (stage_on_wire stage) tpdu ≡ fits b stage tpdu
+fits_on : (b : EndRecord) (stage : StateData) (tpdu : Tpdu) → fits b (stage_on_wire stage) tpdu ≡ fits b stage tpdu
 fits_on b (CrWait w) tpdu = refl
 fits_on b (WaitBeforeClose w) tpdu = refl
 fits_on b (UserWait since) tpdu = refl
@@ -50,7 +50,7 @@ fits_on b (Opened o) tpdu = refl
 fits_on b (Closing c) tpdu = refl
 fits_on b (Frozen when) tpdu = refl
 
-frozen_on : (stage : Stage) → is_frozen (stage_on_wire stage) ≡ is_frozen stage
+frozen_on : (stage : StateData) → is_frozen (stage_on_wire stage) ≡ is_frozen stage
 frozen_on (CrWait w) = refl
 frozen_on (WaitBeforeClose w) = refl
 frozen_on (UserWait since) = refl
@@ -59,7 +59,7 @@ frozen_on (Opened o) = refl
 frozen_on (Closing c) = refl
 frozen_on (Frozen when) = refl
 
-was_frozen_on : (now ticks : ℕ) (stage : Stage) → was_frozen now ticks (stage_on_wire stage) ≡ was_frozen now ticks stage
+was_frozen_on : (now ticks : ℕ) (stage : StateData) → was_frozen now ticks (stage_on_wire stage) ≡ was_frozen now ticks stage
 was_frozen_on now ticks (CrWait w) = refl
 was_frozen_on now ticks (WaitBeforeClose w) = refl
 was_frozen_on now ticks (UserWait since) = refl
@@ -154,9 +154,9 @@ moved_on e reference m lower same =
 
 -- ---- calls
 
-pub connecting_on : (now reference : ℕ) (e : Entity) (call : ConnectCall) → connecting now (entity_on_wire e) reference call ≡ acted_on_wire (connecting now e reference call)
-connecting_on now reference e call =
-    moved_on (at now e) reference (connected now (call_of e reference call)) (connected now (call_of e reference call)) (record { base = refl; stage = refl; events = refl; tpdus = refl })
+pub connecting_on : (now reference : ℕ) (e : Entity) (request : ConnectRequest) → connecting now (entity_on_wire e) reference request ≡ acted_on_wire (connecting now e reference request)
+connecting_on now reference e request =
+    moved_on (at now e) reference (connected now (call_of e reference request)) (connected now (call_of e reference request)) (record { base = refl; stage = refl; events = refl; tpdus = refl })
 
 called_on_place : (now : ℕ) (e : Entity) (reference : ℕ) (call : UserCall) (place : Place)
     → calling_end wire now (entity_on_wire e) reference call (on place) ≡ acted_on_wire (calling_end whole now e reference call place)

@@ -10,8 +10,8 @@ use Rattle.tpdu.specs.Values.{TpduAndSum, destination_of}
 use Rattle.tpdu.specs.Writing.{kind_for}
 use Rattle.tp4_flow.specs.declared.step.Sent.{Sent}
 use Rattle.tp4_flow.specs.declared.step.What.TheVariants.{Unknown}
-use Rattle.tp4_conn.specs.declared.stage.Stage.{Stage}
-use Rattle.tp4_conn.specs.declared.stage.Stage.TheVariants.{Frozen}
+use Rattle.tp4_conn.specs.declared.states.StateData.{StateData}
+use Rattle.tp4_conn.specs.declared.states.StateData.TheVariants.{Frozen}
 use Rattle.tp4_conn.specs.End.{End, Moved}
 use Rattle.tp4_conn.specs.Making.{on_cr}
 use Rattle.tp4_conn.specs.Matching.{is_called_by, is_match}
@@ -19,7 +19,7 @@ use Rattle.tp4_conn.specs.Table.{Took, stepped}
 use Rattle.tp4_entity.specs.Entity.{Entity, Acted, end_at, moved}
 use Rattle.tp4_entity.specs.References.{least_free}
 
-abbrev pub is_frozen : Stage → Bool
+abbrev pub is_frozen : StateData → Bool
 is_frozen (Frozen when) = true
 is_frozen other = false
 

@@ -1,12 +1,12 @@
 -- Which references are free (X.224, frozen references).
 use Rattle.std.specs.Prelude.{ℕ, ◌+◌, ◌==◌, Bool, true, false, not, ◌&&◌, nat_lt, nat_le, length, position, Option, Some, None, option_map}
-use Rattle.tp4_conn.specs.declared.stage.Stage.{Stage}
-use Rattle.tp4_conn.specs.declared.stage.Stage.TheVariants.{Frozen}
+use Rattle.tp4_conn.specs.declared.states.StateData.{StateData}
+use Rattle.tp4_conn.specs.declared.states.StateData.TheVariants.{Frozen}
 use Rattle.tp4_conn.specs.End.{End, frozen_for}
 use Rattle.tp4_entity.specs.Entity.{Entity, end_at}
 
 -- the end was frozen more than so many ticks ago
-abbrev pub was_frozen : ℕ → ℕ → Stage → Bool
+abbrev pub was_frozen : ℕ → ℕ → StateData → Bool
 was_frozen now ticks (Frozen when) = nat_lt (when + ticks) now
 was_frozen now ticks other = false
 

@@ -4,8 +4,9 @@ use Rattle.std.specs.List.{count_by}
 use Rattle.tp4_flow.specs.Told.{Told, Grows}
 use Rattle.tp4_conn.specs.declared.call.CallRefusal.{CallRefusal}
 use Rattle.tp4_conn.specs.declared.call.ConnectCall.{ConnectCall}
+use Rattle.tp4_conn.specs.declared.call.ConnectRequest.{ConnectRequest}
 use Rattle.tp4_conn.specs.declared.call.UserCall.{UserCall}
-use Rattle.tp4_conn.specs.declared.stage.State.{State}
+use Rattle.tp4_conn.specs.declared.states.State.{State}
 use Rattle.tp4_conn.specs.declared.timers.Timers.{Timers}
 use Rattle.tp4_conn.specs.Calls.{call_refusal, state_of}
 use Rattle.tp4_conn.specs.End.{End, Moved, end_of}
@@ -32,12 +33,12 @@ connect_refusal now e octets =
     else if is_none (least_free now e) then Some connects.RefsSpent
     else None
 
--- the call with what the entity sets in it
-abbrev pub call_of : Entity → ℕ → ConnectCall → ConnectCall
-call_of e reference call = record call { own = reference; from = e.own; rules = e.timers }
+-- what the new end is made by: what is asked for, a reference, and the address and the timers of the entity
+abbrev pub call_of : Entity → ℕ → ConnectRequest → ConnectCall
+call_of e reference request = record { own = reference; from = e.own; request = request; rules = e.timers }
 
-abbrev pub connecting : ℕ → Entity → ℕ → ConnectCall → Acted
-connecting now e reference call = moved (at now e) reference (connected now (call_of e reference call))
+abbrev pub connecting : ℕ → Entity → ℕ → ConnectRequest → Acted
+connecting now e reference request = moved (at now e) reference (connected now (call_of e reference request))
 
 -- ---- a call on an end
 

@@ -23,7 +23,7 @@ ghost use Rattle.tp4_entity.specs.Unit.{extended_of};
 ghost use Rattle.tp4_entity.specs.steps.Places.{IsBehind, IsPlace, Lasts, Places, format_of, takes_at};
 
 use crate::TpEntity;
-use crate::places::{due_at, free_place, keep, state_of};
+use crate::references::{due_at, free_place, keep, state_of};
 use due_links::Due;
 use nsap::Nsap;
 use osi_base::{Bytes, NoMemory, Tick};
@@ -46,7 +46,7 @@ const NO_END: u8 = 132;
 
 impl TpEntity {
     /// What a TPDU does that came from an address.
-    pub(crate) fn meet(
+    pub(crate) fn on_tpdu(
         &mut self,
         from: &Nsap,
         tpdu: &TpduRef<'_>,
@@ -60,13 +60,13 @@ impl TpEntity {
         ensures clock { self.new.clock ≡ self.old.clock }
     {
         match destination_of(tpdu) {
-            Some(destination) => self.take(destination, from, tpdu, out),
-            None => self.request(from, tpdu, out),
+            Some(destination) => self.pass_to_end(destination, from, tpdu, out),
+            None => self.on_cr(from, tpdu, out),
         }
     }
 
     /// A CR: the first of the five rules that applies.
-    fn request(&mut self, from: &Nsap, cr: &TpduRef<'_>, out: &mut Step) -> Result<(), NoMemory>
+    fn on_cr(&mut self, from: &Nsap, cr: &TpduRef<'_>, out: &mut Step) -> Result<(), NoMemory>
         requires now { self.old.clock ≤ 4000000000 }
         requires due { AreFrom self.old.clock self.old.ends }
         requires cr { kind_for (tpdu_of cr.now) ≡ Cr }
@@ -76,13 +76,13 @@ impl TpEntity {
         ensures clock { self.new.clock ≡ self.old.clock }
     {
         let TpduRef::Cr { source, called, .. } = *cr else {
-            return Err(NoMemory);
+            unreachable!();
         };
-        self.judge(from, source, called, cr, out)
+        self.answer_cr(from, source, called, cr, out)
     }
 
     /// A CR of that source reference, to that selector.
-    fn judge(
+    fn answer_cr(
         &mut self,
         from: &Nsap,
         source: u16,
@@ -102,16 +102,16 @@ impl TpEntity {
             return Ok(());
         }
         if is_called_frozen(&self.ends, from, source) {
-            return out.send(refusal(self.alloc, from, source, AGAIN));
+            return out.send(refusal_dr(self.alloc, from, source, AGAIN));
         }
         if !self.is_registered(called) {
-            return out.send(refusal(self.alloc, from, source, NO_SELECTOR));
+            return out.send(refusal_dr(self.alloc, from, source, NO_SELECTOR));
         }
-        self.indicate(from, source, cr, out)
+        self.make_called_end(from, source, cr, out)
     }
 
     /// A CR makes a new end, where a reference is free.
-    fn indicate(
+    fn make_called_end(
         &mut self,
         from: &Nsap,
         source: u16,
@@ -127,7 +127,7 @@ impl TpEntity {
         ensures clock { self.new.clock ≡ self.old.clock }
     {
         let Some(place) = free_place(&self.ends, self.clock) else {
-            return out.send(refusal(self.alloc, from, source, NO_REFERENCE));
+            return out.send(refusal_dr(self.alloc, from, source, NO_REFERENCE));
         };
         let own = place as u16 + 1;
         let end = Connection::incoming(self.alloc, self.clock, own, *from, cr, self.timers, out)?;
@@ -136,7 +136,7 @@ impl TpEntity {
     }
 
     /// The end at the destination takes a TPDU that matches it; else the TPDU belongs to no end.
-    fn take(
+    fn pass_to_end(
         &mut self,
         destination: u16,
         from: &Nsap,
@@ -229,7 +229,7 @@ fn unmatched(alloc: Global, from: &Nsap, tpdu: &TpduRef<'_>, out: &mut Step) -> 
         what: What::Unknown(kind_of(tpdu)),
     })?;
     match *tpdu {
-        TpduRef::Cc { source, .. } => out.send(refusal(alloc, from, source, NO_END)),
+        TpduRef::Cc { source, .. } => out.send(refusal_dr(alloc, from, source, NO_END)),
         TpduRef::Dr {
             destination,
             source,
@@ -282,7 +282,7 @@ fn kind_of(tpdu: &TpduRef<'_>) -> Kind
 }
 
 /// A DR whose source reference is 0.
-fn refusal(alloc: Global, to: &Nsap, reference: u16, reason: u8) -> Sent
+fn refusal_dr(alloc: Global, to: &Nsap, reference: u16, reason: u8) -> Sent
     ensures { result ≡ refusal to.now reference reason }
 {
     Sent {

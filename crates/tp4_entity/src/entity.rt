@@ -19,7 +19,7 @@ ghost use Rattle.tp4_entity.specs.declared.refusal.EntityRefusal.TheVariants.{Ca
 ghost use Rattle.tp4_entity.specs.declared.refusal.TsapRefusal.TheVariants.{TsapTaken};
 ghost use Rattle.tp4_entity.specs.steps.Places.{IsOwn};
 
-use crate::places::{
+use crate::references::{
     call_place, clear_dues, clear_places, clock_after, free_place, is_over, no_ends, state_of,
     tick_place,
 };
@@ -30,7 +30,7 @@ use osi_base::{Bytes, NoMemory, Tick};
 use std::alloc::Global;
 use std::marker::Model;
 use std::sync::ledger::Ledger;
-use tp4_conn::{ConnectCall, Connection, State, Steps, Timers, UserCall};
+use tp4_conn::{ConnectRequest, Connection, State, Steps, Timers, UserCall};
 use tp4_flow::Step;
 
 /// The most octets of a connect request.
@@ -45,6 +45,7 @@ pub struct TpEntity {
     pub(crate) clock: Tick,
     pub(crate) selectors: Vec<Bytes>,
     pub(crate) ends: Vec<Option<Connection>>,
+    /// When each place is due, so that a tick and a settle go over the due ends and over no others.
     pub(crate) due: Due,
     pub(crate) restarted: Option<Tick>,
 }
@@ -154,7 +155,7 @@ impl TpEntity {
         ensures free { OnOk result (is_registered self.old.selectors selector.now ≡ false) }
         ensures taken { is_registered self.old.selectors selector.now ≡ true → result ≡ Err TsapTaken }
         ensures why { result ≡ Err TsapTaken → is_registered self.old.selectors selector.now ≡ true }
-        ensures same { OnErr result (self.new ≡ self.old) }
+        ensures err { OnErr result (self.new ≡ self.old) }
     {
         if self.is_registered(selector) {
             return Err(TsapRefusal::TsapTaken);
@@ -165,40 +166,40 @@ impl TpEntity {
         }
     }
 
-    /// A new end calls, at the least free reference. The reference, the user's address and the timers of the call are set here.
+    /// A new end calls, at the least free reference, with the address and the timers of the entity.
     ///
     /// `Silent` exactly while the entity is silent, `TooLong` exactly above 32 octets, `RefsSpent` exactly where no reference is free, in
     /// this order; nothing is changed then.
     pub fn connect(
         &mut self,
         now: Tick,
-        call: ConnectCall,
+        request: ConnectRequest,
         out: &mut Step,
     ) -> Result<u16, ConnectRefusal>
         requires clock { self.old.clock ≤ now }
         requires now { now ≤ 4000000000 }
         requires due { AreFrom now self.old.ends }
-        requires size { IsSized call.options }
-        ensures allowed { OnOk result (connect_refusal now self.old call.octets ≡ None) }
+        requires size { IsSized request.options }
+        ensures allowed { OnOk result (connect_refusal now self.old request.octets ≡ None) }
         ensures least { IfOk result (λ reference. least_free now self.old ≡ Some reference) }
-        ensures step { IfOk result (λ reference. DoesSo (connecting now self.old reference call) self.new out.old out.new) }
+        ensures step { IfOk result (λ reference. DoesSo (connecting now self.old reference request) self.new out.old out.new) }
         ensures from { OnOk result (AreFrom now self.new.ends) }
         ensures later { OnOk result (AreLater now self.old.ends → AreLater now self.new.ends) }
-        ensures refused { (why : ConnectRefusal) → connect_refusal now self.old call.octets ≡ Some why → result ≡ Err why }
-        ensures why { IfErr result (λ why. why ≢ ConnectOutOfMemory → connect_refusal now self.old call.octets ≡ Some why) }
-        ensures same { IfErr result (λ why. why ≢ ConnectOutOfMemory → (self.new ≡ self.old) × (out.new ≡ out.old)) }
+        ensures refused { (why : ConnectRefusal) → connect_refusal now self.old request.octets ≡ Some why → result ≡ Err why }
+        ensures why { IfErr result (λ why. why ≢ ConnectOutOfMemory → connect_refusal now self.old request.octets ≡ Some why) }
+        ensures err { IfErr result (λ why. why ≢ ConnectOutOfMemory → (self.new ≡ self.old) × (out.new ≡ out.old)) }
         ensures clock { self.new.clock ≤ now }
     {
         if self.is_silent(now) {
             return Err(ConnectRefusal::Silent);
         }
-        if MOST_OCTETS < call.octets.as_slice().len() {
+        if MOST_OCTETS < request.octets.as_slice().len() {
             return Err(ConnectRefusal::TooLong);
         }
         let Some(place) = free_place(&self.ends, now) else {
             return Err(ConnectRefusal::RefsSpent);
         };
-        match self.call_from(place, now, call, out) {
+        match self.call_from(place, now, request, out) {
             Ok(reference) => Ok(reference),
             Err(NoMemory) => Err(ConnectRefusal::NoMemory),
         }
@@ -224,7 +225,7 @@ impl TpEntity {
         ensures later { OnOk result (AreLater now self.old.ends → AreLater now self.new.ends) }
         ensures refused { (why : EntityRefusal) → user_refusal self.old reference call ≡ Some why → result ≡ Err why }
         ensures why { IfErr result (λ why. why ≢ Call EndOutOfMemory → user_refusal self.old reference call ≡ Some why) }
-        ensures same { IfErr result (λ why. why ≢ Call EndOutOfMemory → (self.new ≡ self.old) × (out.new ≡ out.old)) }
+        ensures err { IfErr result (λ why. why ≢ Call EndOutOfMemory → (self.new ≡ self.old) × (out.new ≡ out.old)) }
         ensures clock { self.new.clock ≤ now }
     {
         if reference == 0 {
@@ -272,7 +273,7 @@ impl TpEntity {
         ensures clock { self.new.clock ≤ now }
         ensures steps { IfOk result (λ was_due. steps.new ≤ steps.old + (if was_due then 2 else 0)) }
     {
-        self.wake(now);
+        self.set_clock(now);
         let Some(place) = self.due.pop(now) else {
             return Ok(false);
         };

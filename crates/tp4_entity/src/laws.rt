@@ -6,7 +6,7 @@ ghost use Rattle.tpdu.specs.Values.{TpduAndSum};
 ghost use Rattle.tpdu.specs.declared.tpdu.Tpdu.{Tpdu};
 ghost use Rattle.tpdu.specs.declared.tpdu.Tpdu.TheVariants.{Dr};
 ghost use Rattle.tp4_number.specs.Number.{whole, wire};
-ghost use Rattle.tp4_conn.specs.declared.call.ConnectCall.{ConnectCall};
+ghost use Rattle.tp4_conn.specs.declared.call.ConnectRequest.{ConnectRequest};
 ghost use Rattle.tp4_conn.specs.declared.call.UserCall.{UserCall};
 ghost use Rattle.tp4_conn.specs.End.{frozen_for};
 ghost use Rattle.tp4_entity.specs.Association.{met};
@@ -23,7 +23,7 @@ pub fn over_references()
     ensures free { (now reference : ℕ) (e : Entity) → is_free now e reference ≡ true → (is_silent now e ≡ false) × (1 ≤ reference) × (reference ≤ length e.ends) × IsFreeAt now (end_at e reference) }
     ensures only { (now reference : ℕ) (e : Entity) → is_silent now e ≡ false → 1 ≤ reference → reference ≤ length e.ends → IsFreeAt now (end_at e reference) → is_free now e reference ≡ true }
     ensures least { (now reference : ℕ) (e : Entity) → is_silent now e ≡ false → least_free now e ≡ Some reference → is_free now e reference ≡ true }
-    ensures connecting { (wrap : ℕ → ℕ → ℕ) (now reference : ℕ) (e : Entity) (call : ConnectCall) → least_free now e ≡ Some reference → KeepsEnds wrap now e (connecting now e reference call).entity }
+    ensures connecting { (wrap : ℕ → ℕ → ℕ) (now reference : ℕ) (e : Entity) (request : ConnectRequest) → least_free now e ≡ Some reference → KeepsEnds wrap now e (connecting now e reference request).entity }
     ensures calling { (wrap : ℕ → ℕ → ℕ) (now reference : ℕ) (e : Entity) (call : UserCall) → KeepsEnds wrap now e (calling wrap now e reference call).entity }
     ensures met { (wrap : ℕ → ℕ → ℕ) (now : ℕ) (e : Entity) (from : List ℕ) (tpdu : TpduAndSum) → KeepsEnds wrap now e (met wrap now e from tpdu).entity }
     ensures ticking { (wrap : ℕ → ℕ → ℕ) (now : ℕ) (e : Entity) → KeepsEnds wrap now e (ticking wrap now e).entity }
@@ -33,7 +33,7 @@ pub fn over_references()
 pub fn over_restarts()
     ensures none { (now reference : ℕ) (e : Entity) → end_at (restarted now e) reference ≡ None }
     ensures silent { (now later : ℕ) (e : Entity) → is_silent later (restarted now e) ≡ nat_le later (now + frozen_for e.timers) }
-    ensures connecting { (now reference : ℕ) (e : Entity) (call : ConnectCall) → (connecting now e reference call).entity.restarted ≡ e.restarted }
+    ensures connecting { (now reference : ℕ) (e : Entity) (request : ConnectRequest) → (connecting now e reference request).entity.restarted ≡ e.restarted }
     ensures calling { (wrap : ℕ → ℕ → ℕ) (now reference : ℕ) (e : Entity) (call : UserCall) → (calling wrap now e reference call).entity.restarted ≡ e.restarted }
     ensures met { (wrap : ℕ → ℕ → ℕ) (now : ℕ) (e : Entity) (from : List ℕ) (tpdu : TpduAndSum) → (met wrap now e from tpdu).entity.restarted ≡ e.restarted }
     ensures ticking { (wrap : ℕ → ℕ → ℕ) (now : ℕ) (e : Entity) → (ticking wrap now e).entity.restarted ≡ e.restarted }
@@ -66,7 +66,7 @@ pub fn one_answer()
 /// An entity whose ends keep wire numbers stands for every entity whose ends have these wire numbers: it tells and sends what that
 /// one does, and stands for it afterwards.
 pub fn over_wires()
-    ensures connecting { (now reference : ℕ) (e : Entity) (call : ConnectCall) → connecting now (entity_on_wire e) reference call ≡ acted_on_wire (connecting now e reference call) }
+    ensures connecting { (now reference : ℕ) (e : Entity) (request : ConnectRequest) → connecting now (entity_on_wire e) reference request ≡ acted_on_wire (connecting now e reference request) }
     ensures calling { (now reference : ℕ) (e : Entity) (call : UserCall) → calling wire now (entity_on_wire e) reference call ≡ acted_on_wire (calling whole now e reference call) }
     ensures met { (now : ℕ) (e : Entity) (from : List ℕ) (tpdu : TpduAndSum) → met wire now (entity_on_wire e) from tpdu ≡ acted_on_wire (met whole now e from tpdu) }
     ensures ticking { (now : ℕ) (e : Entity) → ticking wire now (entity_on_wire e) ≡ acted_on_wire (ticking whole now e) }

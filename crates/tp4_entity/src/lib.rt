@@ -5,7 +5,7 @@
 mod association;
 mod entity;
 mod laws;
-mod places;
+mod references;
 mod refusal;
 mod steps;
 mod unit;

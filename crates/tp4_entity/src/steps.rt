@@ -9,10 +9,10 @@ ghost use Rattle.tp4_entity.specs.Step.{DoesSo, connecting};
 ghost use Rattle.tp4_entity.specs.steps.Places.{IsOwn, Lasts};
 
 use crate::TpEntity;
-use crate::places::{due_of, keep};
+use crate::references::{due_of, keep};
 use nsap::Nsap;
 use osi_base::{Bytes, NoMemory, Tick};
-use tp4_conn::{ConnectCall, Connection};
+use tp4_conn::{ConnectCall, ConnectRequest, Connection};
 use tp4_flow::Step;
 
 impl TpEntity {
@@ -38,7 +38,7 @@ impl TpEntity {
     /// One selector more.
     pub(crate) fn add_selector(&mut self, selector: &[u8]) -> Result<(), NoMemory>
         ensures ok { OnOk result (self.new ≡ record self.old { selectors = self.old.selectors ++ selector.now ∷ [] }) }
-        ensures same { OnErr result (self.new ≡ self.old) }
+        ensures err { OnErr result (self.new ≡ self.old) }
     {
         let octets = selector.to_vec(self.alloc)?;
         self.selectors.push(Bytes::of(octets))?;
@@ -46,7 +46,7 @@ impl TpEntity {
     }
 
     /// It is now this tick.
-    pub(crate) fn wake(&mut self, now: Tick)
+    pub(crate) fn set_clock(&mut self, now: Tick)
         requires { self.old.clock ≤ now }
         ensures { self.new ≡ at now self.old }
     {
@@ -68,16 +68,16 @@ impl TpEntity {
         &mut self,
         place: usize,
         now: Tick,
-        call: ConnectCall,
+        request: ConnectRequest,
         out: &mut Step,
     ) -> Result<u16, NoMemory>
         requires within { place < length self.old.ends }
         requires clock { self.old.clock ≤ now }
         requires now { now ≤ 4000000000 }
         requires due { AreFrom now self.old.ends }
-        requires size { IsSized call.options }
+        requires size { IsSized request.options }
         ensures reference { IfOk result (λ reference. reference ≡ place + 1) }
-        ensures step { OnOk result (DoesSo (connecting now self.old (place + 1) call) self.new out.old out.new) }
+        ensures step { OnOk result (DoesSo (connecting now self.old (place + 1) request) self.new out.old out.new) }
         ensures lasts { OnOk result (Lasts now self.old.ends self.new.ends) }
         ensures clock { self.new.clock ≤ now }
     {
@@ -86,11 +86,11 @@ impl TpEntity {
         let call = ConnectCall {
             own,
             from,
+            request,
             rules: self.timers,
-            ..call
         };
         let end = Connection::connect(self.alloc, now, call, out)?;
-        self.wake(now);
+        self.set_clock(now);
         self.put(place, end);
         Ok(own)
     }

@@ -40,7 +40,7 @@ impl TpEntity {
         ensures clock { self.new.clock ≤ now }
     {
         if self.is_silent(now) {
-            self.wake(now);
+            self.set_clock(now);
             return ignore(out);
         }
         self.hear_unit(now, from, octets, out)
@@ -62,14 +62,14 @@ impl TpEntity {
         ensures later { OnOk result (AreLater now self.old.ends → AreLater now self.new.ends) }
         ensures clock { self.new.clock ≤ now }
     {
-        self.wake(now);
+        self.set_clock(now);
         let mut rest = octets;
         while !rest.is_empty() {
             let (tpdu, behind) = match self.read(rest) {
                 Ok(found) => found,
                 Err(fault) => return tell(fault, out),
             };
-            self.meet(&from, &tpdu, out)?;
+            self.on_tpdu(&from, &tpdu, out)?;
             rest = behind;
         }
         Ok(())

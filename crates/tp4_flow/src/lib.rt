@@ -3,10 +3,10 @@
 #![tactic(auto)]
 
 mod laws;
+mod reassembling;
 mod receiving;
 mod rules;
 mod step;
-mod window;
 
 pub use laws::over_wires;
 pub use receiving::Receiving;

@@ -7,9 +7,9 @@ ghost use Rattle.tp4_number.specs.Receiver.{judged};
 ghost use Rattle.tp4_flow.specs.Half.{Half, Receives, empty, ak, ea, dt_arrival, taken_dt, taken_ed, is_next, half_granted};
 ghost use Rattle.tp4_flow.specs.steps.Shown.{Shows};
 
+use crate::reassembling::Window;
 use crate::rules::FlowRules;
 use crate::step::{EndEvent, Sent, Step, What};
-use crate::window::Window;
 use osi_base::{Bytes, NoMemory};
 use std::alloc::Global;
 use std::marker::Model;

@@ -55,6 +55,4 @@ pub enum SubmitRefusal {
     TooLong,
     /// 64 units wait, or their octets would pass 131,072.
     QueueFull,
-    /// Memory ran out.
-    NoMemory,
 }

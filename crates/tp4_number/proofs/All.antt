@@ -2,7 +2,7 @@
 use Rattle.std.proofs.Common.{◌≡◌, ℕ, zero, suc, Bool, true, List, [], ◌∷◌, ◌++◌, ◌&&◌, refl, append_assoc, append-nil, false, ap}
 use Rattle.std.proofs.lemmas.Bool.{ltb-true}
 use Rattle.tp4_number.specs.Sender.{Sender, sent_all, gone, goes}
-use Rattle.tp4_number.specs.Traffic.{Rules, World, Event, Send, after, Leads}
+use Rattle.tp4_number.specs.Traffic.{Rules, Traffic, Event, Send, after, Leads}
 use Rattle.tp4_number.proofs.Past.{if_both}
 
 all_true : (a b c : Bool) → (a && (b && c)) ≡ true → (b ≡ true) × (c ≡ true)
@@ -11,7 +11,7 @@ all_true true true false t = absurd (cc t)
 all_true true false c t = absurd (cc t)
 all_true false b c t = absurd (cc t)
 
-pub all_lead : (rules : Rules) (total fuel : ℕ) (w : World)
+pub all_lead : (rules : Rules) (total fuel : ℕ) (w : Traffic)
     → (events : List Event) × Leads rules w events (record w { sender = sent_all fuel rules.block rules.limit w.sender w.clock total; sends = w.sends ++ gone fuel rules.block rules.limit w.sender w.clock total })
 all_lead rules total zero w = ([], ap (λ (l : List (ℕ × ℕ)). record w { sends = l }) (append-nil w.sends))
 all_lead rules total (suc fuel) w =

@@ -6,7 +6,7 @@ use Rattle.std.proofs.lemmas.Bool.Decides.{nat_tests}
 use Rattle.tp4_number.specs.Number.{three_on, MaySend}
 use Rattle.tp4_number.specs.Sender.{may_send}
 use Rattle.tp4_number.specs.declared.blocks.Blocks.{Blocks}
-use Rattle.tp4_number.specs.Traffic.{Rules, IsFit, World, IsKept}
+use Rattle.tp4_number.specs.Traffic.{Rules, IsFit, Traffic, KeepsRule}
 use Rattle.tp4_number.proofs.Sound.{Sound}
 use Rattle.tp4_number.proofs.Accounts.{Accounts, times, opens}
 
@@ -73,8 +73,8 @@ module _ (rules : Rules) (clock : ℕ) (b : Blocks) (sends : List (ℕ × ℕ)) 
   pub rule : (next : ℕ) → next ≤ b.high → (may_send rules.block rules.limit b next clock ≡ true) ↔ MaySend rules.block rules.limit sends next clock
   rule next low = (lets next low, only next low)
 
-module _ (rules : Rules) (w : World) (fit : IsFit rules) (s : Sound rules w) where
-  pub keeps : IsKept rules w
+module _ (rules : Rules) (w : Traffic) (fit : IsFit rules) (s : Sound rules w) where
+  pub keeps : KeepsRule rules w
   keeps = record {
     rule = rule rules w.clock w.sender.blocks w.sends fit s.account w.sender.next s.order.next_to;
     base_low = s.order.base_low;

@@ -10,7 +10,7 @@ use Rattle.tp4_number.specs.Receiver.{Inbox, judged, in_order, arrived_as, after
 use Rattle.tp4_number.specs.declared.piece.Piece.{Piece}
 use Rattle.tp4_number.specs.declared.got.Got.{Got}
 use Rattle.tp4_number.specs.declared.got.Got.TheVariants.{Kept, Old, Outside, TooLarge}
-use Rattle.tp4_number.specs.Traffic.{Rules, IsFit, Answer, World, Event, Tick, Open, Send, Resend, Dt_comes, Grant, Acknowledge, Ak_comes, May, after, answer_of, Leads, start}
+use Rattle.tp4_number.specs.Traffic.{Rules, IsFit, Answer, Traffic, Event, Tick, Open, Send, Resend, Dt_comes, Grant, Acknowledge, Ak_comes, May, after, answer_of, Leads, start}
 use Rattle.tp4_number.proofs.Past.{if_kept, blank, slid_there, set_there, in_order_first, in_order_there, kept_low}
 use Rattle.tp4_number.proofs.Accounts.{accounts_start, accounts_tick, accounts_send, marked_high, opens, none}
 use Rattle.tp4_number.proofs.Sound.{IsSaid, Sound, reads}
@@ -23,7 +23,7 @@ sound_start rules tick credit size room some c r = record {
   said = λ a h. absurd (none _ h);
 }
 
-module _ (rules : Rules) (fit : IsFit rules) (w : World) (s : Sound rules w) where
+module _ (rules : Rules) (fit : IsFit rules) (w : Traffic) (s : Sound rules w) where
   ticked : Sound rules (after rules w Tick)
   ticked = record {
     account = accounts_tick rules w.clock w.sender.blocks w.sends s.account;
@@ -174,7 +174,7 @@ module _ (rules : Rules) (fit : IsFit rules) (w : World) (s : Sound rules w) whe
       by Outside e = unmoved
       by TooLarge e = unmoved
 
-sound_event : (rules : Rules) (fit : IsFit rules) (w : World) (event : Event) → May rules w event → Sound rules w → Sound rules (after rules w event)
+sound_event : (rules : Rules) (fit : IsFit rules) (w : Traffic) (event : Event) → May rules w event → Sound rules w → Sound rules (after rules w event)
 sound_event rules fit w Tick may s = ticked rules fit w s
 sound_event rules fit w (Open credit) may s = opened rules fit w s credit may
 sound_event rules fit w Send may s = sent_new rules fit w s may
@@ -184,14 +184,14 @@ sound_event rules fit w (Grant credit) may s = gave rules fit w s credit may
 sound_event rules fit w Acknowledge may s = acknowledged rules fit w s
 sound_event rules fit w (Ak_comes a) may s = ak_came rules fit w s a may
 
-sound_leads : (rules : Rules) (fit : IsFit rules) (old new : World) (events : List Event) → Leads rules old events new → Sound rules old → Sound rules new
+sound_leads : (rules : Rules) (fit : IsFit rules) (old new : Traffic) (events : List Event) → Leads rules old events new → Sound rules old → Sound rules new
 sound_leads rules fit old new [] h s = subst (Sound rules) (sym h) s
 sound_leads rules fit old new (event ∷ events) h s = sound_leads rules fit (after rules old event) new events h.1 (sound_event rules fit old event h.0 s)
 
-pub all_sound : (rules : Rules) (tick credit size room : ℕ) (events : List Event) (w : World) → IsFit rules → credit < rules.block → room < rules.block
+pub all_sound : (rules : Rules) (tick credit size room : ℕ) (events : List Event) (w : Traffic) → IsFit rules → credit < rules.block → room < rules.block
     → Leads rules (start tick credit size room) events w → Sound rules w
 all_sound rules tick credit size room events w fit c r h = sound_leads rules fit (start tick credit size room) w events h (sound_start rules tick credit size room fit.some c r)
 
-pub leads_more : (rules : Rules) (events : List Event) (old w : World) (event : Event) → Leads rules old events w → May rules w event → Leads rules old (events ++ event ∷ []) (after rules w event)
-leads_more rules [] old w event h may = (subst (λ (x : World). May rules x event) h may, ap (λ (x : World). after rules x event) h)
+pub leads_more : (rules : Rules) (events : List Event) (old w : Traffic) (event : Event) → Leads rules old events w → May rules w event → Leads rules old (events ++ event ∷ []) (after rules w event)
+leads_more rules [] old w event h may = (subst (λ (x : Traffic). May rules x event) h may, ap (λ (x : Traffic). after rules x event) h)
 leads_more rules (e ∷ events) old w event h may = (h.0, leads_more rules events (after rules old e) w event h.1 may)

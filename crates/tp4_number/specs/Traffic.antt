@@ -22,7 +22,7 @@ pub record Answer : Type 0 where
   pub subsequence : ℕ
   pub tick : ℕ
 
-pub record World : Type 0 where
+pub record Traffic : Type 0 where
   pub clock : ℕ
   pub sender : Sender
   pub receiver : Receiver
@@ -40,7 +40,7 @@ pub data Event : Type 0 where
   Acknowledge : Event
   Ak_comes : (answer : Answer) → Event
 
-abbrev pub May : Rules → World → Event → Type 0
+abbrev pub May : Rules → Traffic → Event → Type 0
 May rules w Tick = Unit {0}
 May rules w (Open credit) = (w.sender.blocks.high ≡ 0) × (credit < rules.block)
 May rules w Send = (w.sender.next < w.sender.base + w.sender.credit) × (may_send rules.block rules.limit w.sender.blocks w.sender.next w.clock ≡ true)
@@ -50,10 +50,10 @@ May rules w (Grant credit) = credit < rules.block
 May rules w Acknowledge = Unit {0}
 May rules w (Ak_comes answer) = Contains w.answers answer × (w.clock ≤ answer.tick + rules.life)
 
-abbrev pub answer_of : World → Answer
+abbrev pub answer_of : Traffic → Answer
 answer_of w = record { number = w.receiver.expected; credit = w.receiver.inbox.credit; subsequence = w.receiver.inbox.subsequence; tick = w.clock }
 
-abbrev pub after : Rules → World → Event → World
+abbrev pub after : Rules → Traffic → Event → Traffic
 after rules w Tick = record w { clock = w.clock + 1 }
 after rules w (Open credit) = record w { sender = record w.sender { credit = credit } }
 after rules w Send = record w { sender = sent_next rules.block w.sender w.clock; sends = w.sends ++ (w.sender.next, w.clock) ∷ [] }
@@ -64,12 +64,12 @@ after rules w Acknowledge = record w { answers = w.answers ++ answer_of w ∷ []
 after rules w (Ak_comes answer) = record w { sender = told w.sender (near rules.block w.sender.base (wire rules.block answer.number)) answer.credit answer.subsequence }
 
 -- these events can happen in this order, and lead from one world to the other
-abbrev pub Leads : Rules → World → List Event → World → Type 0
+abbrev pub Leads : Rules → Traffic → List Event → Traffic → Type 0
 Leads rules old [] new = new ≡ old
 Leads rules old (event ∷ events) new = May rules old event × Leads rules (after rules old event) events new
 
 -- `size` is the most that a receiver keeps
-abbrev pub start : ℕ → ℕ → ℕ → ℕ → World
+abbrev pub start : ℕ → ℕ → ℕ → ℕ → Traffic
 start tick credit size room =
     record {
       clock = tick;
@@ -80,7 +80,7 @@ start tick credit size room =
     }
 
 -- every DT and every AK that is still afloat is read for what it is
-pub record IsRead (rules : Rules) (w : World) : Type 0 where
+pub record ReadsRightly (rules : Rules) (w : Traffic) : Type 0 where
   pub new_dt : (n tick : ℕ) → Contains w.sends (n, tick) → w.clock ≤ tick + rules.life → w.receiver.expected ≤ n
       → near rules.block w.receiver.expected (wire rules.block n) ≡ n
   pub old_dt : (n tick : ℕ) → Contains w.sends (n, tick) → w.clock ≤ tick + rules.life → n < w.receiver.expected
@@ -91,7 +91,7 @@ pub record IsRead (rules : Rules) (w : World) : Type 0 where
       → w.sender.blocks.high < near rules.block w.sender.base (wire rules.block a.number)
 
 -- the blocks that the sender keeps obey the rule over all that was ever sent, and numbers grow no faster than time
-pub record IsKept (rules : Rules) (w : World) : Type 0 where
+pub record KeepsRule (rules : Rules) (w : Traffic) : Type 0 where
   pub rule : (may_send rules.block rules.limit w.sender.blocks w.sender.next w.clock ≡ true) ↔ MaySend rules.block rules.limit w.sends w.sender.next w.clock
   pub again : (n : ℕ) → n < w.sender.blocks.high → MaySend rules.block rules.limit w.sends n w.clock
   pub base_low : w.sender.base ≤ w.receiver.expected

@@ -6,18 +6,18 @@ ghost use Rattle.tp4_number.specs.declared.blocks.Blocks.{Blocks};
 ghost use Rattle.tp4_number.specs.Expedited.{Urgent, UrgentEvent, LeadsUrgently, quiet, IsAlone, ObeysRule};
 ghost use Rattle.tp4_number.specs.Number.{near, IsNear};
 ghost use Rattle.tp4_number.specs.Sender.{may_send, opens_at, IsPast, sent_all, gone};
-ghost use Rattle.tp4_number.specs.Traffic.{Rules, IsFit, World, Event, May, after, Leads, start, IsRead, IsKept};
+ghost use Rattle.tp4_number.specs.Traffic.{Rules, IsFit, Traffic, Event, May, after, Leads, start, ReadsRightly, KeepsRule};
 
 /// After any events each DT and each AK afloat is read for the number that it was sent with, and the
 /// sender's words on its blocks say what the number rule says of all that was ever sent.
 pub fn over_events()
-    ensures read { (rules : Rules) (tick credit size room : ℕ) (events : List Event) (w : World) → IsFit rules → credit < rules.block → room < rules.block
-        → Leads rules (start tick credit size room) events w → IsRead rules w }
-    ensures kept { (rules : Rules) (tick credit size room : ℕ) (events : List Event) (w : World) → IsFit rules → credit < rules.block → room < rules.block
-        → Leads rules (start tick credit size room) events w → IsKept rules w }
-    ensures more { (rules : Rules) (events : List Event) (old w : World) (event : Event) → Leads rules old events w → May rules w event
+    ensures read { (rules : Rules) (tick credit size room : ℕ) (events : List Event) (w : Traffic) → IsFit rules → credit < rules.block → room < rules.block
+        → Leads rules (start tick credit size room) events w → ReadsRightly rules w }
+    ensures kept { (rules : Rules) (tick credit size room : ℕ) (events : List Event) (w : Traffic) → IsFit rules → credit < rules.block → room < rules.block
+        → Leads rules (start tick credit size room) events w → KeepsRule rules w }
+    ensures more { (rules : Rules) (events : List Event) (old w : Traffic) (event : Event) → Leads rules old events w → May rules w event
         → Leads rules old (events ++ event ∷ []) (after rules w event) }
-    ensures all { (rules : Rules) (fuel total : ℕ) (w : World) → (events : List Event) × Leads rules w events
+    ensures all { (rules : Rules) (fuel total : ℕ) (w : Traffic) → (events : List Event) × Leads rules w events
         (record w { sender = sent_all fuel rules.block rules.limit w.sender w.clock total; sends = w.sends ++ gone fuel rules.block rules.limit w.sender w.clock total }) }
 {}
 

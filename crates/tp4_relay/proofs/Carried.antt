@@ -9,7 +9,7 @@ use Rattle.osi_journal.specs.declared.event.Event.{Event}
 use Rattle.osi_journal.specs.declared.event.Event.TheVariants as events
 use Rattle.osi_journal.specs.declared.event.Indication.{Indication}
 use Rattle.osi_journal.specs.declared.event.Request.{Request}
-use Rattle.tp4_conn.specs.declared.call.ConnectCall.{ConnectCall}
+use Rattle.tp4_conn.specs.declared.call.ConnectRequest.{ConnectRequest}
 use Rattle.tp4_conn.specs.declared.call.UserCall.{UserCall}
 use Rattle.tp4_conn.specs.declared.call.UserCall.TheVariants as asks
 use Rattle.tp4_conn.specs.End.{IsSized}
@@ -86,7 +86,7 @@ row_in P (first ∷ rows) heard row all is = by (row_in P rows heard row all.1) 
 
 module _ (has : ℕ → Type 0) (kept : Kept) (tidy : IsTidy kept) (rows : AllByRecursion (λ (row : RelayRow). has row.system) kept.rows) where
   to_begin : (heard : Indication) → Passes kept (events.Incoming heard) → IsSized (asked_options heard.options) → (row : Option RelayRow) → row_for kept.rows heard ≡ row
-      → MayDo has (noted kept (events.Incoming heard)) (begins kept.rules heard row)
+      → MayDo has (noted kept (events.Incoming heard)) (begins heard row)
   to_begin heard may sized None is = tt
   to_begin heard may sized (Some row) is = (
     row_in (λ (r : RelayRow). has r.system) kept.rows heard row rows is,
@@ -139,7 +139,7 @@ module _ (has : ℕ → Type 0) (kept : Kept) (tidy : IsTidy kept) (rows : AllBy
 
 pub can_do : (has : ℕ → Type 0) (kept : Kept) (to_do : Reaction) → MayDo has kept to_do → CanDo has to_do
 can_do has kept Nothing may = tt
-can_do has kept (Begin inbound system call) may = (may.0, may.1)
+can_do has kept (Begin inbound system request) may = (may.0, may.1)
 can_do has kept (Ask end call) may = may.0
 
 -- ---- the events of a line
@@ -206,29 +206,29 @@ moved_line ends kept made (event ∷ line) tidy all left =
     let m = moved ends kept event made all passes left.1 in
     moved_line ends (noted kept event) made line (tidy_more kept event tidy (passes_notable kept event passes)) m.still left.2
 
-module _ {S : Type 0} (has : S → ℕ → Type 0) (ends : S → ℕ) (honest : S → Bool) (connects : S → ℕ → ConnectCall → Bool → List Event → S → Type 0)
+module _ {S : Type 0} (has : S → ℕ → Type 0) (ends : S → ℕ) (honest : S → Bool) (connects : S → ℕ → ConnectRequest → Bool → List Event → S → Type 0)
     (calls : S → ℕ → UserCall → Bool → List Event → S → Type 0) (law : IsService has ends honest connects calls) where
   -- ---- what is done about one event
 
-  pub connect_idle : (old : S) (system : ℕ) (call : ConnectCall) (done : Bool) (made : List Event) (new : S) → connects old system call done made new → AllByRecursion IsIdle made
-  connect_idle old system call true made new c =
-      let told = law.connected old system call true made new c in subst (AllByRecursion IsIdle) (sym told.2) (tt, asides_idle told.1 told.4)
-  connect_idle old system call false made new c = refusal_idle made (law.connected old system call false made new c)
+  pub connect_idle : (old : S) (system : ℕ) (request : ConnectRequest) (done : Bool) (made : List Event) (new : S) → connects old system request done made new → AllByRecursion IsIdle made
+  connect_idle old system request true made new c =
+      let told = law.connected old system request true made new c in subst (AllByRecursion IsIdle) (sym told.2) (tt, asides_idle told.1 told.4)
+  connect_idle old system request false made new c = refusal_idle made (law.connected old system request false made new c)
 
   module _ (kept : Kept) (old : S) (low : kept.named ≤ ends old) where
-    begin_made : (inbound system : ℕ) (call : ConnectCall) (taken done : Bool) (made : List Event) (new : S) → MayDo (has old) kept (Begin inbound system call)
-        → BeginsBy connects calls old inbound system call taken done made new → AreMadeBy (ends old) kept made
-    begin_made inbound system call true done made new may b =
-        let told = law.connected old system call true b.0 new b.3 in
+    begin_made : (inbound system : ℕ) (request : ConnectRequest) (taken done : Bool) (made : List Event) (new : S) → MayDo (has old) kept (Begin inbound system request)
+        → BeginsBy connects calls old inbound system request taken done made new → AreMadeBy (ends old) kept made
+    begin_made inbound system request true done made new may b =
+        let told = law.connected old system request true b.0 new b.3 in
         let asked_is : b.1 ≡ told.0 = (let same : events.Connect b.1 ∷ b.2 ≡ events.Connect told.0 ∷ told.1 = sym b.4 ∙ told.2 in cc) in
         let end_is : (b.1).end ≡ ends old + 1 = ap (λ (r : Request). r.end) asked_is ∙ told.3 in
-        let idle = connect_idle old system call true b.0 new b.3 in
+        let idle = connect_idle old system request true b.0 new b.3 in
         let joins : Joins kept inbound (b.1).end = record { indicated = may.2; later = may.3; unnamed = omega (arith, low, end_is) } in
         subst (AreMadeBy (ends old) kept) (sym b.5)
         (made_more (ends old) kept b.0 (events.Joined inbound (b.1).end ∷ []) (idle_made (ends old) kept b.0 idle)
         (subst (λ (k : Kept). AreMadeBy (ends old) k (events.Joined inbound (b.1).end ∷ [])) (sym (all_idle_same kept b.0 idle)) ((joins, omega (arith, end_is)), tt)))
-    begin_made inbound system call false done made new may b =
-        let idle = connect_idle old system call false b.1 b.0 b.3 in
+    begin_made inbound system request false done made new may b =
+        let idle = connect_idle old system request false b.1 b.0 b.3 in
         subst (AreMadeBy (ends old) kept) (sym b.5)
         (made_more (ends old) kept b.1 b.2 (idle_made (ends old) kept b.1 idle)
         (subst (λ (k : Kept). AreMadeBy (ends old) k b.2) (sym (all_idle_same kept b.1 idle))
@@ -236,24 +236,24 @@ module _ {S : Type 0} (has : S → ℕ → Type 0) (ends : S → ℕ) (honest : 
 
     pub does_made : (to_do : Reaction) (done : Bool) (made : List Event) (new : S) → MayDo (has old) kept to_do → Does connects calls old to_do done made new → AreMadeBy (ends old) kept made
     does_made Nothing done made new may d = subst (AreMadeBy (ends old) kept) (sym d.1) tt
-    does_made (Begin inbound system call) done made new may d = begin_made inbound system call d.0 done made new may d.1
+    does_made (Begin inbound system request) done made new may d = begin_made inbound system request d.0 done made new may d.1
     does_made (Ask end call) done made new may d = told_made kept end (ends old) call done made may.1 (law.told old end call done made new d)
 
-    begin_named : (inbound system : ℕ) (call : ConnectCall) (taken done : Bool) (made : List Event) (new : S) → MayDo (has old) kept (Begin inbound system call)
-        → BeginsBy connects calls old inbound system call taken done made new → ((kept_after kept made).named ≤ ends new) × (ends old ≤ ends new)
-    begin_named inbound system call true done made new may b =
-        let told = law.connected old system call true b.0 new b.3 in
+    begin_named : (inbound system : ℕ) (request : ConnectRequest) (taken done : Bool) (made : List Event) (new : S) → MayDo (has old) kept (Begin inbound system request)
+        → BeginsBy connects calls old inbound system request taken done made new → ((kept_after kept made).named ≤ ends new) × (ends old ≤ ends new)
+    begin_named inbound system request true done made new may b =
+        let told = law.connected old system request true b.0 new b.3 in
         let asked_is : b.1 ≡ told.0 = (let same : events.Connect b.1 ∷ b.2 ≡ events.Connect told.0 ∷ told.1 = sym b.4 ∙ told.2 in cc) in
         let end_is : (b.1).end ≡ ends old + 1 = ap (λ (r : Request). r.end) asked_is ∙ told.3 in
-        let counted = law.counted old system call true b.0 new b.3 in
-        let idle = connect_idle old system call true b.0 new b.3 in
+        let counted = law.counted old system request true b.0 new b.3 in
+        let idle = connect_idle old system request true b.0 new b.3 in
         let last : kept_after kept made ≡ noted kept (events.Joined inbound (b.1).end) =
         ap (kept_after kept) b.5 ∙ kept_more kept b.0 (events.Joined inbound (b.1).end ∷ []) ∙ ap (λ (k : Kept). noted k (events.Joined inbound (b.1).end)) (all_idle_same kept b.0 idle) in
         let n = ap (λ (k : Kept). k.named) last in
         (omega (arith, n, counted, end_is, low), omega (arith, counted))
-    begin_named inbound system call false done made new may b =
-        let idle = connect_idle old system call false b.1 b.0 b.3 in
-        let counted = law.counted old system call false b.1 b.0 b.3 in
+    begin_named inbound system request false done made new may b =
+        let idle = connect_idle old system request false b.1 b.0 b.3 in
+        let counted = law.counted old system request false b.1 b.0 b.3 in
         let same = law.call_ends b.0 inbound (asks.Refuse []) done b.2 new b.4 in
         let told = law.told b.0 inbound (asks.Refuse []) done b.2 new b.4 in
         let first : kept_after kept b.1 ≡ kept = all_idle_same kept b.1 idle in
@@ -267,22 +267,22 @@ module _ {S : Type 0} (has : S → ℕ → Type 0) (ends : S → ℕ) (honest : 
         → ((kept_after kept made).named ≤ ends new) × (ends old ≤ ends new)
     does_named Nothing done made new may d =
         let n = ap (λ (es : List Event). (kept_after kept es).named) d.1 in let e = ap ends d.2 in (omega (arith, n, e, low), omega (arith, e))
-    does_named (Begin inbound system call) done made new may d = begin_named inbound system call d.0 done made new may d.1
+    does_named (Begin inbound system request) done made new may d = begin_named inbound system request d.0 done made new may d.1
     does_named (Ask end call) done made new may d =
         let e = law.call_ends old end call done made new d in
         let end_low = may.2 in
         let n = told_named kept end (ends old) call done made (omega (arith, end_low, low)) low (law.told old end call done made new d) in
         (omega (arith, n, e), omega (arith, e))
 
-  begin_has : (old : S) (inbound system : ℕ) (call : ConnectCall) (taken done : Bool) (made : List Event) (new : S) → BeginsBy connects calls old inbound system call taken done made new
+  begin_has : (old : S) (inbound system : ℕ) (request : ConnectRequest) (taken done : Bool) (made : List Event) (new : S) → BeginsBy connects calls old inbound system request taken done made new
       → (other : ℕ) → has old other → has new other
-  begin_has old inbound system call true done made new b other h = law.connect_has old system call true b.0 new b.3 other h
-  begin_has old inbound system call false done made new b other h =
-      law.call_has b.0 inbound (asks.Refuse []) done b.2 new b.4 other (law.connect_has old system call false b.1 b.0 b.3 other h)
+  begin_has old inbound system request true done made new b other h = law.connect_has old system request true b.0 new b.3 other h
+  begin_has old inbound system request false done made new b other h =
+      law.call_has b.0 inbound (asks.Refuse []) done b.2 new b.4 other (law.connect_has old system request false b.1 b.0 b.3 other h)
 
   pub does_has : (old : S) (to_do : Reaction) (done : Bool) (made : List Event) (new : S) → Does connects calls old to_do done made new → (other : ℕ) → has old other → has new other
   does_has old Nothing done made new d other h = subst (λ (s : S). has s other) (sym d.2) h
-  does_has old (Begin inbound system call) done made new d other h = begin_has old inbound system call d.0 done made new d.1 other h
+  does_has old (Begin inbound system request) done made new d other h = begin_has old inbound system request d.0 done made new d.1 other h
   does_has old (Ask end call) done made new d other h = law.call_has old end call done made new d other h
 
   pub done_notable : (kept : Kept) (to_do : Reaction) (done : Bool) (old : S) (before after : List Event) (new : S) → IsTidy kept → kept.named ≤ ends old → MayDo (has old) kept to_do

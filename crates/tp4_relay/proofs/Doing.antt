@@ -4,7 +4,7 @@ use Rattle.std.specs.List.{AllByRecursion}
 use Rattle.std.specs.Result.{IfOk, OnErr}
 use Rattle.std.proofs.lemmas.List.{append-nil}
 use Rattle.osi_journal.specs.declared.event.Event.{Event}
-use Rattle.tp4_conn.specs.declared.call.ConnectCall.{ConnectCall}
+use Rattle.tp4_conn.specs.declared.call.ConnectRequest.{ConnectRequest}
 use Rattle.tp4_conn.specs.declared.call.UserCall.{UserCall}
 use Rattle.tp4_relay.specs.declared.reaction.Reaction.{Reaction}
 use Rattle.tp4_relay.specs.declared.reaction.Reaction.TheVariants.{Nothing}
@@ -23,7 +23,7 @@ use Rattle.tp4_relay.proofs.Served.{call_bound}
 pub idle_err : {E : Type 0} (r : Result Bool E) (before after : List Event) → OnErr r (after ≡ before) → OnErr r (Tells before after (AllByRecursion IsIdle))
 idle_err r before after err = on_err_too r (after ≡ before) (Tells before after (AllByRecursion IsIdle)) (λ same. tells_none (AllByRecursion IsIdle) before after same tt) err
 
-module _ {S : Type 0} (connects : S → ℕ → ConnectCall → Bool → List Event → S → Type 0) (calls : S → ℕ → UserCall → Bool → List Event → S → Type 0) (to_do : Reaction) where
+module _ {S : Type 0} (connects : S → ℕ → ConnectRequest → Bool → List Event → S → Type 0) (calls : S → ℕ → UserCall → Bool → List Event → S → Type 0) (to_do : Reaction) where
   pub did_nothing : (old : S) (before : List Event) → to_do ≡ Nothing → Tells before before (λ made. Does connects calls old to_do false made old)
   did_nothing old before is =
       subst (λ (d : Reaction). Tells before before (λ made. Does connects calls old d false made old)) (sym is)
@@ -33,7 +33,7 @@ module _ {S : Type 0} (connects : S → ℕ → ConnectCall → Bool → List Ev
       → IfOk r (λ done. Tells before after (λ made. Does connects calls old to_do done made new))
   did_as r other old before after new is ok = subst (λ (d : Reaction). IfOk r (λ done. Tells before after (λ made. Does connects calls old d done made new))) (sym is) ok
 
-module _ {S : Type 0} (has : S → ℕ → Type 0) (ends : S → ℕ) (honest : S → Bool) (connects : S → ℕ → ConnectCall → Bool → List Event → S → Type 0)
+module _ {S : Type 0} (has : S → ℕ → Type 0) (ends : S → ℕ) (honest : S → Bool) (connects : S → ℕ → ConnectRequest → Bool → List Event → S → Type 0)
     (calls : S → ℕ → UserCall → Bool → List Event → S → Type 0) (law : IsService has ends honest connects calls)
     (kept : Kept) (to_do : Reaction) (done : Bool) (old : S) (before after : List Event) (new : S) (at : ℕ) (seen : List Event) (at_is : at ≡ length before) (seen_is : seen ≡ after)
     (low : kept.named ≤ ends old) (may : MayDo (has old) kept to_do) (t : Tells before after (λ made. Does connects calls old to_do done made new)) where

@@ -10,7 +10,7 @@ use Rattle.std.proofs.lemmas.Option.{get_or_from_slice_get, slice_get-get_or, sl
 use Rattle.osi_script.specs.declared.line.Options.{Options}
 use Rattle.osi_journal.specs.declared.event.Event.{Event}
 use Rattle.osi_journal.specs.declared.event.Event.TheVariants as events
-use Rattle.tp4_conn.specs.declared.call.ConnectCall.{ConnectCall}
+use Rattle.tp4_conn.specs.declared.call.ConnectRequest.{ConnectRequest}
 use Rattle.tp4_conn.specs.declared.call.UserCall.{UserCall}
 use Rattle.tp4_conn.specs.declared.call.UserCall.TheVariants as asks
 use Rattle.tp4_conn.specs.declared.timers.Timers.{Timers}
@@ -184,7 +184,7 @@ unless_at : {S : Type 0} (calls : S → ℕ → UserCall → Bool → List Event
     → LeavesNone calls made other units
 unless_at calls made end other waiting units e w l = subst (λ (n : ℕ). LeavesNone calls made n units) e (subst (λ (us : List MarkedUnit). LeavesNone calls made end us) w l)
 
-module _ {S : Type 0} (has : S → ℕ → Type 0) (ends : S → ℕ) (honest : S → Bool) (connects : S → ℕ → ConnectCall → Bool → List Event → S → Type 0)
+module _ {S : Type 0} (has : S → ℕ → Type 0) (ends : S → ℕ) (honest : S → Bool) (connects : S → ℕ → ConnectRequest → Bool → List Event → S → Type 0)
     (calls : S → ℕ → UserCall → Bool → List Event → S → Type 0) (law : IsService has ends honest connects calls) where
   module _ (kept : Kept) (tidy : IsTidy kept) (place : ℕ) (pair : Pair) (is : slice_get kept.pairs place ≡ Some pair) where
     after_tidy : (end : ℕ) (call : UserCall) (done : Bool) (made : List Event) → MayAsk kept end call → ToldBy end call done made → IsTidy (kept_after kept made)

@@ -2,7 +2,7 @@
 use Rattle.std.proofs.Common.{◌≡◌, ℕ, Bool, ◌||◌, List, [], ◌∷◌, ◌++◌, refl, sym, ◌∙◌, ap, subst, append_assoc}
 use Rattle.std.specs.List.{AllByRecursion}
 use Rattle.osi_journal.specs.declared.event.Event.{Event}
-use Rattle.tp4_conn.specs.declared.call.ConnectCall.{ConnectCall}
+use Rattle.tp4_conn.specs.declared.call.ConnectRequest.{ConnectRequest}
 use Rattle.tp4_conn.specs.declared.call.UserCall.{UserCall}
 use Rattle.tp4_relay.specs.Allowed.{AreAllowed}
 use Rattle.tp4_relay.specs.Kept.{Kept, kept_after}
@@ -16,7 +16,7 @@ use Rattle.tp4_relay.proofs.Commuting.{allowed_more, kept_more}
 use Rattle.tp4_relay.proofs.Leaving.{pump_leaves}
 use Rattle.tp4_relay.proofs.Served.{told_more}
 
-module _ {S : Type 0} (has : S → ℕ → Type 0) (ends : S → ℕ) (honest : S → Bool) (connects : S → ℕ → ConnectCall → Bool → List Event → S → Type 0)
+module _ {S : Type 0} (has : S → ℕ → Type 0) (ends : S → ℕ) (honest : S → Bool) (connects : S → ℕ → ConnectRequest → Bool → List Event → S → Type 0)
     (calls : S → ℕ → UserCall → Bool → List Event → S → Type 0) (law : IsService has ends honest connects calls)
     (old mid : S) (kept middle : Kept) (line seen : List Event) (one : Bool) (a : Tells line seen (λ made. Reacted connects calls old kept line one made mid middle)) where
   seen_is : (last : Kept) (made : List Event) → last ≡ kept_after middle made → last ≡ kept_after kept (line ++ (a.0 ++ made))

@@ -2,7 +2,7 @@
 use Rattle.std.proofs.Common.{◌≡◌, ℕ, ◌+◌, ◌<◌, ◌≤◌, Bool, ◌||◌, List, ◌++◌, length, get_or, refl, sym, ap, subst, arith, length-append}
 use Rattle.std.specs.List.{AllByRecursion}
 use Rattle.osi_journal.specs.declared.event.Event.{Event}
-use Rattle.tp4_conn.specs.declared.call.ConnectCall.{ConnectCall}
+use Rattle.tp4_conn.specs.declared.call.ConnectRequest.{ConnectRequest}
 use Rattle.tp4_conn.specs.declared.call.UserCall.{UserCall}
 use Rattle.tp4_relay.specs.declared.reaction.Reaction.{Reaction}
 use Rattle.tp4_relay.specs.Allowed.{AreAllowed, AreLine}
@@ -14,7 +14,7 @@ use Rattle.tp4_relay.specs.steps.Serving.{Did, Reacting}
 use Rattle.tp4_relay.specs.steps.Tables.{IsTidy}
 use Rattle.tp4_relay.proofs.Carried.{carry_broken, now_may, now_named, reacting_more}
 
-module _ {S : Type 0} (has : S → ℕ → Type 0) (ends : S → ℕ) (honest : S → Bool) (connects : S → ℕ → ConnectCall → Bool → List Event → S → Type 0)
+module _ {S : Type 0} (has : S → ℕ → Type 0) (ends : S → ℕ) (honest : S → Bool) (connects : S → ℕ → ConnectRequest → Bool → List Event → S → Type 0)
     (calls : S → ℕ → UserCall → Bool → List Event → S → Type 0) (law : IsService has ends honest connects calls)
     (first : S) (kept : Kept) (line : List Event) (tidy : IsTidy kept) (all : AreLine (ends first) kept line)
     (at : ℕ) (now : S) (current : Kept) (seen : List Event) (done : Bool) (r : Reacting connects calls has ends first kept line at now current seen done) (low : at < length line) where

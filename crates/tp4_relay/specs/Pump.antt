@@ -4,7 +4,7 @@ use Rattle.std.specs.Prelude.{◌≡◌, ◌⊎◌, ℕ, ◌||◌, Bool, true, f
 use Rattle.osi_journal.specs.declared.event.Event.{Event}
 use Rattle.osi_journal.specs.declared.event.Event.TheVariants as events
 use Rattle.osi_journal.specs.declared.event.Request.{Request}
-use Rattle.tp4_conn.specs.declared.call.ConnectCall.{ConnectCall}
+use Rattle.tp4_conn.specs.declared.call.ConnectRequest.{ConnectRequest}
 use Rattle.tp4_conn.specs.declared.call.UserCall.{UserCall}
 use Rattle.tp4_conn.specs.declared.call.UserCall.TheVariants as asks
 use Rattle.tp4_conn.specs.declared.timers.Timers.{Timers}
@@ -45,20 +45,20 @@ credit_now first false [] = None
 credit_now first true (unit ∷ units) = None
 credit_now first false (unit ∷ units) = Some 0
 
-module _ {S : Type 0} (connects : S → ℕ → ConnectCall → Bool → List Event → S → Type 0) (calls : S → ℕ → UserCall → Bool → List Event → S → Type 0) where
+module _ {S : Type 0} (connects : S → ℕ → ConnectRequest → Bool → List Event → S → Type 0) (calls : S → ℕ → UserCall → Bool → List Event → S → Type 0) where
   -- ---- an event of the line
 
   -- a request that is done joins the two ends; where it is not, the inbound end is refused
-  abbrev pub BeginsBy : S → ℕ → ℕ → ConnectCall → Bool → Bool → List Event → S → Type 0
-  BeginsBy old inbound system call true done made new =
-      (told : List Event) × (asked : Request) × (rest : List Event) × connects old system call true told new × (told ≡ events.Connect asked ∷ rest)
+  abbrev pub BeginsBy : S → ℕ → ℕ → ConnectRequest → Bool → Bool → List Event → S → Type 0
+  BeginsBy old inbound system request true done made new =
+      (told : List Event) × (asked : Request) × (rest : List Event) × connects old system request true told new × (told ≡ events.Connect asked ∷ rest)
       × (made ≡ told ++ events.Joined inbound asked.end ∷ []) × (done ≡ true)
-  BeginsBy old inbound system call false done made new =
-      (mid : S) × (told : List Event) × (later : List Event) × connects old system call false told mid × calls mid inbound (asks.Refuse []) done later new × (made ≡ told ++ later)
+  BeginsBy old inbound system request false done made new =
+      (mid : S) × (told : List Event) × (later : List Event) × connects old system request false told mid × calls mid inbound (asks.Refuse []) done later new × (made ≡ told ++ later)
 
   abbrev pub Does : S → Reaction → Bool → List Event → S → Type 0
   Does old Nothing done made new = (done ≡ false) × (made ≡ []) × (new ≡ old)
-  Does old (Begin inbound system call) done made new = (taken : Bool) × BeginsBy old inbound system call taken done made new
+  Does old (Begin inbound system request) done made new = (taken : Bool) × BeginsBy old inbound system request taken done made new
   Does old (Ask end call) done made new = calls old end call done made new
 
   -- each event in order; whether a call was done, what is told, and what is kept then

@@ -6,9 +6,8 @@ use Rattle.osi_journal.specs.declared.event.Event.TheVariants as events
 use Rattle.osi_journal.specs.declared.event.Indication.{Indication}
 use Rattle.tpdu.specs.declared.tpdu.Format.TheVariants.{Normal, Extended}
 use Rattle.tp4_flow.specs.declared.rules.Options.{Options}
-use Rattle.tp4_conn.specs.declared.call.ConnectCall.{ConnectCall}
+use Rattle.tp4_conn.specs.declared.call.ConnectRequest.{ConnectRequest}
 use Rattle.tp4_conn.specs.declared.call.UserCall.TheVariants as asks
-use Rattle.tp4_conn.specs.declared.timers.Timers.{Timers}
 use Rattle.tp4_relay.specs.declared.pair.Pair.{Pair}
 use Rattle.tp4_relay.specs.declared.reaction.Reaction.{Reaction}
 use Rattle.tp4_relay.specs.declared.reaction.Reaction.TheVariants.{Nothing, Begin, Ask}
@@ -20,22 +19,19 @@ use Rattle.tp4_relay.specs.Pairs.{is_closed}
 abbrev pub asked_options : ScriptOptions → Options
 asked_options o = record { format = if o.extended then Extended else Normal; size = o.size; preferred = o.preferred; expedited = o.expedited; sum = o.sum }
 
--- the request for the second connection: from the row's address and selector, with the options and the octets of the first
-abbrev pub request_for : Timers → RelayRow → Indication → ConnectCall
-request_for rules row heard = record {
-  own = 0;
-  from = row.own;
+-- the request for the second connection: from the row's selector, with the options and the octets of the first
+abbrev pub request_for : RelayRow → Indication → ConnectRequest
+request_for row heard = record {
   from_selector = row.selector;
   to = row.to;
   to_selector = row.to_selector;
   options = asked_options heard.options;
   octets = heard.octets;
-  rules = rules;
 }
 
-abbrev pub begins : Timers → Indication → Option RelayRow → Reaction
-begins rules heard None = Nothing
-begins rules heard (Some row) = Begin heard.end row.system (request_for rules row heard)
+abbrev pub begins : Indication → Option RelayRow → Reaction
+begins heard None = Nothing
+begins heard (Some row) = Begin heard.end row.system (request_for row heard)
 
 -- the pair of this inbound end, or of this outbound end
 abbrev pub inbound_pair : List Pair → ℕ → Option Pair
@@ -69,7 +65,7 @@ goes pairs end (Some pair) = inbound_goes pair
 
 -- by what is kept of the events before
 abbrev pub reaction : Kept → Event → Reaction
-reaction kept (events.Incoming heard) = begins kept.rules heard (row_for kept.rows heard)
+reaction kept (events.Incoming heard) = begins heard (row_for kept.rows heard)
 reaction kept (events.Confirm end options octets) = confirms options octets (outbound_pair kept.pairs end)
 reaction kept (events.Gone end cause octets) = goes kept.pairs end (inbound_pair kept.pairs end)
 reaction kept event = Nothing

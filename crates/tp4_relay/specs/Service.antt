@@ -6,7 +6,7 @@ use Rattle.osi_journal.specs.declared.cause.Refused.{Refused}
 use Rattle.osi_journal.specs.declared.event.Event.{Event}
 use Rattle.osi_journal.specs.declared.event.Event.TheVariants as events
 use Rattle.osi_journal.specs.declared.event.Request.{Request}
-use Rattle.tp4_conn.specs.declared.call.ConnectCall.{ConnectCall}
+use Rattle.tp4_conn.specs.declared.call.ConnectRequest.{ConnectRequest}
 use Rattle.tp4_conn.specs.declared.call.UserCall.{UserCall}
 use Rattle.tp4_conn.specs.declared.call.UserCall.TheVariants as asks
 
@@ -57,13 +57,13 @@ abbrev pub ends_more : ℕ → Bool → ℕ
 ends_more ends true = ends + 1
 ends_more ends false = ends
 
-module _ {S : Type 0} (has : S → ℕ → Type 0) (ends : S → ℕ) (honest : S → Bool) (connects : S → ℕ → ConnectCall → Bool → List Event → S → Type 0)
+module _ {S : Type 0} (has : S → ℕ → Type 0) (ends : S → ℕ) (honest : S → Bool) (connects : S → ℕ → ConnectRequest → Bool → List Event → S → Type 0)
     (calls : S → ℕ → UserCall → Bool → List Event → S → Type 0) where
   pub record IsService : Type 0 where
-    pub connected : (old : S) (system : ℕ) (call : ConnectCall) (done : Bool) (made : List Event) (new : S) → connects old system call done made new → ConnectedBy (ends old + 1) done made
-    pub counted : (old : S) (system : ℕ) (call : ConnectCall) (done : Bool) (made : List Event) (new : S) → connects old system call done made new → ends new ≡ ends_more (ends old) done
-    pub connect_has : (old : S) (system : ℕ) (call : ConnectCall) (done : Bool) (made : List Event) (new : S) → connects old system call done made new → (other : ℕ) → has old other → has new other
-    pub connect_honest : (old : S) (system : ℕ) (call : ConnectCall) (done : Bool) (made : List Event) (new : S) → connects old system call done made new → honest new ≡ honest old
+    pub connected : (old : S) (system : ℕ) (request : ConnectRequest) (done : Bool) (made : List Event) (new : S) → connects old system request done made new → ConnectedBy (ends old + 1) done made
+    pub counted : (old : S) (system : ℕ) (request : ConnectRequest) (done : Bool) (made : List Event) (new : S) → connects old system request done made new → ends new ≡ ends_more (ends old) done
+    pub connect_has : (old : S) (system : ℕ) (request : ConnectRequest) (done : Bool) (made : List Event) (new : S) → connects old system request done made new → (other : ℕ) → has old other → has new other
+    pub connect_honest : (old : S) (system : ℕ) (request : ConnectRequest) (done : Bool) (made : List Event) (new : S) → connects old system request done made new → honest new ≡ honest old
     pub told : (old : S) (end : ℕ) (call : UserCall) (done : Bool) (made : List Event) (new : S) → calls old end call done made new → ToldBy end call done made
     pub call_ends : (old : S) (end : ℕ) (call : UserCall) (done : Bool) (made : List Event) (new : S) → calls old end call done made new → ends new ≡ ends old
     pub call_has : (old : S) (end : ℕ) (call : UserCall) (done : Bool) (made : List Event) (new : S) → calls old end call done made new → (other : ℕ) → has old other → has new other

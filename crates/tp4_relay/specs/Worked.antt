@@ -19,7 +19,7 @@ use Rattle.tp4_relay.specs.Pairs.{new_way, open_places}
 use Rattle.tp4_relay.specs.Reaction.{reaction}
 
 abbrev pub row : RelayRow
-row = record { system = 1; own = 0x49 ∷ 0x0c ∷ 0x01 ∷ []; selector = 0xcc ∷ []; to = 0x49 ∷ 0x0b ∷ 0x01 ∷ []; to_selector = 0xbb ∷ [] }
+row = record { system = 1; selector = 0xcc ∷ []; to = 0x49 ∷ 0x0b ∷ 0x01 ∷ []; to_selector = 0xbb ∷ [] }
 
 abbrev pub rules : Timers
 rules = record { life = 2; t1 = 8; sendings = 3; window = 20; inactive = 60; credit = 8 }
@@ -68,16 +68,13 @@ abbrev pub waits : Kept
 waits = kept_after opened (events.Got 2 (0x01 ∷ []) ∷ [])
 
 pub record WorkedRows : Type 0 where
-  -- the indication has the second connection asked for, from the row's address and selector
+  -- the indication has the second connection asked for, from the row's selector
   pub begins : reaction before (events.Incoming heard) ≡ Begin 2 1 (record {
-    own = 0;
-    from = 0x49 ∷ 0x0c ∷ 0x01 ∷ [];
     from_selector = 0xcc ∷ [];
     to = 0x49 ∷ 0x0b ∷ 0x01 ∷ [];
     to_selector = 0xbb ∷ [];
     options = record { format = NormalFormat; size = 1024; expedited = true; sum = true; preferred = false };
     octets = [];
-    rules = rules;
   })
   -- the confirm of the outbound end has the inbound end accepted, and opens the pair
   pub accepts : reaction joined (events.Confirm 3 options []) ≡ Ask 2 (asks.Accept (record { format = NormalFormat; size = 1024; expedited = true; sum = true; preferred = false }) [])

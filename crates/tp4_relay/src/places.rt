@@ -172,7 +172,7 @@ pub fn open_at(pairs: &mut [Pair], places: &mut Vec<usize>, end: u32) -> Result<
     requires places { places.old.items ≡ open_places pairs.old }
     ensures pairs { OnOk result (pairs.new ≡ change_outbound (Some (end, Opens)) pairs.old) }
     ensures places { places.new.items ≡ open_places pairs.new }
-    ensures same { OnErr result (pairs.new ≡ pairs.old) }
+    ensures err { OnErr result (pairs.new ≡ pairs.old) }
 {
     if let Some(place) = outbound_place(pairs, end) {
         open_place(pairs, places, place)?;
@@ -186,7 +186,7 @@ fn open_place(pairs: &mut [Pair], places: &mut Vec<usize>, place: usize) -> Resu
     requires places { places.old.items ≡ open_places pairs.old }
     ensures pairs { OnOk result ((d : Joined) → pairs.new ≡ set pairs.old place (changed (get_or pairs.old place d) Opens)) }
     ensures places { places.new.items ≡ open_places pairs.new }
-    ensures same { OnErr result (pairs.new ≡ pairs.old) }
+    ensures err { OnErr result (pairs.new ≡ pairs.old) }
 {
     match pairs[place].phase {
         Phase::Begun => {

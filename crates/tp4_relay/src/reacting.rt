@@ -22,7 +22,7 @@ use crate::table::{Table, note, note_from};
 use osi_base::NoMemory;
 use osi_journal::Event;
 use std::alloc::Global;
-use tp4_conn::{ConnectCall, UserCall};
+use tp4_conn::{ConnectRequest, UserCall};
 
 /// Does what is to be done about each event, in order; whether a call was done.
 pub fn react_all<S: Service>(
@@ -97,8 +97,8 @@ fn act<S: Service>(
         Reaction::Begin {
             inbound,
             system,
-            call,
-        } => begin(alloc, service, inbound, system, call, events),
+            request,
+        } => begin(alloc, service, inbound, system, request, events),
         Reaction::Ask { end, call } => service.call(end, call, events),
     }
 }
@@ -109,16 +109,16 @@ fn begin<S: Service>(
     service: &mut S,
     inbound: u32,
     system: u8,
-    call: ConnectCall,
+    request: ConnectRequest,
     events: &mut Vec<Event>,
 ) -> Result<bool, NoMemory>
     requires has { S.has service.old system }
-    requires size { IsSized call.options }
-    ensures told { IfOk result (λ done. Tells events.old.items events.new.items (λ made. Does S.connects S.calls service.old (Begin inbound system call) done made service.new)) }
+    requires size { IsSized request.options }
+    ensures told { IfOk result (λ done. Tells events.old.items events.new.items (λ made. Does S.connects S.calls service.old (Begin inbound system request) done made service.new)) }
     ensures broken { OnErr result (Tells events.old.items events.new.items (AllByRecursion IsIdle)) }
 {
     let told = events.len();
-    if service.connect(system, call, events)? {
+    if service.connect(system, request, events)? {
         let outbound = made_end(events, told);
         events.push(Event::Joined { inbound, outbound })?;
         Ok(true)

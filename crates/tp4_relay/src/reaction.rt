@@ -14,7 +14,7 @@ use osi_base::{Bytes, NoMemory};
 use osi_journal::{Event, Indication};
 use osi_script::Options as ToldOptions;
 use std::alloc::Global;
-use tp4_conn::{ConnectCall, Options, Timers, UserCall};
+use tp4_conn::{ConnectRequest, Options, UserCall};
 use tpdu::Format;
 
 /// What is to be done about an event.
@@ -25,7 +25,7 @@ pub enum Reaction {
     Begin {
         inbound: u32,
         system: u8,
-        call: ConnectCall,
+        request: ConnectRequest,
     },
     /// A call on an end.
     Ask {
@@ -53,16 +53,16 @@ pub fn reaction_to(table: &Table, event: &Event) -> Result<Reaction, NoMemory>
 
 /// A connection that is indicated at a row is asked for again.
 fn beginning(table: &Table, heard: &Indication) -> Result<Reaction, NoMemory>
-    ensures { IfOk result (λ to_do. to_do ≡ begins table.now.rules heard.now (row_for table.now.rows.items heard.now)) }
+    ensures { IfOk result (λ to_do. to_do ≡ begins heard.now (row_for table.now.rows.items heard.now)) }
 {
     let Some(row) = row_for(&table.rows, heard) else {
         return Ok(Reaction::Nothing);
     };
-    let call = request_for(table.alloc, table.rules, row, heard)?;
+    let request = request_for(table.alloc, row, heard)?;
     Ok(Reaction::Begin {
         inbound: heard.end,
         system: row.system,
-        call,
+        request,
     })
 }
 
@@ -143,24 +143,20 @@ pub fn nothing(alloc: Global) -> Bytes
     Bytes::of(Vec::new(alloc))
 }
 
-/// The request for the second connection: from the row's address and selector, with the options and the octets of the first.
+/// The request for the second connection: from the row's selector, with the options and the octets of the first.
 fn request_for(
     alloc: Global,
-    rules: Timers,
     row: &RelayRow,
     heard: &Indication,
-) -> Result<ConnectCall, NoMemory>
-    ensures { IfOk result (λ call. call ≡ request_for rules row.now heard.now) }
+) -> Result<ConnectRequest, NoMemory>
+    ensures { IfOk result (λ request. request ≡ request_for row.now heard.now) }
 {
-    Ok(ConnectCall {
-        own: 0,
-        from: row.own,
+    Ok(ConnectRequest {
         from_selector: Bytes::copy(alloc, row.selector.as_slice())?,
         to: row.to,
         to_selector: Bytes::copy(alloc, row.to_selector.as_slice())?,
         options: asked_options(heard.options),
         octets: Bytes::copy(alloc, heard.octets.as_slice())?,
-        rules,
     })
 }
 

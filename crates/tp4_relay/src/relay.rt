@@ -38,7 +38,7 @@ impl Model for Relay {
 }
 
 impl Relay {
-    /// A relay with these rows, before the first event. Its requests have these rules.
+    /// A relay with these rows, before the first event. The credit that it gives at its ends is that of these rules.
     pub fn new(alloc: Global, rows: Vec<RelayRow>, rules: Timers) -> Relay
         ensures { result ≡ nothing_kept rows.items rules }
     {

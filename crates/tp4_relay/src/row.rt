@@ -11,8 +11,6 @@ use osi_journal::Indication;
 #[derive(Drop)]
 pub struct RelayRow {
     pub system: u8,
-    /// The address of the system's transport users.
-    pub own: Nsap,
     /// The selector of the row, of 1 to 32 octets.
     pub selector: Bytes,
     /// Where the connection goes on to, with a selector of 1 to 32 octets.

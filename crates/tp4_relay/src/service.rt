@@ -2,13 +2,13 @@
 
 use osi_base::NoMemory;
 use osi_journal::Event;
-use tp4_conn::{ConnectCall, UserCall};
+use tp4_conn::{ConnectRequest, UserCall};
 
 /// Transport, as its users see it. Each call appends its events, and answers whether it was done.
 pub trait Service {
     ghost use Rattle.std.specs.Prelude.{◌≡◌, ℕ, Bool, List, IfOk, OnErr};
     ghost use Rattle.osi_journal.specs.declared.event.Event.{Event as Happened};
-    ghost use Rattle.tp4_conn.specs.declared.call.ConnectCall.{ConnectCall as Begun};
+    ghost use Rattle.tp4_conn.specs.declared.call.ConnectRequest.{ConnectRequest as Requested};
     ghost use Rattle.tp4_conn.specs.declared.call.UserCall.{UserCall as Asked};
     ghost use Rattle.tp4_conn.specs.End.{IsSized};
     ghost use Rattle.tp4_conn.specs.Calls.{IsCall};
@@ -24,7 +24,7 @@ pub trait Service {
     ghost honest: { Self → Bool };
 
     /// What a request for a connection does: the state before, the system, the request, the answer, the events, the state after.
-    ghost connects: { Self → ℕ → Begun → Bool → List Happened → Self → Type 0 };
+    ghost connects: { Self → ℕ → Requested → Bool → List Happened → Self → Type 0 };
 
     /// What a call on an end does: the state before, the end, the call, the answer, the events, the state after.
     ghost calls: { Self → ℕ → Asked → Bool → List Happened → Self → Type 0 };
@@ -33,19 +33,19 @@ pub trait Service {
     fn connect(
         &mut self,
         system: u8,
-        call: ConnectCall,
+        request: ConnectRequest,
         events: &mut Vec<Event>,
     ) -> Result<bool, NoMemory>
         requires has { has self.old system }
-        requires size { IsSized call.options }
-        ensures connects { IfOk result (λ done. Tells events.old.items events.new.items (λ made. connects self.old system call done made self.new)) }
-        ensures same { OnErr result (events.new.items ≡ events.old.items) };
+        requires size { IsSized request.options }
+        ensures connects { IfOk result (λ done. Tells events.old.items events.new.items (λ made. connects self.old system request done made self.new)) }
+        ensures err { OnErr result (events.new.items ≡ events.old.items) };
 
     /// A user calls an end. At NoMemory nothing is told.
     fn call(&mut self, end: u32, call: UserCall, events: &mut Vec<Event>) -> Result<bool, NoMemory>
         requires call { IsCall call }
         ensures calls { IfOk result (λ done. Tells events.old.items events.new.items (λ made. calls self.old end call done made self.new)) }
-        ensures same { OnErr result (events.new.items ≡ events.old.items) };
+        ensures err { OnErr result (events.new.items ≡ events.old.items) };
 
     /// What each call tells, and what it leaves as it is.
     ghost laws: { IsService has ends honest connects calls };

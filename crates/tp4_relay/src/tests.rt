@@ -4,17 +4,20 @@ ghost use Rattle.std.specs.Prelude.{◌≡◌, false, IfOk, OnErr};
 ghost use Rattle.tp4_relay.specs.Service.{IsOwn, IsRefusal, Tells};
 
 use crate::{Relay, Service};
+use nsap::Nsap;
 use osi_base::{Address, NoMemory};
 use osi_journal::{Boxed, Event, Refused, Request};
 use osi_script::Options as ToldOptions;
 use std::alloc::Global;
 use std::test::Fail;
-use tp4_conn::{ConnectCall, Timers, UserCall};
+use tp4_conn::{ConnectRequest, Timers, UserCall};
 
 /// A service of one system.
 #[derive(Drop)]
 struct Double {
     alloc: Global,
+    /// The address of the system's transport users.
+    own: Nsap,
     ends: u32,
     /// Whether it refuses each call.
     refuses: bool,
@@ -30,14 +33,14 @@ impl Service for Double {
 
     ghost honest = { λ s. true };
 
-    ghost connects = { λ old system call done made new. DoubledConnect old.ends done made new.ends };
+    ghost connects = { λ old system request done made new. DoubledConnect old.ends done made new.ends };
 
     ghost calls = { λ old end call done made new. DoubledCall end call done made old.ends new.ends };
 
     fn connect(
         &mut self,
         system: u8,
-        call: ConnectCall,
+        request: ConnectRequest,
         events: &mut Vec<Event>,
     ) -> Result<bool, NoMemory> {
         if self.refuses || self.ends == u32::MAX {
@@ -47,11 +50,11 @@ impl Service for Double {
             end: self.ends + 1,
             system,
             reference: 1,
-            calling: Address::of(call.from.octets()),
-            calling_selector: call.from_selector,
-            called: Address::of(call.to.octets()),
-            called_selector: call.to_selector,
-            octets: call.octets,
+            calling: Address::of(self.own.octets()),
+            calling_selector: request.from_selector,
+            called: Address::of(request.to.octets()),
+            called_selector: request.to_selector,
+            octets: request.octets,
         };
         events.push(Event::Connect(Boxed::new(self.alloc, asked)?))?;
         self.ends += 1;
@@ -96,7 +99,7 @@ fn own_event(end: u32, call: UserCall) -> Event
 fn refuse(events: &mut Vec<Event>) -> Result<bool, NoMemory>
     ensures not_done { IfOk result (λ done. done ≡ false) }
     ensures told { IfOk result (λ done. Tells events.old.items events.new.items IsRefusal) }
-    ensures same { OnErr result (events.new.items ≡ events.old.items) }
+    ensures err { OnErr result (events.new.items ≡ events.old.items) }
 {
     events.push(Event::No {
         cause: Refused::QueueFull,
@@ -115,6 +118,7 @@ fn options() -> ToldOptions {
     }
 }
 
+/// The constructor at a concrete service: the relay is generic, and is proved from its bounds alone.
 #[test]
 fn a_new_relay_owns_no_end(rt: HostRuntime) -> Result<(), Fail> {
     let rules = Timers {

@@ -1,5 +1,5 @@
 -- Numbers stand in order and grow no faster than ticks, also after one more sending: for the first time, or again.
-use Rattle.std.proofs.Common.{◌≡◌, ℕ, ◌+◌, ◌-◌, ◌*◌, ◌<◌, ◌≤◌, Bool, true, false, nat_lt, nat_le, if◌then◌else◌, ◌||◌, List, [], ◌∷◌, length, length-append, max, ◌⊎◌, inl, inr, refl, sym, subst, arith, Option, Some, None}
+use Rattle.std.proofs.Common.{◌≡◌, ℕ, ◌+◌, ◌-◌, ◌*◌, ◌<◌, ◌≤◌, Bool, true, false, nat_lt, nat_le, if◌then◌else◌, ◌||◌, List, [], ◌∷◌, ◌++◌, length, length-append, max, ◌⊎◌, inl, inr, refl, sym, subst, arith, Option, Some, None}
 use Rattle.std.specs.Prelude.{slice_set}
 use Rattle.std.proofs.Math.Nat.{mul-le-mul_left}
 use Rattle.std.proofs.Math.ListN.{length-set}
@@ -148,6 +148,12 @@ sent_first s h more rule =
       noted = up_on s.noted s.numbers.blocks.high _ h.noted (marked_high (block_in s) s.numbers.blocks s.numbers.next s.clock);
       urged = h.urged;
     }
+
+pub sent_first_as : (s : FlowSender) (blocks : Blocks) (window : List Tries) → blocks ≡ marked (block_in s) s.numbers.blocks s.numbers.next s.clock → window ≡ s.window ++ once s.clock ∷ []
+    → IsSending s → has_next s ≡ true → rule_allows s s.numbers.blocks s.numbers.next ≡ true
+    → IsSending (record s { numbers = record s.numbers { next = s.numbers.next + 1; blocks = blocks }; window = window })
+sent_first_as s blocks window b w h more rule =
+    subst (λ (f : FlowSender). IsSending f) (λ i. record s { numbers = record s.numbers { next = s.numbers.next + 1; blocks = sym b i }; window = sym w i }) (sent_first s h more rule)
 
 -- the next ED
 pub sent_first_urgent : (s : FlowSender) → IsSending s → s.urgent.out ≡ None → rule_allows s s.urgent.blocks s.urgent.next ≡ true → IsSending (sent_urgent s)

@@ -1,9 +1,9 @@
 -- The DTs that may go, one after another: what went, and then what may still go, is the whole.
-use Rattle.std.proofs.Common.{◌≡◌, ℕ, zero, suc, ◌+◌, ◌-◌, ◌<◌, ◌≤◌, Bool, true, false, nat_lt, if◌then◌else◌, ◌&&◌, not, List, [], ◌∷◌, ◌++◌, append_assoc, append-nil, refl, sym, ◌∙◌, ap, subst, arith, Some}
+use Rattle.std.proofs.Common.{◌≡◌, ◌≢◌, ℕ, zero, suc, ◌+◌, ◌-◌, ◌<◌, ◌≤◌, Bool, true, false, nat_lt, if◌then◌else◌, ◌&&◌, not, List, [], ◌∷◌, ◌++◌, append_assoc, append-nil, refl, sym, ◌∙◌, ap, subst, arith, Some, None}
 use Rattle.std.specs.Prelude.{is_some}
 use Rattle.std.specs.List.{sum_by}
 use Rattle.std.proofs.lemmas.List.Sums.{sum_by-cons}
-use Rattle.std.proofs.lemmas.Bool.{ltb-true}
+use Rattle.std.proofs.lemmas.Bool.{lt-ltb, ltb-true, true≢false}
 use Rattle.std.proofs.lemmas.Bool.Decides.{nat_tests}
 use Rattle.tp4_flow.specs.Told.{Told}
 use Rattle.tp4_sending.specs.FlowSender.{FlowSender, Sendings, Sends, nothing, before, dts_of, has_next, rule_allows, sent_normal, one_normal, held_normal, normals, all_normals, Keeps}
@@ -27,6 +27,10 @@ piece_there size queue n low = pieces_end size queue.units (n - queue.first) ∙
     same : nat_lt (n - queue.first) (sum_by (count_in size) queue.units) ≡ nat_lt n (end_of size queue)
     same = grind (arith, nat_tests)
 
+-- a number below the end has a piece
+pub is_piece : (size : ℕ) (units : List (List ℕ)) (k : ℕ) → k < sum_by (count_in size) units → cut_at size units k ≢ None
+is_piece size units k low none = true≢false (sym (lt-ltb _ _ low) ∙ sym (pieces_end size units k) ∙ ap is_some none)
+
 pub record Going (old : FlowSender) (was : Told) (s : FlowSender) (is : Told) : Type 0 where
   pub sender : (all_normals s).sender ≡ (all_normals old).sender
   pub events : is.events ++ (all_normals s).events ≡ was.events ++ (all_normals old).events
@@ -45,7 +49,7 @@ both true true h = refl
 both true false h = absurd (cc h)
 both false b h = absurd (cc h)
 
-has_more : (s : FlowSender) → has_next s ≡ true → s.numbers.next < end_of s.rules.piece s.queue
+pub has_more : (s : FlowSender) → has_next s ≡ true → s.numbers.next < end_of s.rules.piece s.queue
 has_more s h = ltb-true _ _ (both _ _ h)
 
 abbrev left : FlowSender → ℕ

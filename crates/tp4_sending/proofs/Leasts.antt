@@ -1,12 +1,13 @@
 -- The least tick of a window: of two parts of it, and of its places one after another.
-use Rattle.std.proofs.Common.{◌≡◌, ℕ, ◌+◌, ◌<◌, ◌≤◌, List, [], ◌∷◌, ◌++◌, length, drop, get_or, add-one, min, refl, sym, ◌∙◌, ap, subst, arith, Option, Some, None}
+use Rattle.std.proofs.Common.{◌≡◌, ℕ, ◌+◌, ◌<◌, ◌≤◌, List, [], ◌∷◌, ◌++◌, length, drop, get_or, add-one, min, refl, sym, ◌∙◌, ap, subst, arith, Option, Some, None, option_map}
 use Rattle.std.specs.List.{All}
 use Rattle.std.proofs.Math.Seq.{drop-cons}
 use Rattle.std.proofs.lemmas.List.{drop_all}
 use Rattle.std.proofs.lemmas.List.Elements.{All-nil, All-cons, All-head, All-tail}
 use Rattle.tp4_sending.specs.declared.tries.Tries.{Tries}
 use Rattle.tp4_sending.specs.Kept.{IsTried}
-use Rattle.tp4_sending.specs.Pieces.{sooner, least_due}
+use Rattle.tp4_sending.specs.Pieces.{once, sooner, least_due}
+use Rattle.tp4_sending.specs.steps.Known.{IsKnown}
 
 sooner_assoc : (t : ℕ) (a b : Option ℕ) → sooner (Some t) (sooner a b) ≡ sooner (sooner (Some t) a) b
 sooner_assoc t None b = refl
@@ -17,6 +18,12 @@ least_append : (t1 : ℕ) (front back : List Tries) → least_due t1 (front ++ b
 least_append t1 [] back = refl
 least_append t1 (tries ∷ front) back =
     ap (λ (due : Option ℕ). sooner (Some (tries.last + t1)) due) (least_append t1 front back) ∙ sooner_assoc (tries.last + t1) (least_due t1 front) (least_due t1 back)
+
+-- one more that is sent at the tick of the clock
+pub known_push : (t1 clock : ℕ) (window : List Tries) (due : Option (Option ℕ)) → IsKnown t1 window due
+    → IsKnown t1 (window ++ once clock ∷ []) (option_map (λ (first : Option ℕ). sooner first (Some (clock + t1))) due)
+known_push t1 clock window None h = tt
+known_push t1 clock window (Some due) h = ap (λ (first : Option ℕ). sooner first (Some (clock + t1))) h ∙ sym (least_append t1 window (once clock ∷ []))
 
 front_of : (clock : ℕ) (front back : List Tries) → All (IsTried clock) (front ++ back) → All (IsTried clock) front
 front_of clock [] back h = All-nil (IsTried clock)

@@ -12,5 +12,6 @@ pub mod Resendings
 pub mod Settles
 pub mod Singles
 pub mod Thens
+pub mod Theres
 pub mod Totals
 pub mod Weights

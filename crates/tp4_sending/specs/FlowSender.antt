@@ -1,7 +1,7 @@
 -- A sending half: numbers, what was sent and is not acknowledged, units, expedited units (X.224, class 4: flow control,
 -- retention until acknowledgement, retransmission on time-out, expedited data). Each call is a function of the half, whose
 -- clock is the tick of the call.
-use Rattle.std.specs.Prelude.{◌≡◌, ◌≤◌, ℕ, zero, suc, ◌+◌, ◌-◌, Bool, true, false, ◌&&◌, ◌||◌, ◌==◌, not, nat_lt, nat_le, List, [], ◌∷◌, ◌++◌, length, take, drop, Option, Some, None, is_some, unwrap_or, if◌then◌else◌}
+use Rattle.std.specs.Prelude.{◌≡◌, ℕ, zero, suc, ◌+◌, ◌-◌, Bool, true, false, ◌&&◌, ◌||◌, ◌==◌, not, nat_lt, nat_le, List, [], ◌∷◌, ◌++◌, length, take, drop, Option, Some, None, is_some, unwrap_or, if◌then◌else◌}
 use Rattle.std.specs.List.{list_any, sum_by}
 use Rattle.tpdu.specs.declared.tpdu.Tpdu.TheVariants as tpdus
 use Rattle.tp4_flow.specs.declared.rules.FlowRules.{FlowRules}
@@ -51,17 +51,11 @@ pub record Sends (x : Sendings) (new : FlowSender) (was is : Told) : Type 0 wher
   pub sender_is : new ≡ x.sender
   pub told : Grows was x.events x.tpdus is
 
--- what each call keeps
+-- what each call keeps, also where memory runs out
 pub record Keeps (old new : FlowSender) (now : ℕ) : Type 0 where
   pub rules : new.rules ≡ old.rules
   pub is_open : new.is_open ≡ old.is_open
   pub clock : new.clock ≡ now
-
--- what a call keeps also where it fails
-pub record Stays (old new : FlowSender) (now : ℕ) : Type 0 where
-  pub rules : new.rules ≡ old.rules
-  pub is_open : new.is_open ≡ old.is_open
-  pub clock : new.clock ≤ now
 
 abbrev pub no_urgent : UrgentSender
 no_urgent = record { next = 0; blocks = no_blocks; units = []; out = None; noted = None }

@@ -42,6 +42,7 @@ impl Sending {
         let kept = (self.next - self.base).saturating_sub(n - self.base);
         self.window.truncate_front(kept as usize);
         self.window.truncate_back((next - n) as usize);
+        self.due = None;
         self.base = n;
         self.credit = credit;
         self.subsequence = subsequence;

@@ -1,6 +1,6 @@
 //! The pieces of units (X.224, segmentation and reassembling).
 
-ghost use Rattle.std.specs.Prelude.{◌≡◌, ◌<◌, ◌≤◌, ℕ, Option, Some, None, length};
+ghost use Rattle.std.specs.Prelude.{◌≡◌, ◌<◌, ◌≤◌, Some, length};
 ghost use Rattle.std.specs.List.{sum_by};
 ghost use Rattle.tp4_sending.specs.Pieces.{count_in, cut_at, cut_of, freed};
 ghost use Rattle.tp4_sending.specs.steps.Lent.{piece_of};
@@ -17,21 +17,22 @@ pub struct PieceRef<'a> {
 }
 
 /// The piece of that number, counted from the first of these units.
-#[tactic(auto, using(crate::proofs::Cuts::cut_here, crate::proofs::Cuts::cut_past))]
-pub(crate) fn piece_at(units: &VecDeque<Bytes>, size: u16, number: u64) -> Option<PieceRef<'_>>
-    requires { 0 < size }
-    ensures { piece_of result ≡ cut_at size units.now.items number }
+#[tactic(auto, using(crate::proofs::Cuts::cut_here, crate::proofs::Cuts::cut_past, crate::proofs::Goings::is_piece))]
+pub(crate) fn piece_at(units: &VecDeque<Bytes>, size: u16, number: u64) -> PieceRef<'_>
+    requires some { 0 < size }
+    requires there { number < sum_by (count_in size) units.now.items }
+    ensures { piece_of (Some result) ≡ cut_at size units.now.items number }
 {
     let mut left = number;
     for at in 0..units.len() {
-        let octets = units.get(at)?.as_slice();
+        let octets = units[at].as_slice();
         let count = count_in(octets, size);
         if left < count {
-            return Some(cut(octets, size, left));
+            return cut(octets, size, left);
         }
         left -= count;
     }
-    None
+    unreachable!();
 }
 
 /// How many pieces a unit has.

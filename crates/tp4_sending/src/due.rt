@@ -12,8 +12,25 @@ use osi_base::Tick;
 
 impl Sending {
     /// The first tick at which a DT of the window is to be sent again.
-    #[tactic(auto, using(crate::proofs::Leasts::least_parts, crate::proofs::Leasts::tried_front))]
     pub(crate) fn window_due(&self) -> Option<Tick>
+        ensures { result ≡ least_due self.now.rules.t1 self.now.window }
+    {
+        match self.due {
+            Some(due) => due,
+            None => self.least_due(),
+        }
+    }
+
+    /// That tick is known from here on, until a DT is acknowledged or sent again.
+    pub(crate) fn know_due(&mut self)
+        ensures { self.new ≡ self.old }
+    {
+        self.due = Some(self.window_due());
+    }
+
+    /// That tick, by a look at each DT.
+    #[tactic(auto, using(crate::proofs::Leasts::least_parts, crate::proofs::Leasts::tried_front))]
+    fn least_due(&self) -> Option<Tick>
         ensures { result ≡ least_due self.now.rules.t1 self.now.window }
     {
         let (front, back) = self.window.as_slices();

@@ -5,13 +5,13 @@
 mod acknowledged;
 mod cutting;
 mod due;
+mod expedited;
 mod laws;
-mod resends;
+mod retransmission;
 mod sending;
-mod sends;
 mod tpdus;
+mod transmission;
 mod tries;
-mod urgent;
 
 pub use due::{is_past, sooner};
 pub use laws::{

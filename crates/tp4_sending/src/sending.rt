@@ -1,20 +1,18 @@
 //! The sending half of an end: its calls (X.224, class 4: flow control, retention until acknowledgement,
 //! retransmission on time-out, expedited data).
 
-ghost use Rattle.std.specs.Prelude.{◌≡◌, ◌≢◌, ◌↔◌, ◌<◌, ◌≤◌, ◌*◌, [], ◌∷◌, ◌++◌, ℕ, true, false, Some, None, IfOk, IfErr, OnOk, Err, length};
+ghost use Rattle.std.specs.Prelude.{◌≡◌, ◌↔◌, ◌<◌, ◌≤◌, ◌*◌, [], ◌∷◌, ◌++◌, ℕ, true, false, None, IfOk, OnOk, length};
 ghost use Rattle.tp4_number.specs.Formats.{block_of};
 ghost use Rattle.tp4_number.specs.Number.{near};
 ghost use Rattle.tp4_number.specs.Sender.{may_send};
-ghost use Rattle.tp4_flow.specs.declared.rules.SubmitRefusal.{SubmitRefusal};
-ghost use Rattle.tp4_flow.specs.declared.rules.SubmitRefusal.TheVariants.{NoMemory as OutOfMemory};
-ghost use Rattle.tp4_sending.specs.FlowSender.{fresh, at, opened, submitted, urged, is_taken, acknowledged, is_outstanding, urgent_done, life_of, ticked, due_of, refusal, urgent_refusal, Sends, Keeps, Stays};
+ghost use Rattle.tp4_sending.specs.FlowSender.{fresh, at, opened, submitted, urged, is_taken, acknowledged, is_outstanding, urgent_done, life_of, ticked, due_of, refusal, urgent_refusal, Sends, Keeps};
 ghost use Rattle.tp4_sending.specs.Kept.{IsRules, most_granted};
 ghost use Rattle.tp4_sending.specs.Settled.{Acts, IsDue};
 
 use crate::cutting::count_in;
 use crate::due::sooner;
+use crate::expedited::UrgentSending;
 use crate::tries::Tries;
-use crate::urgent::UrgentSending;
 use circular_buffer::HeapCircularBuffer;
 use osi_base::{Bytes, NoMemory, Tick};
 use std::alloc::Global;
@@ -36,21 +34,26 @@ pub struct Sending {
     pub(crate) next: u64,
     pub(crate) blocks: Blocks,
     pub(crate) window: HeapCircularBuffer<Tries>,
+    /// The first tick at which a DT of the window is to be sent again, where it is known.
+    pub(crate) due: Option<Option<Tick>>,
     pub(crate) units: VecDeque<Bytes>,
     pub(crate) first: u64,
-    /// The number behind the last piece of the units.
+    /// The number behind the last piece of the units. Counted as they come, so that no call goes over the queue.
     pub(crate) end: u64,
-    /// The octets of the units.
+    /// The octets of the units. Counted as they come and go, so that a submission is refused by one look.
     pub(crate) waiting: u64,
     pub(crate) noted: Option<u64>,
     pub(crate) urgent: UrgentSending,
 }
 
 // Numbers stand in order and grow no faster than ticks, the window has those from base on up to next, and the pieces and the octets
-// of the units are counted.
+// of the units are counted. Each number that was sent has its piece, and an ED that is outstanding its unit. What is known of the
+// window is so.
 impl Model for Sending {
     ghost use Rattle.tp4_sending.specs.FlowSender.{FlowSender};
     ghost use Rattle.tp4_sending.specs.Kept.{IsSending};
+    ghost use Rattle.tp4_sending.specs.steps.Known.{IsKnown};
+    ghost use Rattle.tp4_sending.specs.steps.There.{IsThere};
     ghost use Rattle.tp4_sending.specs.steps.Total.{IsTotal};
 
     ghost Value = { FlowSender };
@@ -75,7 +78,8 @@ impl Model for Sending {
       queue = record { units = a.units.items; first = a.first };
       noted = a.noted;
       urgent = record { next = a.urgent.next; blocks = a.urgent.blocks; units = a.urgent.units.items; out = a.urgent.out; noted = a.urgent.noted };
-    }) × IsTotal a.rules.piece a.end a.waiting (record { units = a.units.items; first = a.first }) };
+    }) × IsTotal a.rules.piece a.end a.waiting (record { units = a.units.items; first = a.first })
+        × IsThere a.end a.blocks.high a.urgent.out a.urgent.units.items × IsKnown a.rules.t1 a.window.items a.due };
 }
 
 /// The most units that wait, normal or expedited.
@@ -99,6 +103,7 @@ impl Sending {
             next: 0,
             blocks: Blocks::none(),
             window: HeapCircularBuffer::with_capacity(alloc, 16)?,
+            due: Some(None),
             units: VecDeque::new(alloc),
             first: 0,
             end: 0,
@@ -131,51 +136,35 @@ impl Sending {
         self.new_sends(out)
     }
 
-    /// A unit of the user. Refused exactly where it is empty, above 16,384 octets, or where 64 units wait or
-    /// their octets would pass 131,072; then nothing changes.
-    pub fn submit(&mut self, now: Tick, unit: Vec<u8>, out: &mut Step) -> Result<(), SubmitRefusal>
+    /// A unit of the user that `refusal` takes joins its queue, and what may go goes.
+    pub fn submit(&mut self, now: Tick, unit: Bytes, out: &mut Step) -> Result<(), NoMemory>
         requires clock { self.old.clock ≤ now }
         requires low { now ≤ 4000000000 }
-        ensures step { OnOk result (Sends (submitted (at now self.old) unit.items) self.new out.old out.new) }
-        ensures kept { OnOk result (Keeps self.old self.new now) }
-        ensures stays { Stays self.old self.new now }
-        ensures refused { (why : SubmitRefusal) → refusal self.old (length unit.items) ≡ Some why → result ≡ Err why }
-        ensures only { IfErr result (λ why. why ≢ OutOfMemory → refusal self.old (length unit.items) ≡ Some why) }
-        ensures unchanged { IfErr result (λ why. why ≢ OutOfMemory → (self.new ≡ self.old) × (out.new ≡ out.old)) }
+        requires taken { refusal self.old (length unit) ≡ None }
+        ensures step { OnOk result (Sends (submitted (at now self.old) unit) self.new out.old out.new) }
+        ensures kept { Keeps self.old self.new now }
     {
-        if let Some(why) = self.refusal(unit.len()) {
-            return Err(why);
-        }
-        match self.take(now, unit, out) {
-            Ok(()) => Ok(()),
-            Err(NoMemory) => Err(SubmitRefusal::NoMemory),
-        }
+        self.set_clock(now);
+        self.queue(unit)?;
+        self.new_sends(out)
     }
 
-    /// An expedited unit of the user. Refused exactly where it is empty, above 16 octets, or where 64 units
-    /// wait; then nothing changes.
+    /// An expedited unit of the user that `urgent_refusal` takes joins its queue, and what may go goes.
     pub fn submit_expedited(
         &mut self,
         now: Tick,
-        unit: Vec<u8>,
+        unit: Bytes,
         out: &mut Step,
-    ) -> Result<(), SubmitRefusal>
+    ) -> Result<(), NoMemory>
         requires clock { self.old.clock ≤ now }
         requires low { now ≤ 4000000000 }
-        ensures step { OnOk result (Sends (urged (at now self.old) unit.items) self.new out.old out.new) }
-        ensures kept { OnOk result (Keeps self.old self.new now) }
-        ensures stays { Stays self.old self.new now }
-        ensures refused { (why : SubmitRefusal) → urgent_refusal self.old (length unit.items) ≡ Some why → result ≡ Err why }
-        ensures only { IfErr result (λ why. why ≢ OutOfMemory → urgent_refusal self.old (length unit.items) ≡ Some why) }
-        ensures unchanged { IfErr result (λ why. why ≢ OutOfMemory → (self.new ≡ self.old) × (out.new ≡ out.old)) }
+        requires taken { urgent_refusal self.old (length unit) ≡ None }
+        ensures step { OnOk result (Sends (urged (at now self.old) unit) self.new out.old out.new) }
+        ensures kept { Keeps self.old self.new now }
     {
-        if let Some(why) = self.urgent_refusal(unit.len()) {
-            return Err(why);
-        }
-        match self.take_urgent(now, unit, out) {
-            Ok(()) => Ok(()),
-            Err(NoMemory) => Err(SubmitRefusal::NoMemory),
-        }
+        self.set_clock(now);
+        self.queue_urgent(unit)?;
+        self.new_sends(out)
     }
 
     /// An AK with this wire number came. True exactly where it is newer than the one that was taken last;
@@ -204,6 +193,7 @@ impl Sending {
         }
         self.advance(n, credit, subsequence);
         self.new_sends(out)?;
+        self.know_due();
         Ok(true)
     }
 
@@ -245,6 +235,7 @@ impl Sending {
         self.resend(out)?;
         self.resend_urgent(out)?;
         self.new_sends(out)?;
+        self.know_due();
         Ok(Life::Goes)
     }
 
@@ -276,59 +267,34 @@ impl Sending {
         self.is_open = true;
     }
 
-    /// A unit that is not refused joins its queue, and what may go goes.
-    fn take(&mut self, now: Tick, unit: Vec<u8>, out: &mut Step) -> Result<(), NoMemory>
-        requires clock { self.old.clock ≤ now }
-        requires low { now ≤ 4000000000 }
-        requires fits { refusal self.old (length unit.items) ≡ None }
-        ensures step { OnOk result (Sends (submitted (at now self.old) unit.items) self.new out.old out.new) }
-        ensures kept { Keeps self.old self.new now }
-    {
-        self.set_clock(now);
-        self.queue(unit)?;
-        self.new_sends(out)
-    }
-
     /// A unit joins its queue.
     #[tactic(auto, using(crate::proofs::Queues::queued, crate::proofs::Totals::queued_total, crate::proofs::Totals::counts_low))]
-    fn queue(&mut self, unit: Vec<u8>) -> Result<(), NoMemory>
-        requires { refusal self.old (length unit.items) ≡ None }
-        ensures ok { OnOk result (self.new ≡ record self.old { queue = record self.old.queue { units = self.old.queue.units ++ unit.items ∷ [] } }) }
+    fn queue(&mut self, unit: Bytes) -> Result<(), NoMemory>
+        requires { refusal self.old (length unit) ≡ None }
+        ensures ok { OnOk result (self.new ≡ record self.old { queue = record self.old.queue { units = self.old.queue.units ++ unit ∷ [] } }) }
         ensures kept { Keeps self.old self.new self.old.clock }
     {
-        let octets = unit.len() as u64;
+        let octets = unit.as_slice().len() as u64;
         let pieces = count_in(unit.as_slice(), self.rules.piece);
-        self.units.push_back(Bytes::of(unit))?;
+        self.units.push_back(unit)?;
         self.end += pieces;
         self.waiting += octets;
         Ok(())
     }
 
-    /// An expedited unit that is not refused joins its queue, and what may go goes.
-    fn take_urgent(&mut self, now: Tick, unit: Vec<u8>, out: &mut Step) -> Result<(), NoMemory>
-        requires clock { self.old.clock ≤ now }
-        requires low { now ≤ 4000000000 }
-        requires fits { urgent_refusal self.old (length unit.items) ≡ None }
-        ensures step { OnOk result (Sends (urged (at now self.old) unit.items) self.new out.old out.new) }
-        ensures kept { Keeps self.old self.new now }
-    {
-        self.set_clock(now);
-        self.queue_urgent(unit)?;
-        self.new_sends(out)
-    }
-
     /// An expedited unit joins its queue.
     #[tactic(auto, using(crate::proofs::Queues::queued_urgent))]
-    fn queue_urgent(&mut self, unit: Vec<u8>) -> Result<(), NoMemory>
-        requires { urgent_refusal self.old (length unit.items) ≡ None }
-        ensures ok { OnOk result (self.new ≡ record self.old { urgent = record self.old.urgent { units = self.old.urgent.units ++ unit.items ∷ [] } }) }
+    fn queue_urgent(&mut self, unit: Bytes) -> Result<(), NoMemory>
+        requires { urgent_refusal self.old (length unit) ≡ None }
+        ensures ok { OnOk result (self.new ≡ record self.old { urgent = record self.old.urgent { units = self.old.urgent.units ++ unit ∷ [] } }) }
         ensures kept { Keeps self.old self.new self.old.clock }
     {
-        self.urgent.units.push_back(Bytes::of(unit))?;
+        self.urgent.units.push_back(unit)?;
         Ok(())
     }
 
-    /// Why `submit` takes no unit of so many octets, and None where it takes one.
+    /// Why a unit of so many octets is not taken. None where it is: neither empty nor above 16,384 octets, fewer than 64 units wait, and
+    /// their octets do not pass 131,072 with it.
     pub fn refusal(&self, octets: usize) -> Option<SubmitRefusal>
         ensures { result ≡ refusal self.now octets }
     {
@@ -344,7 +310,7 @@ impl Sending {
         None
     }
 
-    /// Why `submit_expedited` takes no unit of so many octets, and None where it takes one.
+    /// Why an expedited unit of so many octets is not taken. None where it is: neither empty nor above 16 octets, and fewer than 64 wait.
     pub fn urgent_refusal(&self, octets: usize) -> Option<SubmitRefusal>
         ensures { result ≡ urgent_refusal self.now octets }
     {

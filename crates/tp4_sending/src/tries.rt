@@ -70,7 +70,8 @@ pub(crate) fn put(window: &mut HeapCircularBuffer<Tries>, at: usize, tries: Trie
     requires { at < length window.old.items }
     ensures { window.new ≡ buffer (slice_set window.old.items at tries) window.old.capacity }
 {
-    if let Some(place) = window.get_mut(at) {
-        *place = tries;
-    }
+    let Some(place) = window.get_mut(at) else {
+        unreachable!();
+    };
+    *place = tries;
 }

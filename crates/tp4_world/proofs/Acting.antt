@@ -10,7 +10,6 @@ use Rattle.tp4_entity.specs.Entity.{Entity, Acted}
 use Rattle.tp4_entity.specs.Step.{DoesSo}
 use Rattle.tp4_world.proofs.Entities.{changed_there}
 use Rattle.tp4_world.proofs.Going.{Going, drop_item, going_next}
-use Rattle.tp4_world.proofs.Places.{some_same}
 use Rattle.tp4_world.specs.Run.{Acts, SendsTpdu, SendsTpdus}
 use Rattle.tp4_world.specs.World.{is_of, with_entity}
 use Rattle.tp4_world.specs.declared.place.EndAt.{EndAt}
@@ -20,9 +19,6 @@ use Rattle.tp4_world.specs.steps.Parts.{Follows, Tells, world_of}
 -- an entity that told and sent nothing yet
 abbrev pub nothing : Told
 nothing = record { events = []; tpdus = [] }
-
-pub own_of : (own : List ℕ) (one : Placed) → Some own ≡ Some one.entity.own → own ≡ one.entity.own
-own_of own one e = some_same own one.entity.own e
 
 module _ {C : Type 0} (link : C → Link (List ℕ)) (steps : C → Call (List ℕ) → C → Type 0) where
   acts_as : (carrier new : C) (placed changed : List Placed) (ends after : List EndAt) (system place : ℕ) (own : List ℕ) (acted : Acted) (made : List Event)

@@ -19,17 +19,17 @@ use Rattle.tp4_sending.specs.declared.tries.Tries.{Tries}
 use Rattle.tp4_sending.specs.FlowSender.{FlowSender, Sendings, acknowledged, acknowledged_to, all_dts, at, block_in, dts, dts_of, due_numbers, eds, has_next, is_noted, is_outstanding, is_taken, is_urgent, life_of, new_sends, normals, normals_where, nothing, one_urgent, opened, resends, resends_urgent, resends_urgent_as, rule_allows, sent_normal, submitted, then_sends, ticked, ticked_as, urged, urgent_done}
 use Rattle.tp4_sending.specs.Pieces.{cut_at, is_due}
 use Rattle.tp4_number.specs.Number.{near}
-use Rattle.tp4_conn.specs.declared.base.Base.{Base}
+use Rattle.tp4_conn.specs.declared.end_record.EndRecord.{EndRecord}
 use Rattle.tp4_conn.specs.declared.call.UserCall.{UserCall}
 use Rattle.tp4_conn.specs.declared.call.UserCall.TheVariants.{Accept, Refuse, Normal, Urgent, Window, Disconnect}
 use Rattle.tp4_conn.specs.declared.halves.Halves.{Halves}
-use Rattle.tp4_conn.specs.declared.stage.Answering.{Answering}
-use Rattle.tp4_conn.specs.declared.stage.Open.{Open}
-use Rattle.tp4_conn.specs.declared.stage.Parting.{Parting}
-use Rattle.tp4_conn.specs.declared.stage.Releasing.{Releasing}
-use Rattle.tp4_conn.specs.declared.stage.Requesting.{Requesting}
-use Rattle.tp4_conn.specs.declared.stage.Stage.{Stage}
-use Rattle.tp4_conn.specs.declared.stage.Stage.TheVariants.{CrWait, WaitBeforeClose, UserWait, AkWait, Opened, Closing, Frozen}
+use Rattle.tp4_conn.specs.declared.states.InAkWait.{InAkWait}
+use Rattle.tp4_conn.specs.declared.states.InOpened.{InOpened}
+use Rattle.tp4_conn.specs.declared.states.InWaitBeforeClose.{InWaitBeforeClose}
+use Rattle.tp4_conn.specs.declared.states.InClosing.{InClosing}
+use Rattle.tp4_conn.specs.declared.states.InCrWait.{InCrWait}
+use Rattle.tp4_conn.specs.declared.states.StateData.{StateData}
+use Rattle.tp4_conn.specs.declared.states.StateData.TheVariants.{CrWait, WaitBeforeClose, UserWait, AkWait, Opened, Closing, Frozen}
 use Rattle.tp4_conn.specs.Agreeing.{confirms_again, halves_of, is_within, options_in}
 use Rattle.tp4_conn.specs.AkWait.{ak_wait_tick, ak_wait_tpdu, opening, queueing}
 use Rattle.tp4_conn.specs.Closing.{closing_tick, closing_tpdu}
@@ -139,7 +139,7 @@ abbrev pub HalvesTo : List ℕ → Halves → Type 0
 HalvesTo to h = (h.sending.rules.to ≡ to) × (h.receiving.rules.to ≡ to)
 
 -- the halves of a state write to that address
-abbrev pub StageTo : List ℕ → Stage → Type 0
+abbrev pub StageTo : List ℕ → StateData → Type 0
 StageTo to (AkWait w) = HalvesTo to w.halves
 StageTo to (Opened o) = HalvesTo to o.halves
 StageTo to stage = Unit {0}
@@ -154,13 +154,13 @@ pub record MovesTo (to : List ℕ) (m : Moved) : Type 0 where
   pub stage : StageTo to m.stage
   pub tpdus : AllTo to m.tpdus
 
-confirms_to : (to : List ℕ) (b : Base) (source : ℕ) → b.to ≡ to → AllTo to (confirms b source)
+confirms_to : (to : List ℕ) (b : EndRecord) (source : ℕ) → b.to ≡ to → AllTo to (confirms b source)
 confirms_to to b source is = either (AllTo to) (source == 0) _ _ tt (is, tt)
 
-closing_to : (to : List ℕ) (b : Base) (events : List EndEvent) (reason : ℕ) (octets : List ℕ) (from : ℕ) → b.to ≡ to → MovesTo to (closing b events reason octets from)
+closing_to : (to : List ℕ) (b : EndRecord) (events : List EndEvent) (reason : ℕ) (octets : List ℕ) (from : ℕ) → b.to ≡ to → MovesTo to (closing b events reason octets from)
 closing_to to b events reason octets from is = record { base = is; stage = tt; tpdus = (is, tt) }
 
-frozen_to : (to : List ℕ) (b : Base) (events : List EndEvent) (tpdus : List Sent) → b.to ≡ to → AllTo to tpdus → MovesTo to (frozen b events tpdus)
+frozen_to : (to : List ℕ) (b : EndRecord) (events : List EndEvent) (tpdus : List Sent) → b.to ≡ to → AllTo to tpdus → MovesTo to (frozen b events tpdus)
 frozen_to to b events tpdus is all = record { base = is; stage = tt; tpdus = all }
 
 led_to : (to : List ℕ) (events : List EndEvent) (tpdus : List Sent) (m : Moved) → AllTo to tpdus → MovesTo to m → MovesTo to (led_by events tpdus m)
@@ -168,7 +168,7 @@ led_to to events tpdus m all h = record { base = h.base; stage = h.stage; tpdus 
 
 -- ---- CrWait and WaitBeforeClose
 
-confirmed_to : (to : List ℕ) (b : Base) (o : Options) (text : List ℕ) → b.to ≡ to → MovesTo to (confirmed b o text)
+confirmed_to : (to : List ℕ) (b : EndRecord) (o : Options) (text : List ℕ) → b.to ≡ to → MovesTo to (confirmed b o text)
 confirmed_to to b o text is =
     let s = opened_to to (at b.clock (halves_of b o).sending) is in record {
       base = is;
@@ -176,26 +176,26 @@ confirmed_to to b o text is =
       tpdus = all_append (λ sent. sent.to ≡ to) (opened (at b.clock (halves_of b o).sending)).tpdus (ak (halves_of b o).receiving ∷ []) s.tpdus (is, tt);
     }
 
-cr_wait_to : (to : List ℕ) (b : Base) (w : Requesting) (tpdu : Tpdu) → b.to ≡ to → MovesTo to (cr_wait_tpdu b w tpdu)
+cr_wait_to : (to : List ℕ) (b : EndRecord) (w : InCrWait) (tpdu : Tpdu) → b.to ≡ to → MovesTo to (cr_wait_tpdu b w tpdu)
 unfolding cr_wait_tpdu
 cr_wait_to to b w (Cc credit destination source width calling called size preferred extra version classes ack_time text) is =
     either (MovesTo to) (is_within b.proposed width size preferred extra) _ _ (confirmed_to to _ (options_in width size preferred extra) text is) (closing_to to _ (gone b Protocol []) 133 [] b.clock is)
 cr_wait_to to b w (Dr destination source reason info text) is = frozen_to to b (gone b (Reason reason) text) (confirms b source) is (confirms_to to b source is)
 cr_wait_to to b w other is = record { base = is; stage = tt; tpdus = tt }
 
-cr_wait_tick_to : (to : List ℕ) (b : Base) (w : Requesting) → b.to ≡ to → MovesTo to (cr_wait_tick b w)
+cr_wait_tick_to : (to : List ℕ) (b : EndRecord) (w : InCrWait) → b.to ≡ to → MovesTo to (cr_wait_tick b w)
 unfolding cr_wait_tick
 cr_wait_tick_to to b w is =
     either (MovesTo to) (nat_lt b.clock (w.tries.last + b.timers.t1)) _ _ (record { base = is; stage = tt; tpdus = tt })
     (either (MovesTo to) (nat_lt w.tries.count b.timers.sendings) _ _ (record { base = is; stage = tt; tpdus = (is, tt) }) (frozen_to to b (gone b Exhausted []) [] is tt))
 
-parting_to : (to : List ℕ) (b : Base) (w : Parting) (tpdu : Tpdu) → b.to ≡ to → MovesTo to (wait_before_close_tpdu b w tpdu)
+parting_to : (to : List ℕ) (b : EndRecord) (w : InWaitBeforeClose) (tpdu : Tpdu) → b.to ≡ to → MovesTo to (wait_before_close_tpdu b w tpdu)
 unfolding wait_before_close_tpdu
 parting_to to b w (Cc credit destination source width calling called size preferred extra version classes ack_time text) is = closing_to to _ [] 128 w.octets b.clock is
 parting_to to b w (Dr destination source reason info text) is = frozen_to to b [] (confirms b source) is (confirms_to to b source is)
 parting_to to b w other is = record { base = is; stage = tt; tpdus = tt }
 
-parting_tick_to : (to : List ℕ) (b : Base) (w : Parting) → b.to ≡ to → MovesTo to (wait_before_close_tick b w)
+parting_tick_to : (to : List ℕ) (b : EndRecord) (w : InWaitBeforeClose) → b.to ≡ to → MovesTo to (wait_before_close_tick b w)
 unfolding wait_before_close_tick
 parting_tick_to to b w is =
     either (MovesTo to) (nat_lt b.clock (w.request.tries.last + b.timers.t1)) _ _ (record { base = is; stage = tt; tpdus = tt })
@@ -203,15 +203,15 @@ parting_tick_to to b w is =
 
 -- ---- UserWait
 
-accept_to : (to : List ℕ) (b : Base) (asked : Options) (octets : List ℕ) → b.to ≡ to → MovesTo to (user_wait_accept b asked octets)
+accept_to : (to : List ℕ) (b : EndRecord) (asked : Options) (octets : List ℕ) → b.to ≡ to → MovesTo to (user_wait_accept b asked octets)
 unfolding user_wait_accept
 accept_to to b asked octets is = record { base = is; stage = (is, is); tpdus = (is, tt) }
 
-refuse_to : (to : List ℕ) (b : Base) (octets : List ℕ) → b.to ≡ to → MovesTo to (user_wait_refuse b octets)
+refuse_to : (to : List ℕ) (b : EndRecord) (octets : List ℕ) → b.to ≡ to → MovesTo to (user_wait_refuse b octets)
 unfolding user_wait_refuse
 refuse_to to b octets is = frozen_to to b [] (refusing b octets ∷ []) is (is, tt)
 
-user_wait_tick_to : (to : List ℕ) (b : Base) (since : ℕ) → b.to ≡ to → MovesTo to (user_wait_tick b since)
+user_wait_tick_to : (to : List ℕ) (b : EndRecord) (since : ℕ) → b.to ≡ to → MovesTo to (user_wait_tick b since)
 unfolding user_wait_tick
 user_wait_tick_to to b since is =
     either (MovesTo to) (nat_lt b.clock (since + b.timers.inactive)) _ _ (record { base = is; stage = tt; tpdus = tt })
@@ -219,10 +219,10 @@ user_wait_tick_to to b since is =
 
 -- ---- Opened
 
-sending_to : (to : List ℕ) (b : Base) (o : Open) (s : Sendings) → b.to ≡ to → HalvesTo to o.halves → SendsTo to s → MovesTo to (sending b o s)
+sending_to : (to : List ℕ) (b : EndRecord) (o : InOpened) (s : Sendings) → b.to ≡ to → HalvesTo to o.halves → SendsTo to s → MovesTo to (sending b o s)
 sending_to to b o s is halves h = record { base = is; stage = (h.rules, halves.1); tpdus = h.tpdus }
 
-receiving_to : (to : List ℕ) (b : Base) (o : Open) (r : Received) → b.to ≡ to → HalvesTo to o.halves → r.half.rules.to ≡ to → AllTo to r.tpdus → MovesTo to (receiving b o r)
+receiving_to : (to : List ℕ) (b : EndRecord) (o : InOpened) (r : Received) → b.to ≡ to → HalvesTo to o.halves → r.half.rules.to ≡ to → AllTo to r.tpdus → MovesTo to (receiving b o r)
 receiving_to to b o r is halves rules all = record { base = is; stage = (halves.0, rules); tpdus = all }
 
 aks_to : (to : List ℕ) (got : Got) (h : Half) → h.rules.to ≡ to → AllTo to (aks got h)
@@ -231,18 +231,18 @@ aks_to to Old h is = (is, tt)
 aks_to to Outside h is = (is, tt)
 aks_to to TooLarge h is = tt
 
-dt_as_to : (to : List ℕ) (got : Got) (b : Base) (o : Open) (r : Received) → b.to ≡ to → HalvesTo to o.halves → r.half.rules.to ≡ to → AllTo to r.tpdus → MovesTo to (dt_as got b o r)
+dt_as_to : (to : List ℕ) (got : Got) (b : EndRecord) (o : InOpened) (r : Received) → b.to ≡ to → HalvesTo to o.halves → r.half.rules.to ≡ to → AllTo to r.tpdus → MovesTo to (dt_as got b o r)
 dt_as_to to TooLarge b o r is halves rules all = led_to to r.events r.tpdus (protocol_error b) all (closing_to to b (gone b Protocol []) 133 [] b.clock is)
 dt_as_to to Kept b o r is halves rules all = receiving_to to b (acking b o) r is halves rules all
 dt_as_to to Old b o r is halves rules all = receiving_to to b (acking b o) r is halves rules all
 dt_as_to to Outside b o r is halves rules all = receiving_to to b (acking b o) r is halves rules all
 
-ed_to : (to : List ℕ) (wrap : ℕ → ℕ → ℕ) (b : Base) (o : Open) (w : ℕ) (octets : List ℕ) → b.to ≡ to → HalvesTo to o.halves → MovesTo to (receiving b o (taken_ed wrap o.halves.receiving w octets))
+ed_to : (to : List ℕ) (wrap : ℕ → ℕ → ℕ) (b : EndRecord) (o : InOpened) (w : ℕ) (octets : List ℕ) → b.to ≡ to → HalvesTo to o.halves → MovesTo to (receiving b o (taken_ed wrap o.halves.receiving w octets))
 ed_to to wrap b o w octets is halves =
     receiving_to to b o (taken_ed wrap o.halves.receiving w octets) is halves (either (λ (h : Half). h.rules.to ≡ to) (is_next o.halves.receiving w) _ _ halves.1 halves.1)
     (either (AllTo to) (is_next o.halves.receiving w || is_before o.halves.receiving w) _ _ (halves.1, tt) tt)
 
-opened_tpdu_to : (to : List ℕ) (wrap : ℕ → ℕ → ℕ) (b : Base) (o : Open) (tpdu : Tpdu) → b.to ≡ to → HalvesTo to o.halves → MovesTo to (opened_tpdu wrap b o tpdu)
+opened_tpdu_to : (to : List ℕ) (wrap : ℕ → ℕ → ℕ) (b : EndRecord) (o : InOpened) (tpdu : Tpdu) → b.to ≡ to → HalvesTo to o.halves → MovesTo to (opened_tpdu wrap b o tpdu)
 unfolding opened_tpdu
 opened_tpdu_to to wrap b o (Cc credit destination source width calling called size preferred extra version classes ack_time text) is halves = record { base = is; stage = halves; tpdus = (halves.1, tt) }
 opened_tpdu_to to wrap b o (Dr destination source reason info text) is halves = frozen_to to b (gone b (Reason reason) text) (confirms b source) is (confirms_to to b source is)
@@ -259,23 +259,23 @@ opened_tpdu_to to wrap b o (Ea destination number) is halves = sending_to to b o
 opened_tpdu_to to wrap b o (Cr credit source width calling called size preferred extra version classes ack_time text) is halves = record { base = is; stage = halves; tpdus = tt }
 opened_tpdu_to to wrap b o (Dc destination source) is halves = record { base = is; stage = halves; tpdus = tt }
 
-granting_to : (to : List ℕ) (b : Base) (o : Open) (new : Half) → b.to ≡ to → HalvesTo to o.halves → new.rules.to ≡ to → MovesTo to (granting b o new)
+granting_to : (to : List ℕ) (b : EndRecord) (o : InOpened) (new : Half) → b.to ≡ to → HalvesTo to o.halves → new.rules.to ≡ to → MovesTo to (granting b o new)
 granting_to to b o new is halves rules =
     either (MovesTo to) (new.receiver.inbox.credit == o.halves.receiving.receiver.inbox.credit) _ _ (receiving_to to b o _ is halves rules tt)
     (receiving_to to b (acking b o) _ is halves rules (rules, tt))
 
-opened_goes_to : (to : List ℕ) (b : Base) (o : Open) (s : Sendings) → b.to ≡ to → HalvesTo to o.halves → SendsTo to s → MovesTo to (opened_goes b o s)
+opened_goes_to : (to : List ℕ) (b : EndRecord) (o : InOpened) (s : Sendings) → b.to ≡ to → HalvesTo to o.halves → SendsTo to s → MovesTo to (opened_goes b o s)
 opened_goes_to to b o s is halves h =
     either (MovesTo to) (nat_le (o.acked + b.timers.window) b.clock) _ _
     (led_to to s.events s.tpdus (acknowledging b (record o { halves = record o.halves { sending = s.sender } })) h.tpdus (record { base = is; stage = (h.rules, halves.1); tpdus = (halves.1, tt) }))
     (sending_to to b o s is halves h)
 
-opened_as_to : (to : List ℕ) (life : Life) (b : Base) (o : Open) → b.to ≡ to → HalvesTo to o.halves → MovesTo to (opened_as life b o)
+opened_as_to : (to : List ℕ) (life : Life) (b : EndRecord) (o : InOpened) → b.to ≡ to → HalvesTo to o.halves → MovesTo to (opened_as life b o)
 opened_as_to to Spent b o is halves = closing_to to b (gone b Exhausted []) 128 [] b.clock is
 opened_as_to to Goes b o is halves =
     opened_goes_to to b o (ticked (at b.clock o.halves.sending)) is halves (ticked_to to (at b.clock o.halves.sending) (life_of (at b.clock o.halves.sending)) halves.0)
 
-opened_tick_to : (to : List ℕ) (b : Base) (o : Open) → b.to ≡ to → HalvesTo to o.halves → MovesTo to (opened_tick b o)
+opened_tick_to : (to : List ℕ) (b : EndRecord) (o : InOpened) → b.to ≡ to → HalvesTo to o.halves → MovesTo to (opened_tick b o)
 unfolding opened_tick
 opened_tick_to to b o is halves =
     either (MovesTo to) (nat_le (o.took + b.timers.inactive) b.clock) _ _ (closing_to to b (gone b Inactive []) 128 [] b.clock is)
@@ -283,13 +283,13 @@ opened_tick_to to b o is halves =
 
 -- ---- AkWait
 
-opening_to : (to : List ℕ) (wrap : ℕ → ℕ → ℕ) (b : Base) (h : Halves) (tpdu : Tpdu) → b.to ≡ to → HalvesTo to h → MovesTo to (opening wrap b h tpdu)
+opening_to : (to : List ℕ) (wrap : ℕ → ℕ → ℕ) (b : EndRecord) (h : Halves) (tpdu : Tpdu) → b.to ≡ to → HalvesTo to h → MovesTo to (opening wrap b h tpdu)
 opening_to to wrap b h tpdu is halves =
     let s = opened_to to (at b.clock h.sending) halves.0 in
     let x = opened (at b.clock h.sending) in
     led_to to x.events x.tpdus _ s.tpdus (opened_tpdu_to to wrap b (record { took = b.clock; acked = b.clock; halves = record h { sending = x.sender } }) tpdu is (s.rules, halves.1))
 
-ak_wait_to : (to : List ℕ) (wrap : ℕ → ℕ → ℕ) (b : Base) (w : Answering) (tpdu : Tpdu) → b.to ≡ to → HalvesTo to w.halves → MovesTo to (ak_wait_tpdu wrap b w tpdu)
+ak_wait_to : (to : List ℕ) (wrap : ℕ → ℕ → ℕ) (b : EndRecord) (w : InAkWait) (tpdu : Tpdu) → b.to ≡ to → HalvesTo to w.halves → MovesTo to (ak_wait_tpdu wrap b w tpdu)
 unfolding ak_wait_tpdu
 ak_wait_to to wrap b w (Ak destination number credit subsequence confirmation) is halves = opening_to to wrap b w.halves (Ak destination number credit subsequence confirmation) is halves
 ak_wait_to to wrap b w (Dt destination last number text) is halves = opening_to to wrap b w.halves (Dt destination last number text) is halves
@@ -301,28 +301,28 @@ ak_wait_to to wrap b w (Cr credit source width calling called size preferred ext
 ak_wait_to to wrap b w (Cc credit destination source width calling called size preferred extra version classes ack_time text) is halves = record { base = is; stage = halves; tpdus = tt }
 ak_wait_to to wrap b w (Dc destination source) is halves = record { base = is; stage = halves; tpdus = tt }
 
-again_to : (to : List ℕ) (b : Base) (agreed : Option Options) (octets : List ℕ) → b.to ≡ to → AllTo to (confirms_again b agreed octets)
+again_to : (to : List ℕ) (b : EndRecord) (agreed : Option Options) (octets : List ℕ) → b.to ≡ to → AllTo to (confirms_again b agreed octets)
 again_to to b None octets is = tt
 again_to to b (Some o) octets is = (is, tt)
 
-ak_wait_tick_to : (to : List ℕ) (b : Base) (w : Answering) → b.to ≡ to → HalvesTo to w.halves → MovesTo to (ak_wait_tick b w)
+ak_wait_tick_to : (to : List ℕ) (b : EndRecord) (w : InAkWait) → b.to ≡ to → HalvesTo to w.halves → MovesTo to (ak_wait_tick b w)
 unfolding ak_wait_tick
 ak_wait_tick_to to b w is halves =
     either (MovesTo to) (nat_lt b.clock (w.tries.last + b.timers.t1)) _ _ (record { base = is; stage = halves; tpdus = tt })
     (either (MovesTo to) (nat_lt w.tries.count b.timers.sendings) _ _ (record { base = is; stage = halves; tpdus = again_to to b b.agreed w.octets is }) (frozen_to to b (gone b Exhausted []) [] is tt))
 
-queueing_to : (to : List ℕ) (b : Base) (w : Answering) (s : Sendings) → b.to ≡ to → HalvesTo to w.halves → SendsTo to s → MovesTo to (queueing b w s)
+queueing_to : (to : List ℕ) (b : EndRecord) (w : InAkWait) (s : Sendings) → b.to ≡ to → HalvesTo to w.halves → SendsTo to s → MovesTo to (queueing b w s)
 queueing_to to b w s is halves h = record { base = is; stage = (h.rules, halves.1); tpdus = h.tpdus }
 
 -- ---- Closing
 
-closing_tpdu_to : (to : List ℕ) (b : Base) (c : Releasing) (tpdu : Tpdu) → b.to ≡ to → MovesTo to (closing_tpdu b c tpdu)
+closing_tpdu_to : (to : List ℕ) (b : EndRecord) (c : InClosing) (tpdu : Tpdu) → b.to ≡ to → MovesTo to (closing_tpdu b c tpdu)
 unfolding closing_tpdu
 closing_tpdu_to to b c (Dc destination source) is = frozen_to to b [] [] is tt
 closing_tpdu_to to b c (Dr destination source reason info text) is = frozen_to to b [] [] is tt
 closing_tpdu_to to b c other is = record { base = is; stage = tt; tpdus = tt }
 
-closing_tick_to : (to : List ℕ) (b : Base) (c : Releasing) → b.to ≡ to → MovesTo to (closing_tick b c)
+closing_tick_to : (to : List ℕ) (b : EndRecord) (c : InClosing) → b.to ≡ to → MovesTo to (closing_tick b c)
 unfolding closing_tick
 closing_tick_to to b c is =
     either (MovesTo to) (nat_le (c.from + span b.timers) b.clock) _ _ (frozen_to to b [] [] is tt)
@@ -330,10 +330,10 @@ closing_tick_to to b c is =
 
 -- ---- the rows
 
-stays_to : (to : List ℕ) (b : Base) (stage : Stage) → b.to ≡ to → StageTo to stage → MovesTo to (stays b stage)
+stays_to : (to : List ℕ) (b : EndRecord) (stage : StateData) → b.to ≡ to → StageTo to stage → MovesTo to (stays b stage)
 stays_to to b stage is at_stage = record { base = is; stage = at_stage; tpdus = tt }
 
-tpdu_to : (to : List ℕ) (wrap : ℕ → ℕ → ℕ) (b : Base) (stage : Stage) (tpdu : Tpdu) → b.to ≡ to → StageTo to stage → MovesTo to (on_tpdu wrap b stage tpdu)
+tpdu_to : (to : List ℕ) (wrap : ℕ → ℕ → ℕ) (b : EndRecord) (stage : StateData) (tpdu : Tpdu) → b.to ≡ to → StageTo to stage → MovesTo to (on_tpdu wrap b stage tpdu)
 tpdu_to to wrap b (CrWait w) tpdu is at_stage = cr_wait_to to b w tpdu is
 tpdu_to to wrap b (WaitBeforeClose w) tpdu is at_stage = parting_to to b w tpdu is
 tpdu_to to wrap b (UserWait since) tpdu is at_stage = stays_to to b (UserWait since) is tt
@@ -342,7 +342,7 @@ tpdu_to to wrap b (Opened o) tpdu is at_stage = opened_tpdu_to to wrap b (hearin
 tpdu_to to wrap b (Closing c) tpdu is at_stage = closing_tpdu_to to b c tpdu is
 tpdu_to to wrap b (Frozen when) tpdu is at_stage = stays_to to b (Frozen when) is tt
 
-tick_to : (to : List ℕ) (b : Base) (stage : Stage) → b.to ≡ to → StageTo to stage → MovesTo to (on_tick b stage)
+tick_to : (to : List ℕ) (b : EndRecord) (stage : StateData) → b.to ≡ to → StageTo to stage → MovesTo to (on_tick b stage)
 tick_to to b (CrWait w) is at_stage = cr_wait_tick_to to b w is
 tick_to to b (WaitBeforeClose w) is at_stage = parting_tick_to to b w is
 tick_to to b (UserWait since) is at_stage = user_wait_tick_to to b since is
@@ -351,7 +351,7 @@ tick_to to b (Opened o) is at_stage = opened_tick_to to b o is at_stage
 tick_to to b (Closing c) is at_stage = closing_tick_to to b c is
 tick_to to b (Frozen when) is at_stage = stays_to to b (Frozen when) is tt
 
-call_to : (to : List ℕ) (b : Base) (stage : Stage) (call : UserCall) → b.to ≡ to → StageTo to stage → MovesTo to (on_call b stage call)
+call_to : (to : List ℕ) (b : EndRecord) (stage : StateData) (call : UserCall) → b.to ≡ to → StageTo to stage → MovesTo to (on_call b stage call)
 call_to to b (CrWait w) (Disconnect octets) is at_stage = record { base = is; stage = tt; tpdus = tt }
 call_to to b (UserWait since) (Accept asked octets) is at_stage = accept_to to b asked octets is
 call_to to b (UserWait since) (Refuse octets) is at_stage = refuse_to to b octets is

@@ -10,7 +10,7 @@ use Rattle.osi_journal.specs.declared.cause.Standing.TheVariants.{Ended}
 use Rattle.osi_journal.specs.declared.event.Event.{Event}
 use Rattle.osi_journal.specs.declared.event.Event.TheVariants as events
 use Rattle.tp4_flow.specs.Told.{Told}
-use Rattle.tp4_conn.specs.declared.call.ConnectCall.{ConnectCall}
+use Rattle.tp4_conn.specs.declared.call.ConnectRequest.{ConnectRequest}
 use Rattle.tp4_conn.specs.declared.call.UserCall.{UserCall}
 use Rattle.tp4_entity.specs.declared.refusal.ConnectRefusal.{ConnectRefusal}
 use Rattle.tp4_entity.specs.declared.refusal.EntityRefusal.{EntityRefusal}
@@ -20,7 +20,7 @@ use Rattle.tp4_entity.specs.declared.refusal.EntityRefusal.TheVariants as entiti
 use Rattle.tp4_entity.specs.Entity.{Entity}
 use Rattle.tp4_entity.specs.References.{least_free}
 use Rattle.tp4_entity.specs.Step.{DoesSo, calling, connect_refusal, connecting, restarted, user_refusal}
-use Rattle.tp4_world.proofs.Acting.{acts, nothing, own_of}
+use Rattle.tp4_world.proofs.Acting.{acts, nothing}
 use Rattle.tp4_world.proofs.Entities.{changed_there, entity_there}
 use Rattle.tp4_world.proofs.Places.{first_is_some, some_same}
 use Rattle.tp4_world.specs.Run.{Acts, BeginsAt, Calls, CallsAt, CallsBy, CallsEnd, Connects, ConnectsBy, IsRefused, clock_of, has_ended}
@@ -58,40 +58,40 @@ module _ {C : Type 0} (link : C → Link (List ℕ)) (steps : C → Call (List �
   refused_as : (old new : World C) (why : Option Refused) (cause : Refused) (made : List Event) → why ≡ Some cause → made ≡ events.No cause ∷ [] → new ≡ old → IsRefused link steps old why made new
   refused_as old new why cause made is told same = subst (λ (w : Option Refused). IsRefused link steps old w made new) (sym is) (told, same)
 
-  pub connect_refused : (carrier : C) (placed changed : List Placed) (ends : List EndAt) (system place now : ℕ) (call : ConnectCall) (one : Placed) (why : ConnectRefusal) (cause : Refused) (made : List Event)
-      → position (is_of system) placed ≡ Some place → slice_get placed place ≡ Some one → (link carrier).clock ≡ now → connect_refusal now one.entity call.octets ≡ Some why → changed ≡ placed
-      → told_connect why ≡ Some cause → made ≡ events.No cause ∷ [] → Connects link steps (world_of carrier placed ends) system call made (world_of carrier changed ends)
-  connect_refused carrier placed changed ends system place now call one why cause made found at clock refusal same told is = (
+  pub connect_refused : (carrier : C) (placed changed : List Placed) (ends : List EndAt) (system place now : ℕ) (request : ConnectRequest) (one : Placed) (why : ConnectRefusal) (cause : Refused) (made : List Event)
+      → position (is_of system) placed ≡ Some place → slice_get placed place ≡ Some one → (link carrier).clock ≡ now → connect_refusal now one.entity request.octets ≡ Some why → changed ≡ placed
+      → told_connect why ≡ Some cause → made ≡ events.No cause ∷ [] → Connects link steps (world_of carrier placed ends) system request made (world_of carrier changed ends)
+  connect_refused carrier placed changed ends system place now request one why cause made found at clock refusal same told is = (
     one.entity,
     entity_there placed system place one found at,
-    subst (λ (w : Option ConnectRefusal). ConnectsBy link steps (world_of carrier placed ends) system one.entity call w made (world_of carrier changed ends))
-        (sym (subst (λ (n : ℕ). connect_refusal n one.entity call.octets ≡ Some why) (sym clock) refusal))
+    subst (λ (w : Option ConnectRefusal). ConnectsBy link steps (world_of carrier placed ends) system one.entity request w made (world_of carrier changed ends))
+        (sym (subst (λ (n : ℕ). connect_refusal n one.entity request.octets ≡ Some why) (sym clock) refusal))
         (refused_as (world_of carrier placed ends) (world_of carrier changed ends) (told_connect why) cause made told is (ap (λ (ps : List Placed). world_of carrier ps ends) same)),
   )
 
-  pub connect_begun : (carrier new : C) (placed changed : List Placed) (ends with_end after : List EndAt) (system place now reference number : ℕ) (own : List ℕ) (call : ConnectCall) (was told : Told) (request : Event)
-      (mid made : List Event) → position (is_of system) placed ≡ Some place → ((one : Placed) → slice_get placed place ≡ Some one → Some own ≡ Some one.entity.own) → (link carrier).clock ≡ now → was ≡ nothing
-      → ChangesAt place placed changed (λ entity next. (connect_refusal now entity call.octets ≡ None) × (least_free now entity ≡ Some reference) × DoesSo (connecting now entity reference call) next was told)
-      → with_end ≡ ends ++ record { system = system; reference = reference } ∷ [] → number ≡ length ends + 1 → request ≡ connect_event number system reference own call → mid ≡ request ∷ []
+  pub connect_begun : (carrier new : C) (placed changed : List Placed) (ends with_end after : List EndAt) (system place now reference number : ℕ) (own : List ℕ) (request : ConnectRequest) (was told : Told) (asked : Event)
+      (mid made : List Event) → position (is_of system) placed ≡ Some place → ((one : Placed) → slice_get placed place ≡ Some one → own ≡ one.entity.own) → (link carrier).clock ≡ now → was ≡ nothing
+      → ChangesAt place placed changed (λ entity next. (connect_refusal now entity request.octets ≡ None) × (least_free now entity ≡ Some reference) × DoesSo (connecting now entity reference request) next was told)
+      → with_end ≡ ends ++ record { system = system; reference = reference } ∷ [] → number ≡ length ends + 1 → asked ≡ connect_event number system reference own request → mid ≡ asked ∷ []
       → Tells mid made (λ later. Follows link steps carrier with_end system own told later new after)
-      → Connects link steps (world_of carrier placed ends) system call made (world_of new changed after)
-  connect_begun carrier new placed changed ends with_end after system place now reference number own call was told request mid made found owns clock start change added numbered is first tells =
+      → Connects link steps (world_of carrier placed ends) system request made (world_of new changed after)
+  connect_begun carrier new placed changed ends with_end after system place now reference number own request was told asked mid made found owns clock start change added numbered is first tells =
       let one = change.one in
-      let owned : own ≡ one.entity.own = own_of own one (owns one change.at) in
-      let did : Acts link steps (world_of carrier placed with_end) system one.entity.own (connecting now one.entity reference call) tells.made (world_of new changed after) =
-      acts link steps carrier new placed changed with_end after system place own (connecting now one.entity reference call) one change.after was told tells.made found change.at change.becomes owned start change.does.2 tells.are in
-      let line : made ≡ connect_event (length ends + 1) system reference one.entity.own call ∷ tells.made =
+      let owned : own ≡ one.entity.own = owns one change.at in
+      let did : Acts link steps (world_of carrier placed with_end) system one.entity.own (connecting now one.entity reference request) tells.made (world_of new changed after) =
+      acts link steps carrier new placed changed with_end after system place own (connecting now one.entity reference request) one change.after was told tells.made found change.at change.becomes owned start change.does.2 tells.are in
+      let line : made ≡ connect_event (length ends + 1) system reference one.entity.own request ∷ tells.made =
       tells.added ∙ ap (λ (xs : List Event). xs ++ tells.made) first
-      ∙ ap (λ (e : Event). e ∷ tells.made) (is ∙ ap (λ (n : ℕ). connect_event n system reference own call) numbered ∙ ap (λ (o : List ℕ). connect_event (length ends + 1) system reference o call) owned) in (
+      ∙ ap (λ (e : Event). e ∷ tells.made) (is ∙ ap (λ (n : ℕ). connect_event n system reference own request) numbered ∙ ap (λ (o : List ℕ). connect_event (length ends + 1) system reference o request) owned) in (
         one.entity,
         entity_there placed system place one found change.at,
-        subst (λ (w : Option ConnectRefusal). ConnectsBy link steps (world_of carrier placed ends) system one.entity call w made (world_of new changed after))
-            (sym (subst (λ (n : ℕ). connect_refusal n one.entity call.octets ≡ None) (sym clock) change.does.0))
-            (subst (λ (r : Option ℕ). BeginsAt link steps (world_of carrier placed ends) system one.entity call r made (world_of new changed after))
+        subst (λ (w : Option ConnectRefusal). ConnectsBy link steps (world_of carrier placed ends) system one.entity request w made (world_of new changed after))
+            (sym (subst (λ (n : ℕ). connect_refusal n one.entity request.octets ≡ None) (sym clock) change.does.0))
+            (subst (λ (r : Option ℕ). BeginsAt link steps (world_of carrier placed ends) system one.entity request r made (world_of new changed after))
             (sym (subst (λ (n : ℕ). least_free n one.entity ≡ Some reference) (sym clock) change.does.1)) (
               tells.made,
-              subst (λ (n : ℕ). Acts link steps (world_of carrier placed (ends ++ record { system = system; reference = reference } ∷ [])) system one.entity.own (connecting n one.entity reference call) tells.made (world_of new changed after)) (sym clock)
-                  (subst (λ (es : List EndAt). Acts link steps (world_of carrier placed es) system one.entity.own (connecting now one.entity reference call) tells.made (world_of new changed after)) added did),
+              subst (λ (n : ℕ). Acts link steps (world_of carrier placed (ends ++ record { system = system; reference = reference } ∷ [])) system one.entity.own (connecting n one.entity reference request) tells.made (world_of new changed after)) (sym clock)
+                  (subst (λ (es : List EndAt). Acts link steps (world_of carrier placed es) system one.entity.own (connecting now one.entity reference request) tells.made (world_of new changed after)) added did),
               line,
             )),
       )
@@ -113,7 +113,7 @@ module _ {C : Type 0} (link : C → Link (List ℕ)) (steps : C → Call (List �
     )
 
     pub call_done : (carrier new : C) (placed changed : List Placed) (ends after : List EndAt) (place now number : ℕ) (end : EndAt) (own : List ℕ) (call : UserCall) (was told : Told) (mid made : List Event)
-        → position (is_of end.system) placed ≡ Some place → ((one : Placed) → slice_get placed place ≡ Some one → Some own ≡ Some one.entity.own) → (link carrier).clock ≡ now → was ≡ nothing
+        → position (is_of end.system) placed ≡ Some place → ((one : Placed) → slice_get placed place ≡ Some one → own ≡ one.entity.own) → (link carrier).clock ≡ now → was ≡ nothing
         → ChangesAt place placed changed (λ entity next. (user_refusal entity end.reference call ≡ None) × DoesSo (calling wrap now entity end.reference call) next was told)
         → mid ≡ call_events number call → Tells mid made (λ later. Follows link steps carrier ends end.system own told later new after)
         → CallsThere (world_of carrier placed ends) number end call made (world_of new changed after)
@@ -121,7 +121,7 @@ module _ {C : Type 0} (link : C → Link (List ℕ)) (steps : C → Call (List �
         let one = change.one in
         let did : Acts link steps (world_of carrier placed ends) end.system one.entity.own (calling wrap now one.entity end.reference call) tells.made (world_of new changed after) =
         acts link steps carrier new placed changed ends after end.system place own (calling wrap now one.entity end.reference call) one change.after was told tells.made found change.at change.becomes
-        (own_of own one (owns one change.at)) start change.does.1 tells.are in (
+        (owns one change.at) start change.does.1 tells.are in (
           one.entity,
           entity_there placed end.system place one found change.at,
           subst (λ (w : Option EntityRefusal). CallsBy link steps wrap (world_of carrier placed ends) number end one.entity call w made (world_of new changed after)) (sym change.does.0) (
@@ -139,24 +139,24 @@ module _ {C : Type 0} (link : C → Link (List ℕ)) (steps : C → Call (List �
         (entity, there, subst (λ (b : Bool). CallsEnd link steps wrap old number end entity call b made new) (sym over) h)
 
     pub ended_refused : (carrier : C) (placed : List Placed) (ends : List EndAt) (place now number : ℕ) (end : EndAt) (call : UserCall) (cause : Refused) (made : List Event) → end_numbered ends number ≡ Some end
-        → position (is_of end.system) placed ≡ Some place → (link carrier).clock ≡ now → ((one : Placed) → slice_get placed place ≡ Some one → Some true ≡ Some (has_ended now ends number end one.entity))
+        → position (is_of end.system) placed ≡ Some place → (link carrier).clock ≡ now → ((one : Placed) → slice_get placed place ≡ Some one → true ≡ has_ended now ends number end one.entity)
         → Some (refusals.WrongState Ended) ≡ Some cause → made ≡ events.No cause ∷ [] → Calls link steps wrap (world_of carrier placed ends) number call made (world_of carrier placed ends)
     ended_refused carrier placed ends place now number end call cause made is found clock over same told =
         let there = first_is_some (is_of end.system) placed place found in
         let one = there.0 in
-        let ended : has_ended now ends number end one.entity ≡ true = sym (some_same true (has_ended now ends number end one.entity) (over one there.1)) in
+        let ended : has_ended now ends number end one.entity ≡ true = sym (over one there.1) in
         called_end (world_of carrier placed ends) (world_of carrier placed ends) number end call one.entity true made is (entity_there placed end.system place one found there.1)
         (subst (λ (n : ℕ). has_ended n ends number end one.entity ≡ true) (sym clock) ended)
         (told ∙ ap (λ (r : Refused). events.No r ∷ []) (sym (some_same (refusals.WrongState Ended) cause same)), refl)
 
     pub called_there : (carrier new : C) (placed changed : List Placed) (ends after : List EndAt) (place now number : ℕ) (end : EndAt) (call : UserCall) (made : List Event) → end_numbered ends number ≡ Some end
-        → position (is_of end.system) placed ≡ Some place → (link carrier).clock ≡ now → ((one : Placed) → slice_get placed place ≡ Some one → Some false ≡ Some (has_ended now ends number end one.entity))
+        → position (is_of end.system) placed ≡ Some place → (link carrier).clock ≡ now → ((one : Placed) → slice_get placed place ≡ Some one → false ≡ has_ended now ends number end one.entity)
         → CallsThere (world_of carrier placed ends) number end call made (world_of new changed after) → Calls link steps wrap (world_of carrier placed ends) number call made (world_of new changed after)
     called_there carrier new placed changed ends after place now number end call made is found clock over h =
         let there = first_is_some (is_of end.system) placed place found in
         let one = there.0 in
         let standing : Some one.entity ≡ Some h.0 = sym (entity_there placed end.system place one found there.1) ∙ h.1 in
         let same : one.entity ≡ h.0 = some_same one.entity h.0 standing in
-        let going : has_ended now ends number end one.entity ≡ false = sym (some_same false (has_ended now ends number end one.entity) (over one there.1)) in
+        let going : has_ended now ends number end one.entity ≡ false = sym (over one there.1) in
         called_end (world_of carrier placed ends) (world_of new changed after) number end call h.0 false made is h.1
         (subst (λ (n : ℕ). has_ended n ends number end h.0 ≡ false) (sym clock) (subst (λ (e : Entity). has_ended now ends number end e ≡ false) same going)) h.2

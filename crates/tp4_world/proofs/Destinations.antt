@@ -6,7 +6,7 @@ use Rattle.tpdu.specs.Values.{TpduAndSum}
 use Rattle.tpdu.specs.declared.tpdu.Tpdu.{Tpdu}
 use Rattle.tpdu.specs.declared.tpdu.Tpdu.TheVariants.{Cr, Cc, Dr, Dc, Dt, Ed, Ak, Ea, Er}
 use Rattle.tp4_flow.specs.declared.step.Sent.{Sent}
-use Rattle.tp4_conn.specs.declared.call.ConnectCall.{ConnectCall}
+use Rattle.tp4_conn.specs.declared.call.ConnectRequest.{ConnectRequest}
 use Rattle.tp4_conn.specs.declared.call.UserCall.{UserCall}
 use Rattle.tp4_conn.specs.End.{End, Moved, end_of}
 use Rattle.tp4_conn.specs.Making.{connected}
@@ -70,9 +70,9 @@ module _ (Fine : List ℕ → Type 0) where
 
   -- ---- calls and ticks
 
-  pub connecting_fine : (now : ℕ) (e : Entity) (reference : ℕ) (call : ConnectCall) → EndsFine e.ends → Fine call.to → ActsFine e.own (connecting now e reference call)
-  connecting_fine now e reference call all fine =
-      moved_fine (at now e) reference (connected now (call_of e reference call)) call.to all (record { base = refl; stage = tt; tpdus = (refl, tt) }) fine
+  pub connecting_fine : (now : ℕ) (e : Entity) (reference : ℕ) (request : ConnectRequest) → EndsFine e.ends → Fine request.to → ActsFine e.own (connecting now e reference request)
+  connecting_fine now e reference request all fine =
+      moved_fine (at now e) reference (connected now (call_of e reference request)) request.to all (record { base = refl; stage = tt; tpdus = (refl, tt) }) fine
 
   end_called : (wrap : ℕ → ℕ → ℕ) (now : ℕ) (e : Entity) (reference : ℕ) (call : UserCall) (place : Option End) → EndsFine e.ends → EndFine place
       → ActsFine e.own (calling_end wrap now e reference call place)

@@ -1,7 +1,7 @@
 -- The entity of a system stands at the first place of that system.
-use Rattle.std.proofs.Common.{◌≡◌, ℕ, zero, suc, Bool, true, false, if◌then◌else◌, List, [], ◌∷◌, length, slice_get, slice_set, take, cond, Option, Some, None, refl, sym, ◌∙◌, ap, subst}
+use Rattle.std.proofs.Common.{◌≡◌, ℕ, zero, suc, ◌+◌, ◌==◌, nat_lt, not, Bool, true, false, if◌then◌else◌, List, [], ◌∷◌, length, slice_get, slice_set, take, cond, Option, Some, None, refl, sym, ◌∙◌, ap, subst, arith}
 use Rattle.std.specs.Prelude.{is_some, option_map}
-use Rattle.std.specs.List.{find, list_any, position}
+use Rattle.std.specs.List.{find, list_any, position, position_or_len}
 use Rattle.tp4_entity.specs.Entity.{Entity}
 use Rattle.tp4_world.proofs.Places.{first_at, first_is_some, found_at, no_first, none_passes, some_same}
 use Rattle.tp4_world.specs.World.{entity_at, is_of, with_entity}
@@ -77,3 +77,40 @@ listed_place placed system listed none = let gone : false ≡ true = ap is_some 
 pub system_read : (placed read : List Placed) (place : ℕ) (o : Option Placed) → read ≡ placed → o ≡ slice_get read place → option_map (λ (one : Placed). one.system) o ≡ slice_get (systems_of placed) place
 system_read placed read place o same is =
     ap (option_map (λ (one : Placed). one.system)) (is ∙ ap (λ (ps : List Placed). slice_get ps place) same) ∙ sym (system_there placed place)
+
+-- a system has its place in the list of the systems
+at_system : (placed : List Placed) (system : ℕ) → position_or_len (is_of system) placed ≡ position_or_len (λ (other : ℕ). other == system) (systems_of placed)
+at_system [] system = refl
+at_system (one ∷ placed) system = ap (λ (n : ℕ). cond (not (one.system == system)) (1 + n) 0) (at_system placed system)
+
+place_by : (placed : List Placed) (system : ℕ) → position (is_of system) placed ≡ position (λ (other : ℕ). other == system) (systems_of placed)
+place_by placed system =
+    ap (λ (n : ℕ). cond (nat_lt n (length placed)) (Some n) None) (at_system placed system)
+    ∙ ap (λ (count : ℕ). cond (nat_lt (position_or_len (λ (other : ℕ). other == system) (systems_of placed)) count) (Some (position_or_len (λ (other : ℕ). other == system) (systems_of placed))) None)
+    (sym (systems_count placed))
+
+-- with the same systems each keeps its place
+pub place_kept : (placed changed : List Placed) (system place : ℕ) → systems_of changed ≡ systems_of placed → position (is_of system) placed ≡ Some place → position (is_of system) changed ≡ Some place
+place_kept placed changed system place same is =
+    place_by changed system ∙ ap (position (λ (other : ℕ). other == system)) same ∙ sym (place_by placed system) ∙ is
+
+-- the system at a place has an entity
+pub listed_there : (placed : List Placed) (place system : ℕ) → slice_get (systems_of placed) place ≡ Some system → is_some (entity_at placed system) ≡ true
+listed_there [] place system at = absurd cc
+listed_there (one ∷ placed) zero system at = by (one.system == system) (tells one.system system (some_same one.system system at))
+  where
+    tells : (x y : ℕ) → x ≡ y → (x == y) ≡ true
+    tells x y e = grind arith
+
+    by : (here : Bool) → here ≡ true → is_some (option_map (λ (x : Placed). x.entity) (cond here (Some one) (find (is_of system) placed))) ≡ true
+    by true is = refl
+    by false is = absurd cc
+listed_there (one ∷ placed) (suc place) system at = by (one.system == system) (listed_there placed place system at)
+  where
+    by : (here : Bool) → is_some (entity_at placed system) ≡ true → is_some (option_map (λ (x : Placed). x.entity) (cond here (Some one) (find (is_of system) placed))) ≡ true
+    by true rest = refl
+    by false rest = rest
+
+-- as many entities, where the systems are the same
+pub as_many : (placed changed : List Placed) → systems_of changed ≡ systems_of placed → length changed ≡ length placed
+as_many placed changed same = sym (systems_count changed) ∙ ap (λ (ss : List ℕ). length ss) same ∙ systems_count placed

@@ -19,7 +19,7 @@ use Rattle.tp4_flow.specs.Told.{Told}
 use Rattle.tp4_entity.specs.Entity.{Entity, Acted}
 use Rattle.tp4_entity.specs.Step.{DoesSo}
 use Rattle.tp4_entity.specs.Unit.{TakesUnit}
-use Rattle.tp4_world.proofs.Acting.{acts, nothing, own_of}
+use Rattle.tp4_world.proofs.Acting.{acts, nothing}
 use Rattle.tp4_world.proofs.Entities.{entity_there}
 use Rattle.tp4_world.specs.Run.{Arrives, Hears, HearsAll, HearsIf, is_for}
 use Rattle.tp4_world.specs.World.{World, entity_at, is_of}
@@ -115,14 +115,14 @@ module _ {C : Type 0} (link : C → Link (List ℕ)) (steps : C → Call (List �
       (subst (λ (b : Bool). HearsIf link steps wrap old arrival (Some entity) b made new) (sym fits) h)
 
   pub hears_there : (carrier new : C) (placed changed : List Placed) (ends after : List EndAt) (arrival : Arrival (List ℕ)) (place now : ℕ) (own : List ℕ) (was told : Told) (before behind : List Event)
-      → position (is_of arrival.system) placed ≡ Some place → ((one : Placed) → slice_get placed place ≡ Some one → Some own ≡ Some one.entity.own)
+      → position (is_of arrival.system) placed ≡ Some place → ((one : Placed) → slice_get placed place ≡ Some one → own ≡ one.entity.own)
       → (selector_of arrival.unit.to == 1 && pointwise nat_eq own arrival.unit.to) ≡ true → (link carrier).clock ≡ now → was ≡ nothing
       → ChangesAt place placed changed (λ entity next. (acted : Acted) × TakesUnit wrap now entity arrival.unit.from arrival.unit.octets acted × DoesSo acted next was told)
       → Tells before behind (λ made. Follows link steps carrier ends arrival.system own told made new after)
       → Tells before behind (λ made. Hears link steps wrap (world_of carrier placed ends) arrival made (world_of new changed after))
   hears_there carrier new placed changed ends after arrival place now own was told before behind found owns fits clock start change tells =
       let one = change.one in
-      let is : own ≡ one.entity.own = own_of own one (owns one change.at) in
+      let is : own ≡ one.entity.own = owns one change.at in
       let does = change.does in
       record {
         made = tells.made;

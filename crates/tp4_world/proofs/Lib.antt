@@ -6,6 +6,7 @@ pub mod Entities
 pub mod Going
 pub mod Having
 pub mod Heard
+pub mod Housed
 pub mod Later
 pub mod Lined
 pub mod Latest

@@ -1,6 +1,6 @@
--- What a line of a network does besides: no call but an injection that is taken changes whether the carrier is honest, and no event but that of its own line is
--- one by which a user asks.
-use Rattle.std.proofs.Common.{◌≡◌, ◌⊎◌, ℕ, ◌+◌, Bool, true, false, if◌then◌else◌, List, [], ◌∷◌, ◌++◌, length, slice_get, Option, Some, None, inl, inr, refl, sym, ◌∙◌, ap, subst}
+-- What a line of a network does besides, and a call: none but an injection that is taken changes whether the carrier is honest, and no event but that
+-- of its own line is one by which a user asks.
+use Rattle.std.proofs.Common.{◌≡◌, ◌⊎◌, ℕ, ◌+◌, Bool, true, false, if◌then◌else◌, List, [], ◌∷◌, ◌++◌, length, Option, Some, None, inl, inr, refl, sym, ◌∙◌, ap}
 use Rattle.std.specs.Prelude.{◌≢◌, ◌==◌}
 use Rattle.std.specs.List.{AllByRecursion}
 use Rattle.nsap.specs.Address.{selector_of}
@@ -22,19 +22,19 @@ use Rattle.osi_base.specs.Calls.{Call, Choose, Inject, Keeps, Offer, Tick}
 use Rattle.osi_journal.specs.RawLawful.{raw_address}
 use Rattle.osi_journal.specs.declared.cause.Refused.{Refused}
 use Rattle.osi_journal.specs.declared.cause.Refused.TheVariants as refusals
-use Rattle.osi_journal.specs.declared.cause.Settled.TheVariants.{Settled, Stopped}
 use Rattle.osi_journal.specs.declared.cause.Standing.TheVariants.{Ended}
 use Rattle.osi_journal.specs.declared.event.Event.{Event}
 use Rattle.osi_journal.specs.declared.event.Event.TheVariants as events
 use Rattle.osi_script.specs.declared.line.Line.{Line}
 use Rattle.osi_script.specs.declared.line.Line.TheVariants as lines
+use Rattle.osi_script.specs.Injecting.{HasNoInject, IsNoInjection}
 use Rattle.net_world.specs.Run.{Passes, SendsUnit, raw_unit}
 use Rattle.net_world.specs.Told.{note_event, picked_event, sent_event, shown_at, told}
 use Rattle.tp4_flow.specs.declared.step.EndEvent.{EndEvent}
 use Rattle.tp4_flow.specs.declared.step.Sent.{Sent}
 use Rattle.tp4_flow.specs.declared.step.What.{What}
 use Rattle.tp4_flow.specs.declared.step.What.TheVariants as whats
-use Rattle.tp4_conn.specs.declared.call.ConnectCall.{ConnectCall}
+use Rattle.tp4_conn.specs.declared.call.ConnectRequest.{ConnectRequest}
 use Rattle.tp4_conn.specs.declared.call.UserCall.{UserCall}
 use Rattle.tp4_conn.specs.declared.call.UserCall.TheVariants as asks
 use Rattle.tp4_entity.specs.declared.refusal.ConnectRefusal.{ConnectRefusal}
@@ -42,9 +42,10 @@ use Rattle.tp4_entity.specs.declared.refusal.EntityRefusal.{EntityRefusal}
 use Rattle.tp4_entity.specs.Entity.{Acted, Entity}
 use Rattle.tp4_entity.specs.References.{least_free}
 use Rattle.tp4_entity.specs.Step.{connect_refusal, user_refusal}
-use Rattle.tp4_world.specs.Asked.{AreAsked, AsksOne, IsAsked, IsRequest, TellsAsked, asked_in, is_asked}
-use Rattle.tp4_world.specs.Laws.{IsNoInjection}
-use Rattle.tp4_world.specs.Run.{Acts, Arrives, BeginsAt, Calls, CallsAt, CallsBy, CallsEnd, Connects, ConnectsBy, HearsAll, HearsIf, Injects, IsRefused, NoneDue, NoneLeft, OneDue, OneMore, RunsLine, RunsLines, SendsTpdu, SendsTpdus, Settles, Ticks, TicksAll, TicksEntity, TooMany, clock_of, has_ended, is_for, transport_address, transport_wish}
+use Rattle.tp4_world.specs.Asked.{AsksOne, IsAsked, TellsAsked, asked_in, is_asked}
+use Rattle.tp4_world.specs.Called.{Did, DidAll, InjectsNothing, WorldCall}
+use Rattle.tp4_world.specs.Called as requests
+use Rattle.tp4_world.specs.Run.{Acts, Arrives, BeginsAt, Calls, CallsAt, CallsBy, CallsEnd, Connects, ConnectsBy, HearsAll, HearsIf, IsRefused, NoneDue, NoneLeft, OneDue, OneMore, RunsLine, RunsLines, SendsTpdu, SendsTpdus, Settles, Ticks, TicksAll, TicksEntity, TooMany, clock_of, has_ended, is_for, transport_wish}
 use Rattle.tp4_world.specs.Telling.{call_events, connect_event, drop_events, ends_with, event_for, events_after, inject_event}
 use Rattle.tp4_world.specs.World.{World, end_numbered, entity_at, latest}
 use Rattle.tp4_world.specs.declared.place.EndAt.{EndAt}
@@ -222,18 +223,18 @@ module _ {C : Type 0} (link : C → Link (List ℕ)) (steps : C → Call (List �
       )
 
   -- a connection
-  begun : (old new : World C) (made : List Event) (system : ℕ) (entity : Entity) (call : ConnectCall) (found : Option ℕ) → BeginsAt link steps old system entity call found made new
-      → (reference : ℕ) × Answers old new made (connect_event (length old.ends + 1) system reference entity.own call ∷ [])
-  begun old new made system entity call None h = absurd h
-  begun old new made system entity call (Some reference) h =
+  begun : (old new : World C) (made : List Event) (system : ℕ) (entity : Entity) (request : ConnectRequest) (found : Option ℕ) → BeginsAt link steps old system entity request found made new
+      → (reference : ℕ) × Answers old new made (connect_event (length old.ends + 1) system reference entity.own request ∷ [])
+  begun old new made system entity request None h = absurd h
+  begun old new made system entity request (Some reference) h =
       let with_end : World C = record old { ends = old.ends ++ record { system = system; reference = reference } ∷ [] } in
       let a : Aside with_end new h.0 = acted with_end new system entity.own _ h.0 h.1 in
       (reference, record { honest = a.honest; made_is = inr (h.0, h.2, a.none) })
 
-  connect_by : (old new : World C) (made : List Event) (system : ℕ) (entity : Entity) (call : ConnectCall) (why : Option ConnectRefusal) → ConnectsBy link steps old system entity call why made new
-      → (reference : ℕ) × Answers old new made (connect_event (length old.ends + 1) system reference entity.own call ∷ [])
-  connect_by old new made system entity call (Some why) h = (0, refused old new made _ _ h)
-  connect_by old new made system entity call None h = begun old new made system entity call (least_free (clock_of link steps old) entity) h
+  connect_by : (old new : World C) (made : List Event) (system : ℕ) (entity : Entity) (request : ConnectRequest) (why : Option ConnectRefusal) → ConnectsBy link steps old system entity request why made new
+      → (reference : ℕ) × Answers old new made (connect_event (length old.ends + 1) system reference entity.own request ∷ [])
+  connect_by old new made system entity request (Some why) h = (0, refused old new made _ _ h)
+  connect_by old new made system entity request None h = begun old new made system entity request (least_free (clock_of link steps old) entity) h
 
   -- ---- what comes up
 
@@ -312,11 +313,51 @@ module _ {C : Type 0} (link : C → Link (List ℕ)) (steps : C → Call (List �
         none = ap asked_in h.made_is ∙ inject_none system answer (told h.ups ++ h.later) (none_both (told h.ups) h.later (told h.ups ++ h.later) refl (told_none h.ups) rest.none);
       }
 
-  -- ---- lines
+  -- ---- calls
 
-  connected : (old new : World C) (made : List Event) (system : ℕ) (call : ConnectCall) (h : Connects link steps old system call made new)
-      → (reference : ℕ) × Answers old new made (connect_event (length old.ends + 1) system reference h.0.own call ∷ [])
-  connected old new made system call h = connect_by old new made system h.0 call (connect_refusal (clock_of link steps old) h.0 call.octets) h.2
+  connected : (old new : World C) (made : List Event) (system : ℕ) (request : ConnectRequest) (h : Connects link steps old system request made new)
+      → (reference : ℕ) × Answers old new made (connect_event (length old.ends + 1) system reference h.0.own request ∷ [])
+  connected old new made system request h = connect_by old new made system h.0 request (connect_refusal (clock_of link steps old) h.0 request.octets) h.2
+
+  -- a call but an injection
+  did_alike : (wrap : ℕ → ℕ → ℕ) (call : WorldCall) (old new : World C) (made : List Event) → InjectsNothing call → Did link steps wrap old call made new → AreAlike old.carrier new.carrier
+  did_alike wrap (requests.Connect system request) old new made none h = (connected old new made system request h).1.honest
+  did_alike wrap (requests.Ask end call) old new made none h = (called wrap old new made end call h).honest
+  did_alike wrap (requests.Raw system sender receiver wish octets) old new made none h =
+      ap (λ (w : World C). (link w.carrier).honest) h.2 ∙ (raw old.carrier h.0 system sender receiver wish octets made h.1).honest
+  did_alike wrap (requests.Deliver number system answer) old new made none h = (delivered wrap old new number system answer made h).honest
+  did_alike wrap (requests.Inject lan system octets answer) old new made none h = absurd none
+  did_alike wrap (requests.Restart system) old new made none h = ap (λ (w : World C). (link w.carrier).honest) h.3
+  did_alike wrap requests.Pass old new made none h = (ticked wrap old new made h).honest
+  did_alike wrap requests.Settle old new made none h = (settled wrap 0 old made new h).honest
+
+  -- the carrier was honest before an injection after which it is, which so was not taken
+  pub not_taken : (old new : World C) (answer : Injected) (made : List Event) → IsInjection old new answer made → (link new.carrier).honest ≡ true → answer ≢ injects.Taken
+  not_taken old new answer made i honest is = never (sym (i.taken is) ∙ honest)
+    where
+      never : false ≡ true → ⊥
+      never e = cc e
+
+  -- it was honest before a call after which it is
+  did_back : (wrap : ℕ → ℕ → ℕ) (call : WorldCall) (old new : World C) (made : List Event) → Did link steps wrap old call made new → (link new.carrier).honest ≡ true → (link old.carrier).honest ≡ true
+  did_back wrap (requests.Inject lan system octets answer) old new made h honest =
+      let i = injected wrap old new lan system octets answer made h in
+      sym (i.kept (not_taken old new answer made i honest)) ∙ honest
+  did_back wrap call old new made h honest = sym (did_alike wrap call old new made tt h) ∙ honest
+
+  -- and before calls after which it is
+  pub all_did_back : (wrap : ℕ → ℕ → ℕ) (calls : List WorldCall) (first last : World C) (journal : List Event) → DidAll link steps wrap first calls journal last → (link last.carrier).honest ≡ true
+      → (link first.carrier).honest ≡ true
+  all_did_back wrap [] first last journal h honest = sym (ap (λ (w : World C). (link w.carrier).honest) h.1) ∙ honest
+  all_did_back wrap (call ∷ calls) first last journal h honest = did_back wrap call first h.0 h.1 h.3 (all_did_back wrap calls h.0 last h.2 h.5 honest)
+
+  -- it stays honest where nothing is injected
+  pub all_did_alike : (wrap : ℕ → ℕ → ℕ) (calls : List WorldCall) (first last : World C) (journal : List Event) → AllByRecursion InjectsNothing calls → DidAll link steps wrap first calls journal last
+      → AreAlike first.carrier last.carrier
+  all_did_alike wrap [] first last journal none h = ap (λ (w : World C). (link w.carrier).honest) h.1
+  all_did_alike wrap (call ∷ calls) first last journal none h = all_did_alike wrap calls h.0 last h.2 none.1 h.5 ∙ did_alike wrap call first h.0 h.1 none.0 h.3
+
+  -- ---- lines
 
   -- a line but an `inject` line
   pub line_alike : (wrap : ℕ → ℕ → ℕ) (titles : List (List ℕ)) (line : Line) (old new : World C) (made : List Event) → IsNoInjection line → RunsLine link steps wrap titles old line made new
@@ -349,13 +390,6 @@ module _ {C : Type 0} (link : C → Link (List ℕ)) (steps : C → Call (List �
   line_alike wrap titles (lines.Relay system selector to called_selector) old new made none h = absurd h
   line_alike wrap titles lines.Start old new made none h = absurd h
 
-  -- the carrier was honest before an injection after which it is, which so was not taken
-  pub not_taken : (old new : World C) (answer : Injected) (made : List Event) → IsInjection old new answer made → (link new.carrier).honest ≡ true → answer ≢ injects.Taken
-  not_taken old new answer made i honest is = never (sym (i.taken is) ∙ honest)
-    where
-      never : false ≡ true → ⊥
-      never e = cc e
-
   -- it was honest before a line after which it is
   pub line_back : (wrap : ℕ → ℕ → ℕ) (titles : List (List ℕ)) (line : Line) (old new : World C) (made : List Event) → RunsLine link steps wrap titles old line made new → (link new.carrier).honest ≡ true
       → (link old.carrier).honest ≡ true
@@ -370,7 +404,7 @@ module _ {C : Type 0} (link : C → Link (List ℕ)) (steps : C → Call (List �
   lines_back wrap titles (line ∷ script) first last journal h honest = line_back wrap titles line first h.0 h.1 h.3 (lines_back wrap titles script h.0 last h.2 h.5 honest)
 
   -- it stays honest where no line is an `inject` line
-  pub lines_alike : (wrap : ℕ → ℕ → ℕ) (titles : List (List ℕ)) (script : List Line) (first last : World C) (journal : List Event) → AllByRecursion IsNoInjection script
+  pub lines_alike : (wrap : ℕ → ℕ → ℕ) (titles : List (List ℕ)) (script : List Line) (first last : World C) (journal : List Event) → HasNoInject script
       → RunsLines link steps wrap titles first script journal last → AreAlike first.carrier last.carrier
   lines_alike wrap titles [] first last journal none h = ap (λ (w : World C). (link w.carrier).honest) h.1
   lines_alike wrap titles (line ∷ script) first last journal none h =

@@ -14,7 +14,7 @@ use Rattle.osi_script.specs.declared.line.Line.{Line}
 use Rattle.osi_script.specs.declared.line.Line.TheVariants as lines
 use Rattle.net_world.specs.Told.{picked_event}
 use Rattle.tp4_number.specs.Number.{whole, wire}
-use Rattle.tp4_conn.specs.declared.call.ConnectCall.{ConnectCall}
+use Rattle.tp4_conn.specs.declared.call.ConnectRequest.{ConnectRequest}
 use Rattle.tp4_conn.specs.declared.call.UserCall.{UserCall}
 use Rattle.tp4_conn.specs.declared.call.UserCall.TheVariants as asks
 use Rattle.tp4_entity.specs.declared.refusal.ConnectRefusal.{ConnectRefusal}
@@ -57,29 +57,29 @@ module _ {C : Type 0} (link : C → Link (List ℕ)) (steps : C → Call (List �
   refused_below old None made new a = absurd a
   refused_below old (Some why) made new a = (a.0, ap world_on_wire a.1)
 
-  begun_below : (old : World C) (system : ℕ) (entity : Entity) (call : ConnectCall) (found : Option ℕ) (made : List Event) (new : World C) → BeginsAt link steps old system entity call found made new
-      → BeginsAt link steps (on old) system (entity_on_wire entity) call found made (on new)
-  begun_below old system entity call None made new a = absurd a
-  begun_below old system entity call (Some reference) made new a = (
+  begun_below : (old : World C) (system : ℕ) (entity : Entity) (request : ConnectRequest) (found : Option ℕ) (made : List Event) (new : World C) → BeginsAt link steps old system entity request found made new
+      → BeginsAt link steps (on old) system (entity_on_wire entity) request found made (on new)
+  begun_below old system entity request None made new a = absurd a
+  begun_below old system entity request (Some reference) made new a = (
     a.0,
-    act_below (record old { ends = old.ends ++ record { system = system; reference = reference } ∷ [] }) system entity.own (connecting (clock_of link steps old) (entity_on_wire entity) reference call) _ a.0 new
-        (over.connecting (clock_of link steps old) reference entity call) a.1,
+    act_below (record old { ends = old.ends ++ record { system = system; reference = reference } ∷ [] }) system entity.own (connecting (clock_of link steps old) (entity_on_wire entity) reference request) _ a.0 new
+        (over.connecting (clock_of link steps old) reference entity request) a.1,
     a.2,
   )
 
-  connect_by_below : (old : World C) (system : ℕ) (entity : Entity) (call : ConnectCall) (why : Option ConnectRefusal) (made : List Event) (new : World C)
-      → ConnectsBy link steps old system entity call why made new → ConnectsBy link steps (on old) system (entity_on_wire entity) call why made (on new)
-  connect_by_below old system entity call (Some why) made new a = refused_below old _ made new a
-  connect_by_below old system entity call None made new a =
-      subst (λ (found : Option ℕ). BeginsAt link steps (on old) system (entity_on_wire entity) call found made (on new)) (sym (least_on (clock_of link steps old) entity))
-      (begun_below old system entity call (least_free (clock_of link steps old) entity) made new a)
+  connect_by_below : (old : World C) (system : ℕ) (entity : Entity) (request : ConnectRequest) (why : Option ConnectRefusal) (made : List Event) (new : World C)
+      → ConnectsBy link steps old system entity request why made new → ConnectsBy link steps (on old) system (entity_on_wire entity) request why made (on new)
+  connect_by_below old system entity request (Some why) made new a = refused_below old _ made new a
+  connect_by_below old system entity request None made new a =
+      subst (λ (found : Option ℕ). BeginsAt link steps (on old) system (entity_on_wire entity) request found made (on new)) (sym (least_on (clock_of link steps old) entity))
+      (begun_below old system entity request (least_free (clock_of link steps old) entity) made new a)
 
-  connected_below : (old : World C) (system : ℕ) (call : ConnectCall) (made : List Event) (new : World C) → Connects link steps old system call made new → Connects link steps (on old) system call made (on new)
-  connected_below old system call made new a = (
+  connected_below : (old : World C) (system : ℕ) (request : ConnectRequest) (made : List Event) (new : World C) → Connects link steps old system request made new → Connects link steps (on old) system request made (on new)
+  connected_below old system request made new a = (
     entity_on_wire a.0,
     lower_there old.entities system a.0 a.1,
-    subst (λ (why : Option ConnectRefusal). ConnectsBy link steps (on old) system (entity_on_wire a.0) call why made (on new)) (sym (connect_refusal_on (clock_of link steps old) a.0 call.octets))
-        (connect_by_below old system a.0 call (connect_refusal (clock_of link steps old) a.0 call.octets) made new a.2),
+    subst (λ (why : Option ConnectRefusal). ConnectsBy link steps (on old) system (entity_on_wire a.0) request why made (on new)) (sym (connect_refusal_on (clock_of link steps old) a.0 request.octets))
+        (connect_by_below old system a.0 request (connect_refusal (clock_of link steps old) a.0 request.octets) made new a.2),
   )
 
   call_by_below : (old : World C) (number : ℕ) (end : EndAt) (entity : Entity) (call : UserCall) (why : Option EntityRefusal) (made : List Event) (new : World C)

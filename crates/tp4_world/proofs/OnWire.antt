@@ -2,10 +2,10 @@
 use Rattle.std.proofs.Common.{◌≡◌, ℕ, zero, suc, ◌+◌, ◌-◌, Bool, true, false, not, ◌&&◌, ◌||◌, ◌==◌, nat_lt, nat_le, cond, List, [], ◌∷◌, length, map, slice_get, option_map, Option, Some, None, refl, sym, ap, ◌∙◌, if◌then◌else◌, replicate}
 use Rattle.std.specs.Prelude.{is_none}
 use Rattle.std.specs.List.{find, position, position_or_len}
-use Rattle.tp4_conn.specs.declared.base.Base.{Base}
+use Rattle.tp4_conn.specs.declared.end_record.EndRecord.{EndRecord}
 use Rattle.tp4_conn.specs.declared.call.UserCall.{UserCall}
-use Rattle.tp4_conn.specs.declared.stage.Stage.{Stage}
-use Rattle.tp4_conn.specs.declared.stage.Stage.TheVariants.{CrWait, WaitBeforeClose, UserWait, AkWait, Opened, Closing, Frozen}
+use Rattle.tp4_conn.specs.declared.states.StateData.{StateData}
+use Rattle.tp4_conn.specs.declared.states.StateData.TheVariants.{CrWait, WaitBeforeClose, UserWait, AkWait, Opened, Closing, Frozen}
 use Rattle.tp4_conn.specs.Calls.{call_refusal}
 use Rattle.tp4_conn.specs.End.{End, agreed_format, frozen_for}
 use Rattle.tp4_conn.specs.Table.{due}
@@ -28,7 +28,7 @@ on place = option_map end_on_wire place
 
 -- ---- ends
 
-due_on : (b : Base) (stage : Stage) → due b (stage_on_wire stage) ≡ due b stage
+due_on : (b : EndRecord) (stage : StateData) → due b (stage_on_wire stage) ≡ due b stage
 due_on b (CrWait w) = refl
 due_on b (WaitBeforeClose w) = refl
 due_on b (UserWait since) = refl
@@ -37,7 +37,7 @@ due_on b (Opened o) = refl
 due_on b (Closing c) = refl
 due_on b (Frozen when) = refl
 
-frozen_on : (now ticks : ℕ) (stage : Stage) → was_frozen now ticks (stage_on_wire stage) ≡ was_frozen now ticks stage
+frozen_on : (now ticks : ℕ) (stage : StateData) → was_frozen now ticks (stage_on_wire stage) ≡ was_frozen now ticks stage
 frozen_on now ticks (CrWait w) = refl
 frozen_on now ticks (WaitBeforeClose w) = refl
 frozen_on now ticks (UserWait since) = refl
@@ -46,7 +46,7 @@ frozen_on now ticks (Opened o) = refl
 frozen_on now ticks (Closing c) = refl
 frozen_on now ticks (Frozen when) = refl
 
-refusal_on : (b : Base) (stage : Stage) (call : UserCall) → call_refusal b (stage_on_wire stage) call ≡ call_refusal b stage call
+refusal_on : (b : EndRecord) (stage : StateData) (call : UserCall) → call_refusal b (stage_on_wire stage) call ≡ call_refusal b stage call
 refusal_on b (CrWait w) call = refl
 refusal_on b (WaitBeforeClose w) call = refl
 refusal_on b (UserWait since) call = refl

@@ -14,7 +14,7 @@ use Rattle.tpdu.specs.declared.tpdu.Format.{Format}
 use Rattle.tpdu.specs.declared.tpdu.Tpdu.{Tpdu}
 use Rattle.tpdu.specs.Writing.{IsWritten}
 use Rattle.tp4_flow.specs.declared.step.Sent.{Sent}
-use Rattle.tp4_conn.specs.declared.call.ConnectCall.{ConnectCall}
+use Rattle.tp4_conn.specs.declared.call.ConnectRequest.{ConnectRequest}
 use Rattle.tp4_conn.specs.declared.call.UserCall.{UserCall}
 use Rattle.tp4_conn.specs.declared.call.UserCall.TheVariants as asks
 use Rattle.tp4_entity.specs.declared.refusal.ConnectRefusal.{ConnectRefusal}
@@ -50,10 +50,6 @@ OneWriting = (format : Format) (sum : Bool) (tpdu : Tpdu) (octets others : List 
 abbrev pub OneHearing : Type 0
 OneHearing = (wrap : ℕ → ℕ → ℕ) (now : ℕ) (old : Entity) (from octets : List ℕ) (one other : Acted)
     → TakesUnit wrap now old from octets one → TakesUnit wrap now old from octets other → one ≡ other
-
--- a connect call with what the entity sets in it anew
-abbrev set_as : ConnectCall → ConnectCall → ConnectCall
-set_as one other = record other { own = one.own; from = one.from; rules = one.rules }
 
 -- ---- the least pair that was not taken
 
@@ -122,30 +118,30 @@ module _ {C : Type 0} (link : C → Link (List ℕ)) (steps : C → Call (List �
       let same = one_act old system own acted later rest new next a b in
       record { events = e ∙ ap (λ (xs : List Event). front ++ xs) same.events ∙ sym f; state = same.state }
 
-  one_beginning : (old : World C) (system : ℕ) (entity : Entity) (call : ConnectCall) (found : Option ℕ) (made other : List Event) (new next : World C)
-      → BeginsAt link steps old system entity call found made new → BeginsAt link steps old system entity call found other next → Same made other new next
-  one_beginning old system entity call None made other new next a b = absurd a
-  one_beginning old system entity call (Some reference) made other new next a b =
+  one_beginning : (old : World C) (system : ℕ) (entity : Entity) (request : ConnectRequest) (found : Option ℕ) (made other : List Event) (new next : World C)
+      → BeginsAt link steps old system entity request found made new → BeginsAt link steps old system entity request found other next → Same made other new next
+  one_beginning old system entity request None made other new next a b = absurd a
+  one_beginning old system entity request (Some reference) made other new next a b =
       one_act_behind _ system entity.own _ (_ ∷ []) made other a.0 b.0 new next a.1 b.1 a.2 b.2
 
-  one_connect_by : (old : World C) (system : ℕ) (entity : Entity) (call : ConnectCall) (why : Option ConnectRefusal) (made other : List Event) (new next : World C)
-      → ConnectsBy link steps old system entity call why made new → ConnectsBy link steps old system entity call why other next → Same made other new next
-  one_connect_by old system entity call None made other new next a b = one_beginning old system entity call (least_free (clock_of link steps old) entity) made other new next a b
-  one_connect_by old system entity call (Some why) made other new next a b = one_refusal old _ made other new next a b
+  one_connect_by : (old : World C) (system : ℕ) (entity : Entity) (request : ConnectRequest) (why : Option ConnectRefusal) (made other : List Event) (new next : World C)
+      → ConnectsBy link steps old system entity request why made new → ConnectsBy link steps old system entity request why other next → Same made other new next
+  one_connect_by old system entity request None made other new next a b = one_beginning old system entity request (least_free (clock_of link steps old) entity) made other new next a b
+  one_connect_by old system entity request (Some why) made other new next a b = one_refusal old _ made other new next a b
 
-  one_connect : (old : World C) (system : ℕ) (call : ConnectCall) (made other : List Event) (new next : World C) → Connects link steps old system call made new
-      → Connects link steps old system call other next → Same made other new next
-  one_connect old system call made other new next a b =
+  pub one_connect : (old : World C) (system : ℕ) (request : ConnectRequest) (made other : List Event) (new next : World C) → Connects link steps old system request made new
+      → Connects link steps old system request other next → Same made other new next
+  one_connect old system request made other new next a b =
       let same : a.0 ≡ b.0 = some_same a.0 b.0 (sym a.1 ∙ b.1) in
-      one_connect_by old system b.0 call (connect_refusal (clock_of link steps old) b.0 call.octets) made other new next
-      (subst (λ (e : Entity). ConnectsBy link steps old system e call (connect_refusal (clock_of link steps old) e call.octets) made new) same a.2) b.2
+      one_connect_by old system b.0 request (connect_refusal (clock_of link steps old) b.0 request.octets) made other new next
+      (subst (λ (e : Entity). ConnectsBy link steps old system e request (connect_refusal (clock_of link steps old) e request.octets) made new) same a.2) b.2
 
-  -- what the entity sets makes no difference
-  connects_as : (old : World C) (system : ℕ) (call other : ConnectCall) (made : List Event) (new : World C) → call.from_selector ≡ other.from_selector → call.to ≡ other.to
-      → call.to_selector ≡ other.to_selector → call.options ≡ other.options → call.octets ≡ other.octets → Connects link steps old system call made new → Connects link steps old system other made new
-  connects_as old system call other made new from to selector options octets h =
-      let same : call ≡ set_as call other = λ i. record call { from_selector = from i; to = to i; to_selector = selector i; options = options i; octets = octets i } in
-      subst (λ (c : ConnectCall). Connects link steps old system c made new) same h
+  -- one request that asks for what another one does is that one
+  connects_as : (old : World C) (system : ℕ) (request other : ConnectRequest) (made : List Event) (new : World C) → request.from_selector ≡ other.from_selector → request.to ≡ other.to
+      → request.to_selector ≡ other.to_selector → request.options ≡ other.options → request.octets ≡ other.octets → Connects link steps old system request made new → Connects link steps old system other made new
+  connects_as old system request other made new from to selector options octets h =
+      let same : request ≡ other = λ i. record { from_selector = from i; to = to i; to_selector = selector i; options = options i; octets = octets i } in
+      subst (λ (c : ConnectRequest). Connects link steps old system c made new) same h
 
   module _ (wrap : ℕ → ℕ → ℕ) (hearing : OneHearing) where
     one_call_by : (old : World C) (number : ℕ) (end : EndAt) (entity : Entity) (call : UserCall) (why : Option EntityRefusal) (made other : List Event) (new next : World C)

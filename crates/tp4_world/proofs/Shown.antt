@@ -27,7 +27,7 @@ use Rattle.osi_script.specs.declared.line.Line.TheVariants as lines
 use Rattle.net_world.specs.Told.{picked_event, told}
 use Rattle.net_world.proofs.Runs.{first_rests}
 use Rattle.tp4_conn.specs.End.{End}
-use Rattle.tp4_conn.specs.declared.call.ConnectCall.{ConnectCall}
+use Rattle.tp4_conn.specs.declared.call.ConnectRequest.{ConnectRequest}
 use Rattle.tp4_conn.specs.declared.call.UserCall.{UserCall}
 use Rattle.tp4_conn.specs.declared.call.UserCall.TheVariants as asks
 use Rattle.tp4_entity.specs.declared.refusal.ConnectRefusal.{ConnectRefusal}
@@ -101,26 +101,26 @@ module _ (life : ℕ) (titles : List (List ℕ)) {C : Type 0} (link : C → Link
   refused old new journal made None h step = absurd step
   refused old new journal made (Some why) h step = told_holds old new journal made (events.No why ∷ []) h (record { other = tt; clock = λ now. refl }, tt) step.0 step.1
 
-  begun : (old new : World C) (journal made : List Event) (system : ℕ) (entity : Entity) (call : ConnectCall) (found : Option ℕ) → Holds old journal → IsFine life titles link steps law entity → IsApart call.to
-      → BeginsAt link steps old system entity call found made new → Holds new (journal ++ made)
-  begun old new journal made system entity call None h fine to step = absurd step
-  begun old new journal made system entity call (Some reference) h fine to step =
-      let event : Event = connect_event (length old.ends + 1) system reference entity.own call in
+  begun : (old new : World C) (journal made : List Event) (system : ℕ) (entity : Entity) (request : ConnectRequest) (found : Option ℕ) → Holds old journal → IsFine life titles link steps law entity → IsApart request.to
+      → BeginsAt link steps old system entity request found made new → Holds new (journal ++ made)
+  begun old new journal made system entity request None h fine to step = absurd step
+  begun old new journal made system entity request (Some reference) h fine to step =
+      let event : Event = connect_event (length old.ends + 1) system reference entity.own request in
       let with_end : World C = record old { ends = old.ends ++ record { system = system; reference = reference } ∷ [] } in
       let told : Holds old (journal ++ event ∷ []) = told_stands life titles link steps law old journal (event ∷ []) h (record { other = tt; clock = λ now. refl }, tt) in
       let begins : Holds with_end (journal ++ event ∷ []) = record { carries = told.carries; fine = told.fine } in
       behind new journal made (event ∷ []) step.0
-      (act_stands life titles link steps law with_end new (journal ++ event ∷ []) step.0 system entity.own (connecting (clock_of link steps old) entity reference call) begins fine.0
-      (connecting_fine IsApart (clock_of link steps old) entity reference call fine.1 to) step.1) step.2
+      (act_stands life titles link steps law with_end new (journal ++ event ∷ []) step.0 system entity.own (connecting (clock_of link steps old) entity reference request) begins fine.0
+      (connecting_fine IsApart (clock_of link steps old) entity reference request fine.1 to) step.1) step.2
 
-  connect_by : (old new : World C) (journal made : List Event) (system : ℕ) (entity : Entity) (call : ConnectCall) (why : Option ConnectRefusal) → Holds old journal → IsFine life titles link steps law entity
-      → IsApart call.to → ConnectsBy link steps old system entity call why made new → Holds new (journal ++ made)
-  connect_by old new journal made system entity call (Some why) h fine to step = refused old new journal made _ h step
-  connect_by old new journal made system entity call None h fine to step = begun old new journal made system entity call (least_free (clock_of link steps old) entity) h fine to step
+  connect_by : (old new : World C) (journal made : List Event) (system : ℕ) (entity : Entity) (request : ConnectRequest) (why : Option ConnectRefusal) → Holds old journal → IsFine life titles link steps law entity
+      → IsApart request.to → ConnectsBy link steps old system entity request why made new → Holds new (journal ++ made)
+  connect_by old new journal made system entity request (Some why) h fine to step = refused old new journal made _ h step
+  connect_by old new journal made system entity request None h fine to step = begun old new journal made system entity request (least_free (clock_of link steps old) entity) h fine to step
 
-  connected : (old new : World C) (journal made : List Event) (system : ℕ) (call : ConnectCall) → Holds old journal → IsApart call.to → Connects link steps old system call made new → Holds new (journal ++ made)
-  connected old new journal made system call h to step =
-      connect_by old new journal made system step.0 call (connect_refusal (clock_of link steps old) step.0 call.octets) h (entity_fine life titles link steps law old.entities system step.0 h.fine step.1) to step.2
+  connected : (old new : World C) (journal made : List Event) (system : ℕ) (request : ConnectRequest) → Holds old journal → IsApart request.to → Connects link steps old system request made new → Holds new (journal ++ made)
+  connected old new journal made system request h to step =
+      connect_by old new journal made system step.0 request (connect_refusal (clock_of link steps old) step.0 request.octets) h (entity_fine life titles link steps law old.entities system step.0 h.fine step.1) to step.2
 
   module _ (wrap : ℕ → ℕ → ℕ) where
     call_by : (old new : World C) (journal made : List Event) (number : ℕ) (end : EndAt) (entity : Entity) (call : UserCall) (why : Option EntityRefusal) → Holds old journal

@@ -17,7 +17,7 @@ use Rattle.osi_script.specs.declared.line.Line.TheVariants as lines
 use Rattle.osi_script.specs.declared.line.Options.{Options as ScriptOptions}
 use Rattle.tp4_conn.specs.Calls.{IsCall}
 use Rattle.tp4_conn.specs.Proper.{IsProperCall}
-use Rattle.tp4_conn.specs.declared.call.ConnectCall.{ConnectCall}
+use Rattle.tp4_conn.specs.declared.call.ConnectRequest.{ConnectRequest}
 use Rattle.tp4_conn.specs.declared.call.UserCall.{UserCall}
 use Rattle.tp4_conn.proofs.Timely.{if_kept}
 use Rattle.tp4_entity.specs.declared.refusal.ConnectRefusal.{ConnectRefusal}
@@ -40,7 +40,7 @@ use Rattle.tp4_world.proofs.Having.{found}
 use Rattle.tp4_world.proofs.SomeRun.{Made, acting}
 use Rattle.tp4_world.proofs.SomeRefusals.{is_told}
 
-numbered : (placed : List Placed) (ends : List EndAt) (number : ℕ) (end : EndAt) → AllByRecursion (HasEntity placed) ends → end_numbered ends number ≡ Some end → is_some (entity_at placed end.system) ≡ true
+pub numbered : (placed : List Placed) (ends : List EndAt) (number : ℕ) (end : EndAt) → AllByRecursion (HasEntity placed) ends → end_numbered ends number ≡ Some end → is_some (entity_at placed end.system) ≡ true
 numbered placed ends number end h = if_kept (λ (o : Option EndAt). o ≡ Some end → is_some (entity_at placed end.system) ≡ true) (number == 0) _ _
     (λ _ is. absurd (none-some _ is)) (λ _ is. at_place ends (number - 1) h is)
   where
@@ -68,14 +68,14 @@ module _ {C : Type 0} (link : C → Link (List ℕ)) (steps : C → Call (List �
 
   -- ---- a connect line
 
-  begins : (old : World C) (system : ℕ) (e : Entity) (call : ConnectCall) (found : Option ℕ) → least_free (now_of old) e ≡ found → is_none found ≡ false → IsSo old → entity_at old.entities system ≡ Some e
-      → ((reference : ℕ) → IsProperCall (call_of e reference call)) → is_address call.to ≡ true → AreOctets call.from_selector → AreOctets call.to_selector → AreOctets call.octets
-      → Makes (BeginsAt link steps old system e call found)
-  begins old system e call None free some r is proper address one two three = absurd cc
-  begins old system e call (Some reference) free some r is proper address one two three =
+  begins : (old : World C) (system : ℕ) (e : Entity) (request : ConnectRequest) (found : Option ℕ) → least_free (now_of old) e ≡ found → is_none found ≡ false → IsSo old → entity_at old.entities system ≡ Some e
+      → ((reference : ℕ) → IsProperCall (call_of e reference request)) → is_address request.to ≡ true → AreOctets request.from_selector → AreOctets request.to_selector → AreOctets request.octets
+      → Makes (BeginsAt link steps old system e request found)
+  begins old system e request None free some r is proper address one two three = absurd cc
+  begins old system e request (Some reference) free some r is proper address one two three =
       let ready = r.entities system e is in
       let place = free_least (now_of old) reference e free in
-      let in_octets = connecting_in is_address (now_of old) reference e call ready.octets
+      let in_octets = connecting_in is_address (now_of old) reference e request ready.octets
       (record { own = omega (arith, place.most, ready.octets.few); to = address; from_selector = one; to_selector = two; octets = three }) in
       let begun : World C = record old { ends = old.ends ++ record { system = system; reference = reference } ∷ [] } in
       let begun_ready : IsSo begun = record {
@@ -83,22 +83,22 @@ module _ {C : Type 0} (link : C → Link (List ℕ)) (steps : C → Call (List �
         entities = r.entities;
         ends = all_both (HasEntity old.entities) old.ends (record { system = system; reference = reference } ∷ []) r.ends (ap (λ (o : Option Entity). is_some o) is, tt);
       } in
-      let a = acting link steps keeps is_address Stands serves begun system e (connecting (now_of old) e reference call) begun_ready is
-      (connecting_rests (now_of old) reference e call ready.rest free (proper reference)) in_octets in
-      record { made = connect_event (length old.ends + 1) system reference e.own call ∷ a.made; new = a.new; runs = (a.made, a.runs, refl); ready = a.ready }
+      let a = acting link steps keeps is_address Stands serves begun system e (connecting (now_of old) e reference request) begun_ready is
+      (connecting_rests (now_of old) reference e request ready.rest free (proper reference)) in_octets in
+      record { made = connect_event (length old.ends + 1) system reference e.own request ∷ a.made; new = a.new; runs = (a.made, a.runs, refl); ready = a.ready }
 
-  connects_by : (old : World C) (system : ℕ) (e : Entity) (call : ConnectCall) → IsSo old → entity_at old.entities system ≡ Some e
-      → (length call.octets ≤ 32 → (reference : ℕ) → IsProperCall (call_of e reference call)) → is_address call.to ≡ true → AreOctets call.from_selector → AreOctets call.to_selector → AreOctets call.octets
-      → Makes (ConnectsBy link steps old system e call (connect_refusal (now_of old) e call.octets))
-  connects_by old system e call r is proper address one two three =
-      let P = λ (o : Option ConnectRefusal). Makes (ConnectsBy link steps old system e call o) in
+  connects_by : (old : World C) (system : ℕ) (e : Entity) (request : ConnectRequest) → IsSo old → entity_at old.entities system ≡ Some e
+      → (length request.octets ≤ 32 → (reference : ℕ) → IsProperCall (call_of e reference request)) → is_address request.to ≡ true → AreOctets request.from_selector → AreOctets request.to_selector → AreOctets request.octets
+      → Makes (ConnectsBy link steps old system e request (connect_refusal (now_of old) e request.octets))
+  connects_by old system e request r is proper address one two three =
+      let P = λ (o : Option ConnectRefusal). Makes (ConnectsBy link steps old system e request o) in
       if_kept P (is_silent (now_of old) e) _ _
       (λ _. refusing old refusals.Silent r)
-      (λ _. if_kept P (nat_lt 32 (length call.octets)) _ _
+      (λ _. if_kept P (nat_lt 32 (length request.octets)) _ _
       (λ _. refusing old refusals.TooLong r)
       (λ short. if_kept P (is_none (least_free (now_of old) e)) _ _
       (λ _. refusing old refusals.RefsSpent r)
-      (λ some. begins old system e call (least_free (now_of old) e) refl some r is (proper (ltb-false 32 (length call.octets) short)) address one two three)))
+      (λ some. begins old system e request (least_free (now_of old) e) refl some r is (proper (ltb-false 32 (length request.octets) short)) address one two three)))
 
   abbrev Runs : List (List ℕ) → World C → Line → Type 0
   Runs titles old line = HasRun is_address link steps Stands wrap titles old line
@@ -107,24 +107,21 @@ module _ {C : Type 0} (link : C → Link (List ℕ)) (steps : C → Call (List �
       → CanConnect is_address titles old system to options selector called octets → Runs titles old (lines.Connect system selector to called options octets)
   connect_runs titles old system selector to called options octets r may =
       let e = may.entity in
-      let call : ConnectCall = record {
-        own = 0;
-        from = e.own;
+      let request : ConnectRequest = record {
         from_selector = selector;
         to = transport_address may.receiver;
         to_selector = called;
         options = asked_options options;
         octets = octets;
-        rules = e.timers;
       } in
       let ready = r.entities system e may.entity_is in
-      let m = connects_by old system e call r may.entity_is
+      let m = connects_by old system e request r may.entity_is
       (λ short reference. record { timers = ready.rest.proper.timers; size = may.size_known; calling = may.selector_short; called = may.called_short; octets = short })
       may.address may.selector_octets may.called_octets may.octets_are in
       record {
         made = m.made;
         new = m.new;
-        runs = (may.receiver, call, may.receiver_is, refl, (refl, refl, refl, refl, (e, may.entity_is, m.runs)));
+        runs = (may.receiver, request, may.receiver_is, refl, (refl, refl, refl, refl, (e, may.entity_is, m.runs)));
         ready = m.ready;
       }
 

@@ -10,11 +10,11 @@ use Rattle.tp4_sending.specs.FlowSender.{FlowSender, refusal, urgent_refusal}
 use Rattle.tp4_conn.specs.Calls.{call_refusal, expedited_refusal, is_listed, listed_refusal, normal_refusal, sending_of, too_long, unit_refusal, urgent_unit_refusal}
 use Rattle.tp4_conn.specs.End.{End}
 use Rattle.tp4_conn.specs.Opened.{is_expedited}
-use Rattle.tp4_conn.specs.declared.base.Base.{Base}
+use Rattle.tp4_conn.specs.declared.end_record.EndRecord.{EndRecord}
 use Rattle.tp4_conn.specs.declared.call.CallRefusal.{CallRefusal}
 use Rattle.tp4_conn.specs.declared.call.UserCall.{UserCall}
 use Rattle.tp4_conn.specs.declared.call.UserCall.TheVariants as asks
-use Rattle.tp4_conn.specs.declared.stage.Stage.{Stage}
+use Rattle.tp4_conn.specs.declared.states.StateData.{StateData}
 use Rattle.tp4_conn.proofs.Timely.{if_kept}
 use Rattle.tp4_entity.specs.declared.refusal.EntityRefusal.{EntityRefusal}
 use Rattle.tp4_entity.specs.declared.refusal.EntityRefusal.TheVariants as entities
@@ -58,7 +58,7 @@ expedited_tells : (agreed : Bool) (sending : Option FlowSender) (n : ℕ) → Te
 expedited_tells agreed None n = tt
 expedited_tells agreed (Some s) n = urgent_tells agreed s n
 
-listed_tells : (b : Base) (stage : Stage) (call : UserCall) → Tells (listed_refusal b stage call)
+listed_tells : (b : EndRecord) (stage : StateData) (call : UserCall) → Tells (listed_refusal b stage call)
 listed_tells b stage (asks.Accept asked octets) = long_tells 32 octets
 listed_tells b stage (asks.Refuse octets) = long_tells 64 octets
 listed_tells b stage (asks.Disconnect octets) = long_tells 64 octets

@@ -102,7 +102,7 @@ ends_more placed ends system telling (whats.BadTpdu cause place) h some = h
 ends_more placed ends system telling (whats.Unknown kind) h some = h
 ends_more placed ends system telling whats.Silent h some = h
 
-ends_all : (placed : List Placed) (ends : List EndAt) (system : ℕ) (all : List EndEvent) → AllByRecursion (HasEntity placed) ends → is_some (entity_at placed system) ≡ true
+pub ends_all : (placed : List Placed) (ends : List EndAt) (system : ℕ) (all : List EndEvent) → AllByRecursion (HasEntity placed) ends → is_some (entity_at placed system) ≡ true
     → AllByRecursion (HasEntity placed) (ends_after ends system all)
 ends_all placed ends system [] h some = h
 ends_all placed ends system (telling ∷ all) h some = ends_all placed (ends_with ends system telling telling.what) system all (ends_more placed ends system telling telling.what h some) some

@@ -1,5 +1,5 @@
 -- The due ends of an entity tick one by one, and the entities one after another.
-use Rattle.std.proofs.Common.{◌≡◌, ℕ, zero, suc, ◌+◌, Bool, true, false, List, [], ◌∷◌, ◌++◌, drop, slice_get, slice_set, Option, Some, None, refl, sym, ◌∙◌, ap, subst}
+use Rattle.std.proofs.Common.{◌≡◌, ℕ, ◌+◌, Bool, true, false, List, [], ◌∷◌, ◌++◌, drop, slice_get, Option, Some, None, refl, sym, ◌∙◌, ap, subst}
 use Rattle.std.specs.Prelude.{is_some}
 use Rattle.std.specs.List.{position}
 use Rattle.std.specs.Option.{option_map_or}
@@ -7,13 +7,11 @@ use Rattle.osi_base.specs.Link.{Link}
 use Rattle.osi_base.specs.Calls.{Call}
 use Rattle.osi_journal.specs.declared.event.Event.{Event}
 use Rattle.tp4_flow.specs.Told.{Told}
-use Rattle.tp4_conn.specs.End.{End}
-use Rattle.tp4_entity.specs.Entity.{Entity, at, end_at}
-use Rattle.tp4_entity.specs.Step.{DoesSo, dues, first_due, ticking, ticking_at, ticking_end}
-use Rattle.tp4_world.proofs.Acting.{acts, nothing, own_of}
+use Rattle.tp4_entity.specs.Entity.{Entity}
+use Rattle.tp4_entity.specs.Step.{DoesSo, dues, first_due, ticking}
+use Rattle.tp4_world.proofs.Acting.{acts, nothing}
 use Rattle.tp4_world.proofs.Entities.{changed_there, entity_there, systems_stay, with_found}
 use Rattle.tp4_world.proofs.Going.{Going, drop_got, going_last, going_next, going_over}
-use Rattle.tp4_world.proofs.Places.{some_same}
 use Rattle.tp4_world.specs.Run.{Acts, NoneDue, OneDue, TicksAll, TicksEntity}
 use Rattle.tp4_world.specs.World.{World, entity_at, is_of, with_entity}
 use Rattle.tp4_world.specs.declared.place.EndAt.{EndAt}
@@ -40,34 +38,6 @@ fewer_due now placed changed system place found change =
     let after : entity_at changed system ≡ Some change.after = ap (λ (ps : List Placed). entity_at ps system) is ∙ with_found placed system change.one.entity change.after was in
     ap (λ (e : Option Entity). option_map_or (dues now) e 0 + 1) after ∙ change.does ∙ ap (λ (e : Option Entity). option_map_or (dues now) e 0) (sym was)
 
--- a tick leaves the address of an entity
-ticked_own : (wrap : ℕ → ℕ → ℕ) (now : ℕ) (e : Entity) → (ticking wrap now e).entity.own ≡ e.own
-ticked_own wrap now e = by (first_due now e)
-  where
-    end_by : (reference : ℕ) (place : Option End) → (ticking_end wrap now (at now e) reference place).entity.own ≡ e.own
-    end_by reference None = refl
-    end_by reference (Some end) = refl
-
-    by : (due : Option ℕ) → (ticking_at wrap now (at now e) due).entity.own ≡ e.own
-    by None = refl
-    by (Some reference) = end_by reference (end_at e reference)
-
-set_there : (placed : List Placed) (place : ℕ) (one other : Placed) → slice_get placed place ≡ Some one → slice_get (slice_set placed place other) place ≡ Some other
-set_there [] place one other at = absurd cc
-set_there (x ∷ placed) zero one other at = refl
-set_there (x ∷ placed) (suc place) one other at = set_there placed place one other at
-
--- the address of an entity that ticked is the one that it had
-pub own_before : (wrap : ℕ → ℕ → ℕ) (now place : ℕ) (placed changed : List Placed) (own : List ℕ) (was_due : Bool) (was told : Told)
-    → ChangesAt place placed changed (λ before after. (was_due ≡ is_some (first_due now before)) × DoesSo (ticking wrap now before) after was told)
-    → ((one : Placed) → slice_get changed place ≡ Some one → Some own ≡ Some one.entity.own)
-    → (one : Placed) → slice_get placed place ≡ Some one → Some own ≡ Some one.entity.own
-own_before wrap now place placed changed own was_due was told change owns one at =
-    let same : change.one ≡ one = some_same change.one one (sym change.at ∙ at) in
-    let new : Placed = record change.one { entity = change.after } in
-    let there : slice_get changed place ≡ Some new = ap (λ (ps : List Placed). slice_get ps place) change.becomes ∙ set_there placed place change.one new change.at in
-    owns new there ∙ ap (λ (e : Entity). Some e.own) change.does.1.entity_is ∙ ap (λ (o : List ℕ). Some o) (ticked_own wrap now change.one.entity) ∙ ap (λ (p : Placed). Some p.entity.own) same
-
 module _ {C : Type 0} (link : C → Link (List ℕ)) (steps : C → Call (List ℕ) → C → Type 0) (wrap : ℕ → ℕ → ℕ) where
   pub once_none : (carrier : C) (placed changed : List Placed) (ends : List EndAt) (system place now : ℕ) (was_due : Bool) (was told : Told) → position (is_of system) placed ≡ Some place
       → (link carrier).clock ≡ now → was_due ≡ false
@@ -86,7 +56,7 @@ module _ {C : Type 0} (link : C → Link (List ℕ)) (steps : C → Call (List �
       )
 
   pub once_due : (carrier new : C) (placed changed : List Placed) (ends after : List EndAt) (system place now : ℕ) (own : List ℕ) (was_due : Bool) (was told : Told) (before behind : List Event)
-      → position (is_of system) placed ≡ Some place → ((one : Placed) → slice_get placed place ≡ Some one → Some own ≡ Some one.entity.own) → (link carrier).clock ≡ now → was_due ≡ true → was ≡ nothing
+      → position (is_of system) placed ≡ Some place → ((one : Placed) → slice_get placed place ≡ Some one → own ≡ one.entity.own) → (link carrier).clock ≡ now → was_due ≡ true → was ≡ nothing
       → ChangesAt place placed changed (λ entity next. (was_due ≡ is_some (first_due now entity)) × DoesSo (ticking wrap now entity) next was told)
       → Tells before behind (λ made. Follows link steps carrier ends system own told made new after)
       → Tells before behind (λ made. TicksOnce link steps wrap system (world_of carrier placed ends) true made (world_of new changed after))
@@ -103,7 +73,7 @@ module _ {C : Type 0} (link : C → Link (List ℕ)) (steps : C → Call (List �
           subst (λ (n : ℕ). first_due n entity ≡ Some there.0) (sym clock) there.1,
           subst (λ (n : ℕ). Acts link steps (world_of carrier placed ends) system entity.own (ticking wrap n entity) tells.made (world_of new changed after)) (sym clock)
               (acts link steps carrier new placed changed ends after system place own (ticking wrap now entity) change.one change.after was told tells.made found change.at change.becomes
-              (own_of own change.one (owns change.one change.at)) start change.does.1 tells.are),
+              (owns change.one change.at) start change.does.1 tells.are),
         );
       }
 

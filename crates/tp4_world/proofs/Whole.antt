@@ -16,7 +16,7 @@ use Rattle.osi_script.specs.declared.line.Line.{Line}
 use Rattle.osi_script.specs.declared.line.Line.TheVariants as lines
 use Rattle.net_world.specs.Told.{picked_event}
 use Rattle.tp4_number.specs.Number.{whole, wire}
-use Rattle.tp4_conn.specs.declared.call.ConnectCall.{ConnectCall}
+use Rattle.tp4_conn.specs.declared.call.ConnectRequest.{ConnectRequest}
 use Rattle.tp4_conn.specs.declared.call.UserCall.{UserCall}
 use Rattle.tp4_conn.specs.declared.call.UserCall.TheVariants as asks
 use Rattle.tp4_conn.specs.End.{End}
@@ -30,8 +30,10 @@ use Rattle.tp4_entity.specs.Unit.{EndsWith, HearsUnit, Separates, all_met, ignor
 use Rattle.tp4_entity.specs.Wire.{acted_on_wire, entity_on_wire}
 use Rattle.tp4_world.proofs.OneRun.{OneHearing}
 use Rattle.tp4_world.proofs.OnWire.{connect_refusal_on, ended_on, first_due_on, formats_on, found_on, least_on, upper, user_refusal_on, with_on, restarted_on}
+use Rattle.tp4_world.specs.Called.{WholeCalls, WorldCall, Did, DidAll}
+use Rattle.tp4_world.specs.Called as asked
 use Rattle.tp4_world.specs.Laws.{HasNoEnd, WholeLine, WholeRun, placed_on_wire, world_on_wire}
-use Rattle.tp4_world.specs.Run.{Acts, Arrives, BeginsAt, Calls, CallsAt, CallsBy, CallsEnd, Connects, ConnectsBy, Delivers, Hears, HearsAll, HearsIf, IsRefused, NoneDue, NoneLeft, OneDue, OneMore, RunsLine, RunsLines, Settles, Ticks, TicksAll, TicksEntity, TooMany, clock_of, has_ended, is_for}
+use Rattle.tp4_world.specs.Run.{Acts, Arrives, BeginsAt, Calls, CallsAt, CallsBy, CallsEnd, Connects, ConnectsBy, Delivers, Hears, HearsAll, HearsIf, IsRefused, NoneDue, NoneLeft, OneDue, OneMore, Restarts, RunsLine, RunsLines, Settles, Ticks, TicksAll, TicksEntity, TooMany, clock_of, has_ended, is_for}
 use Rattle.tp4_world.specs.Telling.{ends_after, inject_event}
 use Rattle.tp4_world.specs.World.{World, end_numbered, entity_at, with_entity}
 use Rattle.tp4_world.specs.declared.place.EndAt.{EndAt}
@@ -39,7 +41,7 @@ use Rattle.tp4_world.specs.declared.place.Placed.{Placed}
 
 -- an entity does on the wire what it does with whole numbers
 pub record OverWires : Type 0 where
-  pub connecting : (now reference : ℕ) (e : Entity) (call : ConnectCall) → connecting now (entity_on_wire e) reference call ≡ acted_on_wire (connecting now e reference call)
+  pub connecting : (now reference : ℕ) (e : Entity) (request : ConnectRequest) → connecting now (entity_on_wire e) reference request ≡ acted_on_wire (connecting now e reference request)
   pub calling : (now reference : ℕ) (e : Entity) (call : UserCall) → calling wire now (entity_on_wire e) reference call ≡ acted_on_wire (calling whole now e reference call)
   pub ticking : (now : ℕ) (e : Entity) → ticking wire now (entity_on_wire e) ≡ acted_on_wire (ticking whole now e)
   pub hearing : (now : ℕ) (e : Entity) (from octets : List ℕ) (acted : Acted) → TakesUnit whole now e from octets acted → TakesUnit wire now (entity_on_wire e) from octets (acted_on_wire acted)
@@ -110,29 +112,29 @@ module _ {C : Type 0} (link : C → Link (List ℕ)) (steps : C → Call (List �
   refused_above old None made new a = absurd a
   refused_above old (Some why) made new a = record { up = old; does = (a.0, refl); is = a.1 }
 
-  begun_above : (old : World C) (system : ℕ) (entity : Entity) (call : ConnectCall) (found : Option ℕ) (made : List Event) (new : World C)
-      → BeginsAt link steps (world_on_wire old) system (entity_on_wire entity) call found made new → Above (λ up. BeginsAt link steps old system entity call found made up) new
-  begun_above old system entity call None made new a = absurd a
-  begun_above old system entity call (Some reference) made new a =
-      let act = act_above_as (record old { ends = old.ends ++ record { system = system; reference = reference } ∷ [] }) system entity.own _ (connecting (clock_of link steps old) entity reference call)
-      a.0 new (over.connecting (clock_of link steps old) reference entity call) a.1 in
+  begun_above : (old : World C) (system : ℕ) (entity : Entity) (request : ConnectRequest) (found : Option ℕ) (made : List Event) (new : World C)
+      → BeginsAt link steps (world_on_wire old) system (entity_on_wire entity) request found made new → Above (λ up. BeginsAt link steps old system entity request found made up) new
+  begun_above old system entity request None made new a = absurd a
+  begun_above old system entity request (Some reference) made new a =
+      let act = act_above_as (record old { ends = old.ends ++ record { system = system; reference = reference } ∷ [] }) system entity.own _ (connecting (clock_of link steps old) entity reference request)
+      a.0 new (over.connecting (clock_of link steps old) reference entity request) a.1 in
       record { up = act.up; does = (a.0, act.does, a.2); is = act.is }
 
-  connect_by_above : (old : World C) (system : ℕ) (entity : Entity) (call : ConnectCall) (why : Option ConnectRefusal) (made : List Event) (new : World C)
-      → ConnectsBy link steps (world_on_wire old) system (entity_on_wire entity) call why made new → Above (λ up. ConnectsBy link steps old system entity call why made up) new
-  connect_by_above old system entity call (Some why) made new a = refused_above old _ made new a
-  connect_by_above old system entity call None made new a =
-      begun_above old system entity call (least_free (clock_of link steps old) entity) made new
-      (subst (λ (found : Option ℕ). BeginsAt link steps (world_on_wire old) system (entity_on_wire entity) call found made new) (least_on (clock_of link steps old) entity) a)
+  connect_by_above : (old : World C) (system : ℕ) (entity : Entity) (request : ConnectRequest) (why : Option ConnectRefusal) (made : List Event) (new : World C)
+      → ConnectsBy link steps (world_on_wire old) system (entity_on_wire entity) request why made new → Above (λ up. ConnectsBy link steps old system entity request why made up) new
+  connect_by_above old system entity request (Some why) made new a = refused_above old _ made new a
+  connect_by_above old system entity request None made new a =
+      begun_above old system entity request (least_free (clock_of link steps old) entity) made new
+      (subst (λ (found : Option ℕ). BeginsAt link steps (world_on_wire old) system (entity_on_wire entity) request found made new) (least_on (clock_of link steps old) entity) a)
 
-  connected_above : (old : World C) (system : ℕ) (call : ConnectCall) (made : List Event) (new : World C) → Connects link steps (world_on_wire old) system call made new
-      → Above (λ up. Connects link steps old system call made up) new
-  connected_above old system call made new a =
+  connected_above : (old : World C) (system : ℕ) (request : ConnectRequest) (made : List Event) (new : World C) → Connects link steps (world_on_wire old) system request made new
+      → Above (λ up. Connects link steps old system request made up) new
+  connected_above old system request made new a =
       let e = upper old.entities system a.0 a.1 in
       let clock = clock_of link steps old in
-      let done = connect_by_above old system e.entity call (connect_refusal clock e.entity call.octets) made new
-      (subst (λ (why : Option ConnectRefusal). ConnectsBy link steps (world_on_wire old) system (entity_on_wire e.entity) call why made new) (connect_refusal_on clock e.entity call.octets)
-      (subst (λ (x : Entity). ConnectsBy link steps (world_on_wire old) system x call (connect_refusal clock x call.octets) made new) e.is a.2)) in
+      let done = connect_by_above old system e.entity request (connect_refusal clock e.entity request.octets) made new
+      (subst (λ (why : Option ConnectRefusal). ConnectsBy link steps (world_on_wire old) system (entity_on_wire e.entity) request why made new) (connect_refusal_on clock e.entity request.octets)
+      (subst (λ (x : Entity). ConnectsBy link steps (world_on_wire old) system x request (connect_refusal clock x request.octets) made new) e.is a.2)) in
       record { up = done.up; does = (e.entity, e.there, done.does); is = done.is }
 
   call_by_above : (old : World C) (number : ℕ) (end : EndAt) (entity : Entity) (call : UserCall) (why : Option EntityRefusal) (made : List Event) (new : World C)
@@ -276,6 +278,43 @@ module _ {C : Type 0} (link : C → Link (List ℕ)) (steps : C → Call (List �
         is = then.is;
       }
 
+  -- ---- a restart
+
+  restarted_above : (old : World C) (system : ℕ) (made : List Event) (new : World C) → Restarts link steps (world_on_wire old) system made new
+      → Above (λ up. Restarts link steps old system made up) new
+  restarted_above old system made new a =
+      let e = upper old.entities system a.0 a.1 in
+      let clock = clock_of link steps old in
+      record {
+        up = record old { entities = with_entity old.entities system (restarted clock e.entity) };
+        does = (e.entity, e.there, a.2, refl);
+        is = a.3
+            ∙ ap (λ (x : Entity). record (world_on_wire old) { entities = with_entity (map placed_on_wire old.entities) system (restarted clock x) }) e.is
+            ∙ ap (λ (x : Entity). record (world_on_wire old) { entities = with_entity (map placed_on_wire old.entities) system x }) (restarted_on clock e.entity)
+            ∙ ap (λ (ps : List Placed). record (world_on_wire old) { entities = ps }) (with_on old.entities system (restarted clock e.entity));
+      }
+
+  -- ---- the calls
+
+  did_above : (old : World C) (call : WorldCall) (made : List Event) (new : World C) → Did link steps wire (world_on_wire old) call made new
+      → Above (λ up. Did link steps whole old call made up) new
+  did_above old (asked.Connect system request) made new a = connected_above old system request made new a
+  did_above old (asked.Ask end call) made new a = called_above old end call made new a
+  did_above old (asked.Raw system sender receiver wish octets) made new a = record { up = record old { carrier = a.0 }; does = (a.0, a.1, refl); is = a.2 }
+  did_above old (asked.Deliver number system answer) made new a = arrived_above old (Choose number system answer) (picked_event number system answer) made new a
+  did_above old (asked.Inject lan system octets answer) made new a = arrived_above old (Inject lan system octets answer) (inject_event system answer) made new a
+  did_above old (asked.Restart system) made new a = restarted_above old system made new a
+  did_above old asked.Pass made new a = ticked_above old made new a
+  did_above old asked.Settle made new a = settled_above 0 (world_on_wire old) made new a old refl
+
+  all_did_above : (calls : List WorldCall) (old : World C) (journal : List Event) (last : World C) → DidAll link steps wire (world_on_wire old) calls journal last
+      → Above (λ up. DidAll link steps whole old calls journal up) last
+  all_did_above [] old journal last run = record { up = old; does = (run.0, refl); is = run.1 }
+  all_did_above (call ∷ calls) old journal last run =
+      let first = did_above old call run.1 run.0 run.3 in
+      let rest = all_did_above calls first.up run.2 last (subst (λ (w : World C). DidAll link steps wire w calls run.2 last) first.is run.5) in
+      record { up = rest.up; does = (first.up, run.1, run.2, first.does, run.4, rest.does); is = rest.is }
+
   -- ---- the lines
 
   line_above : (titles : List (List ℕ)) (old : World C) (line : Line) (made : List Event) (new : World C) → RunsLine link steps wire titles (world_on_wire old) line made new
@@ -302,17 +341,7 @@ module _ {C : Type 0} (link : C → Link (List ℕ)) (steps : C → Call (List �
   line_above titles old (lines.Inject lan system octets) made new a =
       let done = arrived_above old (Inject lan system octets a.0) (inject_event system a.0) made new a.1 in
       record { up = done.up; does = (a.0, done.does); is = done.is }
-  line_above titles old (lines.Restart system) made new a =
-      let e = upper old.entities system a.0 a.1 in
-      let clock = clock_of link steps old in
-      record {
-        up = record old { entities = with_entity old.entities system (restarted clock e.entity) };
-        does = (e.entity, e.there, a.2, refl);
-        is = a.3
-            ∙ ap (λ (x : Entity). record (world_on_wire old) { entities = with_entity (map placed_on_wire old.entities) system (restarted clock x) }) e.is
-            ∙ ap (λ (x : Entity). record (world_on_wire old) { entities = with_entity (map placed_on_wire old.entities) system x }) (restarted_on clock e.entity)
-            ∙ ap (λ (ps : List Placed). record (world_on_wire old) { entities = ps }) (with_on old.entities system (restarted clock e.entity));
-      }
+  line_above titles old (lines.Restart system) made new a = restarted_above old system made new a
   line_above titles old (lines.Send system selector to called octets) made new a = absurd a
   line_above titles old (lines.Version version) made new a = absurd a
   line_above titles old (lines.Set key value) made new a = absurd a
@@ -357,4 +386,10 @@ pub whole_run : {C : Type 0} (link : C → Link (List ℕ)) (steps : C → Call 
 whole_run {C} link steps over one titles first script journal last none run =
     let there : RunsLines link steps wire titles (world_on_wire first) script journal last = subst (λ (w : World C). RunsLines link steps wire titles w script journal last) (no_numbers first none) run in
     let done = lines_above link steps over one titles script first journal last there in
+    (done.up, done.does, done.is)
+
+pub whole_calls : {C : Type 0} (link : C → Link (List ℕ)) (steps : C → Call (List ℕ) → C → Type 0) → OverWires → OneHearing → WholeCalls link steps
+whole_calls {C} link steps over one first calls journal last none run =
+    let there : DidAll link steps wire (world_on_wire first) calls journal last = subst (λ (w : World C). DidAll link steps wire w calls journal last) (no_numbers first none) run in
+    let done = all_did_above link steps over one calls first journal last there in
     (done.up, done.does, done.is)

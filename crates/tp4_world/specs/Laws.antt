@@ -7,7 +7,7 @@ use Rattle.osi_base.specs.Calls.{Call}
 use Rattle.osi_journal.specs.RawLawful.{RawLawful}
 use Rattle.osi_journal.specs.declared.event.Event.{Event}
 use Rattle.osi_script.specs.declared.line.Line.{Line}
-use Rattle.osi_script.specs.declared.line.Line.TheVariants as lines
+use Rattle.osi_script.specs.Injecting.{HasNoInject}
 use Rattle.law_carrier_answers.specs.Answers.{OneStep}
 use Rattle.net_world.specs.Laws.{IsFirst as IsFirstCarrier}
 use Rattle.tp4_number.specs.Number.{whole, wire}
@@ -48,11 +48,6 @@ pub record IsFirst (life : ℕ) (titles : List (List ℕ)) (carrier : Link (List
   pub carrier_is : IsFirstCarrier life titles carrier
   pub entities : AllByRecursion (IsNew titles) placed
 
--- the line hands no system octets that no system sent
-abbrev pub IsNoInjection : Line → Type 0
-IsNoInjection (lines.Inject lan system octets) = ⊥
-IsNoInjection line = Prim.Unit {0}
-
 -- while the carrier is honest, each raw unit that is shown was sent to that system, from that address, with those octets, at most the lifetime
 -- before: no injection was taken
 abbrev pub ShowsSentWhereHonest : {C : Type 0} → (C → Link (List ℕ)) → (C → Call (List ℕ) → C → Type 0) → Type 0
@@ -64,14 +59,14 @@ ShowsSentWhereHonest {C} link steps = (wrap : ℕ → ℕ → ℕ) (life : ℕ) 
 pub record StaysHonest {C : Type 0} (link : C → Link (List ℕ)) (steps : C → Call (List ℕ) → C → Type 0) : Type 0 where
   pub before : (wrap : ℕ → ℕ → ℕ) (titles : List (List ℕ)) (script : List Line) (first last : World C) (journal : List Event) → RunsLines link steps wrap titles first script journal last
       → (link last.carrier).honest ≡ true → (link first.carrier).honest ≡ true
-  pub alike : (wrap : ℕ → ℕ → ℕ) (titles : List (List ℕ)) (script : List Line) (first last : World C) (journal : List Event) → AllByRecursion IsNoInjection script
+  pub alike : (wrap : ℕ → ℕ → ℕ) (titles : List (List ℕ)) (script : List Line) (first last : World C) (journal : List Event) → HasNoInject script
       → RunsLines link steps wrap titles first script journal last → (link last.carrier).honest ≡ (link first.carrier).honest
 
 -- so where nothing is injected, each raw unit that is shown was sent to that system, from that address, with those octets, at most the
 -- lifetime before
 abbrev pub ShowsSent : {C : Type 0} → (C → Link (List ℕ)) → (C → Call (List ℕ) → C → Type 0) → Type 0
 ShowsSent {C} link steps = (wrap : ℕ → ℕ → ℕ) (life : ℕ) (titles : List (List ℕ)) (made : C) (placed : List Placed) (begun journal : List Event) (script : List Line) (first last : World C)
-    → IsFirst life titles (link made) placed → Starts link steps made placed begun first → AllByRecursion IsNoInjection script
+    → IsFirst life titles (link made) placed → Starts link steps made placed begun first → HasNoInject script
     → RunsLines link steps wrap titles first script journal last → RawLawful life titles (begun ++ journal)
 
 -- ---- whole numbers

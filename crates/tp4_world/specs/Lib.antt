@@ -1,4 +1,5 @@
 pub mod Asked
+pub mod Called
 pub mod Laws
 pub mod Run
 pub mod Telling

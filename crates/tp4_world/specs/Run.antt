@@ -17,7 +17,7 @@ use Rattle.osi_base.specs.Calls.{Call, Offer, Choose, Inject, Tick}
 use Rattle.osi_base.specs.Gathering.{Gathers}
 use Rattle.tpdu.specs.Writing.{IsWritten}
 use Rattle.tp4_flow.specs.declared.step.Sent.{Sent}
-use Rattle.tp4_conn.specs.declared.call.ConnectCall.{ConnectCall}
+use Rattle.tp4_conn.specs.declared.call.ConnectRequest.{ConnectRequest}
 use Rattle.tp4_conn.specs.declared.call.UserCall.{UserCall}
 use Rattle.tp4_conn.specs.declared.call.UserCall.TheVariants as asks
 use Rattle.tp4_entity.specs.declared.refusal.ConnectRefusal.{ConnectRefusal}
@@ -93,23 +93,23 @@ module _ {C : Type 0} (link : C → Link (List ℕ)) (steps : C → Call (List �
   -- ---- connect
 
   -- with a free reference a new end is made; its event comes first
-  abbrev pub BeginsAt : World C → ℕ → Entity → ConnectCall → Option ℕ → List Event → World C → Type 0
-  BeginsAt old system entity call None made new = ⊥
-  BeginsAt old system entity call (Some reference) made new =
+  abbrev pub BeginsAt : World C → ℕ → Entity → ConnectRequest → Option ℕ → List Event → World C → Type 0
+  BeginsAt old system entity request None made new = ⊥
+  BeginsAt old system entity request (Some reference) made new =
       (later : List Event)
       × Acts (record old { ends = old.ends ++ record { system = system; reference = reference } ∷ [] }) system entity.own
-      (connecting (clock_of old) entity reference call) later new
-      × (made ≡ connect_event (length old.ends + 1) system reference entity.own call ∷ later)
+      (connecting (clock_of old) entity reference request) later new
+      × (made ≡ connect_event (length old.ends + 1) system reference entity.own request ∷ later)
 
-  abbrev pub ConnectsBy : World C → ℕ → Entity → ConnectCall → Option ConnectRefusal → List Event → World C → Type 0
-  ConnectsBy old system entity call (Some why) made new = IsRefused old (told_connect why) made new
-  ConnectsBy old system entity call None made new = BeginsAt old system entity call (least_free (clock_of old) entity) made new
+  abbrev pub ConnectsBy : World C → ℕ → Entity → ConnectRequest → Option ConnectRefusal → List Event → World C → Type 0
+  ConnectsBy old system entity request (Some why) made new = IsRefused old (told_connect why) made new
+  ConnectsBy old system entity request None made new = BeginsAt old system entity request (least_free (clock_of old) entity) made new
 
   -- a user of a system asks for a connection
-  abbrev pub Connects : World C → ℕ → ConnectCall → List Event → World C → Type 0
-  Connects old system call made new =
+  abbrev pub Connects : World C → ℕ → ConnectRequest → List Event → World C → Type 0
+  Connects old system request made new =
       (entity : Entity) × (entity_at old.entities system ≡ Some entity)
-      × ConnectsBy old system entity call (connect_refusal (clock_of old) entity call.octets) made new
+      × ConnectsBy old system entity request (connect_refusal (clock_of old) entity request.octets) made new
 
   -- ---- restart
 
@@ -236,18 +236,18 @@ module _ {C : Type 0} (link : C → Link (List ℕ)) (steps : C → Call (List �
 
     -- ---- the lines
 
-    -- what a connect line asks of the entity of a system, which sets the rest
-    abbrev pub ConnectsTo : World C → ℕ → List ℕ → List ℕ → List ℕ → List ℕ → List Event → World C → ConnectCall → Type 0
-    ConnectsTo old system selector to called octets made new call =
-        (call.from_selector ≡ selector) × (call.to ≡ transport_address to) × (call.to_selector ≡ called) × (call.octets ≡ octets)
-        × Connects old system call made new
+    -- what a connect line asks of the entity of a system
+    abbrev pub ConnectsTo : World C → ℕ → List ℕ → List ℕ → List ℕ → List ℕ → List Event → World C → ConnectRequest → Type 0
+    ConnectsTo old system selector to called octets made new request =
+        (request.from_selector ≡ selector) × (request.to ≡ transport_address to) × (request.to_selector ≡ called) × (request.octets ≡ octets)
+        × Connects old system request made new
 
     -- what a line of a running network does, where the systems have these titles
     abbrev pub RunsLine : List (List ℕ) → World C → Line → List Event → World C → Type 0
     RunsLine titles old lines.Nothing made new = (made ≡ []) × (new ≡ old)
     RunsLine titles old (lines.Connect system selector to called options octets) made new =
-        (receiver : List ℕ) × (call : ConnectCall) × (slice_get titles to ≡ Some receiver) × (call.options ≡ asked_options options)
-        × ConnectsTo old system selector receiver called octets made new call
+        (receiver : List ℕ) × (request : ConnectRequest) × (slice_get titles to ≡ Some receiver) × (request.options ≡ asked_options options)
+        × ConnectsTo old system selector receiver called octets made new request
     RunsLine titles old (lines.Accept end options octets) made new = Calls old end (asks.Accept (asked_options options) octets) made new
     RunsLine titles old (lines.Refuse end octets) made new = Calls old end (asks.Refuse octets) made new
     RunsLine titles old (lines.Disconnect end octets) made new = Calls old end (asks.Disconnect octets) made new

@@ -20,11 +20,11 @@ use Rattle.tp4_flow.specs.declared.step.What.{What}
 use Rattle.tp4_flow.specs.declared.step.What.TheVariants as whats
 use Rattle.tp4_conn.specs.declared.call.CallRefusal.{CallRefusal}
 use Rattle.tp4_conn.specs.declared.call.CallRefusal.TheVariants as calls
-use Rattle.tp4_conn.specs.declared.call.ConnectCall.{ConnectCall}
+use Rattle.tp4_conn.specs.declared.call.ConnectRequest.{ConnectRequest}
 use Rattle.tp4_conn.specs.declared.call.UserCall.{UserCall}
 use Rattle.tp4_conn.specs.declared.call.UserCall.TheVariants as asks
-use Rattle.tp4_conn.specs.declared.stage.State.{State}
-use Rattle.tp4_conn.specs.declared.stage.State.TheVariants as states
+use Rattle.tp4_conn.specs.declared.states.State.{State}
+use Rattle.tp4_conn.specs.declared.states.State.TheVariants as states
 use Rattle.tp4_entity.specs.declared.refusal.ConnectRefusal.{ConnectRefusal}
 use Rattle.tp4_entity.specs.declared.refusal.ConnectRefusal.TheVariants as connects
 use Rattle.tp4_entity.specs.declared.refusal.EntityRefusal.{EntityRefusal}
@@ -168,16 +168,16 @@ drop_events system WasTaken = []
 drop_events system (Dropped cause) = events.Dropped system cause ∷ []
 
 -- the line of a connect request
-abbrev pub connect_event : ℕ → ℕ → ℕ → List ℕ → ConnectCall → Event
-connect_event number system reference own call = events.Connect (record {
+abbrev pub connect_event : ℕ → ℕ → ℕ → List ℕ → ConnectRequest → Event
+connect_event number system reference own request = events.Connect (record {
   end = number;
   system = system;
   reference = reference;
   calling = own;
-  calling_selector = call.from_selector;
-  called = call.to;
-  called_selector = call.to_selector;
-  octets = call.octets;
+  calling_selector = request.from_selector;
+  called = request.to;
+  called_selector = request.to_selector;
+  octets = request.octets;
 })
 
 -- the line of a user's call; an accept and a window have the line of what the end tells of them

@@ -14,6 +14,7 @@ use std::marker::Model;
 #[derive(Drop)]
 pub struct Ends {
     made: Vec<EndAt>,
+    /// The number of the latest end of each reference: each event asks for it, and looking through all ends would cost their number.
     latest: HashMap<u32, u32>,
 }
 
@@ -73,7 +74,7 @@ impl Ends {
     pub fn add(&mut self, end: EndAt) -> Result<u32, NoMemory>
         ensures number { IfOk result (λ number. number ≡ length self.old + 1) }
         ensures added { IfOk result (λ number. self.new ≡ self.old ++ end ∷ []) }
-        ensures same { OnErr result (self.new ≡ self.old) }
+        ensures err { OnErr result (self.new ≡ self.old) }
     {
         let count = self.count();
         if count == u32::MAX {

@@ -2,6 +2,7 @@
 
 ghost use Rattle.std.specs.Prelude.{List, ℕ};
 ghost use Rattle.tp4_world.specs.Asked.{TellsAsked};
+ghost use Rattle.tp4_world.specs.Called.{CallsStayHonest, WholeCalls};
 ghost use Rattle.tp4_world.specs.Laws.{OneRun, OneStart, ShowsSent, ShowsSentWhereHonest, StaysHonest, WholeLine, WholeRun, WireLine};
 ghost use Rattle.tp4_world.specs.Total.{SomeRun, SomeStart};
 
@@ -36,6 +37,11 @@ pub fn stays_honest<C: Carrier<Addr = Nsap>>()
     ensures { StaysHonest C.link C.steps }
 {}
 
+/// A carrier that is honest after calls was so before them; and where nothing is injected it is as honest as it was.
+pub fn calls_stay_honest<C: Carrier<Addr = Nsap>>()
+    ensures { CallsStayHonest C.link C.steps }
+{}
+
 /// The events by which users ask for connections and hand over units are those of the lines that ask for it, in order: each such line has its
 /// own event, which says what the line says, or is refused.
 pub fn tells_asked<C: Carrier<Addr = Nsap>>()
@@ -47,6 +53,14 @@ pub fn tells_asked<C: Carrier<Addr = Nsap>>()
 pub fn shows_sent<C: Carrier<Addr = Nsap>>()
     ensures { ShowsSent C.link C.steps }
 {}
+
+/// Calls over the numbers of the wire, which the code keeps, that begin without ends are calls over whole numbers, with the same events.
+pub fn whole_calls<C: Carrier<Addr = Nsap>>()
+    ensures { WholeCalls C.link C.steps }
+{
+    tp4_entity::over_wires();
+    tp4_entity::one_hearing();
+}
 
 /// A line over the numbers of the wire, which the code keeps, is one over whole numbers, and the other way round; so a run that begins
 /// without ends is one over whole numbers, with the same journal.

@@ -2,22 +2,22 @@
 //! service primitives; X.224, class 4 procedures).
 #![tactic(auto)]
 
-mod asking;
+mod arrivals;
 mod ends;
-mod hearing;
+mod event_words;
+mod events;
 mod laws;
 mod place;
 mod sending;
-mod telling;
 mod ticking;
 mod transport;
-mod words;
+mod user_calls;
 mod world;
 
+pub use event_words::asked_options;
 pub use laws::{
-    one_run, one_start, shows_sent, shows_sent_where_honest, some_run, some_start, stays_honest,
-    tells_asked, whole_run,
+    calls_stay_honest, one_run, one_start, shows_sent, shows_sent_where_honest, some_run,
+    some_start, stays_honest, tells_asked, whole_calls, whole_run,
 };
 pub use place::{EndAt, Placed};
-pub use words::asked_options;
 pub use world::TpWorld;

@@ -6,7 +6,7 @@ ghost use Rattle.tp4_world.specs.Run.{SendsTpdu, SendsTpdus};
 ghost use Rattle.tp4_world.specs.steps.Parts.{Follows, Tells};
 
 use crate::ends::Ends;
-use crate::telling::{tell_all, tell_drop};
+use crate::events::{tell_all, tell_drop};
 use net_world::take_up;
 use nsap::Nsap;
 use osi_base::{Bytes, Carrier, NoMemory, Unit, Wish};
@@ -82,7 +82,7 @@ fn send<C: Carrier<Addr = Nsap>>(
     take_up(carrier, events)
 }
 
-/// The octets of a TPDU. What an end sends is never too long.
+/// The octets of a TPDU. Too long is a CR alone, where a caller connects with selectors that none has room for. The run ends then.
 fn octets_of(alloc: Global, sent: &Sent) -> Result<Bytes, NoMemory>
     ensures { IfOk result (λ octets. IsWritten sent.now.format sent.now.sum sent.now.tpdu octets) }
 {

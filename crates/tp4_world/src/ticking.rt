@@ -1,8 +1,10 @@
 //! The ends that are due at a tick, system by system (X.224, class 4 procedures).
 
-ghost use Rattle.std.specs.Prelude.{◌≡◌, ◌≤◌, ◌+◌, ℕ, slice_get, true, false, IfOk, OnOk};
+ghost use Rattle.std.specs.Prelude.{◌≡◌, ◌<◌, ◌≤◌, ◌+◌, ℕ, Some, length, slice_get, true, false, IfOk, IsSome, OnOk};
+ghost use Rattle.std.specs.List.{position};
 ghost use Rattle.tp4_number.specs.Number.{wire};
 ghost use Rattle.tp4_world.specs.Run.{TicksAll, TicksEntity};
+ghost use Rattle.tp4_world.specs.World.{entity_at, is_of};
 ghost use Rattle.tp4_world.specs.steps.Parts.{AreBehind, AreFromAll, AreLaterAll, AreLaterAt, Tells, TicksOnce, dues_at, systems_of, world_of};
 
 use crate::sending::follow;
@@ -29,22 +31,21 @@ pub fn tick_all<C: Carrier<Addr = Nsap>>(
     ensures later { OnOk result (AreLaterAll now transport.new.entities.items) }
 {
     for place in 0..transport.entities.len() {
-        let Some(system) = system_at(transport, place) else {
-            return Err(NoMemory);
-        };
+        let system = system_at(transport, place);
         tick_system(carrier, transport, now, system, events)?;
     }
     Ok(())
 }
 
 /// The system of the entity at a place.
-fn system_at(transport: &Transport, place: usize) -> Option<u8>
-    ensures { result ≡ slice_get (systems_of transport.now.entities.items) place }
+fn system_at(transport: &Transport, place: usize) -> u8
+    requires { place < length transport.now.entities.items }
+    ensures { slice_get (systems_of transport.now.entities.items) place ≡ Some result }
 {
-    match transport.entities.get(place) {
-        Some(one) => Some(one.system),
-        None => None,
-    }
+    let Some(one) = transport.entities.get(place) else {
+        unreachable!();
+    };
+    one.system
 }
 
 /// The due ends of an entity tick, by rising reference, until none is due.
@@ -61,6 +62,7 @@ fn tick_system<C: Carrier<Addr = Nsap>>(
     requires clock { (C.link carrier.old).clock ≡ now }
     requires behind { AreBehind now transport.old.entities.items }
     requires from { AreFromAll now transport.old.entities.items }
+    requires listed { IsSome (entity_at transport.old.entities.items system) }
     ensures ticks { OnOk result (Tells events.old.items events.new.items (λ made. TicksEntity C.link C.steps wire system
         (world_of carrier.old transport.old.entities.items transport.old.ends) made (world_of carrier.new transport.new.entities.items transport.new.ends))) }
     ensures clock { OnOk result ((C.link carrier.new).clock ≡ now) }
@@ -70,14 +72,18 @@ fn tick_system<C: Carrier<Addr = Nsap>>(
     ensures rest { OnOk result (AreLaterAt now transport.new.entities.items system) }
     ensures systems { OnOk result (systems_of transport.new.entities.items ≡ systems_of transport.old.entities.items) }
 {
-    while tick_one(carrier, transport, now, system, events)? {}
+    let Some(place) = place_of(&transport.entities, system) else {
+        unreachable!();
+    };
+    while tick_one(carrier, transport, place, now, system, events)? {}
     Ok(())
 }
 
-/// The due end of least reference of an entity ticks; false exactly where none is due.
+/// The due end of least reference of the entity at a place ticks; false exactly where none is due.
 fn tick_one<C: Carrier<Addr = Nsap>>(
     carrier: &mut C,
     transport: &mut Transport,
+    place: usize,
     now: Tick,
     system: u8,
     events: &mut Vec<Event>,
@@ -86,6 +92,7 @@ fn tick_one<C: Carrier<Addr = Nsap>>(
     requires clock { (C.link carrier.old).clock ≡ now }
     requires behind { AreBehind now transport.old.entities.items }
     requires from { AreFromAll now transport.old.entities.items }
+    requires place { position (is_of system) transport.old.entities.items ≡ Some place }
     ensures ticks { IfOk result (λ was_due. Tells events.old.items events.new.items (λ made. TicksOnce C.link C.steps wire system
         (world_of carrier.old transport.old.entities.items transport.old.ends) was_due made (world_of carrier.new transport.new.entities.items transport.new.ends))) }
     ensures fewer { IfOk result (λ was_due. was_due ≡ true → dues_at now transport.new.entities.items system + 1 ≡ dues_at now transport.old.entities.items system) }
@@ -97,17 +104,12 @@ fn tick_one<C: Carrier<Addr = Nsap>>(
     ensures systems { OnOk result (systems_of transport.new.entities.items ≡ systems_of transport.old.entities.items) }
 {
     let alloc = transport.alloc;
-    let Some(place) = place_of(&transport.entities, system) else {
-        return Err(NoMemory);
-    };
+    let own = own_at(&transport.entities, place);
     transport.out.clear();
     let was_due = tick_at(&mut transport.entities, place, now, &mut transport.out)?;
     if !was_due {
         return Ok(false);
     }
-    let Some(own) = own_at(&transport.entities, place) else {
-        return Err(NoMemory);
-    };
     follow(
         alloc,
         carrier,

@@ -27,7 +27,7 @@ use std::alloc::Global;
 use std::collections::VecDeque;
 use std::marker::Brand;
 use std::sync::ledger::{Blank, Ledger};
-use tp4_conn::{CallRefusal, ConnectCall, Steps, UserCall};
+use tp4_conn::{ConnectRequest, Steps, UserCall};
 use tp4_entity::{ConnectRefusal, EntityRefusal, TpEntity};
 use tp4_flow::Step;
 
@@ -50,29 +50,29 @@ pub fn place_of(entities: &[Placed], system: u8) -> Option<usize>
 }
 
 /// The address of the entity at a place.
-pub fn own_at(entities: &[Placed], place: usize) -> Option<Nsap>
-    ensures { (one : PlacedEntity) → slice_get entities.now place ≡ Some one → result ≡ Some one.entity.own }
+pub fn own_at(entities: &[Placed], place: usize) -> Nsap
+    requires { place < length entities.now }
+    ensures { (one : PlacedEntity) → slice_get entities.now place ≡ Some one → result ≡ one.entity.own }
 {
-    let one = entities.get(place)?;
-    Some(one.entity.own())
+    let Some(one) = entities.get(place) else {
+        unreachable!();
+    };
+    one.entity.own()
 }
 
 /// Whether the reference of an end has been free since the end was made, or its system began again since.
 #[tactic(auto, using(tp4_entity::proofs::Restarts::no_state))]
-pub fn has_ended(
-    transport: &Transport,
-    place: usize,
-    now: Tick,
-    number: u32,
-    end: EndAt,
-) -> Option<bool>
+pub fn has_ended(transport: &Transport, place: usize, now: Tick, number: u32, end: EndAt) -> bool
+    requires within { place < length transport.now.entities.items }
     requires behind { AreBehind now transport.now.entities.items }
-    ensures { (one : PlacedEntity) → slice_get transport.now.entities.items place ≡ Some one → result ≡ Some (has_ended now transport.now.ends number end one.entity) }
+    ensures { (one : PlacedEntity) → slice_get transport.now.entities.items place ≡ Some one → result ≡ has_ended now transport.now.ends number end one.entity }
 {
-    let one = transport.entities.get(place)?;
+    let Some(one) = transport.entities.get(place) else {
+        unreachable!();
+    };
     let is_latest = transport.ends.latest(end.system, end.reference) == number;
     let is_gone = one.entity.state_of(end.reference).is_none();
-    Some(!is_latest || is_gone || one.entity.is_free(now, end.reference))
+    !is_latest || is_gone || one.entity.is_free(now, end.reference)
 }
 
 /// The entity at a place takes a unit.
@@ -83,6 +83,7 @@ pub fn hear_at(
     unit: &Unit<Nsap>,
     out: &mut Step,
 ) -> Result<(), NoMemory>
+    requires within { place < length entities.old.items }
     requires low { now ≤ 4000000000 }
     requires behind { AreBehind now entities.old.items }
     requires from { (one : PlacedEntity) → slice_get entities.old.items place ≡ Some one → AreFrom now one.entity.ends }
@@ -92,7 +93,7 @@ pub fn hear_at(
     ensures later { OnOk result (ChangesAt place entities.old.items entities.new.items (λ before after. AreLater now before.ends → AreLater now after.ends)) }
 {
     let Some(one) = entities.get_mut(place) else {
-        return Err(NoMemory);
+        unreachable!();
     };
     one.entity
         .on_unit(now, unit.from, unit.octets.as_slice(), out)
@@ -103,26 +104,27 @@ pub fn connect_at(
     entities: &mut Vec<Placed>,
     place: usize,
     now: Tick,
-    call: ConnectCall,
+    request: ConnectRequest,
     out: &mut Step,
 ) -> Result<u16, ConnectRefusal>
+    requires within { place < length entities.old.items }
     requires low { now ≤ 4000000000 }
     requires behind { AreBehind now entities.old.items }
     requires from { (one : PlacedEntity) → slice_get entities.old.items place ≡ Some one → AreFrom now one.entity.ends }
-    requires size { IsSized call.options }
+    requires size { IsSized request.options }
     ensures changed { IfOk result (λ reference. ChangesAt place entities.old.items entities.new.items
-        (λ before after. (connect_refusal now before call.octets ≡ None) × (least_free now before ≡ Some reference)
-        × DoesSo (connecting now before reference call) after out.old out.new)) }
+        (λ before after. (connect_refusal now before request.octets ≡ None) × (least_free now before ≡ Some reference)
+        × DoesSo (connecting now before reference request) after out.old out.new)) }
     ensures why { IfErr result (λ why. why ≢ ConnectOutOfMemory
-        → (one : PlacedEntity) × (slice_get entities.old.items place ≡ Some one) × (connect_refusal now one.entity call.octets ≡ Some why)) }
-    ensures same { IfErr result (λ why. why ≢ ConnectOutOfMemory → entities.new.items ≡ entities.old.items) }
+        → (one : PlacedEntity) × (slice_get entities.old.items place ≡ Some one) × (connect_refusal now one.entity request.octets ≡ Some why)) }
+    ensures err { IfErr result (λ why. why ≢ ConnectOutOfMemory → entities.new.items ≡ entities.old.items) }
     ensures behind { AreBehind now entities.new.items }
     ensures later { OnOk result (ChangesAt place entities.old.items entities.new.items (λ before after. AreLater now before.ends → AreLater now after.ends)) }
 {
     let Some(one) = entities.get_mut(place) else {
-        return Err(ConnectRefusal::NoMemory);
+        unreachable!();
     };
-    one.entity.connect(now, call, out)
+    one.entity.connect(now, request, out)
 }
 
 /// The entity at a place begins again.
@@ -148,6 +150,7 @@ pub fn user_at(
     call: UserCall,
     out: &mut Step,
 ) -> Result<(), EntityRefusal>
+    requires within { place < length entities.old.items }
     requires low { now ≤ 4000000000 }
     requires behind { AreBehind now entities.old.items }
     requires from { (one : PlacedEntity) → slice_get entities.old.items place ≡ Some one → AreFrom now one.entity.ends }
@@ -156,12 +159,12 @@ pub fn user_at(
         (λ before after. (user_refusal before reference call ≡ None) × DoesSo (calling wire now before reference call) after out.old out.new)) }
     ensures why { IfErr result (λ why. why ≢ Call EndOutOfMemory
         → (one : PlacedEntity) × (slice_get entities.old.items place ≡ Some one) × (user_refusal one.entity reference call ≡ Some why)) }
-    ensures same { IfErr result (λ why. why ≢ Call EndOutOfMemory → entities.new.items ≡ entities.old.items) }
+    ensures err { IfErr result (λ why. why ≢ Call EndOutOfMemory → entities.new.items ≡ entities.old.items) }
     ensures behind { AreBehind now entities.new.items }
     ensures later { OnOk result (ChangesAt place entities.old.items entities.new.items (λ before after. AreLater now before.ends → AreLater now after.ends)) }
 {
     let Some(one) = entities.get_mut(place) else {
-        return Err(EntityRefusal::Call(CallRefusal::NoMemory));
+        unreachable!();
     };
     one.entity.user(now, reference, call, out)
 }
@@ -173,6 +176,7 @@ pub fn tick_at(
     now: Tick,
     out: &mut Step,
 ) -> Result<bool, NoMemory>
+    requires within { place < length entities.old.items }
     requires low { now ≤ 4000000000 }
     requires behind { AreBehind now entities.old.items }
     requires from { (one : PlacedEntity) → slice_get entities.old.items place ≡ Some one → AreFrom now one.entity.ends }
@@ -185,7 +189,7 @@ pub fn tick_at(
     ensures rest { IfOk result (λ was_due. was_due ≡ false → ChangesAt place entities.old.items entities.new.items (λ before after. AreLater now after.ends)) }
 {
     let Some(one) = entities.get_mut(place) else {
-        return Err(NoMemory);
+        unreachable!();
     };
     tick_counted::<Brand>(&mut one.entity, now, out, Blank::new(1))
 }

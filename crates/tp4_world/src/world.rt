@@ -1,6 +1,6 @@
 //! The network that a script runs, with its transport entities.
 
-ghost use Rattle.std.specs.Prelude.{◌≡◌, ◌<◌, ◌≤◌, [], length, true, IsSome, IsTrue, IfOk, OnOk};
+ghost use Rattle.std.specs.Prelude.{◌≡◌, ◌<◌, ◌≤◌, [], length, true, false, IsSome, IsTrue, IfOk, OnOk};
 ghost use Rattle.osi_base.specs.declared.unit.Injected.{Injected as Answer};
 ghost use Rattle.osi_base.specs.declared.unit.Picked.{Picked as Choice};
 ghost use Rattle.osi_base.specs.declared.unit.Picked.TheVariants.{Taken};
@@ -12,12 +12,12 @@ ghost use Rattle.tp4_world.specs.World.{entity_at};
 ghost use Rattle.tp4_world.specs.steps.Parts.{AreBehind, AreLaterAll, SettlesSo, Tells, world_of};
 
 use crate::Placed;
-use crate::asking::{ask, begin, restart};
+use crate::arrivals::hear_waiting;
 use crate::ends::Ends;
-use crate::hearing::hear_waiting;
-use crate::telling::inject_event;
+use crate::events::inject_event;
 use crate::ticking::tick_all;
 use crate::transport::Transport;
+use crate::user_calls::{ask, begin, restart};
 use net_world::{picked_event, send_unit, take_up};
 use nsap::Nsap;
 use osi_base::{Bytes, Carrier, NoMemory, Picked, Tick, Wish};
@@ -25,7 +25,7 @@ use osi_journal::{Event, Settled};
 use std::alloc::Global;
 use std::collections::VecDeque;
 use std::marker::Model;
-use tp4_conn::{ConnectCall, UserCall};
+use tp4_conn::{ConnectRequest, UserCall};
 use tp4_flow::Step;
 
 /// The most deliveries of one `settle`.
@@ -41,7 +41,8 @@ pub struct TpWorld<C: Carrier<Addr = Nsap> + Drop> {
     stopped: bool,
 }
 
-// The clock of no entity is ahead of the carrier's, and no end is due up to it, unless a call stopped for want of memory.
+// The clock of no entity is ahead of the carrier's, no end is due up to it, and each end that was made is of a system that has an
+// entity, unless a call stopped for want of memory.
 impl<C: Carrier<Addr = Nsap> + Drop> Model for TpWorld<C> {
     ghost use Rattle.std.specs.Prelude.{◌≡◌, false};
     ghost use Rattle.tp4_world.specs.World.{World};
@@ -106,20 +107,19 @@ impl<C: Carrier<Addr = Nsap> + Drop> TpWorld<C> {
     /// A user of a system asks for a connection. The own reference, the address and the timers of the call are set here.
     ///
     /// At NoMemory, and where the system has no transport entity, the run ends.
+    // Not inlined: it is none of the lines that come most (above).
     #[inline(never)]
     pub fn connect(
         &mut self,
         system: u8,
-        call: ConnectCall,
+        request: ConnectRequest,
         events: &mut Vec<Event>,
     ) -> Result<(), NoMemory>
-        requires size { IsSized call.options }
+        requires size { IsSized request.options }
         requires none { events.old.items ≡ [] }
-        ensures { OnOk result (Connects C.link C.steps self.old system call events.new.items self.new) }
+        ensures { OnOk result (Connects C.link C.steps self.old system request events.new.items self.new) }
     {
-        if self.stopped {
-            return Err(NoMemory);
-        }
+        go_on(self.stopped)?;
         self.stopped = true;
         let now = self.carrier.now();
         begin(
@@ -127,7 +127,7 @@ impl<C: Carrier<Addr = Nsap> + Drop> TpWorld<C> {
             &mut self.transport,
             now,
             system,
-            call,
+            request,
             events,
         )?;
         self.stopped = false;
@@ -147,9 +147,7 @@ impl<C: Carrier<Addr = Nsap> + Drop> TpWorld<C> {
         requires none { events.old.items ≡ [] }
         ensures { OnOk result (Calls C.link C.steps wire self.old end call events.new.items self.new) }
     {
-        if self.stopped {
-            return Err(NoMemory);
-        }
+        go_on(self.stopped)?;
         self.stopped = true;
         let now = self.carrier.now();
         ask(
@@ -168,6 +166,7 @@ impl<C: Carrier<Addr = Nsap> + Drop> TpWorld<C> {
     /// refused before all else. The titles are those of the two systems.
     ///
     /// At NoMemory the run ends.
+    // Not inlined: it is none of the lines that come most (above).
     #[inline(never)]
     pub fn unit(
         &mut self,
@@ -181,9 +180,7 @@ impl<C: Carrier<Addr = Nsap> + Drop> TpWorld<C> {
         requires none { events.old.items ≡ [] }
         ensures { OnOk result (SendsRaw C.link C.steps self.old system sender.now receiver.now wish octets events.new.items self.new) }
     {
-        if self.stopped {
-            return Err(NoMemory);
-        }
+        go_on(self.stopped)?;
         self.stopped = true;
         send_unit(
             self.transport.alloc,
@@ -211,9 +208,7 @@ impl<C: Carrier<Addr = Nsap> + Drop> TpWorld<C> {
         requires none { events.old.items ≡ [] }
         ensures { OnOk result ((answer : Choice) × Delivers C.link C.steps wire self.old number system answer events.new.items self.new) }
     {
-        if self.stopped {
-            return Err(NoMemory);
-        }
+        go_on(self.stopped)?;
         self.stopped = true;
         let now = self.carrier.now();
         deliver(
@@ -231,6 +226,7 @@ impl<C: Carrier<Addr = Nsap> + Drop> TpWorld<C> {
     /// A system of a LAN gets octets that no system sent, and what comes of it is told.
     ///
     /// At NoMemory the run ends.
+    // Not inlined: it is none of the lines that come most (above).
     #[inline(never)]
     pub fn inject(
         &mut self,
@@ -242,9 +238,7 @@ impl<C: Carrier<Addr = Nsap> + Drop> TpWorld<C> {
         requires none { events.old.items ≡ [] }
         ensures { OnOk result ((answer : Answer) × Injects C.link C.steps wire self.old lan system octets.items answer events.new.items self.new) }
     {
-        if self.stopped {
-            return Err(NoMemory);
-        }
+        go_on(self.stopped)?;
         self.stopped = true;
         let now = self.carrier.now();
         let answer = self.carrier.inject(lan, system, octets)?;
@@ -257,15 +251,14 @@ impl<C: Carrier<Addr = Nsap> + Drop> TpWorld<C> {
     /// The transport entity of a system begins again: its ends are gone, and nothing is told of them. It is silent for F ticks.
     ///
     /// At NoMemory the run ends.
+    // Not inlined: it is none of the lines that come most (above).
     #[inline(never)]
     pub fn restart(&mut self, system: u8, events: &mut Vec<Event>) -> Result<(), NoMemory>
         requires listed { IsSome (entity_at self.old.entities system) }
         requires none { events.old.items ≡ [] }
         ensures { OnOk result (Restarts C.link C.steps self.old system events.new.items self.new) }
     {
-        if self.stopped {
-            return Err(NoMemory);
-        }
+        go_on(self.stopped)?;
         self.stopped = true;
         let now = self.carrier.now();
         restart(&mut self.transport, now, system, events)?;
@@ -276,15 +269,14 @@ impl<C: Carrier<Addr = Nsap> + Drop> TpWorld<C> {
     /// One tick passes; what it brings up is told, and then each due end ticks.
     ///
     /// At NoMemory the run ends.
+    // Not inlined: it is none of the lines that come most (above).
     #[inline(never)]
     pub fn tick(&mut self, events: &mut Vec<Event>) -> Result<(), NoMemory>
         requires low { (C.link self.old.carrier).clock < 4000000000 }
         requires none { events.old.items ≡ [] }
         ensures { OnOk result (Ticks C.link C.steps wire self.old events.new.items self.new) }
     {
-        if self.stopped {
-            return Err(NoMemory);
-        }
+        go_on(self.stopped)?;
         self.stopped = true;
         self.carrier.tick()?;
         let now = self.carrier.now();
@@ -298,14 +290,13 @@ impl<C: Carrier<Addr = Nsap> + Drop> TpWorld<C> {
     /// Delivers the least pair that was not taken, again and again, until none is left or there were as many as there may be.
     ///
     /// At NoMemory the run ends.
+    // Not inlined: it is none of the lines that come most (above).
     #[inline(never)]
     pub fn settle(&mut self, events: &mut Vec<Event>) -> Result<(), NoMemory>
         requires none { events.old.items ≡ [] }
         ensures { OnOk result (Settles C.link C.steps wire 0 self.old events.new.items self.new) }
     {
-        if self.stopped {
-            return Err(NoMemory);
-        }
+        go_on(self.stopped)?;
         self.stopped = true;
         let now = self.carrier.now();
         let answer = settle(&mut self.carrier, &mut self.transport, now, events)?;
@@ -313,6 +304,16 @@ impl<C: Carrier<Addr = Nsap> + Drop> TpWorld<C> {
         self.stopped = false;
         Ok(())
     }
+}
+
+/// After a call that ended for want of memory each further one wants it again: what that one left half done is not known.
+fn go_on(stopped: bool) -> Result<(), NoMemory>
+    ensures { OnOk result (stopped ≡ false) }
+{
+    if stopped {
+        return Err(NoMemory);
+    }
+    Ok(())
 }
 
 /// A delivery, with the carrier's answer.

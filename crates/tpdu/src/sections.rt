@@ -36,6 +36,7 @@ pub struct SectionsRef<'a> {
 }
 
 /// The TPDU of a front and its sections.
+// Inlined: a TPDU is a large value, which is moved once less.
 #[inline(always)]
 pub fn tpdu_at<'a>(head: &HeadRef<'a>, sections: &SectionsRef<'a>, sum: bool) -> TpduRef<'a>
     requires { length sections.now.fixed.now ≡ fixed_count head.now.kind sections.now.format }

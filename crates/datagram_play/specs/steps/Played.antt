@@ -19,7 +19,7 @@ use Rattle.cltp.specs.declared.system.ClSystem.{ClSystem}
 use Rattle.cltp.proofs.OneRun.{one_run as one_call, one_start as one_begin}
 use Rattle.cltp.proofs.SomeRun.{some_run as some_call, some_start as some_begin}
 use Rattle.osi_journal.specs.declared.event.Event.{Event}
-use Rattle.osi_script.specs.declared.form.Dialect.TheVariants as dialects
+use Rattle.osi_script.specs.declared.words.Dialect.TheVariants as dialects
 use Rattle.osi_script.specs.declared.line.Line.{Line}
 use Rattle.osi_script.specs.declared.line.Line.TheVariants as lines
 use Rattle.osi_script.specs.Commands.{HasLine as IsOfCommand}

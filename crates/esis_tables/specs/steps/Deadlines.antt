@@ -1,7 +1,7 @@
 -- The deadlines of the rows, as a map from places to ticks: a tick with nothing due looks at no row.
 use Rattle.std.specs.Prelude.{◌≡◌, ℕ, ◌+◌, ◌<◌, ◌≤◌, nat_lt, if◌then◌else◌, List, [], length, map, replicate, Option, Some, None}
 use Rattle.due_links.specs.Ticks.{tick_at}
-use Rattle.esis_tables.specs.declared.row.Row.{Row}
+use Rattle.esis_tables.specs.declared.holding_time.Row.{Row}
 use Rattle.esis_tables.specs.steps.Places.{is_noted}
 
 -- the tick from which on a row is known no longer; none where that passes the last tick

@@ -8,7 +8,7 @@ use Rattle.tp4_number.specs.Number.{whole}
 use Rattle.tp4_flow.specs.declared.step.Sent.{Sent}
 use Rattle.tp4_conn.specs.Calls.{IsCall}
 use Rattle.tp4_conn.specs.Proper.{IsProperCall}
-use Rattle.tp4_conn.specs.declared.call.ConnectCall.{ConnectCall}
+use Rattle.tp4_conn.specs.declared.call.ConnectRequest.{ConnectRequest}
 use Rattle.tp4_conn.specs.declared.call.UserCall.{UserCall}
 use Rattle.tp4_entity.specs.Association.{met}
 use Rattle.tp4_entity.specs.Entity.{Acted, Entity, at}
@@ -74,14 +74,14 @@ pub record Connects (titles : List (List ℕ)) (old : Hall) (made : List Event) 
   pub system : ℕ
   pub entity : Entity
   pub there : entity_at old.entities system ≡ Some entity
-  pub call : ConnectCall
+  pub request : ConnectRequest
   pub reference : ℕ
   pub free : least_free old.clock entity ≡ Some reference
-  pub proper : IsProperCall (call_of entity reference call)
-  pub address : IsAddress titles call.to
+  pub proper : IsProperCall (call_of entity reference request)
+  pub address : IsAddress titles request.to
   pub later : List Event
-  pub does : Does (with_new old system reference) system entity.own (connecting old.clock entity reference call) later new
-  pub made_is : made ≡ connect_event (length old.ends + 1) system reference entity.own call ∷ later
+  pub does : Does (with_new old system reference) system entity.own (connecting old.clock entity reference request) later new
+  pub made_is : made ≡ connect_event (length old.ends + 1) system reference entity.own request ∷ later
 
 -- a user calls an end, where nothing waits
 pub record Calls (old : Hall) (made : List Event) (new : Hall) : Type 0 where

@@ -9,12 +9,12 @@ use Rattle.tp4_flow.specs.declared.rules.Options.{Options}
 use Rattle.tp4_flow.specs.declared.step.EndEvent.{EndEvent}
 use Rattle.tp4_flow.specs.declared.step.Sent.{Sent}
 use Rattle.tp4_conn.specs.End.{End, end_of}
-use Rattle.tp4_conn.specs.declared.base.Base.{Base}
+use Rattle.tp4_conn.specs.declared.end_record.EndRecord.{EndRecord}
 use Rattle.tp4_conn.specs.declared.call.UserCall.TheVariants.{Accept}
-use Rattle.tp4_conn.specs.declared.stage.Requesting.{Requesting}
-use Rattle.tp4_conn.specs.declared.stage.Stage.{Stage}
-use Rattle.tp4_conn.specs.declared.stage.Stage.TheVariants.{AkWait, CrWait, Opened, UserWait}
-use Rattle.law_tp4_pair.specs.Claim.{IsToldIn}
+use Rattle.tp4_conn.specs.declared.states.InCrWait.{InCrWait}
+use Rattle.tp4_conn.specs.declared.states.StateData.{StateData}
+use Rattle.tp4_conn.specs.declared.states.StateData.TheVariants.{AkWait, CrWait, Opened, UserWait}
+use Rattle.law_tp4_pair.specs.steps.Pairs.{IsToldIn}
 use Rattle.tp4_entity.specs.Step.{is_due}
 use Rattle.law_tp4_moves.specs.Lines.{shown_in}
 use Rattle.law_tp4_pair.specs.Pair.{Accepts, Asks_called, Happening, Leads, Pair, next, tick_of}
@@ -26,7 +26,7 @@ use Rattle.tp4_conn.specs.declared.timers.Timers.{Timers}
 use Rattle.tp4_world.specs.declared.place.Placed.{Placed}
 use Rattle.law_tp4_associations.specs.Standing.{Standing}
 use Rattle.law_tp4_associations.specs.Association.{Association, Posted, party, system_of, waiting}
-use Rattle.law_tp4_associations.specs.Phase.{IsHeld}
+use Rattle.law_tp4_associations.specs.Phase.{IsInUse}
 use Rattle.law_tp4_history.specs.Journals.{IsAside}
 use Rattle.law_calm_run.specs.steps.Hall.{Goes, Hall, Post}
 
@@ -67,7 +67,7 @@ pub record AreLinked (own : ℕ → List ℕ) (journal : List Event) (all : List
 -- ---- units
 
 -- an end that has no halves yet: it waits for the answer, or for its user
-abbrev pub IsYoung : Stage → Type 0
+abbrev pub IsYoung : StateData → Type 0
 IsYoung (CrWait w) = Prim.Unit {0}
 IsYoung (UserWait since) = Prim.Unit {0}
 IsYoung stage = ⊥
@@ -144,7 +144,7 @@ pub record AreOpening (x y : End) : Type 0 where
   pub answered : IsYoung y.stage → ⊥
 
 -- the halves of an end, where it has them, are of that end's reference
-abbrev pub AreOwnIn : Base → Stage → Type 0
+abbrev pub AreOwnIn : EndRecord → StateData → Type 0
 AreOwnIn b (AkWait w) = (w.halves.sending.rules.own ≡ b.own) × (w.halves.receiving.rules.own ≡ b.own)
 AreOwnIn b (Opened o) = (o.halves.sending.rules.own ≡ b.own) × (o.halves.receiving.rules.own ≡ b.own)
 AreOwnIn b stage = Prim.Unit {0}
@@ -166,9 +166,9 @@ pub record Tells (Running : Runs) (own : ℕ → List ℕ) (now : ℕ) (ends : L
   pub unused : (n : ℕ) → length ends < n → HasNoUnits journal n
   -- while the calling end waits for its answer: a called end that does not stand was not made yet, and the reference of one that stands is not free
   pub uncalled : (k : ℕ) (a : Association) (x : End) → slice_get all k ≡ Some a → a.calling ≡ Some x → a.called ≡ None → IsYoung x.stage → number k false ≡ None
-  pub held : (k : ℕ) (a : Association) (x y : End) → slice_get all k ≡ Some a → a.calling ≡ Some x → a.called ≡ Some y → IsYoung x.stage → IsHeld now y
+  pub held : (k : ℕ) (a : Association) (x y : End) → slice_get all k ≡ Some a → a.calling ≡ Some x → a.called ≡ Some y → IsYoung x.stage → IsInUse now y
   -- a called end waits for no answer to a CR
-  pub uncalling : (k : ℕ) (a : Association) (y : End) (r : Requesting) → slice_get all k ≡ Some a → a.called ≡ Some y → y.stage ≡ CrWait r → ⊥
+  pub uncalling : (k : ℕ) (a : Association) (y : End) (r : InCrWait) → slice_get all k ≡ Some a → a.called ≡ Some y → y.stage ≡ CrWait r → ⊥
 
 -- a network between its steps: what waits is of its associations
 pub record Story (timers : Timers) (own : ℕ → List ℕ) (hall : Hall) (journal : List Event) : Type 0 where

@@ -22,7 +22,7 @@ use Rattle.clnp_system.specs.Setting.{Setting, bound_of, is_group, is_own_system
 use Rattle.clnp_system.specs.Tables.{Tables}
 use Rattle.clnp_system.specs.Written.{AreFrames, IsPduFrame, header_in}
 use Rattle.law_clnp_answers.proofs.once.Receivings.{one_receiving}
-use Rattle.law_clnp_fifo.specs.Cutting.{Bring, BringsBy, IsHeld, IsWhole}
+use Rattle.law_clnp_fifo.specs.Cutting.{Bring, BringsBy, OnlyHolds, IsWhole}
 use Rattle.law_clnp_fifo.proofs.joining.Arrivals.{IsHere, comes_held, comes_whole, header_there}
 use Rattle.law_clnp_fifo.proofs.joining.Fronts.{HoldsFront, next_run, takes_last, takes_more}
 
@@ -133,7 +133,7 @@ module _ {N : Type 0} (tables : Tables N) (sender receiver : Setting) (unit : Ca
       → IsPduFrame sender port (Run front false run) frame → HasMost store → HoldsFront Own Head front (length run + length rest) store.held
       → ((after : Holding) → HasMost after → HoldsFront Own Head (front ++ run) (length rest) after.held → Next after)
       → (old : Node N) (now : ℕ) (reaction : Reaction) (new : Node N) → old.setup ≡ receiver → old.store ≡ store → Receives tables old now frame reaction new
-      → IsHeld old now reaction new Next
+      → OnlyHolds old now reaction new Next
   run_held frame front run rest store Next octets more is_frame most holds goes_on old now reaction new setup store_is receives =
       let come : Coming = coming frame (bound_of old.setup frame.to.lan) (Run front false run) (Part front false) in
       let is = run_is frame (bound_of old.setup frame.to.lan) front run rest false octets is_frame in
@@ -197,7 +197,7 @@ module _ {N : Type 0} (tables : Tables N) (sender receiver : Setting) (unit : Ca
       held_before are.1 follows old now reaction new
       (run_held are.0 front piece behind store (Bring tables receiver unit are.1) all more are.2 most holds_count goes_on old now reaction new setup store_is receives))
     where
-      held_before : (frames : List Frame) → FirstOf frames → (old : Node N) (now : ℕ) (reaction : Reaction) (new : Node N) → IsHeld old now reaction new (Bring tables receiver unit frames)
+      held_before : (frames : List Frame) → FirstOf frames → (old : Node N) (now : ℕ) (reaction : Reaction) (new : Node N) → OnlyHolds old now reaction new (Bring tables receiver unit frames)
           → BringsBy (Bring tables receiver unit frames) unit frames old now reaction new
       held_before [] first old now reaction new h = absurd cc
       held_before (frame ∷ frames) first old now reaction new h = h

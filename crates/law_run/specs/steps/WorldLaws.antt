@@ -2,7 +2,7 @@
 use Rattle.std.proofs.Common.{◌≡◌, ℕ, List, [], ◌∷◌, ◌++◌, sym, ◌∙◌, ap, subst}
 use Rattle.line_loop.specs.Meaning.{Laws}
 use Rattle.osi_journal.specs.declared.event.Event.{Event}
-use Rattle.osi_script.specs.declared.form.Dialect.TheVariants as dialects
+use Rattle.osi_script.specs.declared.words.Dialect.TheVariants as dialects
 use Rattle.osi_script.specs.declared.line.Line.{Line}
 use Rattle.osi_setup.specs.SetUp.{SetUp}
 use Rattle.script_bench.specs.Acts.{Keeping, StageLaws}
@@ -15,7 +15,7 @@ use Rattle.script_world.specs.steps.Staged.{world_laws as world_laws_of}
 use Rattle.script_world.specs.steps.Transported.{tp_going, tp_laws}
 use Rattle.script_world.specs.declared.play.World.TheVariants.{Running}
 use Rattle.law_run.specs.Bench.{bench_meaning}
-use Rattle.law_run.specs.World.{Ends, RunsOn, Started, StartsUp, World, WorldRuns, WorldStep, net_play, running, world_acts}
+use Rattle.law_run.specs.World.{TransportNet, RunsOn, Started, StartsUp, World, WorldRuns, WorldStep, net_play, running, world_acts}
 use Rattle.tp4_conn.specs.declared.timers.Timers.{Timers}
 
 abbrev pub net_going : Going (TransportRun Net)
@@ -38,7 +38,7 @@ bench_laws = laws_of world_acts world_keeping world_laws
 pub started : (setup : SetUp) (made : List Event) (new : World) → StartsUp setup made new → Started setup made new
 started setup made new h = (h.1.0, h.1.1, h.1.2, h.1.3, h.2 ∙ ap (λ (run : TransportRun Net). Running run) h.1.4)
 
-pub ran_line : (titles : List (List ℕ)) (timers : Timers) (old : Ends) (line : Line) (made : List Event) (new : World) → WorldStep (running titles timers old) line made new → RunsOn titles timers old line made new
+pub ran_line : (titles : List (List ℕ)) (timers : Timers) (old : TransportNet) (line : Line) (made : List Event) (new : World) → WorldStep (running titles timers old) line made new → RunsOn titles timers old line made new
 ran_line titles timers old line made new h = (h.1.0, h.1.1, h.2 ∙ ap (λ (run : TransportRun Net). Running run) h.1.2)
 
 -- ---- lines have one journal

@@ -14,7 +14,7 @@ use Rattle.tp4_conn.specs.Agreeing.{is_extended}
 use Rattle.tp4_conn.specs.End.{End, IsTimed}
 use Rattle.tp4_conn.specs.Proper.{IsProper, IsProperCall, IsSendable}
 use Rattle.tp4_conn.specs.Calls.{IsCall}
-use Rattle.tp4_conn.specs.declared.call.ConnectCall.{ConnectCall}
+use Rattle.tp4_conn.specs.declared.call.ConnectRequest.{ConnectRequest}
 use Rattle.tp4_conn.specs.declared.call.UserCall.{UserCall}
 use Rattle.tp4_conn.specs.declared.timers.Timers.{Timers}
 use Rattle.tp4_entity.specs.Association.{met}
@@ -168,11 +168,11 @@ pub record IsReadAs (entity : Entity) (sent : Sent) (tpdu : TpduAndSum) : Type 0
 module _ (titles : List (List ℕ)) (timers : Timers) where
   -- a user asks for a connection; the entity is not silent, and a reference is free
   abbrev pub AfterConnect : Type 0
-  AfterConnect = (w : Whole) (journal : List Event) (entities : List Placed) (ends : List EndAt) (system : ℕ) (entity : Entity) (call : ConnectCall) (reference : ℕ)
-      → Known titles timers w journal entities ends → entity_at entities system ≡ Some entity → is_silent w.base.clock entity ≡ false → IsProperCall (call_of entity reference call)
+  AfterConnect = (w : Whole) (journal : List Event) (entities : List Placed) (ends : List EndAt) (system : ℕ) (entity : Entity) (request : ConnectRequest) (reference : ℕ)
+      → Known titles timers w journal entities ends → entity_at entities system ≡ Some entity → is_silent w.base.clock entity ≡ false → IsProperCall (call_of entity reference request)
       → least_free w.base.clock entity ≡ Some reference
       → Follows titles timers w journal entities (ends ++ record { system = system; reference = reference } ∷ []) system entity.own
-      (connect_event (length ends + 1) system reference entity.own call ∷ []) (connecting w.base.clock entity reference call)
+      (connect_event (length ends + 1) system reference entity.own request ∷ []) (connecting w.base.clock entity reference request)
 
   -- a user calls an end, and the call is not refused
   abbrev pub AfterCall : Type 0

@@ -19,7 +19,7 @@ use Rattle.tp4_flow.specs.declared.step.What.TheVariants.{BadTpdu}
 use Rattle.tp4_conn.specs.Calls.{IsCall}
 use Rattle.tp4_conn.specs.End.{IsTimed}
 use Rattle.tp4_conn.specs.Proper.{IsProperCall, IsSendable}
-use Rattle.tp4_conn.specs.declared.call.ConnectCall.{ConnectCall}
+use Rattle.tp4_conn.specs.declared.call.ConnectRequest.{ConnectRequest}
 use Rattle.tp4_conn.specs.declared.call.UserCall.{UserCall}
 use Rattle.tp4_conn.specs.declared.timers.Timers.{Timers}
 use Rattle.tp4_entity.specs.Association.{met}
@@ -41,8 +41,8 @@ pub record Outcomes (Sound : Entity → Type 0) (InTime : ℕ → Entity → Typ
   pub new : (now references : ℕ) (e : Entity) → e.ends ≡ replicate references None → IsTimed e.timers → 1 ≤ e.timers.inactive → Sound e × (first_due now e ≡ None)
   pub clock : (now : ℕ) (e : Entity) → Sound e → Sound (at now e)
   pub restarting : (now : ℕ) (e : Entity) → Sound e → Sound (restarted now e) × (first_due now (restarted now e) ≡ None)
-  pub connecting : (now reference : ℕ) (e : Entity) (call : ConnectCall) → Sound e → first_due now e ≡ None → least_free now e ≡ Some reference → IsProperCall (call_of e reference call)
-      → Sound (connecting now e reference call).entity × (first_due now (connecting now e reference call).entity ≡ None)
+  pub connecting : (now reference : ℕ) (e : Entity) (request : ConnectRequest) → Sound e → first_due now e ≡ None → least_free now e ≡ Some reference → IsProperCall (call_of e reference request)
+      → Sound (connecting now e reference request).entity × (first_due now (connecting now e reference request).entity ≡ None)
   pub calling : (now reference : ℕ) (e : Entity) (call : UserCall) → Sound e → first_due now e ≡ None → user_refusal e reference call ≡ None → IsCall call
       → Sound (calling whole now e reference call).entity × (first_due now (calling whole now e reference call).entity ≡ None)
   pub met : (now : ℕ) (e : Entity) (from : List ℕ) (tpdu : TpduAndSum) → Sound e → first_due now e ≡ None → IsAllowed (format_for (extended_of e) (destination_of tpdu.0)) tpdu.0

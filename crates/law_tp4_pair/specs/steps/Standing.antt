@@ -5,13 +5,13 @@ use Rattle.tp4_flow.specs.declared.rules.FlowRules.{FlowRules}
 use Rattle.tp4_flow.specs.declared.rules.Options.{Options}
 use Rattle.tp4_flow.specs.declared.step.Sent.{Sent}
 use Rattle.tp4_sending.specs.FlowSender.{at, opened}
-use Rattle.tp4_conn.specs.declared.base.Base.{Base}
+use Rattle.tp4_conn.specs.declared.end_record.EndRecord.{EndRecord}
 use Rattle.tp4_conn.specs.declared.halves.Halves.{Halves}
-use Rattle.tp4_conn.specs.declared.stage.Answering.{Answering}
-use Rattle.tp4_conn.specs.declared.stage.Open.{Open}
-use Rattle.tp4_conn.specs.declared.stage.Requesting.{Requesting}
-use Rattle.tp4_conn.specs.declared.stage.Stage.{Stage}
-use Rattle.tp4_conn.specs.declared.stage.Stage.TheVariants.{CrWait, WaitBeforeClose, UserWait, AkWait, Opened, Closing, Frozen}
+use Rattle.tp4_conn.specs.declared.states.InAkWait.{InAkWait}
+use Rattle.tp4_conn.specs.declared.states.InOpened.{InOpened}
+use Rattle.tp4_conn.specs.declared.states.InCrWait.{InCrWait}
+use Rattle.tp4_conn.specs.declared.states.StateData.{StateData}
+use Rattle.tp4_conn.specs.declared.states.StateData.TheVariants.{CrWait, WaitBeforeClose, UserWait, AkWait, Opened, Closing, Frozen}
 use Rattle.tp4_conn.specs.Agreeing.{confirm, halves_of}
 use Rattle.tp4_conn.specs.End.{IsSized}
 use Rattle.law_tp4_pair.specs.steps.Carrying.{Carries, pieces_in, units_in}
@@ -20,7 +20,7 @@ use Rattle.law_tp4_pair.specs.steps.Flowing.{IsCalm}
 use Rattle.law_tp4_pair.specs.Pair.{Account, IsNew, Pair, back_units, forth_units}
 
 -- the end will not be Opened any more
-abbrev pub HasLeft : Stage → Type 0
+abbrev pub HasLeft : StateData → Type 0
 HasLeft (CrWait w) = ⊥
 HasLeft (WaitBeforeClose w) = Unit {0}
 HasLeft (UserWait since) = ⊥
@@ -36,7 +36,7 @@ pub record Party : Type 0 where
   pub to : List ℕ
   pub agreed : Option Options
 
-abbrev pub party : Base → Party
+abbrev pub party : EndRecord → Party
 party b = record { own = b.own; partner = b.partner; to = b.to; agreed = b.agreed }
 
 -- the halves work as agreed, on these terms
@@ -67,7 +67,7 @@ pub record AreBoth (first second : Party) (h k : Halves) (forth back : List Sent
   pub carried_here : Carries k.sending h.receiving (pieces_in back) (units_in back) v.gave v.showed
 
 -- the CC waits, and nothing else
-pub record IsConfirming (b : Base) (c : Base) (w : Answering) (forth back : List Sent) : Type 0 where
+pub record IsConfirming (b : EndRecord) (c : EndRecord) (w : InAkWait) (forth back : List Sent) : Type 0 where
   pub options : Options
   pub agreed : c.agreed ≡ Some options
   pub halves : w.halves ≡ halves_of c options
@@ -81,7 +81,7 @@ pub record IsConfirming (b : Base) (c : Base) (w : Answering) (forth back : List
   pub back_is : back ≡ confirm c options octets ∷ []
 
 -- the first AK of the calling end waits, and nothing else
-pub record IsFirst (b c : Base) (h k : Halves) (forth back : List Sent) (u v : Account) : Type 0 where
+pub record IsFirst (b c : EndRecord) (h k : Halves) (forth back : List Sent) (u v : Account) : Type 0 where
   pub both : (now : ℕ) → AreBoth (party b) (party c) h (record k { sending = (opened (at now k.sending)).sender }) forth [] u v
   pub sent : (now : ℕ) → (opened (at now k.sending)).tpdus ≡ []
   pub quiet : (now : ℕ) → (opened (at now k.sending)).events ≡ []
@@ -91,6 +91,6 @@ pub record IsFirst (b c : Base) (h k : Halves) (forth back : List Sent) (u v : A
 -- one of these
 pub data Stands (p : Pair) : Type 0 where
   Left : HasLeft p.calling.stage ⊎ HasLeft p.called.stage → Stands p
-  Confirming : (r : Requesting) (w : Answering) → p.calling.stage ≡ CrWait r → p.called.stage ≡ AkWait w → IsNew p → IsConfirming p.calling.base p.called.base w p.forth p.back → Stands p
-  First : (o : Open) (w : Answering) → p.calling.stage ≡ Opened o → p.called.stage ≡ AkWait w → IsFirst p.calling.base p.called.base o.halves w.halves p.forth p.back (forth_units p) (back_units p) → Stands p
-  Both : (o q : Open) → p.calling.stage ≡ Opened o → p.called.stage ≡ Opened q → AreBoth (party p.calling.base) (party p.called.base) o.halves q.halves p.forth p.back (forth_units p) (back_units p) → Stands p
+  Confirming : (r : InCrWait) (w : InAkWait) → p.calling.stage ≡ CrWait r → p.called.stage ≡ AkWait w → IsNew p → IsConfirming p.calling.base p.called.base w p.forth p.back → Stands p
+  First : (o : InOpened) (w : InAkWait) → p.calling.stage ≡ Opened o → p.called.stage ≡ AkWait w → IsFirst p.calling.base p.called.base o.halves w.halves p.forth p.back (forth_units p) (back_units p) → Stands p
+  Both : (o q : InOpened) → p.calling.stage ≡ Opened o → p.called.stage ≡ Opened q → AreBoth (party p.calling.base) (party p.called.base) o.halves q.halves p.forth p.back (forth_units p) (back_units p) → Stands p

@@ -5,11 +5,11 @@ use Rattle.hex.specs.Hex.{encode_lower}
 use Rattle.osi_base.specs.declared.refusal.NoMemory.{NoMemory}
 use Rattle.osi_script.specs.Known.{Declared}
 use Rattle.osi_script.specs.Tags.{Tags, name_at, tags_of}
-use Rattle.osi_journal.specs.declared.pieces.Piece.{Piece}
-use Rattle.osi_journal.specs.declared.pieces.Piece.TheVariants as pieces
+use Rattle.osi_journal.specs.declared.line_fields.LineField.{LineField}
+use Rattle.osi_journal.specs.declared.line_fields.LineField.TheVariants as pieces
 use Rattle.osi_journal.specs.Told.{Cell, cell_text, line, octets_text}
 
-abbrev pub piece_text : Tags → Piece → List ℕ
+abbrev pub piece_text : Tags → LineField → List ℕ
 piece_text tags (pieces.Word text) = text.now
 piece_text tags (pieces.Number number) = decimal number
 piece_text tags (pieces.Preferred number) = codes "p" ++ decimal number
@@ -18,7 +18,7 @@ piece_text tags (pieces.Lan lan) = name_at tags.lans lan
 piece_text tags (pieces.Digits octets) = encode_lower octets.now
 piece_text tags (pieces.Octets octets) = octets_text octets.now
 
-abbrev pub pieces_text : Tags → List Piece → List (List ℕ)
+abbrev pub pieces_text : Tags → List LineField → List (List ℕ)
 pieces_text tags pieces = map (piece_text tags) pieces
 
 -- the fields behind the first, each behind a blank, and a line feed

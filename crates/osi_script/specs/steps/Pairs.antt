@@ -1,7 +1,7 @@
 -- Octets written from pairs of digits, and only then whether all were digits.
 use Rattle.std.specs.Prelude.{◌≡◌, ℕ, Bool, true, false, List, Option, Some, None, Ok, Err}
 use Rattle.hex.specs.Hex.{decode_pairs, hex_digit_value}
-use Rattle.osi_script.specs.declared.fault.LineCause.TheVariants as causes
+use Rattle.osi_script.specs.declared.cause.LineCause.TheVariants as causes
 use Rattle.osi_script.specs.Field.{as_octets}
 
 abbrev pub or_none : Option ℕ → ℕ

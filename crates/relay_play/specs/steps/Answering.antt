@@ -12,7 +12,7 @@ use Rattle.osi_journal.specs.declared.event.Event.{Event}
 use Rattle.osi_journal.specs.declared.event.Event.TheVariants as events
 use Rattle.osi_journal.specs.declared.event.Indication.{Indication}
 use Rattle.osi_script.specs.Commands.{HasLine}
-use Rattle.osi_script.specs.declared.form.Dialect.TheVariants as dialects
+use Rattle.osi_script.specs.declared.words.Dialect.TheVariants as dialects
 use Rattle.osi_script.specs.declared.line.Line.{Line}
 use Rattle.osi_script.specs.declared.line.Line.TheVariants as lines
 use Rattle.osi_script.specs.declared.line.Options.{Options as ScriptOptions}
@@ -20,14 +20,12 @@ use Rattle.osi_setup.proofs.Elements.{at, push}
 use Rattle.script_world.specs.steps.Moving.{call_stays, connect_stays, line_near}
 use Rattle.tp4_flow.specs.declared.rules.Options.{Options}
 use Rattle.tp4_number.specs.Number.{wire}
-use Rattle.tp4_conn.specs.declared.call.ConnectCall.{ConnectCall}
+use Rattle.tp4_conn.specs.declared.call.ConnectRequest.{ConnectRequest}
 use Rattle.tp4_conn.specs.declared.call.UserCall.{UserCall}
 use Rattle.tp4_conn.specs.declared.call.UserCall.TheVariants as asks
 use Rattle.tp4_conn.specs.declared.timers.Timers.{Timers}
 use Rattle.tp4_conn.specs.End.{IsSized}
-use Rattle.tp4_entity.specs.declared.refusal.ConnectRefusal.{ConnectRefusal}
 use Rattle.tp4_entity.specs.Entity.{Entity}
-use Rattle.tp4_entity.specs.References.{least_free}
 use Rattle.tp4_entity.specs.Step.{connect_refusal}
 use Rattle.tp4_relay.specs.declared.pair.Heading.{Heading}
 use Rattle.tp4_relay.specs.declared.pair.Heading.TheVariants.{On, Back}
@@ -49,7 +47,7 @@ use Rattle.tp4_relay.proofs.Telling.{rows_stay, rules_stay}
 use Rattle.tp4_relay.proofs.Tidy.{all_each}
 use Rattle.tp4_world.proofs.Places.{some_same}
 use Rattle.tp4_world.proofs.Serving.{serves_on}
-use Rattle.tp4_world.specs.Run.{BeginsAt, Calls, Connects, ConnectsBy, RunsLine, clock_of, transport_address}
+use Rattle.tp4_world.specs.Run.{Calls, Connects, RunsLine, clock_of, transport_address}
 use Rattle.tp4_world.specs.Telling.{told_options}
 use Rattle.tp4_world.specs.Total.{CanConnect, CanRun, IsReady}
 use Rattle.tp4_world.specs.World.{World, entity_at}
@@ -183,12 +181,11 @@ MayCall (asks.Window credit) = credit ≤ 255
 MayCall (asks.Disconnect octets) = AreOctets octets
 
 -- the request of a row
-record IsRequest (titles : List (List ℕ)) (system : ℕ) (call : ConnectCall) : Type 0 where
+record IsRequest (titles : List (List ℕ)) (system : ℕ) (request : ConnectRequest) : Type 0 where
   row : RelayRow
   heard : Indication
-  rules : Timers
   system_is : system ≡ row.system
-  call_is : call ≡ request_for rules row heard
+  request_is : request ≡ request_for row heard
   sized : IsSized (asked_options heard.options)
   octets : AreOctets heard.octets
   leads : RowLeads titles row
@@ -197,7 +194,7 @@ record IsRequest (titles : List (List ℕ)) (system : ℕ) (call : ConnectCall) 
 module _ (titles : List (List ℕ)) where
   abbrev MayReact : Reaction → Type 0
   MayReact Nothing = Prim.Unit {0}
-  MayReact (Begin inbound system call) = IsRequest titles system call
+  MayReact (Begin inbound system request) = IsRequest titles system request
   MayReact (Ask end call) = MayCall call
 
   row_found : (P : RelayRow → Type 0) (rows : List RelayRow) (heard : Indication) → AllByRecursion P rows → (found : Option RelayRow) → row_for rows heard ≡ found → (row : RelayRow) → found ≡ Some row → P row
@@ -209,14 +206,13 @@ module _ (titles : List (List ℕ)) where
       by false here rest = rest here
 
   begins_may : (kept : Kept) (heard : Indication) (found : Option RelayRow) → row_for kept.rows heard ≡ found → IsSized (asked_options heard.options) → AreOctets heard.octets → AllByRecursion (RowLeads titles) kept.rows
-      → AllByRecursion RowInOctets kept.rows → MayReact (begins kept.rules heard found)
+      → AllByRecursion RowInOctets kept.rows → MayReact (begins heard found)
   begins_may kept heard None is sized octets leads rows = tt
   begins_may kept heard (Some row) is sized octets leads rows = record {
     row = row;
     heard = heard;
-    rules = kept.rules;
     system_is = refl;
-    call_is = refl;
+    request_is = refl;
     sized = sized;
     octets = octets;
     leads = row_found (RowLeads titles) kept.rows heard leads (Some row) is row refl;
@@ -269,7 +265,7 @@ credit_low rules false (unit ∷ units) credit low is = let same : 0 ≡ credit 
 
 module _ {C : Type 0} (link : C → Link (List ℕ)) (steps : C → Call (List ℕ) → C → Type 0) (keeps : (old : C) (call : Call (List ℕ)) (new : C) → steps old call new → Keeps (link old) call (link new))
     (titles : List (List ℕ)) (tick : ℕ) (Needs : ℕ → Type 0) where
-  abbrev connects : World C → ℕ → ConnectCall → Bool → List Event → World C → Type 0
+  abbrev connects : World C → ℕ → ConnectRequest → Bool → List Event → World C → Type 0
   connects = AsksFor link steps
 
   abbrev calls : World C → ℕ → UserCall → Bool → List Event → World C → Type 0
@@ -362,35 +358,24 @@ module _ {C : Type 0} (link : C → Link (List ℕ)) (steps : C → Call (List �
         });
       }
 
-  record ConnectDone (old : World C) (kept : Kept) (system : ℕ) (call : ConnectCall) : Type 0 where
+  record ConnectDone (old : World C) (kept : Kept) (system : ℕ) (request : ConnectRequest) : Type 0 where
     done : Bool
     made : List Event
     new : World C
-    asks : connects old system call done made new
+    asks : connects old system request done made new
     able : Able new (kept_after kept made)
 
   some_of : (found : Option Entity) → IsSome found → (e : Entity) × (found ≡ Some e)
   some_of None is = absurd (cc is)
   some_of (Some e) is = (e, refl)
 
-  -- the entity sets the reference, the address and the rules of a request
-  same_begins : (old : World C) (system : ℕ) (e : Entity) (call : ConnectCall) (own : ℕ) (from : List ℕ) (rules : Timers) (found : Option ℕ) (made : List Event) (new : World C)
-      → BeginsAt link steps old system e call found made new → BeginsAt link steps old system e (record call { own = own; from = from; rules = rules }) found made new
-  same_begins old system e call own from rules None made new s = absurd s
-  same_begins old system e call own from rules (Some reference) made new s = s
-
-  same_connects : (old : World C) (system : ℕ) (e : Entity) (call : ConnectCall) (own : ℕ) (from : List ℕ) (rules : Timers) (why : Option ConnectRefusal) (made : List Event) (new : World C)
-      → ConnectsBy link steps old system e call why made new → ConnectsBy link steps old system e (record call { own = own; from = from; rules = rules }) why made new
-  same_connects old system e call own from rules (Some why) made new s = s
-  same_connects old system e call own from rules None made new s = same_begins old system e call own from rules (least_free (clock_of link steps old) e) made new s
-
   -- the request of a row, as a line
   abbrev request_line : RelayRow → ℕ → Indication → Line
   request_line row to heard = lines.Connect row.system row.selector to row.to_selector heard.options heard.octets
 
-  some_request : (old : World C) (kept : Kept) (row : RelayRow) (heard : Indication) (rules : Timers) → IsSized (asked_options heard.options) → AreOctets heard.octets → RowLeads titles row → RowInOctets row → has_system old row.system
-      → Able old kept → ConnectDone old kept row.system (request_for rules row heard)
-  some_request old kept row heard rules sized octets leads is there a =
+  some_request : (old : World C) (kept : Kept) (row : RelayRow) (heard : Indication) → IsSized (asked_options heard.options) → AreOctets heard.octets → RowLeads titles row → RowInOctets row → has_system old row.system
+      → Able old kept → ConnectDone old kept row.system (request_for row heard)
+  some_request old kept row heard sized octets leads is there a =
       let e = some_of (entity_at old.entities row.system) there in
       let may : CanConnect is_nsap titles old row.system leads.to heard.options row.selector row.to_selector heard.octets = record {
         receiver = leads.receiver;
@@ -407,31 +392,19 @@ module _ {C : Type 0} (link : C → Link (List ℕ)) (steps : C → Call (List �
       } in
       let w = goes link steps keeps is_nsap (Serving link steps) (serves_on is_nsap link steps) titles old (request_line row leads.to heard) a.ready a.holds may in
       let receiver : List ℕ = w.runs.0 in
-      let asked : ConnectCall = w.runs.1 in
+      let asked : ConnectRequest = w.runs.1 in
       let address : asked.to ≡ row.to =
       w.runs.4.1 ∙ ap transport_address (some_same receiver leads.receiver (sym w.runs.2 ∙ leads.receiver_is)) ∙ sym leads.to_is in
       let from : asked.from_selector ≡ row.selector = w.runs.4.0 in
       let to_selector : asked.to_selector ≡ row.to_selector = w.runs.4.2 in
       let given : asked.octets ≡ heard.octets = w.runs.4.3 in
       let options : asked.options ≡ asked_options heard.options = w.runs.3 in
-      let mine : ConnectCall = record asked { own = 0; from = row.own; rules = rules } in
-      let same : mine ≡ request_for rules row heard = λ i. record {
-        own = 0;
-        from = row.own;
-        from_selector = from i;
-        to = address i;
-        to_selector = to_selector i;
-        options = options i;
-        octets = given i;
-        rules = rules;
-      } in
-      let mine_connects : Connects link steps old row.system mine w.made w.new =
-      (w.runs.4.4.0, w.runs.4.4.1, same_connects old row.system w.runs.4.4.0 asked 0 row.own rules (connect_refusal (clock_of link steps old) w.runs.4.4.0 asked.octets) w.made w.new w.runs.4.4.2) in
-      let c : Connects link steps old row.system (request_for rules row heard) w.made w.new = subst (λ (call : ConnectCall). Connects link steps old row.system call w.made w.new) same mine_connects in
-      let begun : connects old row.system (request_for rules row heard) (is_done w.made) w.made w.new = record { order = a.order; connects = c; done_is = refl } in
+      let same : asked ≡ request_for row heard = λ i. record { from_selector = from i; to = address i; to_selector = to_selector i; options = options i; octets = given i } in
+      let c : Connects link steps old row.system (request_for row heard) w.made w.new = subst (λ (request : ConnectRequest). Connects link steps old row.system request w.made w.new) same w.runs.4.4 in
+      let begun : connects old row.system (request_for row heard) (is_done w.made) w.made w.new = record { order = a.order; connects = c; done_is = refl } in
       let law = world_serves link steps keeps in
-      let still = law.connect_has old row.system (request_for rules row heard) (is_done w.made) w.made w.new begun in
-      let clock_is = (connect_stays link steps keeps old row.system c.0 (request_for rules row heard) (connect_refusal (clock_of link steps old) c.0 heard.octets) w.made w.new c.2).clock in
+      let still = law.connect_has old row.system (request_for row heard) (is_done w.made) w.made w.new begun in
+      let clock_is = (connect_stays link steps keeps old row.system c.0 (request_for row heard) (connect_refusal (clock_of link steps old) c.0 heard.octets) w.made w.new c.2).clock in
       let was = a.clock in
       record {
         done = is_done w.made;
@@ -440,7 +413,7 @@ module _ {C : Type 0} (link : C → Link (List ℕ)) (steps : C → Call (List �
         asks = begun;
         able = told_able w.new kept w.made w.tells (record {
           ready = w.ready;
-          order = connect_order link steps old w.new row.system (request_for rules row heard) w.made c a.order;
+          order = connect_order link steps old w.new row.system (request_for row heard) w.made c a.order;
           holds = w.holds;
           clock = omega (arith, clock_is, was);
           needed = λ system there_is. still system (a.needed system there_is);
@@ -461,10 +434,10 @@ module _ {C : Type 0} (link : C → Link (List ℕ)) (steps : C → Call (List �
     does : Does connects calls old to_do done made new
     able : Able new (kept_after kept made)
 
-  request_by : (old new : World C) (kept : Kept) (inbound system : ℕ) (call : ConnectCall) (taken : Bool) (told : List Event) → connects old system call taken told new → Able new (kept_after kept told)
-      → DoesDone old kept (Begin inbound system call)
-  request_by old new kept inbound system call true told c a =
-      let t : ConnectedBy (ends_of old + 1) true told = (world_serves link steps keeps).connected old system call true told new c in
+  request_by : (old new : World C) (kept : Kept) (inbound system : ℕ) (request : ConnectRequest) (taken : Bool) (told : List Event) → connects old system request taken told new → Able new (kept_after kept told)
+      → DoesDone old kept (Begin inbound system request)
+  request_by old new kept inbound system request true told c a =
+      let t : ConnectedBy (ends_of old + 1) true told = (world_serves link steps keeps).connected old system request true told new c in
       let note : List Event = events.Joined inbound t.0.end ∷ [] in
       record {
         done = true;
@@ -473,7 +446,7 @@ module _ {C : Type 0} (link : C → Link (List ℕ)) (steps : C → Call (List �
         does = (true, (told, t.0, t.1, c, t.2, refl, refl));
         able = then_able new kept told note (told_able new (kept_after kept told) note (tt, tt) a);
       }
-  request_by old new kept inbound system call false told c a =
+  request_by old new kept inbound system request false told c a =
       let r = some_call new (kept_after kept told) inbound (asks.Refuse []) tt a in
       record {
         done = r.done;
@@ -483,61 +456,61 @@ module _ {C : Type 0} (link : C → Link (List ℕ)) (steps : C → Call (List �
         able = then_able r.new kept told r.made r.able;
       }
 
-  some_does : (old : World C) (kept : Kept) (to_do : Reaction) → MayReact titles to_do → ((system : ℕ) (call : ConnectCall) (inbound : ℕ) → to_do ≡ Begin inbound system call → has_system old system) → Able old kept → DoesDone old kept to_do
+  some_does : (old : World C) (kept : Kept) (to_do : Reaction) → MayReact titles to_do → ((system : ℕ) (request : ConnectRequest) (inbound : ℕ) → to_do ≡ Begin inbound system request → has_system old system) → Able old kept → DoesDone old kept to_do
   some_does old kept Nothing may there a = record { done = false; made = []; new = old; does = (refl, refl, refl); able = a }
-  some_does old kept (Begin inbound system call) may there a =
-      let at_row : has_system old may.row.system = subst (has_system old) may.system_is (there system call inbound refl) in
-      let r = some_request old kept may.row may.heard may.rules may.sized may.octets may.leads may.row_octets at_row a in
-      let asked : connects old system call r.done r.made r.new =
-      subst (λ (n : ℕ). connects old n call r.done r.made r.new) (sym may.system_is)
-      (subst (λ (x : ConnectCall). connects old may.row.system x r.done r.made r.new) (sym may.call_is) r.asks) in
-      request_by old r.new kept inbound system call r.done r.made asked r.able
-  some_does old kept (Ask end call) may there a =
-      let r = some_call old kept end call may a in
+  some_does old kept (Begin inbound system request) may there a =
+      let at_row : has_system old may.row.system = subst (has_system old) may.system_is (there system request inbound refl) in
+      let r = some_request old kept may.row may.heard may.sized may.octets may.leads may.row_octets at_row a in
+      let asked : connects old system request r.done r.made r.new =
+      subst (λ (n : ℕ). connects old n request r.done r.made r.new) (sym may.system_is)
+      (subst (λ (x : ConnectRequest). connects old may.row.system x r.done r.made r.new) (sym may.request_is) r.asks) in
+      request_by old r.new kept inbound system request r.done r.made asked r.able
+  some_does old kept (Ask end request) may there a =
+      let r = some_call old kept end request may a in
       record { done = r.done; made = r.made; new = r.new; does = r.asks; able = r.able }
 
   -- a request is one at the system of a row
-  begun_row : (old : World C) (kept : Kept) (heard : Indication) (found : Option RelayRow) → row_for kept.rows heard ≡ found → AllByRecursion (HasRow old) kept.rows → (system : ℕ) (call : ConnectCall) (inbound : ℕ)
-      → begins kept.rules heard found ≡ Begin inbound system call → has_system old system
-  begun_row old kept heard None is all system call inbound same = absurd (cc same)
-  begun_row old kept heard (Some row) is all system call inbound same =
+  begun_row : (old : World C) (kept : Kept) (heard : Indication) (found : Option RelayRow) → row_for kept.rows heard ≡ found → AllByRecursion (HasRow old) kept.rows → (system : ℕ) (request : ConnectRequest) (inbound : ℕ)
+      → begins heard found ≡ Begin inbound system request → has_system old system
+  begun_row old kept heard None is all system request inbound same = absurd (cc same)
+  begun_row old kept heard (Some row) is all system request inbound same =
       let at_system : row.system ≡ system = cc same in
       subst (has_system old) at_system (row_found titles (HasRow old) kept.rows heard all (Some row) is row refl)
 
   -- no other reaction is a request
-  outbound_none : (pair : Option Pair) (system : ℕ) (call : ConnectCall) (inbound : ℕ) → outbound_goes pair ≡ Begin inbound system call → ⊥
-  outbound_none None system call inbound h = cc h
-  outbound_none (Some pair) system call inbound h = by (is_closed pair.phase) pair.accepted h
+  outbound_none : (pair : Option Pair) (system : ℕ) (request : ConnectRequest) (inbound : ℕ) → outbound_goes pair ≡ Begin inbound system request → ⊥
+  outbound_none None system request inbound h = cc h
+  outbound_none (Some pair) system request inbound h = by (is_closed pair.phase) pair.accepted h
     where
-      by : (b c : Bool) → (if b then Nothing else (if c then Ask pair.inbound (asks.Disconnect []) else Ask pair.inbound (asks.Refuse []))) ≡ Begin inbound system call → ⊥
+      by : (b c : Bool) → (if b then Nothing else (if c then Ask pair.inbound (asks.Disconnect []) else Ask pair.inbound (asks.Refuse []))) ≡ Begin inbound system request → ⊥
       by true c e = cc e
       by false true e = cc e
       by false false e = cc e
 
-  inbound_none : (pair : Pair) (system : ℕ) (call : ConnectCall) (inbound : ℕ) → inbound_goes pair ≡ Begin inbound system call → ⊥
-  inbound_none pair system call inbound h = by (is_closed pair.phase) h
+  inbound_none : (pair : Pair) (system : ℕ) (request : ConnectRequest) (inbound : ℕ) → inbound_goes pair ≡ Begin inbound system request → ⊥
+  inbound_none pair system request inbound h = by (is_closed pair.phase) h
     where
-      by : (b : Bool) → (if b then Nothing else Ask pair.outbound (asks.Disconnect [])) ≡ Begin inbound system call → ⊥
+      by : (b : Bool) → (if b then Nothing else Ask pair.outbound (asks.Disconnect [])) ≡ Begin inbound system request → ⊥
       by true e = cc e
       by false e = cc e
 
-  goes_none : (pairs : List Pair) (end : ℕ) (pair : Option Pair) (system : ℕ) (call : ConnectCall) (inbound : ℕ) → goes_for pairs end pair ≡ Begin inbound system call → ⊥
-  goes_none pairs end None system call inbound h = outbound_none (outbound_pair pairs end) system call inbound h
-  goes_none pairs end (Some pair) system call inbound h = inbound_none pair system call inbound h
+  goes_none : (pairs : List Pair) (end : ℕ) (pair : Option Pair) (system : ℕ) (request : ConnectRequest) (inbound : ℕ) → goes_for pairs end pair ≡ Begin inbound system request → ⊥
+  goes_none pairs end None system request inbound h = outbound_none (outbound_pair pairs end) system request inbound h
+  goes_none pairs end (Some pair) system request inbound h = inbound_none pair system request inbound h
 
-  confirms_none : (options : ScriptOptions) (octets : List ℕ) (pair : Option Pair) (system : ℕ) (call : ConnectCall) (inbound : ℕ) → confirms options octets pair ≡ Begin inbound system call → ⊥
-  confirms_none options octets None system call inbound h = cc h
-  confirms_none options octets (Some pair) system call inbound h = by (is_closed pair.phase) h
+  confirms_none : (options : ScriptOptions) (octets : List ℕ) (pair : Option Pair) (system : ℕ) (request : ConnectRequest) (inbound : ℕ) → confirms options octets pair ≡ Begin inbound system request → ⊥
+  confirms_none options octets None system request inbound h = cc h
+  confirms_none options octets (Some pair) system request inbound h = by (is_closed pair.phase) h
     where
-      by : (b : Bool) → (if b then Nothing else Ask pair.inbound (asks.Accept (asked_options options) octets)) ≡ Begin inbound system call → ⊥
+      by : (b : Bool) → (if b then Nothing else Ask pair.inbound (asks.Accept (asked_options options) octets)) ≡ Begin inbound system request → ⊥
       by true e = cc e
       by false e = cc e
 
-  reaction_row : (old : World C) (kept : Kept) (event : Event) → AllByRecursion (HasRow old) kept.rows → (system : ℕ) (call : ConnectCall) (inbound : ℕ) → reaction kept event ≡ Begin inbound system call → has_system old system
-  reaction_row old kept (events.Incoming heard) all system call inbound same = begun_row old kept heard (row_for kept.rows heard) refl all system call inbound same
-  reaction_row old kept (events.Confirm end options octets) all system call inbound same = absurd (confirms_none options octets (outbound_pair kept.pairs end) system call inbound same)
-  reaction_row old kept (events.Gone end cause octets) all system call inbound same = absurd (goes_none kept.pairs end (inbound_pair kept.pairs end) system call inbound same)
-  reaction_row old kept event all system call inbound same = absurd (cc same)
+  reaction_row : (old : World C) (kept : Kept) (event : Event) → AllByRecursion (HasRow old) kept.rows → (system : ℕ) (request : ConnectRequest) (inbound : ℕ) → reaction kept event ≡ Begin inbound system request → has_system old system
+  reaction_row old kept (events.Incoming heard) all system request inbound same = begun_row old kept heard (row_for kept.rows heard) refl all system request inbound same
+  reaction_row old kept (events.Confirm end options octets) all system request inbound same = absurd (confirms_none options octets (outbound_pair kept.pairs end) system request inbound same)
+  reaction_row old kept (events.Gone end cause octets) all system request inbound same = absurd (goes_none kept.pairs end (inbound_pair kept.pairs end) system request inbound same)
+  reaction_row old kept event all system request inbound same = absurd (cc same)
 
   record ReactsDone (old : World C) (kept : Kept) (line : List Event) : Type 0 where
     done : Bool

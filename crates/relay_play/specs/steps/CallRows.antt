@@ -7,28 +7,28 @@ use Rattle.tp4_flow.specs.declared.rules.Options.{Options}
 use Rattle.tp4_flow.specs.declared.step.EndEvent.{EndEvent}
 use Rattle.tp4_flow.specs.declared.step.What.TheVariants as whats
 use Rattle.tp4_sending.specs.FlowSender.{FlowSender, at, submitted, urged}
-use Rattle.tp4_conn.specs.declared.base.Base.{Base}
+use Rattle.tp4_conn.specs.declared.end_record.EndRecord.{EndRecord}
 use Rattle.tp4_conn.specs.declared.call.CallRefusal.{CallRefusal}
 use Rattle.tp4_conn.specs.declared.call.CallRefusal.TheVariants as refused
 use Rattle.tp4_conn.specs.declared.call.UserCall.{UserCall}
 use Rattle.tp4_conn.specs.declared.call.UserCall.TheVariants as asks
-use Rattle.tp4_conn.specs.declared.stage.Open.{Open}
-use Rattle.tp4_conn.specs.declared.stage.Stage.{Stage}
-use Rattle.tp4_conn.specs.declared.stage.Stage.TheVariants as stages
+use Rattle.tp4_conn.specs.declared.states.InOpened.{InOpened}
+use Rattle.tp4_conn.specs.declared.states.StateData.{StateData}
+use Rattle.tp4_conn.specs.declared.states.StateData.TheVariants as stages
 use Rattle.tp4_conn.specs.Calls.{call_refusal, is_listed, listed_refusal, state_of}
 use Rattle.tp4_conn.specs.End.{End, Moved}
 use Rattle.tp4_conn.specs.Opened.{granting}
 use Rattle.tp4_conn.specs.Table.{Called, at as at_tick, on_call, stepped}
 use Rattle.tp4_conn.specs.UserWait.{user_wait_accept, user_wait_refuse}
-use Rattle.relay_play.specs.steps.StageRows.{AllTold, IsHeld, MayFollow, new_held}
+use Rattle.relay_play.specs.steps.StageRows.{AllTold, TellsHeld, MayFollow, new_held}
 
 -- an accept and a credit are told with what is agreed on and what is in force; of other calls only numbers that are held back are told
 abbrev pub CallTells : UserCall → Moved → Type 0
 CallTells (asks.Accept asked octets) m =
-    (agreed : Options) × (rest : List EndEvent) × (m.events ≡ record { reference = m.base.own; what = whats.Accept agreed octets } ∷ rest) × AllTold IsHeld rest
+    (agreed : Options) × (rest : List EndEvent) × (m.events ≡ record { reference = m.base.own; what = whats.Accept agreed octets } ∷ rest) × AllTold TellsHeld rest
 CallTells (asks.Window credit) m =
-    (granted : ℕ) × (rest : List EndEvent) × (m.events ≡ record { reference = m.base.own; what = whats.Window granted } ∷ rest) × AllTold IsHeld rest
-CallTells call m = AllTold IsHeld m.events
+    (granted : ℕ) × (rest : List EndEvent) × (m.events ≡ record { reference = m.base.own; what = whats.Window granted } ∷ rest) × AllTold TellsHeld rest
+CallTells call m = AllTold TellsHeld m.events
 
 -- the call is no accept
 abbrev pub IsNoAccept : UserCall → Type 0
@@ -36,35 +36,35 @@ IsNoAccept (asks.Accept asked octets) = ⊥
 IsNoAccept call = Prim.Unit {0}
 
 -- what a call does, by the state before it
-pub record CallDoes (stage : Stage) (call : UserCall) (m : Moved) : Type 0 where
+pub record CallDoes (stage : StateData) (call : UserCall) (m : Moved) : Type 0 where
   pub listed : is_listed stage call ≡ true
   pub told : CallTells call m
   pub after : IsNoAccept call → MayFollow stage m.stage
 
-none_refused : (listed : Bool) (why : Option CallRefusal) (stage : Stage) → (if listed then why else Some (refused.WrongState (state_of stage))) ≡ None → listed ≡ true
+none_refused : (listed : Bool) (why : Option CallRefusal) (stage : StateData) → (if listed then why else Some (refused.WrongState (state_of stage))) ≡ None → listed ≡ true
 none_refused true why stage is = refl
 none_refused false why stage is = absurd (cc is)
 
-window_tells : (b : Base) (o : Open) (credit : ℕ) (new : Half) → CallTells (asks.Window credit) (granting b o new)
+window_tells : (b : EndRecord) (o : InOpened) (credit : ℕ) (new : Half) → CallTells (asks.Window credit) (granting b o new)
 window_tells b o credit new =
     if_kept (CallTells (asks.Window credit)) (new.receiver.inbox.credit == o.halves.receiving.receiver.inbox.credit) _ _
     (λ _. (new.receiver.inbox.credit, [], refl, tt)) (λ _. (new.receiver.inbox.credit, [], refl, tt))
 
-accept_tells : (b : Base) (asked : Options) (octets : List ℕ) → CallTells (asks.Accept asked octets) (user_wait_accept b asked octets)
+accept_tells : (b : EndRecord) (asked : Options) (octets : List ℕ) → CallTells (asks.Accept asked octets) (user_wait_accept b asked octets)
 unfolding user_wait_accept
 accept_tells b asked octets = (_, [], refl, tt)
 
-refuse_does : (b : Base) (since : ℕ) (octets : List ℕ) → is_listed (stages.UserWait since) (asks.Refuse octets) ≡ true → CallDoes (stages.UserWait since) (asks.Refuse octets) (user_wait_refuse b octets)
+refuse_does : (b : EndRecord) (since : ℕ) (octets : List ℕ) → is_listed (stages.UserWait since) (asks.Refuse octets) ≡ true → CallDoes (stages.UserWait since) (asks.Refuse octets) (user_wait_refuse b octets)
 unfolding user_wait_refuse
 refuse_does b since octets is = record { listed = is; told = tt; after = λ is_none. tt }
 
-pub submitted_held : (s : FlowSender) (unit : List ℕ) → AllTold IsHeld (submitted s unit).events
+pub submitted_held : (s : FlowSender) (unit : List ℕ) → AllTold TellsHeld (submitted s unit).events
 submitted_held s unit = new_held (record s { queue = record s.queue { units = s.queue.units ++ unit ∷ [] } })
 
-pub urged_held : (s : FlowSender) (unit : List ℕ) → AllTold IsHeld (urged s unit).events
+pub urged_held : (s : FlowSender) (unit : List ℕ) → AllTold TellsHeld (urged s unit).events
 urged_held s unit = new_held (record s { urgent = record s.urgent { units = s.urgent.units ++ unit ∷ [] } })
 
-listed_does : (b : Base) (stage : Stage) (call : UserCall) → is_listed stage call ≡ true → CallDoes stage call (on_call b stage call)
+listed_does : (b : EndRecord) (stage : StateData) (call : UserCall) → is_listed stage call ≡ true → CallDoes stage call (on_call b stage call)
 listed_does b (stages.CrWait w) (asks.Disconnect octets) is = record { listed = is; told = tt; after = λ is_none. tt }
 listed_does b (stages.UserWait since) (asks.Accept asked octets) is = record { listed = is; told = accept_tells b asked octets; after = λ is_none. absurd is_none }
 listed_does b (stages.UserWait since) (asks.Refuse octets) is = refuse_does b since octets is

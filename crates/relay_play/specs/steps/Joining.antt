@@ -10,9 +10,9 @@ use Rattle.osi_journal.specs.declared.cause.Refused.{Refused}
 use Rattle.osi_journal.specs.declared.event.Event.{Event}
 use Rattle.osi_journal.specs.declared.event.Event.TheVariants as events
 use Rattle.osi_script.specs.declared.line.Options.{Options as ScriptOptions}
-use Rattle.tp4_conn.specs.declared.call.ConnectCall.{ConnectCall}
-use Rattle.tp4_conn.specs.declared.stage.Stage.{Stage}
-use Rattle.tp4_conn.specs.declared.stage.Stage.TheVariants as stages
+use Rattle.tp4_conn.specs.declared.call.ConnectRequest.{ConnectRequest}
+use Rattle.tp4_conn.specs.declared.states.StateData.{StateData}
+use Rattle.tp4_conn.specs.declared.states.StateData.TheVariants as stages
 use Rattle.tp4_conn.specs.End.{End, Moved, end_of}
 use Rattle.tp4_conn.specs.Making.{connected}
 use Rattle.tp4_sending.specs.Pieces.{once}
@@ -88,19 +88,19 @@ module _ {C : Type 0} (link : C → Link (List ℕ)) (steps : C → Call (List �
   none_new old new same system r e end there stands number =
       absurd (let low = latest_low old.ends system r in let is : latest new.ends system r ≡ latest old.ends system r = ap (λ (w : World C). latest w.ends system r) same in omega (arith, low, is, number))
 
-  begun_asks : (old new : World C) (made : List Event) (system : ℕ) (e : Entity) (call : ConnectCall) (found : Option ℕ) → entity_at old.entities system ≡ Some e
-      → least_free (clock_of link steps old) e ≡ found → BeginsAt link steps old system e call found made new → IsAsking old new
-  begun_asks old new made system e call None there least s = absurd s
-  begun_asks old new made system e call (Some reference) there least s =
+  begun_asks : (old new : World C) (made : List Event) (system : ℕ) (e : Entity) (request : ConnectRequest) (found : Option ℕ) → entity_at old.entities system ≡ Some e
+      → least_free (clock_of link steps old) e ≡ found → BeginsAt link steps old system e request found made new → IsAsking old new
+  begun_asks old new made system e request None there least s = absurd s
+  begun_asks old new made system e request (Some reference) there least s =
       let now : ℕ = clock_of link steps old in
       let f = free_least now reference e least in
-      let m : Moved = connected now (call_of e reference call) in
+      let m : Moved = connected now (call_of e reference request) in
       let next : Entity = with_end (at now e) reference (Some (end_of m)) in
       let more : List EndAt = old.ends ++ record { system = system; reference = reference } ∷ [] in
       let a = s.1 in
       let mid : World C = record { carrier = a.below; entities = with_entity old.entities system next; ends = more } in
       let is : new ≡ mid = a.becomes in
-      let elsewhere : (other r : ℕ) (stage : Stage) → (other ≡ system → r ≡ reference → ⊥) → latest more other r ≡ length old.ends + 1 → IsCallingWait stage =
+      let elsewhere : (other r : ℕ) (stage : StateData) → (other ≡ system → r ≡ reference → ⊥) → latest more other r ≡ length old.ends + 1 → IsCallingWait stage =
       λ other r stage apart number. absurd (let same = latest_other old.ends system reference other r apart in let low = latest_low old.ends other r in omega (arith, same, low, number)) in
       subst (λ (w : World C). IsAsking old w) (sym is) (λ other r x end at_x stands number. elim (cases_eq other system) [
         | inl same ↦ elim (cases_eq r reference) [
@@ -120,13 +120,13 @@ module _ {C : Type 0} (link : C → Link (List ℕ)) (steps : C → Call (List �
   refused_asks old new made None s = absurd s
   refused_asks old new made (Some why) s = none_new old new s.1
 
-  by_asks : (old new : World C) (made : List Event) (system : ℕ) (e : Entity) (call : ConnectCall) (why : Option ConnectRefusal) → entity_at old.entities system ≡ Some e
-      → ConnectsBy link steps old system e call why made new → IsAsking old new
-  by_asks old new made system e call (Some why) there s = refused_asks old new made _ s
-  by_asks old new made system e call None there s = begun_asks old new made system e call (least_free (clock_of link steps old) e) there refl s
+  by_asks : (old new : World C) (made : List Event) (system : ℕ) (e : Entity) (request : ConnectRequest) (why : Option ConnectRefusal) → entity_at old.entities system ≡ Some e
+      → ConnectsBy link steps old system e request why made new → IsAsking old new
+  by_asks old new made system e request (Some why) there s = refused_asks old new made _ s
+  by_asks old new made system e request None there s = begun_asks old new made system e request (least_free (clock_of link steps old) e) there refl s
 
-  pub connect_asks : (old new : World C) (made : List Event) (system : ℕ) (call : ConnectCall) → Connects link steps old system call made new → IsAsking old new
-  connect_asks old new made system call s = by_asks old new made system s.0 call (connect_refusal (clock_of link steps old) s.0 call.octets) s.1 s.2
+  pub connect_asks : (old new : World C) (made : List Event) (system : ℕ) (request : ConnectRequest) → Connects link steps old system request made new → IsAsking old new
+  connect_asks old new made system request s = by_asks old new made system s.0 request (connect_refusal (clock_of link steps old) s.0 request.octets) s.1 s.2
 
 -- ---- an end that may accept
 
@@ -177,7 +177,7 @@ pub confirmed_opens : (kept : Kept) (end : ℕ) (options : ScriptOptions) (octet
 confirmed_opens kept end options octets pair rise is = let o = opened_pairs kept.pairs end pair rise is in record { joined = o.0; begun = o.1 }
 
 -- a state in which an end of a pair that has begun is the outbound one
-abbrev asking : Stage
+abbrev asking : StateData
 asking = stages.CrWait (record { octets = []; tries = once 0 })
 
 -- and so it is after each event of a line

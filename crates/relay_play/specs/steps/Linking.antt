@@ -24,18 +24,18 @@ use Rattle.osi_journal.specs.declared.cause.Standing.TheVariants.{Ended}
 use Rattle.osi_journal.specs.declared.event.Event.{Event}
 use Rattle.osi_journal.specs.declared.event.Event.TheVariants as events
 use Rattle.osi_script.specs.Commands.{HasLine}
-use Rattle.osi_script.specs.declared.form.Dialect.TheVariants as dialects
+use Rattle.osi_script.specs.declared.words.Dialect.TheVariants as dialects
 use Rattle.osi_script.specs.declared.line.Line.{Line}
 use Rattle.osi_script.specs.declared.line.Line.TheVariants as lines
 use Rattle.net_world.specs.Run.{SendsUnit}
 use Rattle.net_world.specs.Told.{note_event, picked_event, sent_event, shown_at, told}
 use Rattle.tp4_flow.specs.declared.step.EndEvent.{EndEvent}
 use Rattle.tp4_flow.specs.declared.step.Sent.{Sent}
-use Rattle.tp4_conn.specs.declared.call.ConnectCall.{ConnectCall}
+use Rattle.tp4_conn.specs.declared.call.ConnectRequest.{ConnectRequest}
 use Rattle.tp4_conn.specs.declared.call.UserCall.{UserCall}
 use Rattle.tp4_conn.specs.declared.call.UserCall.TheVariants as asks
-use Rattle.tp4_conn.specs.declared.stage.Stage.{Stage}
-use Rattle.tp4_conn.specs.declared.stage.Stage.TheVariants as stages
+use Rattle.tp4_conn.specs.declared.states.StateData.{StateData}
+use Rattle.tp4_conn.specs.declared.states.StateData.TheVariants as stages
 use Rattle.tp4_conn.specs.Calls.{call_refusal, is_listed}
 use Rattle.tp4_conn.specs.End.{End, Moved, end_of}
 use Rattle.tp4_conn.specs.Making.{connected}
@@ -61,7 +61,7 @@ use Rattle.tp4_relay.specs.Allowed.{AreLine, IsLine}
 use Rattle.tp4_relay.specs.Kept.{Kept, kept_after, named_by, noted, owns}
 use Rattle.relay_play.specs.Asked.{is_relayed}
 use Rattle.relay_play.specs.steps.CallRows.{CallDoes, CallTells, IsNoAccept, call_does}
-use Rattle.relay_play.specs.steps.StageRows.{AllTold, IsCallingWait, IsHeld, MayFollow}
+use Rattle.relay_play.specs.steps.StageRows.{AllTold, IsCallingWait, TellsHeld, MayFollow}
 use Rattle.relay_play.specs.steps.Waits.{IsCommon, PairWaits, Waits, asking_waits, follows_waits, free_waits, has_inbound, noted_named, noted_tidy, noted_waits, tidy_more}
 use Rattle.relay_play.specs.steps.Walks.{Did, Goes, IsFine, Linked, Walked, after_append, did_take, did_tick, goes_then, held_walk, latest_low, latest_other, line_append, linked_by, placed_of, placed_or, walked_linked, walked_more, walked_none}
 
@@ -196,7 +196,7 @@ pub record Kepts {C : Type 0} (old : World C) (kept : Kept) (number : ℕ) (made
 pub record CallRow (system : ℕ) (address : List ℕ) (ends : List EndAt) (number : ℕ) (call : UserCall) (told : List EndEvent) : Type 0 where
   pub own : Event
   pub held : List EndEvent
-  pub all_held : AllTold IsHeld held
+  pub all_held : AllTold TellsHeld held
   pub is_own : IsOwnEvent number own
   pub events_are : call_events number call ++ events_after ends system address told ≡ own ∷ events_after ends system address held
 
@@ -229,10 +229,10 @@ pub record IsOpened (kept : Kept) (n : ℕ) : Type 0 where
 -- a call may come of the relay or of a user: an accept comes on an end that may be in any state, or is the inbound one of a pair that was opened
 pub data MayCall (kept : Kept) (number : ℕ) (call : UserCall) : Type 0 where
   IsOther : IsNoAccept call → MayCall kept number call
-  IsAny : ((stage : Stage) → Waits kept.claims kept.pairs number stage) → MayCall kept number call
+  IsAny : ((stage : StateData) → Waits kept.claims kept.pairs number stage) → MayCall kept number call
   IsAccepted : IsOpened kept number → MayCall kept number call
 
-calling_accepts_none : (stage : Stage) (call : UserCall) → (IsNoAccept call → ⊥) → is_listed stage call ≡ true → IsCallingWait stage → ⊥
+calling_accepts_none : (stage : StateData) (call : UserCall) → (IsNoAccept call → ⊥) → is_listed stage call ≡ true → IsCallingWait stage → ⊥
 calling_accepts_none (stages.CrWait w) (asks.Disconnect octets) accept is waits = accept tt
 calling_accepts_none (stages.CrWait w) other accept is waits = false≢true is
 calling_accepts_none (stages.WaitBeforeClose w) call accept is waits = false≢true is
@@ -251,7 +251,7 @@ accept_or (asks.Urgent octets) = inl tt
 accept_or (asks.Window credit) = inl tt
 accept_or (asks.Disconnect octets) = inl tt
 
-opened_waits : (kept : Kept) (n : ℕ) (stage new : Stage) → IsOpened kept n → (IsCallingWait stage → ⊥) → Waits kept.claims kept.pairs n stage → Waits kept.claims kept.pairs n new
+opened_waits : (kept : Kept) (n : ℕ) (stage new : StateData) → IsOpened kept n → (IsCallingWait stage → ⊥) → Waits kept.claims kept.pairs n stage → Waits kept.claims kept.pairs n new
 opened_waits kept n stage new o calling w = record {
   unjoined = λ has out. absurd (false≢true (sym out ∙ o.joined));
   paired = by kept.pairs o.begun w.paired;
@@ -262,7 +262,7 @@ opened_waits kept n stage new o calling w = record {
     by (pair ∷ ps) none all = (λ begun. (λ same. absurd (none.0 begun same), λ same. absurd (calling ((all.0 begun).1 same))), by ps none.1 all.1)
 
 -- the state after a call
-call_after : (kept : Kept) (n : ℕ) (call : UserCall) (stage new : Stage) → MayCall kept n call → (IsNoAccept call → MayFollow stage new) → is_listed stage call ≡ true
+call_after : (kept : Kept) (n : ℕ) (call : UserCall) (stage new : StateData) → MayCall kept n call → (IsNoAccept call → MayFollow stage new) → is_listed stage call ≡ true
     → Waits kept.claims kept.pairs n stage → Waits kept.claims kept.pairs n new
 call_after kept n call stage new (IsOther is) follows listed w = follows_waits kept.claims kept.pairs n stage new (follows is) w
 call_after kept n call stage new (IsAny any) follows listed w = any new
@@ -315,22 +315,22 @@ module _ {C : Type 0} (link : C → Link (List ℕ)) (steps : C → Call (List �
   refused old new made (Some why) s = ran_told old new made (events.No why ∷ []) (tt, tt) s.0 s.1
 
   -- a request makes an end that waits
-  begun : (old new : World C) (made : List Event) (system : ℕ) (e : Entity) (call : ConnectCall) (found : Option ℕ) → entity_at old.entities system ≡ Some e
-      → least_free (clock_of link steps old) e ≡ found → BeginsAt link steps old system e call found made new → Ran old made new
-  begun old new made system e call None there least s kept l = absurd s
-  begun old new made system e call (Some reference) there least s kept l =
+  begun : (old new : World C) (made : List Event) (system : ℕ) (e : Entity) (request : ConnectRequest) (found : Option ℕ) → entity_at old.entities system ≡ Some e
+      → least_free (clock_of link steps old) e ≡ found → BeginsAt link steps old system e request found made new → Ran old made new
+  begun old new made system e request None there least s kept l = absurd s
+  begun old new made system e request (Some reference) there least s kept l =
       let now : ℕ = clock_of link steps old in
       let f = free_least now reference e least in
-      let m : Moved = connected now (call_of e reference call) in
+      let m : Moved = connected now (call_of e reference request) in
       let next : Entity = with_end (at now e) reference (Some (end_of m)) in
       let more : List EndAt = old.ends ++ record { system = system; reference = reference } ∷ [] in
       let counts : length more ≡ length old.ends + 1 = made_last old.ends (record { system = system; reference = reference }) in
       let number : latest more system reference ≡ length old.ends + 1 = latest_last old.ends system reference in
-      let asked : Event = connect_event (length old.ends + 1) system reference e.own call in
+      let asked : Event = connect_event (length old.ends + 1) system reference e.own request in
       let a = s.1 in
       let low = l.named in
       let less : length old.ends ≤ length more = omega (arith, counts) in
-      let elsewhere : (other r : ℕ) (stage : Stage) → (other ≡ system → r ≡ reference → ⊥) → Waits kept.claims kept.pairs (latest old.ends other r) stage → Waits kept.claims kept.pairs (latest more other r) stage =
+      let elsewhere : (other r : ℕ) (stage : StateData) → (other ≡ system → r ≡ reference → ⊥) → Waits kept.claims kept.pairs (latest old.ends other r) stage → Waits kept.claims kept.pairs (latest more other r) stage =
       λ other r stage apart w. subst (λ (k : ℕ). Waits kept.claims kept.pairs k stage) (sym (latest_other old.ends system reference other r apart)) w in
       let linked : Linked (with_entity old.entities system next) more kept =
       linked_by system e.own old.entities e next more kept there (omega (arith, low, less)) (tidy_more (length old.ends) (length more) kept.claims kept.pairs less l.tidy)
@@ -344,14 +344,14 @@ module _ {C : Type 0} (link : C → Link (List ℕ)) (steps : C → Call (List �
       (λ other r x one apart there_is stands. elsewhere other r one.stage (λ same own. apart same) (l.waits other r x one there_is stands)) in
       let mid : World C = record { carrier = a.below; entities = with_entity old.entities system next; ends = more } in
       let first : Goes old.ends kept (asked ∷ []) mid.entities mid.ends = record { line = (tt, omega arith, tt); linked = asked_linked mid.entities mid.ends linked; grows = less } in
-      let later = ran_told mid new a.sent a.sent (sent_notes (connecting now e reference call).tpdus old.carrier a.below system e.own a.sent a.sends) refl a.becomes (noted kept asked) first.linked in
+      let later = ran_told mid new a.sent a.sent (sent_notes (connecting now e reference request).tpdus old.carrier a.below system e.own a.sent a.sends) refl a.becomes (noted kept asked) first.linked in
       subst (λ (es : List Event). Goes old.ends kept es new.entities new.ends) (sym (s.2 ∙ ap (λ (es : List Event). asked ∷ es) a.made_is))
       (goes_then old.ends more new.ends kept (asked ∷ []) a.sent mid.entities new.entities first later)
     where
       only_end : (reference : ℕ) (one end : End) → IsEndOf reference one → Some one ≡ Some end → IsEndOf reference end
       only_end reference one end is h = let same : one ≡ end = cc h in subst (IsEndOf reference) same is
 
-      asked_linked : (entities : List Placed) (ends : List EndAt) → Linked entities ends kept → Linked entities ends (noted kept (connect_event (length old.ends + 1) system reference e.own call))
+      asked_linked : (entities : List Placed) (ends : List EndAt) → Linked entities ends kept → Linked entities ends (noted kept (connect_event (length old.ends + 1) system reference e.own request))
       asked_linked entities ends k = record {
         named = (let low = k.named in omega (arith, low));
         tidy = record { claims_low = k.tidy.claims_low; outbounds = k.tidy.outbounds; inbounds = k.tidy.inbounds };
@@ -359,13 +359,13 @@ module _ {C : Type 0} (link : C → Link (List ℕ)) (steps : C → Call (List �
         waits = λ other r x end is stands. (let w = k.waits other r x end is stands in record { unjoined = w.unjoined; paired = w.paired });
       }
 
-  connect_by : (old new : World C) (made : List Event) (system : ℕ) (e : Entity) (call : ConnectCall) (why : Option ConnectRefusal) → entity_at old.entities system ≡ Some e
-      → ConnectsBy link steps old system e call why made new → Ran old made new
-  connect_by old new made system e call (Some why) there s = refused old new made _ s
-  connect_by old new made system e call None there s = begun old new made system e call (least_free (clock_of link steps old) e) there refl s
+  connect_by : (old new : World C) (made : List Event) (system : ℕ) (e : Entity) (request : ConnectRequest) (why : Option ConnectRefusal) → entity_at old.entities system ≡ Some e
+      → ConnectsBy link steps old system e request why made new → Ran old made new
+  connect_by old new made system e request (Some why) there s = refused old new made _ s
+  connect_by old new made system e request None there s = begun old new made system e request (least_free (clock_of link steps old) e) there refl s
 
-  pub connect_ran : (old new : World C) (made : List Event) (system : ℕ) (call : ConnectCall) → Connects link steps old system call made new → Ran old made new
-  connect_ran old new made system call s = connect_by old new made system s.0 call (connect_refusal (clock_of link steps old) s.0 call.octets) s.1 s.2
+  pub connect_ran : (old new : World C) (made : List Event) (system : ℕ) (request : ConnectRequest) → Connects link steps old system request made new → Ran old made new
+  connect_ran old new made system request s = connect_by old new made system s.0 request (connect_refusal (clock_of link steps old) s.0 request.octets) s.1 s.2
 
   raw_ran : (old new : World C) (below : C) (made : List Event) (system : ℕ) (sender receiver octets : List ℕ) (wish : Wish) → SendsUnit link steps old.carrier system sender receiver wish octets made below
       → new ≡ record old { carrier = below } → Ran old made new
@@ -402,7 +402,7 @@ module _ {C : Type 0} (link : C → Link (List ℕ)) (steps : C → Call (List �
         let last : Kept = kept_after (noted kept own) held in
         let before : Waits kept.claims kept.pairs number end.stage = subst (λ (k : ℕ). Waits kept.claims kept.pairs k end.stage) at_n (l.waits system reference e end there is) in
         let after : Waits kept.claims kept.pairs number m.stage = call_after kept number call end.stage m.stage may does.after does.listed before in
-        let go : (n : ℕ) (stage : Stage) → Waits kept.claims kept.pairs n stage → Waits last.claims last.pairs n stage = λ n stage w. walk.waits n stage (noted_waits kept own n stage common.0 w) in
+        let go : (n : ℕ) (stage : StateData) → Waits kept.claims kept.pairs n stage → Waits last.claims last.pairs n stage = λ n stage w. walk.waits n stage (noted_waits kept own n stage common.0 w) in
         let tidy = walk.tidy (noted_tidy kept own (length old.ends) common.0 l.tidy) in
         let linked : Linked (with_entity old.entities system next) old.ends last =
         linked_by system e.own old.entities e next old.ends last there (walk.named (noted_named kept own (length old.ends) l.named named)) tidy

@@ -23,7 +23,7 @@ use Rattle.tpdu.specs.declared.tpdu.Tpdu.{Tpdu}
 use Rattle.tpdu.specs.declared.tpdu.Tpdu.TheVariants as wires
 use Rattle.tp4_flow.specs.declared.step.Sent.{Sent}
 use Rattle.tp4_number.specs.Number.{wire}
-use Rattle.tp4_conn.specs.declared.call.ConnectCall.{ConnectCall}
+use Rattle.tp4_conn.specs.declared.call.ConnectRequest.{ConnectRequest}
 use Rattle.tp4_conn.specs.declared.call.UserCall.{UserCall}
 use Rattle.tp4_entity.specs.declared.refusal.ConnectRefusal.{ConnectRefusal}
 use Rattle.tp4_entity.specs.declared.refusal.EntityRefusal.{EntityRefusal}
@@ -85,15 +85,15 @@ module _ {C : Type 0} (link : C → Link (List ℕ)) (steps others : C → Call 
   refused_go old None made new s = absurd s
   refused_go old (Some why) made new s = s
 
-  begins_go : (old : World C) (system : ℕ) (e : Entity) (call : ConnectCall) (found : Option ℕ) (made : List Event) (new : World C) → BeginsAt link steps old system e call found made new
-      → BeginsAt link others old system e call found made new
-  begins_go old system e call None made new s = absurd s
-  begins_go old system e call (Some reference) made new s = (s.0, acts_go _ system e.own _ s.0 new s.1, s.2)
+  begins_go : (old : World C) (system : ℕ) (e : Entity) (request : ConnectRequest) (found : Option ℕ) (made : List Event) (new : World C) → BeginsAt link steps old system e request found made new
+      → BeginsAt link others old system e request found made new
+  begins_go old system e request None made new s = absurd s
+  begins_go old system e request (Some reference) made new s = (s.0, acts_go _ system e.own _ s.0 new s.1, s.2)
 
-  connect_goes : (old : World C) (system : ℕ) (e : Entity) (call : ConnectCall) (why : Option ConnectRefusal) (made : List Event) (new : World C) → ConnectsBy link steps old system e call why made new
-      → ConnectsBy link others old system e call why made new
-  connect_goes old system e call None made new s = begins_go old system e call (least_free (clock_of link steps old) e) made new s
-  connect_goes old system e call (Some why) made new s = refused_go old _ made new s
+  connect_goes : (old : World C) (system : ℕ) (e : Entity) (request : ConnectRequest) (why : Option ConnectRefusal) (made : List Event) (new : World C) → ConnectsBy link steps old system e request why made new
+      → ConnectsBy link others old system e request why made new
+  connect_goes old system e request None made new s = begins_go old system e request (least_free (clock_of link steps old) e) made new s
+  connect_goes old system e request (Some why) made new s = refused_go old _ made new s
 
   raw_goes : (old : C) (system : ℕ) (sender receiver : List ℕ) (wish : Wish) (octets : List ℕ) (made : List Event) (new : C) → SendsUnit link steps old system sender receiver wish octets made new
       → SendsUnit link others old system sender receiver wish octets made new

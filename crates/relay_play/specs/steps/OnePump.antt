@@ -4,7 +4,7 @@ use Rattle.std.specs.Prelude.{nat_lt, slice_get}
 use Rattle.osi_journal.specs.declared.event.Event.{Event}
 use Rattle.osi_journal.specs.declared.event.Event.TheVariants as events
 use Rattle.osi_journal.specs.declared.event.Request.{Request}
-use Rattle.tp4_conn.specs.declared.call.ConnectCall.{ConnectCall}
+use Rattle.tp4_conn.specs.declared.call.ConnectRequest.{ConnectRequest}
 use Rattle.tp4_conn.specs.declared.call.UserCall.{UserCall}
 use Rattle.tp4_conn.specs.declared.call.UserCall.TheVariants as asks
 use Rattle.tp4_conn.specs.declared.timers.Timers.{Timers}
@@ -19,7 +19,7 @@ use Rattle.tp4_relay.specs.Pairs.{is_open, open_places}
 use Rattle.tp4_relay.specs.Pump.{Balances, BalancesBy, BeginsBy, Does, Parts, PumpStep, Reacts, ServesAt, ServesEach, ServesIf, ServesOpen, ServesPair, ServesWay, SetsCredit, Submits, credit_now, far_end, near_end, unit_call, way_of}
 use Rattle.tp4_relay.specs.Reaction.{reaction}
 
-module _ {S : Type 0} (connects : S → ℕ → ConnectCall → Bool → List Event → S → Type 0) (calls : S → ℕ → UserCall → Bool → List Event → S → Type 0) where
+module _ {S : Type 0} (connects : S → ℕ → ConnectRequest → Bool → List Event → S → Type 0) (calls : S → ℕ → UserCall → Bool → List Event → S → Type 0) where
   -- the answer, the events and the state after are the same
   pub record Same (done : Bool) (made : List Event) (new : S) (again : Bool) (other : List Event) (next : S) : Type 0 where
     pub done_is : done ≡ again
@@ -28,7 +28,7 @@ module _ {S : Type 0} (connects : S → ℕ → ConnectCall → Bool → List Ev
 
   -- each call has one outcome
   pub record OneAnswer : Type 0 where
-    pub connect : (old : S) (system : ℕ) (call : ConnectCall) (done again : Bool) (made other : List Event) (new next : S) → connects old system call done made new → connects old system call again other next → Same done made new again other next
+    pub connect : (old : S) (system : ℕ) (request : ConnectRequest) (done again : Bool) (made other : List Event) (new next : S) → connects old system request done made new → connects old system request again other next → Same done made new again other next
     pub call : (old : S) (end : ℕ) (call : UserCall) (done again : Bool) (made other : List Event) (new next : S) → calls old end call done made new → calls old end call again other next → Same done made new again other next
 
   module _ (one : OneAnswer) where
@@ -38,29 +38,29 @@ module _ {S : Type 0} (connects : S → ℕ → ConnectCall → Bool → List Ev
     same_end : (told more : List Event) (asked heard : Request) (rest back : List Event) → told ≡ events.Connect asked ∷ rest → more ≡ events.Connect heard ∷ back → told ≡ more → asked.end ≡ heard.end
     same_end told more asked heard rest back a b same = let whole : events.Connect asked ∷ rest ≡ events.Connect heard ∷ back = sym a ∙ same ∙ b in let is : asked ≡ heard = cc in ap (λ (r : Request). r.end) is
 
-    one_begin : (old : S) (inbound system : ℕ) (call : ConnectCall) (taken also done again : Bool) (made other : List Event) (new next : S) → BeginsBy connects calls old inbound system call taken done made new
-        → BeginsBy connects calls old inbound system call also again other next → Same done made new again other next
-    one_begin old inbound system call true true done again made other new next a b =
-        let s = one.connect old system call true true a.0 b.0 new next a.3 b.3 in
+    one_begin : (old : S) (inbound system : ℕ) (request : ConnectRequest) (taken also done again : Bool) (made other : List Event) (new next : S) → BeginsBy connects calls old inbound system request taken done made new
+        → BeginsBy connects calls old inbound system request also again other next → Same done made new again other next
+    one_begin old inbound system request true true done again made other new next a b =
+        let s = one.connect old system request true true a.0 b.0 new next a.3 b.3 in
         let ends : a.1.end ≡ b.1.end = same_end a.0 b.0 a.1 b.1 a.2 b.2 a.4 b.4 s.made_is in
         record {
           done_is = a.6 ∙ sym b.6;
           made_is = a.5 ∙ ap (λ (told : List Event). told ++ events.Joined inbound a.1.end ∷ []) s.made_is ∙ ap (λ (n : ℕ). b.0 ++ events.Joined inbound n ∷ []) ends ∙ sym b.5;
           new_is = s.new_is;
         }
-    one_begin old inbound system call true false done again made other new next a b =
-        absurd (let s = one.connect old system call true false a.0 b.1 new b.0 a.3 b.3 in let no_way = s.done_is in cc)
-    one_begin old inbound system call false true done again made other new next a b =
-        absurd (let s = one.connect old system call false true a.1 b.0 a.0 next a.3 b.3 in let no_way = s.done_is in cc)
-    one_begin old inbound system call false false done again made other new next a b =
-        let s = one.connect old system call false false a.1 b.1 a.0 b.0 a.3 b.3 in
+    one_begin old inbound system request true false done again made other new next a b =
+        absurd (let s = one.connect old system request true false a.0 b.1 new b.0 a.3 b.3 in let no_way = s.done_is in cc)
+    one_begin old inbound system request false true done again made other new next a b =
+        absurd (let s = one.connect old system request false true a.1 b.0 a.0 next a.3 b.3 in let no_way = s.done_is in cc)
+    one_begin old inbound system request false false done again made other new next a b =
+        let s = one.connect old system request false false a.1 b.1 a.0 b.0 a.3 b.3 in
         let there = subst (λ (m : S). calls m inbound (asks.Refuse []) again b.2 next) (sym s.new_is) b.4 in
         let t = one.call a.0 inbound (asks.Refuse []) done again a.2 b.2 new next a.4 there in
         record { done_is = t.done_is; made_is = a.5 ∙ ap (λ (told : List Event). told ++ a.2) s.made_is ∙ ap (λ (later : List Event). b.1 ++ later) t.made_is ∙ sym b.5; new_is = t.new_is }
 
     one_does : (old : S) (to_do : Reaction) (done again : Bool) (made other : List Event) (new next : S) → Does connects calls old to_do done made new → Does connects calls old to_do again other next → Same done made new again other next
     one_does old Nothing done again made other new next a b = nothing_same old done again made other new next a b
-    one_does old (Begin inbound system call) done again made other new next a b = one_begin old inbound system call a.0 b.0 done again made other new next a.1 b.1
+    one_does old (Begin inbound system request) done again made other new next a b = one_begin old inbound system request a.0 b.0 done again made other new next a.1 b.1
     one_does old (Ask end call) done again made other new next a b = one.call old end call done again made other new next a b
 
     both : (one_done other_done first second : Bool) (done again : Bool) → done ≡ (one_done || other_done) → again ≡ (first || second) → one_done ≡ first → other_done ≡ second → done ≡ again

@@ -21,7 +21,7 @@ use Rattle.tpdu.proofs.Spellings.{one_spelling}
 use Rattle.tp4_flow.specs.declared.rules.Options.{Options}
 use Rattle.tp4_flow.specs.declared.step.Sent.{Sent}
 use Rattle.tp4_number.specs.Number.{wire}
-use Rattle.tp4_conn.specs.declared.call.ConnectCall.{ConnectCall}
+use Rattle.tp4_conn.specs.declared.call.ConnectRequest.{ConnectRequest}
 use Rattle.tp4_conn.specs.declared.call.UserCall.{UserCall}
 use Rattle.tp4_conn.specs.declared.call.UserCall.TheVariants as asks
 use Rattle.tp4_entity.specs.declared.refusal.ConnectRefusal.{ConnectRefusal}
@@ -30,7 +30,7 @@ use Rattle.tp4_entity.specs.References.{least_free}
 use Rattle.tp4_entity.specs.Step.{connect_refusal}
 use Rattle.tp4_relay.specs.Kept.{Kept}
 use Rattle.tp4_relay.specs.Pump.{PumpStep}
-use Rattle.tp4_world.proofs.OneRun.{OneWriting}
+use Rattle.tp4_world.proofs.OneRun.{OneWriting, one_connect}
 use Rattle.tp4_world.proofs.Places.{some_same}
 use Rattle.tp4_world.specs.Run.{Acts, BeginsAt, Calls, Connects, ConnectsBy, IsRefused, RunsLine, SendsTpdu, SendsTpdus, Settles, clock_of, transport_wish}
 use Rattle.tp4_world.specs.Telling.{asked_options, drop_events, ends_after, events_after, is_extended, told_options}
@@ -74,74 +74,12 @@ module _ {C : Type 0} (link : C → Link (List ℕ)) (steps : C → Call (List �
   call_runs titles old end (asks.Disconnect octets) made new h = h
 
 module _ {C : Type 0} (link : C → Link (List ℕ)) (steps : C → Call (List ℕ) → C → Type 0) (once : OneStep steps) where
-  -- ---- what goes out
-
-  one_tpdu : (old : C) (system : ℕ) (own : List ℕ) (sent : Sent) (made other : List Event) (new next : C) → SendsTpdu link steps old system own sent made new
-      → SendsTpdu link steps old system own sent other next → Same made other new next
-  one_tpdu old system own sent made other new next a b =
-      let octets : a.octets ≡ b.octets = written sent.format sent.sum sent.tpdu a.octets b.octets a.written b.written in
-      let same = one_pass link steps once (one_gathering link steps once) old (Offer (record { from = own; to = sent.to; octets = a.octets }) transport_wish a.answer) (Offer (record { from = own; to = sent.to; octets = b.octets }) transport_wish b.answer)
-      a.ups b.ups new next (ap (λ (o : List ℕ). Offering (record { from = own; to = sent.to; octets = o }) transport_wish) octets) a.passes b.passes in
-      let calls = same.calls in
-      let answer : a.answer ≡ b.answer = cc in
-      record { events = a.made_is ∙ (λ i. drop_events system (answer i) ++ told (same.ups_are i)) ∙ sym b.made_is; state = same.state }
-
-  one_tpdus : (tpdus : List Sent) (old : C) (system : ℕ) (own : List ℕ) (made other : List Event) (new next : C) → SendsTpdus link steps old system own tpdus made new
-      → SendsTpdus link steps old system own tpdus other next → Same made other new next
-  one_tpdus [] old system own made other new next a b = record { events = a.0 ∙ sym b.0; state = a.1 ∙ sym b.1 }
-  one_tpdus (sent ∷ tpdus) old system own made other new next a b =
-      let first = one_tpdu old system own sent a.1 b.1 a.0 b.0 a.3 b.3 in
-      let rest = one_tpdus tpdus b.0 system own a.2 b.2 new next (subst (λ (c : C). SendsTpdus link steps c system own tpdus a.2 new) first.state a.4) b.4 in
-      record { events = a.5 ∙ (λ i. first.events i ++ rest.events i) ∙ sym b.5; state = rest.state }
-
-  one_act : (old : World C) (system : ℕ) (own : List ℕ) (acted : Acted) (made other : List Event) (new next : World C) → Acts link steps old system own acted made new
-      → Acts link steps old system own acted other next → Same made other new next
-  one_act old system own acted made other new next a b =
-      let sends = one_tpdus acted.tpdus old.carrier system own a.sent b.sent a.below b.below a.sends b.sends in
-      record {
-        events = a.made_is ∙ ap (λ (xs : List Event). events_after old.ends system own acted.events ++ xs) sends.events ∙ sym b.made_is;
-        state = a.becomes
-            ∙ ap (λ (c : C). record { carrier = c; entities = with_entity old.entities system acted.entity; ends = ends_after old.ends system acted.events }) sends.state
-            ∙ sym b.becomes;
-      }
-
-  -- ---- what users ask
-
-  one_refusal : (old : World C) (why : Option Refused) (made other : List Event) (new next : World C) → IsRefused link steps old why made new → IsRefused link steps old why other next → Same made other new next
-  one_refusal old None made other new next a b = absurd a
-  one_refusal old (Some why) made other new next a b = record { events = a.0 ∙ sym b.0; state = a.1 ∙ sym b.1 }
-
-  -- the same event, and then the same of what an entity does
-  one_act_behind : (old : World C) (system : ℕ) (own : List ℕ) (acted : Acted) (front made other later rest : List Event) (new next : World C) → Acts link steps old system own acted later new
-      → Acts link steps old system own acted rest next → made ≡ front ++ later → other ≡ front ++ rest → Same made other new next
-  one_act_behind old system own acted front made other later rest new next a b e f =
-      let same = one_act old system own acted later rest new next a b in
-      record { events = e ∙ ap (λ (xs : List Event). front ++ xs) same.events ∙ sym f; state = same.state }
-
-  one_beginning : (old : World C) (system : ℕ) (entity : Entity) (call : ConnectCall) (found : Option ℕ) (made other : List Event) (new next : World C)
-      → BeginsAt link steps old system entity call found made new → BeginsAt link steps old system entity call found other next → Same made other new next
-  one_beginning old system entity call None made other new next a b = absurd a
-  one_beginning old system entity call (Some reference) made other new next a b =
-      one_act_behind _ system entity.own _ (_ ∷ []) made other a.0 b.0 new next a.1 b.1 a.2 b.2
-
-  one_connect_by : (old : World C) (system : ℕ) (entity : Entity) (call : ConnectCall) (why : Option ConnectRefusal) (made other : List Event) (new next : World C)
-      → ConnectsBy link steps old system entity call why made new → ConnectsBy link steps old system entity call why other next → Same made other new next
-  one_connect_by old system entity call None made other new next a b = one_beginning old system entity call (least_free (clock_of link steps old) entity) made other new next a b
-  one_connect_by old system entity call (Some why) made other new next a b = one_refusal old _ made other new next a b
-
-  one_connect : (old : World C) (system : ℕ) (call : ConnectCall) (made other : List Event) (new next : World C) → Connects link steps old system call made new
-      → Connects link steps old system call other next → Same made other new next
-  one_connect old system call made other new next a b =
-      let same : a.0 ≡ b.0 = some_same a.0 b.0 (sym a.1 ∙ b.1) in
-      one_connect_by old system b.0 call (connect_refusal (clock_of link steps old) b.0 call.octets) made other new next
-      (subst (λ (e : Entity). ConnectsBy link steps old system e call (connect_refusal (clock_of link steps old) e call.octets) made new) same a.2) b.2
-
   -- ---- a pump
 
   pub one_answers : OneAnswer (AsksFor link steps) (AsksEnd link steps)
   one_answers = record {
-    connect = λ old system call done again made other new next a b.
-        (let s = one_connect old system call made other new next a.connects b.connects in
+    connect = λ old system request done again made other new next a b.
+        (let s = one_connect link steps once (one_gathering link steps once) written old system request made other new next a.connects b.connects in
         record { done_is = a.done_is ∙ ap is_done s.events ∙ sym b.done_is; made_is = s.events; new_is = s.state });
     call = λ old end call done again made other new next a b.
         (let s = one_line link steps once wire [] old (call_line end call) made other new next (call_runs link steps [] old end call made new a.calls) (call_runs link steps [] old end call other next b.calls) in

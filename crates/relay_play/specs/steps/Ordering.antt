@@ -5,13 +5,13 @@ use Rattle.osi_base.specs.Link.{Link}
 use Rattle.osi_base.specs.Calls.{Call}
 use Rattle.osi_journal.specs.declared.event.Event.{Event}
 use Rattle.osi_script.specs.Commands.{HasLine}
-use Rattle.osi_script.specs.declared.form.Dialect.TheVariants as dialects
+use Rattle.osi_script.specs.declared.words.Dialect.TheVariants as dialects
 use Rattle.osi_script.specs.declared.line.Line.{Line}
 use Rattle.osi_script.specs.declared.line.Line.TheVariants as lines
 use Rattle.tp4_number.specs.Number.{wire}
-use Rattle.tp4_conn.specs.declared.call.ConnectCall.{ConnectCall}
+use Rattle.tp4_conn.specs.declared.call.ConnectRequest.{ConnectRequest}
 use Rattle.tp4_conn.specs.declared.call.UserCall.{UserCall}
-use Rattle.tp4_conn.specs.declared.stage.Stage.{Stage}
+use Rattle.tp4_conn.specs.declared.states.StateData.{StateData}
 use Rattle.tp4_conn.specs.declared.timers.Timers.{Timers}
 use Rattle.tp4_relay.specs.Kept.{Kept, nothing_kept}
 use Rattle.tp4_world.specs.Run.{Calls, Connects, RunsLine, Settles}
@@ -30,7 +30,7 @@ no_rules = record { life = 0; t1 = 0; sendings = 0; window = 0; inactive = 0; cr
 abbrev none_kept : Kept
 none_kept = nothing_kept [] no_rules
 
-none_waits : (number : ℕ) (stage : Stage) → Waits none_kept.claims none_kept.pairs number stage
+none_waits : (number : ℕ) (stage : StateData) → Waits none_kept.claims none_kept.pairs number stage
 none_waits number stage = record { unjoined = λ has out. absurd (false≢true has); paired = tt }
 
 none_relayed : (line : Line) → is_relayed none_kept line ≡ false
@@ -58,10 +58,10 @@ module _ {C : Type 0} (link : C → Link (List ℕ)) (steps : C → Call (List �
     of = (call_kepts link steps wire old new made end call c none_kept (IsAny (λ stage. none_waits end stage)) (none_linked old order)).linked.of;
   }
 
-  pub connect_order : (old new : World C) (system : ℕ) (call : ConnectCall) (made : List Event) → Connects link steps old system call made new → IsInOrder link old → IsInOrder link new
-  connect_order old new system call made c order = record {
-    quiet = connect_quiet link steps old new made system call c order.quiet;
-    of = (connect_ran link steps old new made system call c none_kept (none_linked old order)).linked.of;
+  pub connect_order : (old new : World C) (system : ℕ) (request : ConnectRequest) (made : List Event) → Connects link steps old system request made new → IsInOrder link old → IsInOrder link new
+  connect_order old new system request made c order = record {
+    quiet = connect_quiet link steps old new made system request c order.quiet;
+    of = (connect_ran link steps old new made system request c none_kept (none_linked old order)).linked.of;
   }
 
   pub line_order : (titles : List (List ℕ)) (line : Line) (old new : World C) (made : List Event) → HasLine dialects.Relay line → RunsLine link steps wire titles old line made new → IsInOrder link old → IsInOrder link new

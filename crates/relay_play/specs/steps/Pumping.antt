@@ -11,7 +11,7 @@ use Rattle.osi_journal.specs.declared.event.Event.TheVariants as events
 use Rattle.osi_journal.specs.declared.event.Indication.{Indication}
 use Rattle.osi_journal.specs.declared.event.Request.{Request}
 use Rattle.osi_script.specs.declared.line.Options.{Options as ScriptOptions}
-use Rattle.tp4_conn.specs.declared.call.ConnectCall.{ConnectCall}
+use Rattle.tp4_conn.specs.declared.call.ConnectRequest.{ConnectRequest}
 use Rattle.tp4_conn.specs.declared.call.UserCall.{UserCall}
 use Rattle.tp4_conn.specs.declared.call.UserCall.TheVariants as asks
 use Rattle.tp4_conn.specs.declared.timers.Timers.{Timers}
@@ -98,13 +98,13 @@ moved_kept ends kept made (event ∷ line) tidy all left =
 
 abbrev MayFor : Kept → Reaction → Type 0
 MayFor kept Nothing = Prim.Unit {0}
-MayFor kept (Begin inbound system call) = Prim.Unit {0}
+MayFor kept (Begin inbound system request) = Prim.Unit {0}
 MayFor kept (Ask end call) = MayCall kept end call
 
 module _ (current last : Kept) where
-  begins_may : (rules : Timers) (row : Option RelayRow) (heard : Indication) → MayFor last (begins rules heard row)
-  begins_may rules None heard = tt
-  begins_may rules (Some row) heard = tt
+  begins_may : (row : Option RelayRow) (heard : Indication) → MayFor last (begins heard row)
+  begins_may None heard = tt
+  begins_may (Some row) heard = tt
 
   confirms_may : (options : ScriptOptions) (octets : List ℕ) (pair : Option Pair) → ((p : Pair) → pair ≡ Some p → MayCall last p.inbound (asks.Accept (asked_options options) octets)) → MayFor last (confirms options octets pair)
   confirms_may options octets None may = tt
@@ -136,7 +136,7 @@ module _ (current last : Kept) where
 
 -- an end that is accepted is the inbound one of a pair that was opened, also behind the rest of the line
 reaction_may : (current : Kept) (event : Event) (line : List Event) → IsTidy current → AllByRecursion JoinsNone line → MayFor (kept_after (noted current event) line) (reaction current event)
-reaction_may current (events.Incoming heard) line tidy none = begins_may current _ current.rules (row_for current.rows heard) heard
+reaction_may current (events.Incoming heard) line tidy none = begins_may current _ (row_for current.rows heard) heard
 reaction_may current (events.Confirm end options octets) line tidy none =
     let last : Kept = kept_after (noted current (events.Confirm end options octets)) line in
     confirms_may current last options octets (outbound_pair current.pairs end)
@@ -145,7 +145,7 @@ reaction_may current (events.Gone end cause octets) line tidy none = goes_may cu
 reaction_may current event line tidy none = tt
 
 module _ {C : Type 0} (link : C → Link (List ℕ)) (steps : C → Call (List ℕ) → C → Type 0) (law : IsService has_system ends_of (is_honest link) (AsksFor link steps) (AsksEnd link steps)) where
-  abbrev connects : World C → ℕ → ConnectCall → Bool → List Event → World C → Type 0
+  abbrev connects : World C → ℕ → ConnectRequest → Bool → List Event → World C → Type 0
   connects = AsksFor link steps
 
   abbrev calls : World C → ℕ → UserCall → Bool → List Event → World C → Type 0
@@ -175,16 +175,16 @@ module _ {C : Type 0} (link : C → Link (List ℕ)) (steps : C → Call (List �
         tidy = tidy_all kept made p.tidy (told_notable kept end call done made (law.told old end call done made new c));
       }
 
-  connect_plays : (old new : World C) (kept : Kept) (system : ℕ) (call : ConnectCall) (done : Bool) (made : List Event) → connects old system call done made new → Plays link old kept
+  connect_plays : (old new : World C) (kept : Kept) (system : ℕ) (request : ConnectRequest) (done : Bool) (made : List Event) → connects old system request done made new → Plays link old kept
       → Plays link new (kept_after kept made)
-  connect_plays old new kept system call done made c p =
-      let g = connect_ran link steps old new made system call c.connects kept p.linked in
+  connect_plays old new kept system request done made c p =
+      let g = connect_ran link steps old new made system request c.connects kept p.linked in
       record {
-        order = record { quiet = connect_quiet link steps old new made system call c.connects p.order.quiet; of = g.linked.of };
+        order = record { quiet = connect_quiet link steps old new made system request c.connects p.order.quiet; of = g.linked.of };
         linked = g.linked;
-        has = has_rows old new kept made (law.connect_has old system call done made new c) p.has;
+        has = has_rows old new kept made (law.connect_has old system request done made new c) p.has;
         credit = low_credit kept made p.credit;
-        tidy = tidy_all kept made p.tidy (connected_notable kept (ends_of old + 1) done made (law.connected old system call done made new c));
+        tidy = tidy_all kept made p.tidy (connected_notable kept (ends_of old + 1) done made (law.connected old system request done made new c));
       }
 
   -- ---- about an event
@@ -195,22 +195,22 @@ module _ {C : Type 0} (link : C → Link (List ℕ)) (steps : C → Call (List �
   then_plays : (new : World C) (kept : Kept) (made here rest : List Event) → made ≡ here ++ rest → Plays link new (kept_after (kept_after kept here) rest) → Plays link new (kept_after kept made)
   then_plays new kept made here rest is p = subst (Plays link new) (sym (ap (kept_after kept) is ∙ after_append kept here rest)) p
 
-  begin_plays : (ends : ℕ) (old new : World C) (kept : Kept) (inbound system : ℕ) (call : ConnectCall) (taken done : Bool) (made : List Event) → AreMadeBy ends kept made
-      → BeginsBy connects calls old inbound system call taken done made new → Plays link old kept → Plays link new (kept_after kept made)
-  begin_plays ends old new kept inbound system call true done made are b p =
+  begin_plays : (ends : ℕ) (old new : World C) (kept : Kept) (inbound system : ℕ) (request : ConnectRequest) (taken done : Bool) (made : List Event) → AreMadeBy ends kept made
+      → BeginsBy connects calls old inbound system request taken done made new → Plays link old kept → Plays link new (kept_after kept made)
+  begin_plays ends old new kept inbound system request true done made are b p =
       let told : List Event = b.0 in
       let asked : Request = b.1 in
-      let one = connect_plays old new kept system call true told b.3 p in
+      let one = connect_plays old new kept system request true told b.3 p in
       let mid : Kept = kept_after kept told in
-      let c = law.connected old system call true told new b.3 in
+      let c = law.connected old system request true told new b.3 in
       let asked_is : asked ≡ c.0 = (let same : events.Connect asked ∷ b.2 ≡ events.Connect c.0 ∷ c.1 = sym b.4 ∙ c.2 in cc) in
       let end_is : asked.end ≡ length old.ends + 1 = ap (λ (r : Request). r.end) asked_is ∙ c.3 in
-      let counted : length new.ends ≡ length old.ends + 1 = law.counted old system call true told new b.3 in
+      let counted : length new.ends ≡ length old.ends + 1 = law.counted old system request true told new b.3 in
       let all = made_rest ends kept told (events.Joined inbound asked.end ∷ []) (subst (AreMadeBy ends kept) b.5 are) in
       let joins = all.0.0 in
       let linked =
       joined_linked new.entities new.ends mid inbound asked.end one.linked (omega (arith, end_is, counted)) joins.indicated (none_inbound mid.pairs inbound joins.later)
-      (λ other r e end at stands number. connect_asks link steps old new told system call b.3.connects other r e end at stands (number ∙ end_is)) in
+      (λ other r e end at stands number. connect_asks link steps old new told system request b.3.connects other r e end at stands (number ∙ end_is)) in
       then_plays new kept made told (events.Joined inbound asked.end ∷ []) b.5
       (record {
         order = one.order;
@@ -219,14 +219,14 @@ module _ {C : Type 0} (link : C → Link (List ℕ)) (steps : C → Call (List �
         credit = one.credit;
         tidy = tidy_more mid (events.Joined inbound asked.end) one.tidy (allowed_notable mid (events.Joined inbound asked.end) one.tidy joins);
       })
-  begin_plays ends old new kept inbound system call false done made are b p =
+  begin_plays ends old new kept inbound system request false done made are b p =
       then_plays new kept made b.1 b.2 b.5
-      (call_plays b.0 new (kept_after kept b.1) inbound (asks.Refuse []) done b.2 (IsOther tt) b.4 (connect_plays old b.0 kept system call false b.1 b.3 p))
+      (call_plays b.0 new (kept_after kept b.1) inbound (asks.Refuse []) done b.2 (IsOther tt) b.4 (connect_plays old b.0 kept system request false b.1 b.3 p))
 
   does_plays : (ends : ℕ) (old new : World C) (kept : Kept) (to_do : Reaction) (done : Bool) (made : List Event) → AreMadeBy ends kept made → MayFor kept to_do → Does connects calls old to_do done made new
       → Plays link old kept → Plays link new (kept_after kept made)
   does_plays ends old new kept Nothing done made are may d p = same_plays old new kept made d.1 d.2 p
-  does_plays ends old new kept (Begin inbound system call) done made are may d p = begin_plays ends old new kept inbound system call d.0 done made are d.1 p
+  does_plays ends old new kept (Begin inbound system request) done made are may d p = begin_plays ends old new kept inbound system request d.0 done made are d.1 p
   does_plays ends old new kept (Ask end call) done made are may d p = call_plays old new kept end call done made may d p
 
   -- what is left, by what was kept of the line alone and what the pump told

@@ -16,7 +16,7 @@ use Rattle.osi_script.specs.declared.line.Line.{Line}
 use Rattle.osi_script.specs.declared.line.Line.TheVariants as lines
 use Rattle.net_world.specs.Run.{SendsUnit}
 use Rattle.tp4_flow.specs.declared.step.Sent.{Sent}
-use Rattle.tp4_conn.specs.declared.call.ConnectCall.{ConnectCall}
+use Rattle.tp4_conn.specs.declared.call.ConnectRequest.{ConnectRequest}
 use Rattle.tp4_conn.specs.declared.call.UserCall.{UserCall}
 use Rattle.tp4_entity.specs.declared.refusal.ConnectRefusal.{ConnectRefusal}
 use Rattle.tp4_entity.specs.declared.refusal.EntityRefusal.{EntityRefusal}
@@ -46,16 +46,16 @@ module _ {C : Type 0} (link : C → Link (List ℕ)) (steps : C → Call (List �
   refused_quiet old new made None s quiet = absurd s
   refused_quiet old new made (Some why) s quiet = same_quiet old new s.1 quiet
 
-  begun_quiet : (old new : World C) (made : List Event) (system : ℕ) (e : Entity) (call : ConnectCall) (found : Option ℕ) → BeginsAt link steps old system e call found made new → IsQuiet old → IsQuiet new
-  begun_quiet old new made system e call None s quiet = absurd s
-  begun_quiet old new made system e call (Some reference) s quiet = acts_quiet _ new system e.own _ s.0 s.1 quiet
+  begun_quiet : (old new : World C) (made : List Event) (system : ℕ) (e : Entity) (request : ConnectRequest) (found : Option ℕ) → BeginsAt link steps old system e request found made new → IsQuiet old → IsQuiet new
+  begun_quiet old new made system e request None s quiet = absurd s
+  begun_quiet old new made system e request (Some reference) s quiet = acts_quiet _ new system e.own _ s.0 s.1 quiet
 
-  connect_by : (old new : World C) (made : List Event) (system : ℕ) (e : Entity) (call : ConnectCall) (why : Option ConnectRefusal) → ConnectsBy link steps old system e call why made new → IsQuiet old → IsQuiet new
-  connect_by old new made system e call (Some why) s quiet = refused_quiet old new made _ s quiet
-  connect_by old new made system e call None s quiet = begun_quiet old new made system e call (least_free (clock_of link steps old) e) s quiet
+  connect_by : (old new : World C) (made : List Event) (system : ℕ) (e : Entity) (request : ConnectRequest) (why : Option ConnectRefusal) → ConnectsBy link steps old system e request why made new → IsQuiet old → IsQuiet new
+  connect_by old new made system e request (Some why) s quiet = refused_quiet old new made _ s quiet
+  connect_by old new made system e request None s quiet = begun_quiet old new made system e request (least_free (clock_of link steps old) e) s quiet
 
-  pub connect_quiet : (old new : World C) (made : List Event) (system : ℕ) (call : ConnectCall) → Connects link steps old system call made new → IsQuiet old → IsQuiet new
-  connect_quiet old new made system call s quiet = connect_by old new made system s.0 call (connect_refusal (clock_of link steps old) s.0 call.octets) s.2 quiet
+  pub connect_quiet : (old new : World C) (made : List Event) (system : ℕ) (request : ConnectRequest) → Connects link steps old system request made new → IsQuiet old → IsQuiet new
+  connect_quiet old new made system request s quiet = connect_by old new made system s.0 request (connect_refusal (clock_of link steps old) s.0 request.octets) s.2 quiet
 
   raw_quiet : (old new : World C) (below : C) (made : List Event) (system : ℕ) (sender receiver octets : List ℕ) (wish : Wish) → SendsUnit link steps old.carrier system sender receiver wish octets made below
       → new ≡ record old { carrier = below } → IsQuiet old → IsQuiet new

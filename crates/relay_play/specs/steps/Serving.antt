@@ -23,7 +23,7 @@ use Rattle.tp4_flow.specs.declared.step.EndEvent.{EndEvent}
 use Rattle.tp4_flow.specs.declared.step.Sent.{Sent}
 use Rattle.tp4_flow.specs.declared.step.What.{What}
 use Rattle.tp4_flow.specs.declared.step.What.TheVariants as whats
-use Rattle.tp4_conn.specs.declared.call.ConnectCall.{ConnectCall}
+use Rattle.tp4_conn.specs.declared.call.ConnectRequest.{ConnectRequest}
 use Rattle.tp4_conn.specs.declared.call.UserCall.{UserCall}
 use Rattle.tp4_conn.specs.declared.call.UserCall.TheVariants as asks
 use Rattle.tp4_conn.specs.Calls.{call_refusal}
@@ -48,7 +48,7 @@ use Rattle.tp4_relay.specs.Service.{ConnectedBy, IsAside, IsRefusal, IsService, 
 use Rattle.relay_play.specs.Services.{AsksEnd, AsksFor, IsInOrder, ends_of, has_system, is_done, is_honest}
 use Rattle.relay_play.specs.steps.CallRows.{CallDoes, CallTells, call_does}
 use Rattle.relay_play.specs.steps.Linking.{number_by, stands_by}
-use Rattle.relay_play.specs.steps.StageRows.{AllTold, IsHeld}
+use Rattle.relay_play.specs.steps.StageRows.{AllTold, TellsHeld}
 
 -- ---- what is told beside a call
 
@@ -79,7 +79,7 @@ drop_asides : (system : ℕ) (answer : Offered) → AreAsides (drop_events syste
 drop_asides system WasTaken = tt
 drop_asides system (Dropped cause) = (tt, tt)
 
-held_aside : (system : ℕ) (address : List ℕ) (number reference : ℕ) (what : What) → IsHeld what → IsAside (event_for system address number reference what)
+held_aside : (system : ℕ) (address : List ℕ) (number reference : ℕ) (what : What) → TellsHeld what → IsAside (event_for system address number reference what)
 held_aside system address number reference (whats.Held kind held_number) is = tt
 held_aside system address number reference (whats.Got octets) is = absurd is
 held_aside system address number reference (whats.Urgent octets) is = absurd is
@@ -92,7 +92,7 @@ held_aside system address number reference (whats.Window credit) is = absurd is
 held_aside system address number reference (whats.Unknown kind) is = absurd is
 held_aside system address number reference whats.Silent is = absurd is
 
-held_asides : (system : ℕ) (address : List ℕ) (ends : List EndAt) (events_told : List EndEvent) → AllTold IsHeld events_told → AreAsides (events_after ends system address events_told)
+held_asides : (system : ℕ) (address : List ℕ) (ends : List EndAt) (events_told : List EndEvent) → AllTold TellsHeld events_told → AreAsides (events_after ends system address events_told)
 held_asides system address ends [] all = tt
 held_asides system address ends (one ∷ others) all =
     (held_aside system address _ one.reference one.what all.0, held_asides system address (ends_with ends system one one.what) others all.1)
@@ -149,28 +149,28 @@ module _ {C : Type 0} (link : C → Link (List ℕ)) (steps : C → Call (List �
     honest = ap (λ (w : World C). is_honest link w) s.1;
   })
 
-  connect_begun : (old new : World C) (done : Bool) (made : List Event) (system : ℕ) (e : Entity) (call : ConnectCall) (found : Option ℕ) → done ≡ is_done made → IsInOrder link old → entity_at old.entities system ≡ Some e
-      → BeginsAt link steps old system e call found made new → Connected old done made new
-  connect_begun old new done made system e call None done_is order there s = absurd s
-  connect_begun old new done made system e call (Some reference) done_is order there s =
+  connect_begun : (old new : World C) (done : Bool) (made : List Event) (system : ℕ) (e : Entity) (request : ConnectRequest) (found : Option ℕ) → done ≡ is_done made → IsInOrder link old → entity_at old.entities system ≡ Some e
+      → BeginsAt link steps old system e request found made new → Connected old done made new
+  connect_begun old new done made system e request None done_is order there s = absurd s
+  connect_begun old new done made system e request (Some reference) done_is order there s =
       let now : ℕ = clock_of link steps old in
       let a = s.1 in
-      let out = sent_out (connecting now e reference call).tpdus old.carrier a.below system e.own a.sent order.quiet a.sends in
+      let out = sent_out (connecting now e reference request).tpdus old.carrier a.below system e.own a.sent order.quiet a.sends in
       done_by (λ (d : Bool). Connected old d made new) done true made _ done_is s.2 refl (record {
         told_is = (_, s.0, s.2, refl, subst AreAsides (sym a.made_is) out.asides);
         ends = ap (λ (w : World C). ends_of w) a.becomes ∙ made_last old.ends (record { system = system; reference = reference });
-        has = λ other has. subst (λ (w : World C). has_system w other) (sym a.becomes) (some_with old.entities system e (connecting now e reference call).entity there other has);
+        has = λ other has. subst (λ (w : World C). has_system w other) (sym a.becomes) (some_with old.entities system e (connecting now e reference request).entity there other has);
         honest = ap (λ (w : World C). is_honest link w) a.becomes ∙ out.honest;
       })
 
-  connect_by : (old new : World C) (done : Bool) (made : List Event) (system : ℕ) (e : Entity) (call : ConnectCall) (why : Option ConnectRefusal) → done ≡ is_done made → IsInOrder link old → entity_at old.entities system ≡ Some e
-      → ConnectsBy link steps old system e call why made new → Connected old done made new
-  connect_by old new done made system e call (Some why) done_is order there s = connect_refused old new done made _ done_is s
-  connect_by old new done made system e call None done_is order there s = connect_begun old new done made system e call (least_free (clock_of link steps old) e) done_is order there s
+  connect_by : (old new : World C) (done : Bool) (made : List Event) (system : ℕ) (e : Entity) (request : ConnectRequest) (why : Option ConnectRefusal) → done ≡ is_done made → IsInOrder link old → entity_at old.entities system ≡ Some e
+      → ConnectsBy link steps old system e request why made new → Connected old done made new
+  connect_by old new done made system e request (Some why) done_is order there s = connect_refused old new done made _ done_is s
+  connect_by old new done made system e request None done_is order there s = connect_begun old new done made system e request (least_free (clock_of link steps old) e) done_is order there s
 
-  connected : (old new : World C) (system : ℕ) (call : ConnectCall) (done : Bool) (made : List Event) → AsksFor link steps old system call done made new → Connected old done made new
-  connected old new system call done made asks =
-      let c = asks.connects in connect_by old new done made system c.0 call (connect_refusal (clock_of link steps old) c.0 call.octets) asks.done_is asks.order c.1 c.2
+  connected : (old new : World C) (system : ℕ) (request : ConnectRequest) (done : Bool) (made : List Event) → AsksFor link steps old system request done made new → Connected old done made new
+  connected old new system request done made asks =
+      let c = asks.connects in connect_by old new done made system c.0 request (connect_refusal (clock_of link steps old) c.0 request.octets) asks.done_is asks.order c.1 c.2
 
   -- ---- a call on an end
 
@@ -256,10 +256,10 @@ module _ {C : Type 0} (link : C → Link (List ℕ)) (steps : C → Call (List �
 
   pub world_serves : IsService has_system ends_of (is_honest link) (AsksFor link steps) (AsksEnd link steps)
   world_serves = record {
-    connected = λ old system call done made new h. (connected old new system call done made h).told_is;
-    counted = λ old system call done made new h. (connected old new system call done made h).ends;
-    connect_has = λ old system call done made new h. (connected old new system call done made h).has;
-    connect_honest = λ old system call done made new h. (connected old new system call done made h).honest;
+    connected = λ old system request done made new h. (connected old new system request done made h).told_is;
+    counted = λ old system request done made new h. (connected old new system request done made h).ends;
+    connect_has = λ old system request done made new h. (connected old new system request done made h).has;
+    connect_honest = λ old system request done made new h. (connected old new system request done made h).honest;
     told = λ old end call done made new h. (asked old new end call done made h).told_is;
     call_ends = λ old end call done made new h. (asked old new end call done made h).ends;
     call_has = λ old end call done made new h. (asked old new end call done made h).has;

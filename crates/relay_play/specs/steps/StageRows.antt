@@ -23,15 +23,15 @@ use Rattle.tp4_flow.specs.declared.step.What.TheVariants as whats
 use Rattle.tp4_sending.specs.FlowSender.{FlowSender, Sendings, acknowledged, acknowledged_to, at, block_in, has_next, is_noted, is_outstanding, is_taken, is_urgent, life_of, new_sends, normals, normals_where, one_urgent, opened, resends, resends_urgent, resends_urgent_as, rule_allows, sent_normal, then_sends, ticked, ticked_as, urgent_done}
 use Rattle.tp4_sending.specs.Pieces.{end_of as end_in, is_due}
 use Rattle.tp4_sending.specs.declared.tries.Tries.{Tries}
-use Rattle.tp4_conn.specs.declared.base.Base.{Base}
+use Rattle.tp4_conn.specs.declared.end_record.EndRecord.{EndRecord}
 use Rattle.tp4_conn.specs.declared.halves.Halves.{Halves}
-use Rattle.tp4_conn.specs.declared.stage.Answering.{Answering}
-use Rattle.tp4_conn.specs.declared.stage.Open.{Open}
-use Rattle.tp4_conn.specs.declared.stage.Parting.{Parting}
-use Rattle.tp4_conn.specs.declared.stage.Releasing.{Releasing}
-use Rattle.tp4_conn.specs.declared.stage.Requesting.{Requesting}
-use Rattle.tp4_conn.specs.declared.stage.Stage.{Stage}
-use Rattle.tp4_conn.specs.declared.stage.Stage.TheVariants as stages
+use Rattle.tp4_conn.specs.declared.states.InAkWait.{InAkWait}
+use Rattle.tp4_conn.specs.declared.states.InOpened.{InOpened}
+use Rattle.tp4_conn.specs.declared.states.InWaitBeforeClose.{InWaitBeforeClose}
+use Rattle.tp4_conn.specs.declared.states.InClosing.{InClosing}
+use Rattle.tp4_conn.specs.declared.states.InCrWait.{InCrWait}
+use Rattle.tp4_conn.specs.declared.states.StateData.{StateData}
+use Rattle.tp4_conn.specs.declared.states.StateData.TheVariants as stages
 use Rattle.tp4_conn.specs.Agreeing.{halves_of, is_within, options_in}
 use Rattle.tp4_conn.specs.AkWait.{ak_wait_tick, ak_wait_tpdu, opening}
 use Rattle.tp4_conn.specs.Closing.{closing_tick, closing_tpdu}
@@ -47,9 +47,9 @@ use Rattle.tp4_conn.proofs.Sizes.{read_sized}
 -- ---- what is told
 
 -- a number is held back
-abbrev pub IsHeld : What → Type 0
-IsHeld (whats.Held kind number) = Prim.Unit {0}
-IsHeld what = ⊥
+abbrev pub TellsHeld : What → Type 0
+TellsHeld (whats.Held kind number) = Prim.Unit {0}
+TellsHeld what = ⊥
 
 -- of the units of an open end, and that it goes
 abbrev pub IsFlow : What → Type 0
@@ -72,14 +72,14 @@ AllTold P told = AllByRecursion (λ (e : EndEvent). P e.what) told
 -- ---- states
 
 -- an end that was called, and did not accept
-abbrev pub IsCalledWait : Stage → Type 0
+abbrev pub IsCalledWait : StateData → Type 0
 IsCalledWait (stages.UserWait since) = Prim.Unit {0}
 IsCalledWait (stages.Closing c) = Prim.Unit {0}
 IsCalledWait (stages.Frozen when) = Prim.Unit {0}
 IsCalledWait stage = ⊥
 
 -- an end that calls, and was not confirmed
-abbrev pub IsCallingWait : Stage → Type 0
+abbrev pub IsCallingWait : StateData → Type 0
 IsCallingWait (stages.CrWait w) = Prim.Unit {0}
 IsCallingWait (stages.WaitBeforeClose w) = Prim.Unit {0}
 IsCallingWait (stages.Closing c) = Prim.Unit {0}
@@ -87,13 +87,13 @@ IsCallingWait (stages.Frozen when) = Prim.Unit {0}
 IsCallingWait stage = ⊥
 
 -- what an end tells in a state
-abbrev pub MayTell : Stage → What → Type 0
+abbrev pub MayTell : StateData → What → Type 0
 MayTell (stages.AkWait w) what = IsFlow what
 MayTell (stages.Opened o) what = IsFlow what
 MayTell stage what = IsParting what
 
 -- the state that may follow, where nothing is confirmed
-abbrev pub MayFollow : Stage → Stage → Type 0
+abbrev pub MayFollow : StateData → StateData → Type 0
 MayFollow (stages.UserWait since) new = IsCalledWait new
 MayFollow (stages.CrWait w) new = IsCallingWait new
 MayFollow (stages.WaitBeforeClose w) new = IsCallingWait new
@@ -102,22 +102,22 @@ MayFollow (stages.Frozen when) new = IsCalledWait new × IsCallingWait new
 MayFollow (stages.AkWait w) new = Prim.Unit {0}
 MayFollow (stages.Opened o) new = Prim.Unit {0}
 
-pub record TellsSo (stage : Stage) (m : Moved) : Type 0 where
+pub record TellsSo (stage : StateData) (m : Moved) : Type 0 where
   pub told : AllTold (MayTell stage) m.events
   pub after : MayFollow stage m.stage
 
 -- the end asked, and is confirmed
-pub record ConfirmsSo (stage : Stage) (m : Moved) : Type 0 where
-  pub w : Requesting
+pub record ConfirmsSo (stage : StateData) (m : Moved) : Type 0 where
+  pub w : InCrWait
   pub stage_is : stage ≡ stages.CrWait w
   pub options : Options
   pub octets : List ℕ
   pub rest : List EndEvent
   pub events_are : m.events ≡ record { reference = m.base.own; what = whats.Confirm options octets } ∷ rest
-  pub held : AllTold IsHeld rest
+  pub held : AllTold TellsHeld rest
   pub sized : IsSized options
 
-abbrev pub Tells : Stage → Moved → Type 0
+abbrev pub Tells : StateData → Moved → Type 0
 Tells stage m = TellsSo stage m ⊎ ConfirmsSo stage m
 
 -- ---- numbers that are held back
@@ -127,7 +127,7 @@ all_appended P [] ys first second = second
 all_appended P (x ∷ xs) ys first second = (first.0, all_appended P xs ys first.1 second)
 
 abbrev pub OnlyHeld : Sendings → Type 0
-OnlyHeld x = AllTold IsHeld x.events
+OnlyHeld x = AllTold TellsHeld x.events
 
 one_held : (s : FlowSender) → OnlyHeld (one_urgent s)
 one_held s =
@@ -142,7 +142,7 @@ normals_held (suc fuel) s =
     (λ _. if_kept OnlyHeld (is_noted s.noted s.numbers.next) _ _ (λ _. tt) (λ _. (tt, tt))))
 
 then_held : (x : Sendings) (next : FlowSender → Sendings) → OnlyHeld x → ((s : FlowSender) → OnlyHeld (next s)) → OnlyHeld (then_sends x next)
-then_held x next first rest = all_appended IsHeld x.events (next x.sender).events first (rest x.sender)
+then_held x next first rest = all_appended TellsHeld x.events (next x.sender).events first (rest x.sender)
 
 pub new_held : (s : FlowSender) → OnlyHeld (new_sends s)
 new_held s =
@@ -165,7 +165,7 @@ pub ticked_held : (life : Life) (s : FlowSender) → OnlyHeld (ticked_as life s)
 ticked_held Exhausted s = tt
 ticked_held Goes s = then_held (then_sends (resends s) resends_urgent) new_sends (then_held (resends s) resends_urgent tt (λ m. again_held m m.urgent.out)) new_held
 
-held_flow : (what : What) → IsHeld what → IsFlow what
+held_flow : (what : What) → TellsHeld what → IsFlow what
 held_flow (whats.Held kind number) is = tt
 held_flow (whats.Incoming from partner calling called options octets) is = absurd is
 held_flow (whats.Accept options octets) is = absurd is
@@ -178,7 +178,7 @@ held_flow (whats.BadTpdu cause place) is = absurd is
 held_flow (whats.Unknown kind) is = absurd is
 held_flow whats.Silent is = absurd is
 
-flows : (xs : List EndEvent) → AllTold IsHeld xs → AllTold IsFlow xs
+flows : (xs : List EndEvent) → AllTold TellsHeld xs → AllTold IsFlow xs
 flows [] all = tt
 flows (x ∷ xs) all = (held_flow x.what all.0, flows xs all.1)
 
@@ -191,14 +191,14 @@ gots_flow k (unit ∷ units) = (tt, gots_flow k units)
 abbrev Flows : Moved → Type 0
 Flows m = AllTold IsFlow m.events
 
-module _ (wrap : ℕ → ℕ → ℕ) (b : Base) where
-  dt_flow : (got : Got) (o : Open) (w : ℕ) (piece : Piece) → Flows (dt_as got b o (taken_dt wrap o.halves.receiving w piece))
+module _ (wrap : ℕ → ℕ → ℕ) (b : EndRecord) where
+  dt_flow : (got : Got) (o : InOpened) (w : ℕ) (piece : Piece) → Flows (dt_as got b o (taken_dt wrap o.halves.receiving w piece))
   dt_flow TooLarge o w piece = all_appended IsFlow (taken_dt wrap o.halves.receiving w piece).events _ (gots_flow _ (dt_arrival o.halves.receiving w piece).units) (tt, tt)
   dt_flow Kept o w piece = gots_flow _ _
   dt_flow Old o w piece = gots_flow _ _
   dt_flow Outside o w piece = gots_flow _ _
 
-  opened_flow : (o : Open) (tpdu : Tpdu) → Flows (opened_tpdu wrap b o tpdu)
+  opened_flow : (o : InOpened) (tpdu : Tpdu) → Flows (opened_tpdu wrap b o tpdu)
   unfolding opened_tpdu
   opened_flow o (wires.Dr destination source reason info text) = (tt, tt)
   opened_flow o (wires.Er destination cause rejected) = (tt, tt)
@@ -218,7 +218,7 @@ module _ (wrap : ℕ → ℕ → ℕ) (b : Base) where
       all_appended IsFlow (opened (at b.clock h.sending)).events _ (flows (opened (at b.clock h.sending)).events (new_held (record (at b.clock h.sending) { is_open = true })))
       (opened_flow (record { took = b.clock; acked = b.clock; halves = record h { sending = (opened (at b.clock h.sending)).sender } }) tpdu)
 
-  ak_flow : (w : Answering) (tpdu : Tpdu) → Flows (ak_wait_tpdu wrap b w tpdu)
+  ak_flow : (w : InAkWait) (tpdu : Tpdu) → Flows (ak_wait_tpdu wrap b w tpdu)
   unfolding ak_wait_tpdu
   ak_flow w (wires.Ak destination number credit subsequence confirmation) = opens_flow w.halves (wires.Ak destination number credit subsequence confirmation)
   ak_flow w (wires.Dt destination last number text) = opens_flow w.halves (wires.Dt destination last number text)
@@ -230,33 +230,33 @@ module _ (wrap : ℕ → ℕ → ℕ) (b : Base) where
   ak_flow w (wires.Cr credit source width calling called size preferred extra version classes ack_time text) = tt
   ak_flow w (wires.Dc destination source) = tt
 
-  goes_flow : (o : Open) (x : Sendings) → OnlyHeld x → Flows (opened_goes b o x)
+  goes_flow : (o : InOpened) (x : Sendings) → OnlyHeld x → Flows (opened_goes b o x)
   goes_flow o x h =
       if_kept Flows (nat_le (o.acked + b.timers.window) b.clock) _ _ (λ _. all_appended IsFlow x.events [] (flows x.events h) tt) (λ _. flows x.events h)
 
-  as_flow : (life : Life) (o : Open) → Flows (opened_as life b o)
+  as_flow : (life : Life) (o : InOpened) → Flows (opened_as life b o)
   as_flow Exhausted o = (tt, tt)
   as_flow Goes o = goes_flow o (ticked (at b.clock o.halves.sending)) (ticked_held (life_of (at b.clock o.halves.sending)) (at b.clock o.halves.sending))
 
-  opened_tick_flow : (o : Open) → Flows (opened_tick b o)
+  opened_tick_flow : (o : InOpened) → Flows (opened_tick b o)
   unfolding opened_tick
   opened_tick_flow o = if_kept Flows (nat_le (o.took + b.timers.inactive) b.clock) _ _ (λ _. (tt, tt)) (λ _. as_flow (life_of (at b.clock o.halves.sending)) o)
 
-  ak_tick_flow : (w : Answering) → Flows (ak_wait_tick b w)
+  ak_tick_flow : (w : InAkWait) → Flows (ak_wait_tick b w)
   unfolding ak_wait_tick
   ak_tick_flow w =
       if_kept Flows (nat_lt b.clock (w.tries.last + b.timers.t1)) _ _ (λ _. tt) (λ _. if_kept Flows (nat_lt w.tries.count b.timers.sendings) _ _ (λ _. tt) (λ _. (tt, tt)))
 
   -- ---- other ends
 
-  so : (stage : Stage) (m : Moved) → AllTold (MayTell stage) m.events → MayFollow stage m.stage → Tells stage m
+  so : (stage : StateData) (m : Moved) → AllTold (MayTell stage) m.events → MayFollow stage m.stage → Tells stage m
   so stage m told after = inl (record { told = told; after = after })
 
   -- the sending half of a confirmed end
-  abbrev opening_half : Base → Options → FlowSender
+  abbrev opening_half : EndRecord → Options → FlowSender
   opening_half c o = record (at c.clock (halves_of c o).sending) { is_open = true }
 
-  cr_tells : (w : Requesting) (width : Format) (tpdu : Tpdu) → IsAllowed width tpdu → Tells (stages.CrWait w) (cr_wait_tpdu b w tpdu)
+  cr_tells : (w : InCrWait) (width : Format) (tpdu : Tpdu) → IsAllowed width tpdu → Tells (stages.CrWait w) (cr_wait_tpdu b w tpdu)
   unfolding cr_wait_tpdu
   cr_tells w width (wires.Cc credit destination source given calling called size preferred extra version classes ack_time text) a =
       if_kept (Tells (stages.CrWait w)) (is_within b.proposed given size preferred extra) _ _
@@ -280,19 +280,19 @@ module _ (wrap : ℕ → ℕ → ℕ) (b : Base) where
   cr_tells w width (wires.Ea destination number) a = so (stages.CrWait w) _ tt tt
   cr_tells w width (wires.Er destination cause rejected) a = so (stages.CrWait w) _ tt tt
 
-  wait_tells : (w : Parting) (tpdu : Tpdu) → Tells (stages.WaitBeforeClose w) (wait_before_close_tpdu b w tpdu)
+  wait_tells : (w : InWaitBeforeClose) (tpdu : Tpdu) → Tells (stages.WaitBeforeClose w) (wait_before_close_tpdu b w tpdu)
   unfolding wait_before_close_tpdu
   wait_tells w (wires.Cc credit destination source width calling called size preferred extra version classes ack_time text) = so (stages.WaitBeforeClose w) _ tt tt
   wait_tells w (wires.Dr destination source reason info text) = so (stages.WaitBeforeClose w) _ tt tt
   wait_tells w other = so (stages.WaitBeforeClose w) _ tt tt
 
-  closing_tells : (c : Releasing) (tpdu : Tpdu) → Tells (stages.Closing c) (closing_tpdu b c tpdu)
+  closing_tells : (c : InClosing) (tpdu : Tpdu) → Tells (stages.Closing c) (closing_tpdu b c tpdu)
   unfolding closing_tpdu
   closing_tells c (wires.Dc destination source) = so (stages.Closing c) _ tt (tt, tt)
   closing_tells c (wires.Dr destination source cause info text) = so (stages.Closing c) _ tt (tt, tt)
   closing_tells c other = so (stages.Closing c) _ tt (tt, tt)
 
-  tpdu_tells : (stage : Stage) (width : Format) (tpdu : Tpdu) → IsAllowed width tpdu → Tells stage (on_tpdu wrap b stage tpdu)
+  tpdu_tells : (stage : StateData) (width : Format) (tpdu : Tpdu) → IsAllowed width tpdu → Tells stage (on_tpdu wrap b stage tpdu)
   tpdu_tells (stages.CrWait w) width tpdu a = cr_tells w width tpdu a
   tpdu_tells (stages.WaitBeforeClose w) width tpdu a = wait_tells w tpdu
   tpdu_tells (stages.UserWait since) width tpdu a = so (stages.UserWait since) _ tt tt
@@ -301,13 +301,13 @@ module _ (wrap : ℕ → ℕ → ℕ) (b : Base) where
   tpdu_tells (stages.Closing c) width tpdu a = closing_tells c tpdu
   tpdu_tells (stages.Frozen when) width tpdu a = so (stages.Frozen when) _ tt (tt, tt)
 
-  cr_tick_tells : (w : Requesting) → Tells (stages.CrWait w) (cr_wait_tick b w)
+  cr_tick_tells : (w : InCrWait) → Tells (stages.CrWait w) (cr_wait_tick b w)
   unfolding cr_wait_tick
   cr_tick_tells w =
       if_kept (Tells (stages.CrWait w)) (nat_lt b.clock (w.tries.last + b.timers.t1)) _ _ (λ _. so (stages.CrWait w) _ tt tt)
       (λ _. if_kept (Tells (stages.CrWait w)) (nat_lt w.tries.count b.timers.sendings) _ _ (λ _. so (stages.CrWait w) _ tt tt) (λ _. so (stages.CrWait w) _ (tt, tt) tt))
 
-  wait_tick_tells : (w : Parting) → Tells (stages.WaitBeforeClose w) (wait_before_close_tick b w)
+  wait_tick_tells : (w : InWaitBeforeClose) → Tells (stages.WaitBeforeClose w) (wait_before_close_tick b w)
   unfolding wait_before_close_tick
   wait_tick_tells w =
       if_kept (Tells (stages.WaitBeforeClose w)) (nat_lt b.clock (w.request.tries.last + b.timers.t1)) _ _ (λ _. so (stages.WaitBeforeClose w) _ tt tt)
@@ -318,13 +318,13 @@ module _ (wrap : ℕ → ℕ → ℕ) (b : Base) where
   user_tick_tells since =
       if_kept (Tells (stages.UserWait since)) (nat_lt b.clock (since + b.timers.inactive)) _ _ (λ _. so (stages.UserWait since) _ tt tt) (λ _. so (stages.UserWait since) _ (tt, tt) tt)
 
-  closing_tick_tells : (c : Releasing) → Tells (stages.Closing c) (closing_tick b c)
+  closing_tick_tells : (c : InClosing) → Tells (stages.Closing c) (closing_tick b c)
   unfolding closing_tick
   closing_tick_tells c =
       if_kept (Tells (stages.Closing c)) (nat_le (c.from + span b.timers) b.clock) _ _ (λ _. so (stages.Closing c) _ tt (tt, tt))
       (λ _. if_kept (Tells (stages.Closing c)) (nat_lt b.clock (c.last + b.timers.t1)) _ _ (λ _. so (stages.Closing c) _ tt (tt, tt)) (λ _. so (stages.Closing c) _ tt (tt, tt)))
 
-  tick_tells : (stage : Stage) → Tells stage (on_tick b stage)
+  tick_tells : (stage : StateData) → Tells stage (on_tick b stage)
   tick_tells (stages.CrWait w) = cr_tick_tells w
   tick_tells (stages.WaitBeforeClose w) = wait_tick_tells w
   tick_tells (stages.UserWait since) = user_tick_tells since
@@ -349,7 +349,7 @@ parting_flow (whats.Unknown kind) h = absurd h
 parting_flow whats.Silent h = absurd h
 
 -- an end tells of a fault alone what it may tell in every state, and stays as it is
-fault_tells : (stage : Stage) (event : EndEvent) → IsParting event.what → AllTold (MayTell stage) (event ∷ []) × MayFollow stage stage
+fault_tells : (stage : StateData) (event : EndEvent) → IsParting event.what → AllTold (MayTell stage) (event ∷ []) × MayFollow stage stage
 fault_tells (stages.CrWait w) event is = ((is, tt), tt)
 fault_tells (stages.WaitBeforeClose w) event is = ((is, tt), tt)
 fault_tells (stages.UserWait since) event is = ((is, tt), tt)

@@ -23,17 +23,17 @@ use Rattle.tp4_flow.specs.declared.step.Sent.{Sent}
 use Rattle.tp4_flow.specs.declared.step.What.{What}
 use Rattle.tp4_flow.specs.declared.step.What.TheVariants as whats
 use Rattle.tp4_sending.specs.FlowSender.{FlowSender, Sendings, acknowledged, at, life_of, opened, submitted, ticked, urged, urgent_done}
-use Rattle.tp4_conn.specs.declared.base.Base.{Base}
+use Rattle.tp4_conn.specs.declared.end_record.EndRecord.{EndRecord}
 use Rattle.tp4_conn.specs.declared.call.UserCall.{UserCall}
 use Rattle.tp4_conn.specs.declared.call.UserCall.TheVariants as asks
 use Rattle.tp4_conn.specs.declared.halves.Halves.{Halves}
-use Rattle.tp4_conn.specs.declared.stage.Answering.{Answering}
-use Rattle.tp4_conn.specs.declared.stage.Open.{Open}
-use Rattle.tp4_conn.specs.declared.stage.Parting.{Parting}
-use Rattle.tp4_conn.specs.declared.stage.Releasing.{Releasing}
-use Rattle.tp4_conn.specs.declared.stage.Requesting.{Requesting}
-use Rattle.tp4_conn.specs.declared.stage.Stage.{Stage}
-use Rattle.tp4_conn.specs.declared.stage.Stage.TheVariants as stages
+use Rattle.tp4_conn.specs.declared.states.InAkWait.{InAkWait}
+use Rattle.tp4_conn.specs.declared.states.InOpened.{InOpened}
+use Rattle.tp4_conn.specs.declared.states.InWaitBeforeClose.{InWaitBeforeClose}
+use Rattle.tp4_conn.specs.declared.states.InClosing.{InClosing}
+use Rattle.tp4_conn.specs.declared.states.InCrWait.{InCrWait}
+use Rattle.tp4_conn.specs.declared.states.StateData.{StateData}
+use Rattle.tp4_conn.specs.declared.states.StateData.TheVariants as stages
 use Rattle.tp4_conn.specs.Agreeing.{agreed_by, flow_rules, halves_of, is_within, options_in}
 use Rattle.tp4_conn.specs.AkWait.{ak_wait_tick, ak_wait_tpdu, opening}
 use Rattle.tp4_conn.specs.Closing.{closing_tick, closing_tpdu}
@@ -45,7 +45,7 @@ use Rattle.tp4_conn.specs.Table.{Called, Event, Ticked, Took, at as at_tick, on_
 use Rattle.tp4_conn.specs.UserWait.{user_wait_accept, user_wait_refuse, user_wait_tick}
 use Rattle.tp4_conn.specs.WaitBeforeClose.{wait_before_close_tick, wait_before_close_tpdu}
 use Rattle.relay_play.specs.steps.CallRows.{submitted_held, urged_held}
-use Rattle.relay_play.specs.steps.StageRows.{AllTold, IsHeld, OnlyHeld, acknowledged_held, all_appended, done_held, new_held, ticked_held}
+use Rattle.relay_play.specs.steps.StageRows.{AllTold, TellsHeld, OnlyHeld, acknowledged_held, all_appended, done_held, new_held, ticked_held}
 
 module _ (P : List ℕ → Type 0) (none : P []) (both : (xs ys : List ℕ) → P xs → P ys → P (xs ++ ys)) where
   -- ---- pieces
@@ -158,7 +158,7 @@ module _ (P : List ℕ → Type 0) (none : P []) (both : (xs ys : List ℕ) → 
   HasText (wires.Ed destination last number text) = P text
   HasText other = Prim.Unit {0}
 
-  abbrev pub IsStageOf : Stage → Type 0
+  abbrev pub IsStageOf : StateData → Type 0
   IsStageOf (stages.AkWait w) = IsHalfOf w.halves.receiving
   IsStageOf (stages.Opened o) = IsHalfOf o.halves.receiving
   IsStageOf stage = Prim.Unit {0}
@@ -167,7 +167,7 @@ module _ (P : List ℕ → Type 0) (none : P []) (both : (xs ys : List ℕ) → 
     pub stage : IsStageOf m.stage
     pub told : AllTold IsTextOf m.events
 
-  held_is : (what : What) → IsHeld what → IsTextOf what
+  held_is : (what : What) → TellsHeld what → IsTextOf what
   held_is (whats.Held kind number) is = tt
   held_is (whats.Incoming from partner calling called options octets) is = absurd is
   held_is (whats.Accept options octets) is = absurd is
@@ -180,7 +180,7 @@ module _ (P : List ℕ → Type 0) (none : P []) (both : (xs ys : List ℕ) → 
   held_is (whats.Unknown kind) is = absurd is
   held_is whats.Silent is = absurd is
 
-  helds : (xs : List EndEvent) → AllTold IsHeld xs → AllTold IsTextOf xs
+  helds : (xs : List EndEvent) → AllTold TellsHeld xs → AllTold IsTextOf xs
   helds [] all = tt
   helds (x ∷ xs) all = (held_is x.what all.0, helds xs all.1)
 
@@ -193,25 +193,25 @@ module _ (P : List ℕ → Type 0) (none : P []) (both : (xs ys : List ℕ) → 
 
   -- ---- an open end
 
-  module _ (wrap : ℕ → ℕ → ℕ) (b : Base) where
-    sending_is : (o : Open) (x : Sendings) → IsHalfOf o.halves.receiving → OnlyHeld x → IsRowOfTexts (sending b o x)
+  module _ (wrap : ℕ → ℕ → ℕ) (b : EndRecord) where
+    sending_is : (o : InOpened) (x : Sendings) → IsHalfOf o.halves.receiving → OnlyHeld x → IsRowOfTexts (sending b o x)
     sending_is o x h held = record { stage = h; told = helds x.events held }
 
-    receiving_is : (o : Open) (r : Received) → IsHalfOf r.half → AllTold IsTextOf r.events → IsRowOfTexts (receiving b o r)
+    receiving_is : (o : InOpened) (r : Received) → IsHalfOf r.half → AllTold IsTextOf r.events → IsRowOfTexts (receiving b o r)
     receiving_is o r h told = record { stage = h; told = told }
 
-    dt_row : (got : Got) (o : Open) (r : Received) → IsHalfOf r.half → AllTold IsTextOf r.events → IsRowOfTexts (dt_as got b o r)
+    dt_row : (got : Got) (o : InOpened) (r : Received) → IsHalfOf r.half → AllTold IsTextOf r.events → IsRowOfTexts (dt_as got b o r)
     dt_row TooLarge o r h told = record { stage = tt; told = all_appended IsTextOf r.events _ told (tt, tt) }
     dt_row Kept o r h told = receiving_is (acking b o) r h told
     dt_row Old o r h told = receiving_is (acking b o) r h told
     dt_row Outside o r h told = receiving_is (acking b o) r h told
 
-    ed_row : (o : Open) (w : ℕ) (octets : List ℕ) → IsHalfOf o.halves.receiving → P octets → IsRowOfTexts (receiving b o (taken_ed wrap o.halves.receiving w octets))
+    ed_row : (o : InOpened) (w : ℕ) (octets : List ℕ) → IsHalfOf o.halves.receiving → P octets → IsRowOfTexts (receiving b o (taken_ed wrap o.halves.receiving w octets))
     ed_row o w octets h p =
         receiving_is o (taken_ed wrap o.halves.receiving w octets) (if_kept IsHalfOf (is_next o.halves.receiving w) _ _ (λ _. h) (λ _. h))
         (if_kept (AllTold IsTextOf) (is_next o.halves.receiving w) _ _ (λ _. (p, tt)) (λ _. tt))
 
-    opened_is : (o : Open) (tpdu : Tpdu) → IsHalfOf o.halves.receiving → HasText tpdu → IsRowOfTexts (opened_tpdu wrap b o tpdu)
+    opened_is : (o : InOpened) (tpdu : Tpdu) → IsHalfOf o.halves.receiving → HasText tpdu → IsRowOfTexts (opened_tpdu wrap b o tpdu)
     unfolding opened_tpdu
     opened_is o (wires.Dr destination source reason info text) h p = record { stage = tt; told = (tt, tt) }
     opened_is o (wires.Er destination cause rejected) h p = record { stage = tt; told = (tt, tt) }
@@ -235,7 +235,7 @@ module _ (P : List ℕ → Type 0) (none : P []) (both : (xs ys : List ℕ) → 
         (helds (opened (at b.clock h.sending)).events (new_held (record (at b.clock h.sending) { is_open = true })))
         (opened_is (record { took = b.clock; acked = b.clock; halves = record h { sending = (opened (at b.clock h.sending)).sender } }) tpdu is p)
 
-    ak_is : (w : Answering) (tpdu : Tpdu) → IsHalfOf w.halves.receiving → HasText tpdu → IsRowOfTexts (ak_wait_tpdu wrap b w tpdu)
+    ak_is : (w : InAkWait) (tpdu : Tpdu) → IsHalfOf w.halves.receiving → HasText tpdu → IsRowOfTexts (ak_wait_tpdu wrap b w tpdu)
     unfolding ak_wait_tpdu
     ak_is w (wires.Ak destination number credit subsequence confirmation) h p = opens_is w.halves (wires.Ak destination number credit subsequence confirmation) h p
     ak_is w (wires.Dt destination last number text) h p = opens_is w.halves (wires.Dt destination last number text) h p
@@ -247,21 +247,21 @@ module _ (P : List ℕ → Type 0) (none : P []) (both : (xs ys : List ℕ) → 
     ak_is w (wires.Cr credit source width calling called size preferred extra version classes ack_time text) h p = record { stage = h; told = tt }
     ak_is w (wires.Dc destination source) h p = record { stage = h; told = tt }
 
-    goes_is : (o : Open) (x : Sendings) → IsHalfOf o.halves.receiving → OnlyHeld x → IsRowOfTexts (opened_goes b o x)
+    goes_is : (o : InOpened) (x : Sendings) → IsHalfOf o.halves.receiving → OnlyHeld x → IsRowOfTexts (opened_goes b o x)
     goes_is o x h held =
         if_kept IsRowOfTexts (nat_le (o.acked + b.timers.window) b.clock) _ _ (λ _. record { stage = h; told = all_appended IsTextOf x.events [] (helds x.events held) tt })
         (λ _. sending_is o x h held)
 
-    as_is : (life : Life) (o : Open) → IsHalfOf o.halves.receiving → IsRowOfTexts (opened_as life b o)
+    as_is : (life : Life) (o : InOpened) → IsHalfOf o.halves.receiving → IsRowOfTexts (opened_as life b o)
     as_is Exhausted o h = record { stage = tt; told = (tt, tt) }
     as_is Goes o h = goes_is o (ticked (at b.clock o.halves.sending)) h (ticked_held (life_of (at b.clock o.halves.sending)) (at b.clock o.halves.sending))
 
-    opened_tick_is : (o : Open) → IsHalfOf o.halves.receiving → IsRowOfTexts (opened_tick b o)
+    opened_tick_is : (o : InOpened) → IsHalfOf o.halves.receiving → IsRowOfTexts (opened_tick b o)
     unfolding opened_tick
     opened_tick_is o h =
         if_kept IsRowOfTexts (nat_le (o.took + b.timers.inactive) b.clock) _ _ (λ _. record { stage = tt; told = (tt, tt) }) (λ _. as_is (life_of (at b.clock o.halves.sending)) o h)
 
-    ak_tick_is : (w : Answering) → IsHalfOf w.halves.receiving → IsRowOfTexts (ak_wait_tick b w)
+    ak_tick_is : (w : InAkWait) → IsHalfOf w.halves.receiving → IsRowOfTexts (ak_wait_tick b w)
     unfolding ak_wait_tick
     ak_tick_is w h =
         if_kept IsRowOfTexts (nat_lt b.clock (w.tries.last + b.timers.t1)) _ _ (λ _. record { stage = h; told = tt })
@@ -269,11 +269,11 @@ module _ (P : List ℕ → Type 0) (none : P []) (both : (xs ys : List ℕ) → 
 
     -- ---- other ends
 
-    cr_is : (w : Requesting) (tpdu : Tpdu) → HasText tpdu → IsRowOfTexts (cr_wait_tpdu b w tpdu)
+    cr_is : (w : InCrWait) (tpdu : Tpdu) → HasText tpdu → IsRowOfTexts (cr_wait_tpdu b w tpdu)
     unfolding cr_wait_tpdu
     cr_is w (wires.Cc credit destination source given calling called size preferred extra version classes ack_time text) p =
         let o : Options = options_in given size preferred extra in
-        let c : Base = record b { partner = source; credit = credit; agreed = Some o } in
+        let c : EndRecord = record b { partner = source; credit = credit; agreed = Some o } in
         let s : FlowSender = at c.clock (halves_of c o).sending in
         if_kept IsRowOfTexts (is_within b.proposed given size preferred extra) _ _
         (λ _. record { stage = empty_is (flow_rules c o) c.timers.credit; told = (p, helds (opened s).events (new_held (record s { is_open = true }))) })
@@ -287,19 +287,19 @@ module _ (P : List ℕ → Type 0) (none : P []) (both : (xs ys : List ℕ) → 
     cr_is w (wires.Ea destination number) p = record { stage = tt; told = tt }
     cr_is w (wires.Er destination cause rejected) p = record { stage = tt; told = tt }
 
-    wait_is : (w : Parting) (tpdu : Tpdu) → IsRowOfTexts (wait_before_close_tpdu b w tpdu)
+    wait_is : (w : InWaitBeforeClose) (tpdu : Tpdu) → IsRowOfTexts (wait_before_close_tpdu b w tpdu)
     unfolding wait_before_close_tpdu
     wait_is w (wires.Cc credit destination source width calling called size preferred extra version classes ack_time text) = record { stage = tt; told = tt }
     wait_is w (wires.Dr destination source reason info text) = record { stage = tt; told = tt }
     wait_is w other = record { stage = tt; told = tt }
 
-    closing_is : (c : Releasing) (tpdu : Tpdu) → IsRowOfTexts (closing_tpdu b c tpdu)
+    closing_is : (c : InClosing) (tpdu : Tpdu) → IsRowOfTexts (closing_tpdu b c tpdu)
     unfolding closing_tpdu
     closing_is c (wires.Dc destination source) = record { stage = tt; told = tt }
     closing_is c (wires.Dr destination source cause info text) = record { stage = tt; told = tt }
     closing_is c other = record { stage = tt; told = tt }
 
-    tpdu_is : (stage : Stage) (tpdu : Tpdu) → IsStageOf stage → HasText tpdu → IsRowOfTexts (on_tpdu wrap b stage tpdu)
+    tpdu_is : (stage : StateData) (tpdu : Tpdu) → IsStageOf stage → HasText tpdu → IsRowOfTexts (on_tpdu wrap b stage tpdu)
     tpdu_is (stages.CrWait w) tpdu h p = cr_is w tpdu p
     tpdu_is (stages.WaitBeforeClose w) tpdu h p = wait_is w tpdu
     tpdu_is (stages.UserWait since) tpdu h p = record { stage = tt; told = tt }
@@ -308,13 +308,13 @@ module _ (P : List ℕ → Type 0) (none : P []) (both : (xs ys : List ℕ) → 
     tpdu_is (stages.Closing c) tpdu h p = closing_is c tpdu
     tpdu_is (stages.Frozen when) tpdu h p = record { stage = tt; told = tt }
 
-    cr_tick_is : (w : Requesting) → IsRowOfTexts (cr_wait_tick b w)
+    cr_tick_is : (w : InCrWait) → IsRowOfTexts (cr_wait_tick b w)
     unfolding cr_wait_tick
     cr_tick_is w =
         if_kept IsRowOfTexts (nat_lt b.clock (w.tries.last + b.timers.t1)) _ _ (λ _. record { stage = tt; told = tt })
         (λ _. if_kept IsRowOfTexts (nat_lt w.tries.count b.timers.sendings) _ _ (λ _. record { stage = tt; told = tt }) (λ _. record { stage = tt; told = (tt, tt) }))
 
-    wait_tick_is : (w : Parting) → IsRowOfTexts (wait_before_close_tick b w)
+    wait_tick_is : (w : InWaitBeforeClose) → IsRowOfTexts (wait_before_close_tick b w)
     unfolding wait_before_close_tick
     wait_tick_is w =
         if_kept IsRowOfTexts (nat_lt b.clock (w.request.tries.last + b.timers.t1)) _ _ (λ _. record { stage = tt; told = tt })
@@ -324,13 +324,13 @@ module _ (P : List ℕ → Type 0) (none : P []) (both : (xs ys : List ℕ) → 
     unfolding user_wait_tick
     user_tick_is since = if_kept IsRowOfTexts (nat_lt b.clock (since + b.timers.inactive)) _ _ (λ _. record { stage = tt; told = tt }) (λ _. record { stage = tt; told = (tt, tt) })
 
-    closing_tick_is : (c : Releasing) → IsRowOfTexts (closing_tick b c)
+    closing_tick_is : (c : InClosing) → IsRowOfTexts (closing_tick b c)
     unfolding closing_tick
     closing_tick_is c =
         if_kept IsRowOfTexts (nat_le (c.from + span b.timers) b.clock) _ _ (λ _. record { stage = tt; told = tt })
         (λ _. if_kept IsRowOfTexts (nat_lt b.clock (c.last + b.timers.t1)) _ _ (λ _. record { stage = tt; told = tt }) (λ _. record { stage = tt; told = tt }))
 
-    tick_is : (stage : Stage) → IsStageOf stage → IsRowOfTexts (on_tick b stage)
+    tick_is : (stage : StateData) → IsStageOf stage → IsRowOfTexts (on_tick b stage)
     tick_is (stages.CrWait w) h = cr_tick_is w
     tick_is (stages.WaitBeforeClose w) h = wait_tick_is w
     tick_is (stages.UserWait since) h = user_tick_is since
@@ -345,18 +345,18 @@ module _ (P : List ℕ → Type 0) (none : P []) (both : (xs ys : List ℕ) → 
     unfolding user_wait_accept
     accept_is asked octets =
         let o : Options = agreed_by b.proposed asked in
-        let c : Base = record b { agreed = Some o } in
+        let c : EndRecord = record b { agreed = Some o } in
         record { stage = empty_is (flow_rules c o) c.timers.credit; told = (tt, tt) }
 
     refuse_is : (octets : List ℕ) → IsRowOfTexts (user_wait_refuse b octets)
     unfolding user_wait_refuse
     refuse_is octets = record { stage = tt; told = tt }
 
-    granting_is : (o : Open) (new : Half) → IsHalfOf new → IsRowOfTexts (granting b o new)
+    granting_is : (o : InOpened) (new : Half) → IsHalfOf new → IsRowOfTexts (granting b o new)
     granting_is o new h =
         if_kept IsRowOfTexts (new.receiver.inbox.credit == o.halves.receiving.receiver.inbox.credit) _ _ (λ _. record { stage = h; told = (tt, tt) }) (λ _. record { stage = h; told = (tt, tt) })
 
-    call_is : (stage : Stage) (call : UserCall) → IsStageOf stage → IsRowOfTexts (on_call b stage call)
+    call_is : (stage : StateData) (call : UserCall) → IsStageOf stage → IsRowOfTexts (on_call b stage call)
     call_is (stages.CrWait w) (asks.Disconnect octets) h = record { stage = tt; told = tt }
     call_is (stages.UserWait since) (asks.Accept asked octets) h = accept_is asked octets
     call_is (stages.UserWait since) (asks.Refuse octets) h = refuse_is octets

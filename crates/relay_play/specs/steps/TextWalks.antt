@@ -41,10 +41,10 @@ use Rattle.tp4_flow.specs.declared.step.What.{What}
 use Rattle.tp4_flow.specs.declared.step.What.TheVariants as whats
 use Rattle.tp4_conn.specs.declared.call.CallRefusal.{CallRefusal}
 use Rattle.tp4_conn.specs.declared.call.CallRefusal.TheVariants as call_refusals
-use Rattle.tp4_conn.specs.declared.call.ConnectCall.{ConnectCall}
+use Rattle.tp4_conn.specs.declared.call.ConnectRequest.{ConnectRequest}
 use Rattle.tp4_conn.specs.declared.call.UserCall.{UserCall}
 use Rattle.tp4_conn.specs.declared.call.UserCall.TheVariants as asks
-use Rattle.tp4_conn.specs.declared.stage.Stage.{Stage}
+use Rattle.tp4_conn.specs.declared.states.StateData.{StateData}
 use Rattle.tp4_conn.specs.Agreeing.{proposed_in}
 use Rattle.tp4_conn.specs.End.{End, Moved, end_of}
 use Rattle.tp4_conn.specs.Making.{called_end, connected, indicated}
@@ -107,7 +107,7 @@ all_both Q (x ∷ xs) ys first rest = (first.0, all_both Q xs ys first.1 rest)
 
 module _ (P : List ℕ → Type 0) (none : P []) (both : (xs ys : List ℕ) → P xs → P ys → P (xs ++ ys))
     (read : (extended octets rest : List ℕ) (tpdu : TpduAndSum) → BeginsWithTpdu extended octets tpdu rest → P octets → HasText P none both tpdu.0 × P rest) where
-  abbrev StageIs : Stage → Type 0
+  abbrev StageIs : StateData → Type 0
   StageIs stage = IsStageOf P none both stage
 
   abbrev WhatIs : What → Type 0
@@ -129,7 +129,7 @@ module _ (P : List ℕ → Type 0) (none : P []) (both : (xs ys : List ℕ) → 
       → ActedIs (record { entity = with_end e reference place; events = m.events; tpdus = m.tpdus })
   acted_by e reference place m least all row here = record {
     entity = λ r end stands. elim (placed_or e reference place r end least stands) [
-      | inl now ↦ subst (λ (stage : Stage). StageIs stage) (sym (here end now.1)) row.stage
+      | inl now ↦ subst (λ (stage : StateData). StageIs stage) (sym (here end now.1)) row.stage
       | inr before ↦ all r end before
     ];
     tells = row.told;
@@ -368,24 +368,24 @@ module _ (P : List ℕ → Type 0) (none : P []) (both : (xs ys : List ℕ) → 
     refused_ran old new made (Some why) other all s =
         ran_same old new made (events.No why ∷ []) ((tt, not_so (is_note (events.No why)) other), tt) s.0 (ap (λ (w : World C). w.entities) s.1) all
 
-    begun_ran : (old new : World C) (made : List Event) (system : ℕ) (e : Entity) (call : ConnectCall) (found : Option ℕ) → entity_at old.entities system ≡ Some e → least_free (clock_of link steps old) e ≡ found
-        → WorldIs old → BeginsAt link steps old system e call found made new → RanIs made new
-    begun_ran old new made system e call None there least all s = absurd s
-    begun_ran old new made system e call (Some reference) there least all s =
+    begun_ran : (old new : World C) (made : List Event) (system : ℕ) (e : Entity) (request : ConnectRequest) (found : Option ℕ) → entity_at old.entities system ≡ Some e → least_free (clock_of link steps old) e ≡ found
+        → WorldIs old → BeginsAt link steps old system e request found made new → RanIs made new
+    begun_ran old new made system e request None there least all s = absurd s
+    begun_ran old new made system e request (Some reference) there least all s =
         let now : ℕ = clock_of link steps old in
-        let did : ActedIs (connecting now e reference call) =
-        moved_is (at now e) reference (connected now (call_of e reference call)) (free_least now reference e least).least (all system e there) (record { stage = tt; told = tt }) in
+        let did : ActedIs (connecting now e reference request) =
+        moved_is (at now e) reference (connected now (call_of e reference request)) (free_least now reference e least).least (all system e there) (record { stage = tt; told = tt }) in
         let mid : World C = record old { ends = old.ends ++ record { system = system; reference = reference } ∷ [] } in
-        let later = acts_ran mid new system e.own (connecting now e reference call) s.0 all did s.1 in
+        let later = acts_ran mid new system e.own (connecting now e reference request) s.0 all did s.1 in
         record { told_is = subst AreFine (sym s.2) ((tt, refl), later.told_is); world = later.world }
 
-    connect_by : (old new : World C) (made : List Event) (system : ℕ) (e : Entity) (call : ConnectCall) (why : Option ConnectRefusal) → entity_at old.entities system ≡ Some e → WorldIs old
-        → ConnectsBy link steps old system e call why made new → RanIs made new
-    connect_by old new made system e call (Some why) there all s = refused_ran old new made (told_connect why) (connect_other why) all s
-    connect_by old new made system e call None there all s = begun_ran old new made system e call (least_free (clock_of link steps old) e) there refl all s
+    connect_by : (old new : World C) (made : List Event) (system : ℕ) (e : Entity) (request : ConnectRequest) (why : Option ConnectRefusal) → entity_at old.entities system ≡ Some e → WorldIs old
+        → ConnectsBy link steps old system e request why made new → RanIs made new
+    connect_by old new made system e request (Some why) there all s = refused_ran old new made (told_connect why) (connect_other why) all s
+    connect_by old new made system e request None there all s = begun_ran old new made system e request (least_free (clock_of link steps old) e) there refl all s
 
-    pub connects_ran : (old new : World C) (made : List Event) (system : ℕ) (call : ConnectCall) → WorldIs old → Connects link steps old system call made new → RanIs made new
-    connects_ran old new made system call all s = connect_by old new made system s.0 call (connect_refusal (clock_of link steps old) s.0 call.octets) s.1 all s.2
+    pub connects_ran : (old new : World C) (made : List Event) (system : ℕ) (request : ConnectRequest) → WorldIs old → Connects link steps old system request made new → RanIs made new
+    connects_ran old new made system request all s = connect_by old new made system s.0 request (connect_refusal (clock_of link steps old) s.0 request.octets) s.1 all s.2
 
     unit_ran : (old new : World C) (below : C) (made : List Event) (system : ℕ) (sender receiver octets : List ℕ) (wish : Wish) → WorldIs old
         → SendsUnit link steps old.carrier system sender receiver wish octets made below → new ≡ record old { carrier = below } → RanIs made new

@@ -8,9 +8,9 @@ use Rattle.osi_journal.specs.declared.event.Event.TheVariants as events
 use Rattle.osi_journal.specs.declared.event.Indication.{Indication}
 use Rattle.osi_script.specs.declared.line.Options.{Options as ScriptOptions}
 use Rattle.tp4_number.proofs.Past.{if_kept}
-use Rattle.tp4_conn.specs.declared.stage.Requesting.{Requesting}
-use Rattle.tp4_conn.specs.declared.stage.Stage.{Stage}
-use Rattle.tp4_conn.specs.declared.stage.Stage.TheVariants as stages
+use Rattle.tp4_conn.specs.declared.states.InCrWait.{InCrWait}
+use Rattle.tp4_conn.specs.declared.states.StateData.{StateData}
+use Rattle.tp4_conn.specs.declared.states.StateData.TheVariants as stages
 use Rattle.tp4_relay.specs.declared.claim.Claim.{Claim}
 use Rattle.tp4_relay.specs.declared.pair.Heading.TheVariants.{On, Back}
 use Rattle.tp4_relay.specs.declared.pair.Pair.{Pair}
@@ -24,7 +24,7 @@ use Rattle.relay_play.specs.steps.StageRows.{IsCalledWait, IsCallingWait, MayFol
 
 -- ---- what a state must be
 
-abbrev pub PairWaits : ℕ → Stage → Pair → Type 0
+abbrev pub PairWaits : ℕ → StateData → Pair → Type 0
 PairWaits n stage pair = pair.phase ≡ phases.Begun → (pair.inbound ≡ n → IsCalledWait stage) × (pair.outbound ≡ n → IsCallingWait stage)
 
 abbrev pub has_claim : List Claim → ℕ → Bool
@@ -33,7 +33,7 @@ has_claim claims n = list_any (λ (claim : Claim). claim.end == n) claims
 abbrev pub has_inbound : List Pair → ℕ → Bool
 has_inbound pairs n = list_any (λ (pair : Pair). pair.inbound == n) pairs
 
-pub record Waits (claims : List Claim) (pairs : List Pair) (n : ℕ) (stage : Stage) : Type 0 where
+pub record Waits (claims : List Claim) (pairs : List Pair) (n : ℕ) (stage : StateData) : Type 0 where
   pub unjoined : has_claim claims n ≡ true → has_inbound pairs n ≡ false → IsCalledWait stage
   pub paired : AllByRecursion (PairWaits n stage) pairs
 
@@ -71,7 +71,7 @@ pub record KeepsEnds (f : Pair → Pair) : Type 0 where
 
 -- what holds of pairs goes on to hold
 pub record KeepsPairs (old new : List Pair) : Type 0 where
-  pub waits : (n : ℕ) (stage : Stage) → AllByRecursion (PairWaits n stage) old → AllByRecursion (PairWaits n stage) new
+  pub waits : (n : ℕ) (stage : StateData) → AllByRecursion (PairWaits n stage) old → AllByRecursion (PairWaits n stage) new
   pub inbound : (n : ℕ) → has_inbound new n ≡ has_inbound old n
   pub outbounds : (count : ℕ) → AllByRecursion (λ (pair : Pair). pair.outbound ≤ count) old → AllByRecursion (λ (pair : Pair). pair.outbound ≤ count) new
   pub inbounds : (claims : List Claim) → AllByRecursion (λ (pair : Pair). has_claim claims pair.inbound ≡ true) old → AllByRecursion (λ (pair : Pair). has_claim claims pair.inbound ≡ true) new
@@ -196,13 +196,13 @@ common_pairs : (claims : List Claim) (pairs : List Pair) (event : Event) → IsC
 common_pairs claims pairs (events.Joined inbound outbound) is = absurd is
 common_pairs claims pairs event is = after_pairs pairs event
 
-waits_kept : (claims more : List Claim) (pairs next : List Pair) (n : ℕ) (stage : Stage) → KeepsClaims claims more → KeepsPairs pairs next → Waits claims pairs n stage → Waits more next n stage
+waits_kept : (claims more : List Claim) (pairs next : List Pair) (n : ℕ) (stage : StateData) → KeepsClaims claims more → KeepsPairs pairs next → Waits claims pairs n stage → Waits more next n stage
 waits_kept claims more pairs next n stage c p w = record {
   unjoined = λ claimed apart. w.unjoined (sym (c.has n) ∙ claimed) (sym (p.inbound n) ∙ apart);
   paired = p.waits n stage w.paired;
 }
 
-pub noted_waits : (kept : Kept) (event : Event) (n : ℕ) (stage : Stage) → IsCommon event → Waits kept.claims kept.pairs n stage → Waits (noted kept event).claims (noted kept event).pairs n stage
+pub noted_waits : (kept : Kept) (event : Event) (n : ℕ) (stage : StateData) → IsCommon event → Waits kept.claims kept.pairs n stage → Waits (noted kept event).claims (noted kept event).pairs n stage
 noted_waits kept event n stage is w =
     waits_kept kept.claims (noted kept event).claims kept.pairs (noted kept event).pairs n stage (common_claims kept.rows kept.claims event is) (common_pairs kept.claims kept.pairs event is) w
 
@@ -257,7 +257,7 @@ claimed_low [] end count (Some row) low all = (low, tt)
 claimed_low (claim ∷ claims) end count row low all = (all.0, claimed_low claims end count row low all.1)
 
 -- another end waits as before
-pub heard_waits : (kept : Kept) (heard : Indication) (n : ℕ) (stage : Stage) → (heard.end ≡ n → ⊥) → Waits kept.claims kept.pairs n stage
+pub heard_waits : (kept : Kept) (heard : Indication) (n : ℕ) (stage : StateData) → (heard.end ≡ n → ⊥) → Waits kept.claims kept.pairs n stage
     → Waits (noted kept (events.Incoming heard)).claims (noted kept (events.Incoming heard)).pairs n stage
 heard_waits kept heard n stage apart w = record {
   unjoined = λ has out. w.unjoined (sym (claimed_has kept.claims heard.end (row_for kept.rows heard) n apart) ∙ has) out;
@@ -265,7 +265,7 @@ heard_waits kept heard n stage apart w = record {
 }
 
 -- the new one is one that was called
-pub new_waits : (kept : Kept) (heard : Indication) (count : ℕ) (stage : Stage) → count < heard.end → IsTidy count kept.claims kept.pairs → IsCalledWait stage
+pub new_waits : (kept : Kept) (heard : Indication) (count : ℕ) (stage : StateData) → count < heard.end → IsTidy count kept.claims kept.pairs → IsCalledWait stage
     → Waits (noted kept (events.Incoming heard)).claims (noted kept (events.Incoming heard)).pairs heard.end stage
 new_waits kept heard count stage above t is = record {
   unjoined = λ has out. is;
@@ -284,7 +284,7 @@ heard_tidy kept heard count low t = record {
 -- ---- an end that was made by a request
 
 -- it is no end of the relay yet
-pub asking_waits : (count n : ℕ) (claims : List Claim) (pairs : List Pair) (stage : Stage) → count < n → IsTidy count claims pairs → Waits claims pairs n stage
+pub asking_waits : (count n : ℕ) (claims : List Claim) (pairs : List Pair) (stage : StateData) → count < n → IsTidy count claims pairs → Waits claims pairs n stage
 asking_waits count n claims pairs stage above t = record {
   unjoined = λ has out. absurd (false≢true (sym (unclaimed claims count n above t.claims_low) ∙ has));
   paired = by pairs t.outbounds t.inbounds;
@@ -307,7 +307,7 @@ or_false true b is = absurd (false≢true (sym is))
 or_false false b is = (refl, is)
 
 -- it is none of the relay, so it may be in any state
-pub free_waits : (count n : ℕ) (kept : Kept) (stage : Stage) → owns kept n ≡ false → IsTidy count kept.claims kept.pairs → Waits kept.claims kept.pairs n stage
+pub free_waits : (count n : ℕ) (kept : Kept) (stage : StateData) → owns kept n ≡ false → IsTidy count kept.claims kept.pairs → Waits kept.claims kept.pairs n stage
 free_waits count n kept stage free t = record {
   unjoined = λ has out. absurd (false≢true (sym none.0 ∙ has));
   paired = by kept.pairs none.1 t.inbounds;
@@ -329,14 +329,14 @@ free_waits count n kept stage free t = record {
 
 -- ---- an end that is confirmed
 
-confirmed_pair : (n : ℕ) (w : Requesting) (stage : Stage) (pair : Pair) → PairWaits n (stages.CrWait w) pair → PairWaits n stage (outbound_changed n Opens pair)
+confirmed_pair : (n : ℕ) (w : InCrWait) (stage : StateData) (pair : Pair) → PairWaits n (stages.CrWait w) pair → PairWaits n stage (outbound_changed n Opens pair)
 confirmed_pair n w stage pair h = by (pair.outbound == n) refl
   where
     by : (b : Bool) → (pair.outbound == n) ≡ b → PairWaits n stage (if b then changed pair Opens else pair)
     by true is = λ begun. absurd (opened_begun pair.phase begun)
     by false is = λ begun. (λ same. absurd ((h begun).0 same), λ same. absurd (false≢true (sym is ∙ eq-eqb pair.outbound n same)))
 
-pub confirmed_waits : (kept : Kept) (n : ℕ) (options : ScriptOptions) (octets : List ℕ) (w : Requesting) (stage : Stage) → Waits kept.claims kept.pairs n (stages.CrWait w)
+pub confirmed_waits : (kept : Kept) (n : ℕ) (options : ScriptOptions) (octets : List ℕ) (w : InCrWait) (stage : StateData) → Waits kept.claims kept.pairs n (stages.CrWait w)
     → Waits (noted kept (events.Confirm n options octets)).claims (noted kept (events.Confirm n options octets)).pairs n stage
 confirmed_waits kept n options octets w stage h = record {
   unjoined = λ has out. absurd (h.unjoined has (sym (any_mapped (λ (pair : Pair). pair.inbound == n) (outbound_changed n Opens) kept.pairs (λ pair. ap (λ (m : ℕ). m == n) ((outbound_keeps n Opens).inbound pair))) ∙ out));
@@ -345,12 +345,12 @@ confirmed_waits kept n options octets w stage h = record {
 
 -- ---- an open end
 
-abbrev pub IsOpenStage : Stage → Type 0
+abbrev pub IsOpenStage : StateData → Type 0
 IsOpenStage (stages.AkWait w) = Prim.Unit {0}
 IsOpenStage (stages.Opened o) = Prim.Unit {0}
 IsOpenStage stage = ⊥
 
-not_called : (stage : Stage) → IsOpenStage stage → IsCalledWait stage → ⊥
+not_called : (stage : StateData) → IsOpenStage stage → IsCalledWait stage → ⊥
 not_called (stages.AkWait w) is waits = waits
 not_called (stages.Opened o) is waits = waits
 not_called (stages.CrWait w) is waits = is
@@ -359,7 +359,7 @@ not_called (stages.UserWait since) is waits = is
 not_called (stages.Closing c) is waits = is
 not_called (stages.Frozen when) is waits = is
 
-not_calling : (stage : Stage) → IsOpenStage stage → IsCallingWait stage → ⊥
+not_calling : (stage : StateData) → IsOpenStage stage → IsCallingWait stage → ⊥
 not_calling (stages.AkWait w) is waits = waits
 not_calling (stages.Opened o) is waits = waits
 not_calling (stages.CrWait w) is waits = is
@@ -369,14 +369,14 @@ not_calling (stages.Closing c) is waits = is
 not_calling (stages.Frozen when) is waits = is
 
 -- it is no end that has to wait, so any state may follow
-pub open_waits : (claims : List Claim) (pairs : List Pair) (n : ℕ) (stage new : Stage) → IsOpenStage stage → Waits claims pairs n stage → Waits claims pairs n new
+pub open_waits : (claims : List Claim) (pairs : List Pair) (n : ℕ) (stage new : StateData) → IsOpenStage stage → Waits claims pairs n stage → Waits claims pairs n new
 open_waits claims pairs n stage new is w = record {
   unjoined = λ has out. absurd (not_called stage is (w.unjoined has out));
   paired = each (PairWaits n stage) (PairWaits n new) pairs (λ pair h begun. (λ same. absurd (not_called stage is ((h begun).0 same)), λ same. absurd (not_calling stage is ((h begun).1 same)))) w.paired;
 }
 
 -- and it may show units
-pub open_shows : (kept : Kept) (n : ℕ) (stage : Stage) → IsOpenStage stage → Waits kept.claims kept.pairs n stage → Shows kept n
+pub open_shows : (kept : Kept) (n : ℕ) (stage : StateData) → IsOpenStage stage → Waits kept.claims kept.pairs n stage → Shows kept n
 open_shows kept n stage is w = (
   λ unjoined. not_called stage is (w.unjoined unjoined.0 unjoined.1),
   each (PairWaits n stage) (MayShow n) kept.pairs
@@ -385,25 +385,25 @@ open_shows kept n stage is w = (
 
 -- ---- the state that may follow
 
-called_waits : (claims : List Claim) (pairs : List Pair) (n : ℕ) (stage new : Stage) → (IsCallingWait stage → ⊥) → IsCalledWait new → Waits claims pairs n stage → Waits claims pairs n new
+called_waits : (claims : List Claim) (pairs : List Pair) (n : ℕ) (stage new : StateData) → (IsCallingWait stage → ⊥) → IsCalledWait new → Waits claims pairs n stage → Waits claims pairs n new
 called_waits claims pairs n stage new none is w = record {
   unjoined = λ has out. is;
   paired = each (PairWaits n stage) (PairWaits n new) pairs (λ pair h begun. (λ same. is, λ same. absurd (none ((h begun).1 same)))) w.paired;
 }
 
-calling_waits : (claims : List Claim) (pairs : List Pair) (n : ℕ) (stage new : Stage) → (IsCalledWait stage → ⊥) → IsCallingWait new → Waits claims pairs n stage → Waits claims pairs n new
+calling_waits : (claims : List Claim) (pairs : List Pair) (n : ℕ) (stage new : StateData) → (IsCalledWait stage → ⊥) → IsCallingWait new → Waits claims pairs n stage → Waits claims pairs n new
 calling_waits claims pairs n stage new none is w = record {
   unjoined = λ has out. absurd (none (w.unjoined has out));
   paired = each (PairWaits n stage) (PairWaits n new) pairs (λ pair h begun. (λ same. absurd (none ((h begun).0 same)), λ same. is)) w.paired;
 }
 
-done_waits : (claims : List Claim) (pairs : List Pair) (n : ℕ) (stage new : Stage) → IsCalledWait new → IsCallingWait new → Waits claims pairs n stage → Waits claims pairs n new
+done_waits : (claims : List Claim) (pairs : List Pair) (n : ℕ) (stage new : StateData) → IsCalledWait new → IsCallingWait new → Waits claims pairs n stage → Waits claims pairs n new
 done_waits claims pairs n stage new called calling w = record {
   unjoined = λ has out. called;
   paired = each (PairWaits n stage) (PairWaits n new) pairs (λ pair h begun. (λ same. called, λ same. calling)) w.paired;
 }
 
-pub follows_waits : (claims : List Claim) (pairs : List Pair) (n : ℕ) (stage new : Stage) → MayFollow stage new → Waits claims pairs n stage → Waits claims pairs n new
+pub follows_waits : (claims : List Claim) (pairs : List Pair) (n : ℕ) (stage new : StateData) → MayFollow stage new → Waits claims pairs n stage → Waits claims pairs n new
 follows_waits claims pairs n (stages.UserWait since) new may w = called_waits claims pairs n (stages.UserWait since) new (λ is. is) may w
 follows_waits claims pairs n (stages.CrWait c) new may w = calling_waits claims pairs n (stages.CrWait c) new (λ is. is) may w
 follows_waits claims pairs n (stages.WaitBeforeClose c) new may w = calling_waits claims pairs n (stages.WaitBeforeClose c) new (λ is. is) may w

@@ -17,10 +17,10 @@ use Rattle.tp4_flow.specs.declared.rules.Options.{Options}
 use Rattle.tp4_flow.specs.declared.step.EndEvent.{EndEvent}
 use Rattle.tp4_flow.specs.declared.step.What.{What}
 use Rattle.tp4_flow.specs.declared.step.What.TheVariants as whats
-use Rattle.tp4_conn.specs.declared.base.Base.{Base}
-use Rattle.tp4_conn.specs.declared.stage.Requesting.{Requesting}
-use Rattle.tp4_conn.specs.declared.stage.Stage.{Stage}
-use Rattle.tp4_conn.specs.declared.stage.Stage.TheVariants as stages
+use Rattle.tp4_conn.specs.declared.end_record.EndRecord.{EndRecord}
+use Rattle.tp4_conn.specs.declared.states.InCrWait.{InCrWait}
+use Rattle.tp4_conn.specs.declared.states.StateData.{StateData}
+use Rattle.tp4_conn.specs.declared.states.StateData.TheVariants as stages
 use Rattle.tp4_conn.specs.Agreeing.{proposed_in}
 use Rattle.tp4_conn.specs.End.{End, IsSized, Moved, end_of}
 use Rattle.tp4_conn.specs.Making.{called_end, indicated}
@@ -48,7 +48,7 @@ use Rattle.tp4_relay.specs.declared.claim.Claim.{Claim}
 use Rattle.tp4_relay.specs.declared.pair.Pair.{Pair}
 use Rattle.tp4_relay.specs.Allowed.{AreLine, IsLine}
 use Rattle.tp4_relay.specs.Kept.{Kept, kept_after, named_by, noted}
-use Rattle.relay_play.specs.steps.StageRows.{AllTold, ConfirmsSo, IsFlow, IsHeld, IsParting, MayFollow, MayTell, Tells, TellsSo, parting_flow, taking_tells, ticking_tells}
+use Rattle.relay_play.specs.steps.StageRows.{AllTold, ConfirmsSo, IsFlow, TellsHeld, IsParting, MayFollow, MayTell, Tells, TellsSo, parting_flow, taking_tells, ticking_tells}
 use Rattle.relay_play.specs.steps.Waits.{IsCommon, IsOpenStage, IsTidy, Waits, confirmed_waits, follows_waits, heard_tidy, heard_waits, new_waits, noted_named, noted_tidy, noted_waits, open_shows, tidy_more}
 
 -- ---- lists of events
@@ -175,7 +175,7 @@ pub record IsFine (count : ℕ) (kept : Kept) (event : Told) : Type 0 where
 -- what is kept waits as before
 pub record Walked (count : ℕ) (kept : Kept) (made : List Told) : Type 0 where
   pub line : AreLine count kept made
-  pub waits : (m : ℕ) (stage : Stage) → Waits kept.claims kept.pairs m stage → Waits (kept_after kept made).claims (kept_after kept made).pairs m stage
+  pub waits : (m : ℕ) (stage : StateData) → Waits kept.claims kept.pairs m stage → Waits (kept_after kept made).claims (kept_after kept made).pairs m stage
   pub tidy : IsTidy count kept.claims kept.pairs → IsTidy count (kept_after kept made).claims (kept_after kept made).pairs
   pub named : kept.named ≤ count → (kept_after kept made).named ≤ count
 
@@ -205,7 +205,7 @@ walked_linked entities ends kept made w l = record {
 
 -- ---- what an end tells
 
-may_flow : (stage : Stage) (what : What) → MayTell stage what → IsFlow what
+may_flow : (stage : StateData) (what : What) → MayTell stage what → IsFlow what
 may_flow (stages.AkWait w) what h = h
 may_flow (stages.Opened o) what h = h
 may_flow (stages.CrWait w) what h = parting_flow what h
@@ -214,7 +214,7 @@ may_flow (stages.UserWait since) what h = parting_flow what h
 may_flow (stages.Closing c) what h = parting_flow what h
 may_flow (stages.Frozen when) what h = parting_flow what h
 
-got_open : (stage : Stage) (octets : List ℕ) → MayTell stage (whats.Got octets) → IsOpenStage stage
+got_open : (stage : StateData) (octets : List ℕ) → MayTell stage (whats.Got octets) → IsOpenStage stage
 got_open (stages.AkWait w) octets h = tt
 got_open (stages.Opened o) octets h = tt
 got_open (stages.CrWait w) octets h = h
@@ -223,7 +223,7 @@ got_open (stages.UserWait since) octets h = h
 got_open (stages.Closing c) octets h = h
 got_open (stages.Frozen when) octets h = h
 
-urgent_open : (stage : Stage) (octets : List ℕ) → MayTell stage (whats.Urgent octets) → IsOpenStage stage
+urgent_open : (stage : StateData) (octets : List ℕ) → MayTell stage (whats.Urgent octets) → IsOpenStage stage
 urgent_open (stages.AkWait w) octets h = tt
 urgent_open (stages.Opened o) octets h = tt
 urgent_open (stages.CrWait w) octets h = h
@@ -234,7 +234,7 @@ urgent_open (stages.Frozen when) octets h = h
 
 module _ (system : ℕ) (address : List ℕ) where
   -- an end tells what it may in its state
-  module _ (count n own : ℕ) (few : n ≤ count) (stage : Stage) (ends : List EndAt) (at_n : latest ends system own ≡ n) where
+  module _ (count n own : ℕ) (few : n ≤ count) (stage : StateData) (ends : List EndAt) (at_n : latest ends system own ≡ n) where
     names : (reference : ℕ) → reference ≡ own → latest ends system reference ≡ n
     names reference is = ap (latest ends system) is ∙ at_n
 
@@ -269,7 +269,7 @@ module _ (system : ℕ) (address : List ℕ) where
         (sym (same_ends one one.what flow)) (walked_more count kept event (events_after ends system address others) fine rest)
 
   -- numbers that are held back
-  held_fine : (count number reference : ℕ) (what : What) (kept : Kept) → IsHeld what → IsFine count kept (event_for system address number reference what)
+  held_fine : (count number reference : ℕ) (what : What) (kept : Kept) → TellsHeld what → IsFine count kept (event_for system address number reference what)
   held_fine count number reference (whats.Held kind held_number) kept is = record { common = tt; line = tt; low = omega arith }
   held_fine count number reference (whats.Got octets) kept is = absurd is
   held_fine count number reference (whats.Urgent octets) kept is = absurd is
@@ -282,11 +282,11 @@ module _ (system : ℕ) (address : List ℕ) where
   held_fine count number reference (whats.Unknown kind) kept is = absurd is
   held_fine count number reference whats.Silent kept is = absurd is
 
-  held_same : (ends : List EndAt) (told : EndEvent) (what : What) → IsHeld what → ends_with ends system told what ≡ ends
+  held_same : (ends : List EndAt) (told : EndEvent) (what : What) → TellsHeld what → ends_with ends system told what ≡ ends
   held_same ends told (whats.Incoming from partner calling called options octets) is = absurd is
   held_same ends told other is = refl
 
-  pub held_walk : (count : ℕ) (ends : List EndAt) (told : List EndEvent) (kept : Kept) → AllTold IsHeld told → Walked count kept (events_after ends system address told)
+  pub held_walk : (count : ℕ) (ends : List EndAt) (told : List EndEvent) (kept : Kept) → AllTold TellsHeld told → Walked count kept (events_after ends system address told)
   held_walk count ends [] kept held = walked_none count kept
   held_walk count ends (one ∷ others) kept held =
       let event : Told = event_for system address (latest ends system one.reference) one.reference one.what in
@@ -298,11 +298,11 @@ module _ (system : ℕ) (address : List ℕ) where
   -- ---- a row of an end
 
   -- the end then waits as it has to
-  record RowWalked (count : ℕ) (kept : Kept) (made : List Told) (n : ℕ) (stage : Stage) : Type 0 where
+  record RowWalked (count : ℕ) (kept : Kept) (made : List Told) (n : ℕ) (stage : StateData) : Type 0 where
     walked : Walked count kept made
     own : Waits (kept_after kept made).claims (kept_after kept made).pairs n stage
 
-  row_walked : (count n own : ℕ) (stage : Stage) (m : Moved) (ends : List EndAt) (kept : Kept) → n ≤ count → latest ends system own ≡ n → m.base.own ≡ own → AreTold own m.events → Tells stage m
+  row_walked : (count n own : ℕ) (stage : StateData) (m : Moved) (ends : List EndAt) (kept : Kept) → n ≤ count → latest ends system own ≡ n → m.base.own ≡ own → AreTold own m.events → Tells stage m
       → Waits kept.claims kept.pairs n stage → RowWalked count kept (events_after ends system address m.events) n m.stage
   row_walked count n own stage m ends kept few at_n base told (inl so) w =
       let walk = tells_walk count n own few stage ends at_n m.events kept told so.told w in
@@ -418,7 +418,7 @@ module _ (system : ℕ) (address : List ℕ) where
       subst (λ (es : List EndAt). Goes ends kept (event ∷ []) (with_entity entities system e) es) (sym (same ends)) (record { line = walk.line; linked = linked; grows = omega arith })
 
   -- an indication makes an end
-  did_indicate : (e : Entity) (b : Base) (text : List ℕ) → 1 ≤ b.own → b.own ≤ length e.ends → IsSized b.proposed.options → Did e (moved e b.own (indicated b text)).entity (indicated b text).events
+  did_indicate : (e : Entity) (b : EndRecord) (text : List ℕ) → 1 ≤ b.own → b.own ≤ length e.ends → IsSized b.proposed.options → Did e (moved e b.own (indicated b text)).entity (indicated b text).events
   did_indicate e b text least most sized entities ends kept is l =
       let m : Moved = indicated b text in
       let new : Entity = with_end e b.own (Some (end_of m)) in
@@ -446,7 +446,7 @@ module _ (system : ℕ) (address : List ℕ) where
       let old_low : kept.named < heard.end = omega (arith, old, above) in
       let tidy = tidy_more (length ends) count kept.claims kept.pairs less l.tidy in
       let apart_from : (k : ℕ) → k ≤ length ends → heard.end ≡ k → ⊥ = λ k below same. omega (arith, above, below, same) in
-      let elsewhere : (other r : ℕ) (stage : Stage) → (other ≡ system → r ≡ b.own → ⊥) → Waits kept.claims kept.pairs (latest ends other r) stage → Waits last.claims last.pairs (latest more other r) stage =
+      let elsewhere : (other r : ℕ) (stage : StateData) → (other ≡ system → r ≡ b.own → ⊥) → Waits kept.claims kept.pairs (latest ends other r) stage → Waits last.claims last.pairs (latest more other r) stage =
       λ other r stage apart w. subst (λ (k : ℕ). Waits last.claims last.pairs k stage) (sym (latest_other ends system b.own other r apart))
       (heard_waits kept heard (latest ends other r) stage (apart_from (latest ends other r) (latest_low ends other r)) w) in
       record {

@@ -2,7 +2,7 @@
 use Rattle.std.proofs.Common.{◌≡◌, ◌⊎◌, ℕ, ◌+◌, ◌-◌, ◌<◌, ◌≤◌, Bool, true, false, List, [], ◌++◌, length, take, Result, Ok, Err, inl, inr, refl, sym, ◌∙◌, ap, subst, arith}
 use Rattle.std.proofs.lemmas.Bool.{false≢true}
 use Rattle.std.proofs.lemmas.List.Concat.{flat_map-append}
-use Rattle.osi_script.specs.declared.fault.LineFault.{LineFault}
+use Rattle.osi_script.specs.declared.cause.LineFault.{LineFault}
 use Rattle.osi_script.specs.declared.line.Line.{Line}
 use Rattle.osi_script.specs.Grammar.{Reading, line_read}
 use Rattle.osi_script.specs.Known.{Declared}
@@ -11,7 +11,7 @@ use Rattle.osi_journal.specs.declared.event.Event.{Event}
 use Rattle.osi_journal.specs.Told.{event_text, journal_text}
 use Rattle.line_loop.specs.Meaning.{Laws}
 use Rattle.script_bench.specs.Acts.{Acts, Keeping, StageLaws}
-use Rattle.script_bench.specs.Bench.{Bench, FillsJournal, RunsLine, bench_meaning, most_events}
+use Rattle.script_bench.specs.Bench.{Bench, FillsJournal, RunsText, bench_meaning, most_events}
 use Rattle.script_bench.specs.Script.{IsPlaced, is_start, started_after}
 use Rattle.script_bench.specs.steps.Moves.{Moves, line_moves, start_only, starts_not}
 
@@ -59,7 +59,7 @@ module _ {W : Type 0} (acts : Acts W) (keeping : Keeping W) (laws : StageLaws ac
       let one = laws.one_step second old.world made other new next steps b in
       record { made_is = one.0; names_are = ap (λ (r : Reading). r.names) same; world_is = one.1 }
 
-  one_course : (old : Bench W) (octets : List ℕ) (made other : List Event) (new next : Bench W) → RunsLine acts old octets made new → RunsLine acts old octets other next → (made ≡ other) × (new ≡ next)
+  one_course : (old : Bench W) (octets : List ℕ) (made other : List Event) (new next : Bench W) → RunsText acts old octets made new → RunsText acts old octets other next → (made ≡ other) × (new ≡ next)
   one_course old octets made other new next a b =
       let one = one_line old octets a.line b.line new.names next.names made other new.world next.world a.meaning b.meaning a.steps b.steps in
       let lines : new.lines ≡ next.lines = a.lines ∙ sym b.lines in
@@ -74,7 +74,7 @@ module _ {W : Type 0} (acts : Acts W) (keeping : Keeping W) (laws : StageLaws ac
       let same : made ≡ other = a.made_is ∙ ap (λ (w : List Event). take (most_events - old.events) w) one.made_is ∙ sym b.made_is in
       (same, λ i. record { names = one.names_are i; world = one.world_is i; lines = lines i; events = events i })
 
-  not_filled : (old : Bench W) (octets : List ℕ) (made other : List Event) (new next : Bench W) → RunsLine acts old octets made new → FillsJournal acts old octets other next → ⊥
+  not_filled : (old : Bench W) (octets : List ℕ) (made other : List Event) (new next : Bench W) → RunsText acts old octets made new → FillsJournal acts old octets other next → ⊥
   not_filled old octets made other new next a b =
       let one = one_line old octets a.line b.line new.names next.names made b.whole new.world next.world a.meaning b.meaning a.steps b.steps in
       no_room most_events old.events new.events (length made) (length b.whole) a.events a.room (ap (λ (m : List Event). length m) one.made_is) b.over

@@ -1,12 +1,12 @@
 -- Where a line that is read comes from: from nothing, or from the fields of a word, with no limit passed.
 use Rattle.std.proofs.Common.{◌≡◌, ℕ, ◌+◌, Bool, true, false, List, [], ◌∷◌, length, Option, Some, None, Result, Ok, Err, refl, sym}
 use Rattle.std.specs.Prelude.{if◌then◌else◌}
-use Rattle.osi_script.specs.declared.fault.LineCause.{LineCause}
-use Rattle.osi_script.specs.declared.fault.LineCause.TheVariants as causes
-use Rattle.osi_script.specs.declared.fault.LineFault.{LineFault}
-use Rattle.osi_script.specs.declared.form.Word.{Word}
+use Rattle.osi_script.specs.declared.cause.LineCause.{LineCause}
+use Rattle.osi_script.specs.declared.cause.LineCause.TheVariants as causes
+use Rattle.osi_script.specs.declared.cause.LineFault.{LineFault}
+use Rattle.osi_script.specs.declared.words.Word.{Word}
 use Rattle.osi_script.specs.declared.line.Line.TheVariants as lines
-use Rattle.osi_script.specs.declared.parts.Parts.{Parts}
+use Rattle.osi_script.specs.declared.field_values.FieldValues.{FieldValues}
 use Rattle.osi_script.specs.Field.{fields_of}
 use Rattle.osi_script.specs.Known.{Declared, no_parts}
 use Rattle.osi_script.specs.Table.{row_of, word_of}
@@ -18,7 +18,7 @@ pub record IsWorded (names : Declared) (word : Word) (reading : Reading) : Type 
   pub past : ℕ
   pub column : ℕ
   pub fields : List (List ℕ)
-  pub parts : Parts
+  pub parts : FieldValues
   pub word_is : word_of names.dialect field ≡ Some word
   pub placed : is_out_of_order names word ≡ false
   pub counted : count_fault past column (row_of word).fields fields ≡ None
@@ -37,7 +37,7 @@ ok_same : (first second : Reading) → ok first ≡ ok second → first ≡ seco
 ok_same first second is = cc
 
 module _ (names : Declared) (word : Word) (field : List ℕ) (past column : ℕ) (fields : List (List ℕ)) (word_is : word_of names.dialect field ≡ Some word) where
-  limited : (parts : Parts) (limit : Option LineCause) (reading : Reading) → is_out_of_order names word ≡ false → count_fault past column (row_of word).fields fields ≡ None
+  limited : (parts : FieldValues) (limit : Option LineCause) (reading : Reading) → is_out_of_order names word ≡ false → count_fault past column (row_of word).fields fields ≡ None
       → fields_read names no_parts column (row_of word).fields fields ≡ Ok parts → limit_cause names (row_of word).effect parts ≡ limit
       → with_limit names word parts limit ≡ Ok reading → Came names reading
   limited parts (Some cause) reading placed counted filled limit i = absurd (cc)
@@ -56,7 +56,7 @@ module _ (names : Declared) (word : Word) (field : List ℕ) (past column : ℕ)
         is = sym (ok_same _ reading i);
       })
 
-  whole : (read : Result Parts LineFault) (reading : Reading) → is_out_of_order names word ≡ false → count_fault past column (row_of word).fields fields ≡ None
+  whole : (read : Result FieldValues LineFault) (reading : Reading) → is_out_of_order names word ≡ false → count_fault past column (row_of word).fields fields ≡ None
       → fields_read names no_parts column (row_of word).fields fields ≡ read → whole_read names word read ≡ Ok reading → Came names reading
   whole (Err found) reading placed counted filled i = absurd (cc)
   whole (Ok parts) reading placed counted filled i = limited parts _ reading placed counted filled refl i

@@ -1,11 +1,11 @@
 -- A line that is read stands where it may, and only a set-up line declares names.
 use Rattle.std.proofs.Common.{◌≡◌, ◌⊎◌, ℕ, Bool, true, false, List, inl, inr, refl, sym, subst}
 use Rattle.std.specs.Prelude.{◌||◌, not, Ok}
-use Rattle.osi_script.specs.declared.form.Word.{Word}
-use Rattle.osi_script.specs.declared.form.Word.TheVariants as words
+use Rattle.osi_script.specs.declared.words.Word.{Word}
+use Rattle.osi_script.specs.declared.words.Word.TheVariants as words
 use Rattle.osi_script.specs.declared.line.Line.{Line}
 use Rattle.osi_script.specs.declared.line.Line.TheVariants as lines
-use Rattle.osi_script.specs.declared.parts.Parts.{Parts}
+use Rattle.osi_script.specs.declared.field_values.FieldValues.{FieldValues}
 use Rattle.osi_script.specs.Known.{Declared}
 use Rattle.osi_script.specs.Table.{row_of}
 use Rattle.osi_script.specs.Grammar.{Reading, next_number, line_for, declared_by, is_out_of_order, line_read}
@@ -29,7 +29,7 @@ neither false b is = is
 idle_moves : (names : Declared) → Moves names lines.Nothing names
 idle_moves names = record { placed = tt; started = refl; kept = inr refl }
 
-word_moves : (names : Declared) (parts : Parts) (word : Word) → is_out_of_order names word ≡ false
+word_moves : (names : Declared) (parts : FieldValues) (word : Word) → is_out_of_order names word ≡ false
     → Moves names (line_for (next_number names (row_of word).effect) word parts) (declared_by names (row_of word).effect parts)
 word_moves names parts words.Lan placed = record { placed = placed; started = refl; kept = inl placed }
 word_moves names parts words.Es placed = record { placed = placed; started = refl; kept = inl placed }

@@ -32,7 +32,7 @@ use Rattle.esis_tables.specs.Rows.{Rows}
 use Rattle.net_world.specs.Laws.{IsFirst}
 use Rattle.tp4_world.specs.Total.{ComesInOctets, Serves, ServesOn}
 use Rattle.tp4_world.proofs.Serving.{serves_within}
-use Rattle.osi_script.specs.declared.form.Dialect.TheVariants as dialects
+use Rattle.osi_script.specs.declared.words.Dialect.TheVariants as dialects
 use Rattle.osi_setup.specs.Fitting.{IsWell}
 use Rattle.osi_setup.specs.SetUp.{System, SetUp, nodes_from, nodes_of, titles_of}
 use Rattle.osi_setup.proofs.Ports.{number_is}

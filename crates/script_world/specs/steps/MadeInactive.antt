@@ -28,7 +28,7 @@ use Rattle.net_world.specs.Laws.{IsFirst}
 use Rattle.tp4_world.specs.Run.{transport_address}
 use Rattle.tp4_world.specs.Total.{Serves, ServesOn}
 use Rattle.tp4_world.proofs.Serving.{serves_within}
-use Rattle.osi_script.specs.declared.form.Dialect.TheVariants as dialects
+use Rattle.osi_script.specs.declared.words.Dialect.TheVariants as dialects
 use Rattle.osi_script.specs.declared.line.Line.TheVariants as lines
 use Rattle.osi_setup.specs.Fitting.{Fits, IsTitle, IsWell}
 use Rattle.osi_setup.specs.Inactive.{inactive_rows}

@@ -14,7 +14,7 @@ use Rattle.osi_base.specs.Link.{Link}
 use Rattle.osi_base.specs.Calls.{Call, Offer, Choose, Inject, Keeps, Tick}
 use Rattle.net_world.specs.Run.{Passes, SendsUnit}
 use Rattle.tp4_flow.specs.declared.step.Sent.{Sent}
-use Rattle.tp4_conn.specs.declared.call.ConnectCall.{ConnectCall}
+use Rattle.tp4_conn.specs.declared.call.ConnectRequest.{ConnectRequest}
 use Rattle.tp4_conn.specs.declared.call.UserCall.{UserCall}
 use Rattle.tp4_entity.specs.declared.refusal.ConnectRefusal.{ConnectRefusal}
 use Rattle.tp4_entity.specs.declared.refusal.EntityRefusal.{EntityRefusal}
@@ -118,17 +118,17 @@ module _ {N : Type 0} (link : N → Link (List ℕ)) (steps : N → Call (List �
   refused_stays old None made new h = absurd h
   refused_stays old (Some why) made new h = same old new h.1
 
-  begun_stays : (old : World N) (system : ℕ) (entity : Entity) (call : ConnectCall) (found : Option ℕ) (made : List Event) (new : World N) → BeginsAt link steps old system entity call found made new → Stays old new
-  begun_stays old system entity call None made new h = absurd h
-  begun_stays old system entity call (Some reference) made new h =
+  begun_stays : (old : World N) (system : ℕ) (entity : Entity) (request : ConnectRequest) (found : Option ℕ) (made : List Event) (new : World N) → BeginsAt link steps old system entity request found made new → Stays old new
+  begun_stays old system entity request None made new h = absurd h
+  begun_stays old system entity request (Some reference) made new h =
       let with_end : World N = record old { ends = old.ends ++ record { system = system; reference = reference } ∷ [] } in
-      let s = acts_stay with_end system entity.own (connecting (clock_of link steps old) entity reference call) h.0 new h.1 in
+      let s = acts_stay with_end system entity.own (connecting (clock_of link steps old) entity reference request) h.0 new h.1 in
       record { clock = s.clock; systems = s.systems }
 
-  pub connect_stays : (old : World N) (system : ℕ) (entity : Entity) (call : ConnectCall) (why : Option ConnectRefusal) (made : List Event) (new : World N) → ConnectsBy link steps old system entity call why made new
+  pub connect_stays : (old : World N) (system : ℕ) (entity : Entity) (request : ConnectRequest) (why : Option ConnectRefusal) (made : List Event) (new : World N) → ConnectsBy link steps old system entity request why made new
       → Stays old new
-  connect_stays old system entity call (Some why) made new h = refused_stays old _ made new h
-  connect_stays old system entity call None made new h = begun_stays old system entity call (least_free (clock_of link steps old) entity) made new h
+  connect_stays old system entity request (Some why) made new h = refused_stays old _ made new h
+  connect_stays old system entity request None made new h = begun_stays old system entity request (least_free (clock_of link steps old) entity) made new h
 
   call_by_stays : (old : World N) (number : ℕ) (end : EndAt) (entity : Entity) (call : UserCall) (why : Option EntityRefusal) (made : List Event) (new : World N)
       → CallsBy link steps wire old number end entity call why made new → Stays old new

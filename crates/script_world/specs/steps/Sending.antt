@@ -1,7 +1,7 @@
 -- Where the scripts of a command have no `send` line, they send no datagrams.
 use Rattle.std.specs.Prelude.{ℕ, List}
 use Rattle.osi_script.specs.Commands.{HasLine}
-use Rattle.osi_script.specs.declared.form.Dialect.{Dialect}
+use Rattle.osi_script.specs.declared.words.Dialect.{Dialect}
 use Rattle.osi_script.specs.declared.line.Line.TheVariants as lines
 use Rattle.script_world.specs.Networks.{SendsNoDatagrams}
 

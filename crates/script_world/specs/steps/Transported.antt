@@ -12,7 +12,7 @@ use Rattle.law_clnp_answers.specs.Standing.{is_nsap}
 use Rattle.law_clnp_answers.proofs.answered.Carrying.{nsap_passes}
 use Rattle.line_loop.specs.Lines.{most_lines}
 use Rattle.osi_script.specs.Commands.{HasLine as HasLineOf}
-use Rattle.osi_script.specs.declared.form.Dialect.{Dialect}
+use Rattle.osi_script.specs.declared.words.Dialect.{Dialect}
 use Rattle.osi_script.proofs.CommandLines.{line_has, line_stays}
 use Rattle.osi_script.specs.declared.line.Options.{Options}
 use Rattle.tp4_conn.specs.End.{IsSized}

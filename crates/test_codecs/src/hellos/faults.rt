@@ -108,6 +108,7 @@ const FAULTS: [(&[u8], EsisFault); 47] = [
     ),
 ];
 
+/// Which fault is first is an order: each alone, and neighbours in the order two at a time.
 #[test]
 fn each_first_fault_is_told(rt: HostRuntime) {
     for (octets, fault) in FAULTS {
@@ -118,6 +119,7 @@ fn each_first_fault_is_told(rt: HostRuntime) {
     }
 }
 
+/// What is printed stands in no clause of `Display`.
 #[test]
 fn a_fault_prints_as_its_word(rt: HostRuntime) -> Result<(), Fail> {
     assert_eq!(rt; Length.to_string(rt.alloc())?.as_str(), "length");

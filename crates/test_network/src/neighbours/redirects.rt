@@ -18,6 +18,7 @@ const TO_AN_END: &[u8] =
 const TO_A_ROUTER: &[u8] =
     b"\x82\x16\x01\x00\x06\x00\x14\x00\x00\x02\x63\x00\x06\x02\x00\x00\x00\x00\x02\x02\x63\x01";
 
+/// To an end system and to a router, and the last tick of each.
 #[test]
 fn a_redirect_tells_the_hop(rt: HostRuntime) {
     let title = Nsap::read("6301").expect(&rt, "a title");
@@ -29,6 +30,7 @@ fn a_redirect_tells_the_hop(rt: HostRuntime) {
     finds(&rt, &table, 40, Some(hop(2, Some(title))));
 }
 
+/// The limit of the table, as of neighbours.
 #[test]
 fn a_257th_address_is_refused(rt: HostRuntime) {
     let mut table = Redirects::new(rt.alloc());

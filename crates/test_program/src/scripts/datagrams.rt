@@ -120,6 +120,7 @@ const REFUSED: [[&str; 2]; 9] = [
     ],
 ];
 
+/// The whole command: transcripts that an independent program gave too.
 #[test]
 fn datagrams_have_their_transcripts(rt: HostRuntime) -> Result<(), Fail> {
     let alloc = rt.alloc();

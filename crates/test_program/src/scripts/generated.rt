@@ -33,6 +33,7 @@ fn words_of(alloc: Global, call: &[&str]) -> Result<Vec<String>, Fail> {
     Ok(words)
 }
 
+/// The same words give the same script on each machine and by each compiler.
 #[test]
 fn generated_scripts_have_their_summaries(rt: HostRuntime) -> Result<(), Fail> {
     for ([seed, count], summary) in STORMS {
@@ -44,6 +45,7 @@ fn generated_scripts_have_their_summaries(rt: HostRuntime) -> Result<(), Fail> {
     Ok(())
 }
 
+/// Numbers past their limits or not in their form, and too few or too many words.
 #[test]
 fn other_words_ask_for_no_script(rt: HostRuntime) -> Result<(), Fail> {
     for call in REFUSED {
@@ -53,6 +55,7 @@ fn other_words_ask_for_no_script(rt: HostRuntime) -> Result<(), Fail> {
     Ok(())
 }
 
+/// The input is not read on after a write has failed.
 #[test]
 fn a_failed_write_ends_a_generated_script(rt: HostRuntime) -> Result<(), Fail> {
     let alloc = rt.alloc();

@@ -120,6 +120,7 @@ const REFUSED: [[&str; 2]; 7] = [
     ],
 ];
 
+/// The whole command over its own network: transcripts that an independent program gave too.
 #[test]
 fn runs_have_their_transcripts(rt: HostRuntime) -> Result<(), Fail> {
     let alloc = rt.alloc();
@@ -136,6 +137,7 @@ fn runs_have_their_transcripts(rt: HostRuntime) -> Result<(), Fail> {
     Ok(())
 }
 
+/// A frame has one octet less of room than over CLNP: the last unit that fits, and the first that does not.
 #[test]
 fn a_unit_has_room_or_is_dropped(rt: HostRuntime) -> Result<(), Fail> {
     for (count, shown) in UNITS {

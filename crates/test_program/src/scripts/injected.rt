@@ -34,6 +34,7 @@ fn expect_injected(
     )
 }
 
+/// A frame that no system sent is shown as any other, and counted as a stray; one with an octet changed is discarded.
 #[test]
 fn injected_frames_are_taken(rt: HostRuntime) -> Result<(), Fail> {
     let alloc = rt.alloc();

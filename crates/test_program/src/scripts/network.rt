@@ -146,6 +146,7 @@ const DETOUR_END: &str = "unit a b - - 03\ntick\nunit a b - - 04\n";
 const DETOUR_END_SHOWN: &str = "sent a 490b02 03\nframe 5 x a 02000000000b 35\ntick 40\n\
     sent a 490b02 04\nframe 6 x a 020000000901 35\ndone\n";
 
+/// Routes, hellos, redirects, reports and source routes over several LANs, counted by hand.
 #[test]
 fn networks_have_their_transcripts(rt: HostRuntime) -> Result<(), Fail> {
     for [lans, more, events, shown] in RUNS {
@@ -157,6 +158,7 @@ fn networks_have_their_transcripts(rt: HostRuntime) -> Result<(), Fail> {
     Ok(())
 }
 
+/// The last tick at which the redirect is used, and the next one.
 #[test]
 fn a_redirect_ends_with_its_holding_time(rt: HostRuntime) -> Result<(), Fail> {
     let passing = "tick\n".repeat(rt.alloc(), 39)?;
@@ -233,6 +235,7 @@ fn backwards(alloc: Global) -> Result<String, Fail> {
     Ok(events)
 }
 
+/// Cut for one LAN and again for a smaller one, and delivered in reverse: offsets are those of the unit.
 #[test]
 fn a_unit_is_cut_twice_and_joined_backwards(rt: HostRuntime) -> Result<(), Fail> {
     let alloc = rt.alloc();

@@ -240,6 +240,7 @@ const REFUSED: [[&str; 2]; 7] = [
     ],
 ];
 
+/// Pairs of connections, each way that they can end: transcripts that an independent program gave too.
 #[test]
 fn relayed_connections_have_their_transcripts(rt: HostRuntime) -> Result<(), Fail> {
     let alloc = rt.alloc();
@@ -253,6 +254,7 @@ fn relayed_connections_have_their_transcripts(rt: HostRuntime) -> Result<(), Fai
     Ok(())
 }
 
+/// A script of `relay` has no `inject` and the like: the words of the dialect.
 #[test]
 fn lines_of_other_commands_are_refused(rt: HostRuntime) -> Result<(), Fail> {
     let alloc = rt.alloc();

@@ -66,6 +66,7 @@ const REFUSED: [[&str; 3]; 4] = [
     ],
 ];
 
+/// What is silent after a restart, and for how long: transcripts that an independent program gave too.
 #[test]
 fn restarts_have_their_transcripts(rt: HostRuntime) -> Result<(), Fail> {
     for ([settings, lan], steps) in RUNS {
@@ -87,6 +88,7 @@ fn expect_steps(
     expect(rt, alloc, &script, &["tick 0\n", &shown, "done\n"])
 }
 
+/// The line where no transport entity is, and before the start.
 #[test]
 fn other_restarts_are_refused(rt: HostRuntime) -> Result<(), Fail> {
     let alloc = rt.alloc();

@@ -73,6 +73,7 @@ pub fn over_time(alloc: Global, steps: Steps<'_>) -> Result<[String; 2], Fail> {
     Ok([lines, shown])
 }
 
+/// With one reference a call tells by `refsspent` whether it is free: the last tick that it is not, and the next one.
 #[test]
 fn references_are_frozen(rt: HostRuntime) -> Result<(), Fail> {
     let alloc = rt.alloc();

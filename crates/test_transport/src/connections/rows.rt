@@ -22,6 +22,7 @@ struct Place {
     lines: Vec<String>,
 }
 
+/// Each row once more in extended formats and without a checksum: the table must not hang on either.
 #[test]
 fn each_state_with_each_tpdu_and_each_call(rt: HostRuntime) -> Result<(), Fail> {
     for (format, sum, extra, mark) in [

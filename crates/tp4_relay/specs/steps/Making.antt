@@ -78,8 +78,8 @@ SubmitsNone call = Unit {0}
 -- it may be done: the system is there and the options have a listed size, the end is named and the indicated one not joined yet
 abbrev pub MayDo : (ℕ → Type 0) → Kept → Reaction → Type 0
 MayDo has kept Nothing = Unit {0}
-MayDo has kept (Begin inbound system call) =
-    has system × IsSized call.options × (is_claimed kept.claims inbound ≡ true) × AllByRecursion (λ (pair : Pair). pair.inbound < inbound) kept.pairs × (inbound ≤ kept.named)
+MayDo has kept (Begin inbound system request) =
+    has system × IsSized request.options × (is_claimed kept.claims inbound ≡ true) × AllByRecursion (λ (pair : Pair). pair.inbound < inbound) kept.pairs × (inbound ≤ kept.named)
 MayDo has kept (Ask end call) = IsCall call × SubmitsNone call × (end ≤ kept.named)
 
 -- a unit that a call submits is the first that waits

@@ -3,7 +3,7 @@ use Rattle.std.specs.Prelude.{◌≡◌, ℕ, ◌<◌, ◌≤◌, ◌||◌, Bool
 use Rattle.std.specs.List.{AllByRecursion}
 use Rattle.osi_journal.specs.declared.event.Event.{Event}
 use Rattle.osi_journal.specs.declared.event.Event.TheVariants as events
-use Rattle.tp4_conn.specs.declared.call.ConnectCall.{ConnectCall}
+use Rattle.tp4_conn.specs.declared.call.ConnectRequest.{ConnectRequest}
 use Rattle.tp4_conn.specs.declared.call.UserCall.{UserCall}
 use Rattle.tp4_conn.specs.End.{IsSized}
 use Rattle.tp4_conn.specs.Calls.{IsCall}
@@ -31,7 +31,7 @@ IsIdle event = IsAside event
 -- a call that may be made
 abbrev pub CanDo : (ℕ → Type 0) → Reaction → Type 0
 CanDo has Nothing = Unit {0}
-CanDo has (Begin inbound system call) = has system × IsSized call.options
+CanDo has (Begin inbound system request) = has system × IsSized request.options
 CanDo has (Ask end call) = IsCall call
 
 -- the call by which the first of these units is submitted
@@ -59,7 +59,7 @@ pub record Asked {S : Type 0} (calls : S → ℕ → UserCall → Bool → List 
   pub last_is : last ≡ kept_after kept made
   pub allowed : AreAllowed kept made
 
-module _ {S : Type 0} (connects : S → ℕ → ConnectCall → Bool → List Event → S → Type 0) (calls : S → ℕ → UserCall → Bool → List Event → S → Type 0) where
+module _ {S : Type 0} (connects : S → ℕ → ConnectRequest → Bool → List Event → S → Type 0) (calls : S → ℕ → UserCall → Bool → List Event → S → Type 0) where
   -- what was done about an event
   pub record Did (has : S → ℕ → Type 0) (ends : S → ℕ) (old : S) (kept : Kept) (to_do : Reaction) (done : Bool) (made : List Event) (new : S) (last : Kept) : Type 0 where
     pub does : Does connects calls old to_do done made new

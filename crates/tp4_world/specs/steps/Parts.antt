@@ -19,6 +19,7 @@ use Rattle.net_world.specs.Told.{told}
 use Rattle.tp4_entity.specs.Step.{dues, first_due, ticking}
 use Rattle.tp4_world.specs.Run.{Acts, Hears, HearsAll, SendsTpdus, Settles, TicksEntity}
 use Rattle.tp4_world.specs.Telling.{ends_after, events_after}
+use Rattle.tp4_world.specs.Total.{HasEntity}
 use Rattle.tp4_world.specs.World.{World, entity_at, latest, with_entity}
 use Rattle.tp4_world.specs.declared.place.EndAt.{EndAt}
 use Rattle.tp4_world.specs.declared.place.Placed.{Placed}
@@ -47,11 +48,16 @@ AreLaterAt now placed system = (entity : Entity) → entity_at placed system ≡
 abbrev pub AreLaterAll : ℕ → List Placed → Type 0
 AreLaterAll now placed = (system : ℕ) → AreLaterAt now placed system
 
--- the clock is one at which entities can be called, that of no entity is ahead of it, and no end is due up to it
+-- each end that was made is of a system that has an entity
+abbrev pub AreHoused : List Placed → List EndAt → Type 0
+AreHoused placed ends = AllByRecursion (HasEntity placed) ends
+
+-- the clock is one at which entities can be called, that of no entity is ahead of it, no end is due up to it, and the ends have entities
 pub record IsSound {C : Type 0} (link : C → Link (List ℕ)) (world : World C) : Type 0 where
   pub low : (link world.carrier).clock ≤ 4000000000
   pub behind : AreBehind (link world.carrier).clock world.entities
   pub later : AreLaterAll (link world.carrier).clock world.entities
+  pub housed : AreHoused world.entities world.ends
 
 -- the entity at a place becomes another
 pub record ChangesAt (place : ℕ) (old new : List Placed) (Does : Entity → Entity → Type 0) : Type 0 where

@@ -32,6 +32,8 @@ returns-in_default g c =
       asked = omega arith;
       no_read_fault = λ not. refl;
       one_read_fault = omega arith;
+      no_write_fault = c.write_header.ensures.no_write_fault;
+      one_write_fault = c.write_header.ensures.one_write_fault;
       read_fault = λ is. absurd (reads_nothing held c.args.sink.now c.write_header.new.sink header_octets status h is);
       write_fault = c.write_header.ensures.write_fault;
     }

@@ -25,4 +25,4 @@ returns-in-Ask-clause-told g c =
     did_as g.S.Service.connects g.S.Service.calls c.args.to_do c.call.result _ c.args.service.now c.args.events.now.items c.call.new.events.items c.call.new.self c.in-Ask.is c.call.ensures.calls
 
 pub returns-in-Ask-clause-broken : goal.returns-in-Ask-clause-broken
-returns-in-Ask-clause-broken g c = idle_err c.call.result c.args.events.now.items c.call.new.events.items c.call.ensures.same
+returns-in-Ask-clause-broken g c = idle_err c.call.result c.args.events.now.items c.call.new.events.items c.call.ensures.err

@@ -25,7 +25,7 @@ note_from-requires-clause-notable g c =
 pub returns-in_err-done-clause-broken : goal.returns-in_err-done-clause-broken
 returns-in_err-done-clause-broken g c =
     on_err c.from_residual.result (Tells c.args.events.now.items c.call.new.events.items (AreAllowed (kept_of c.args.table.now)))
-    (subst (λ (es : List Event). Tells c.args.events.now.items es (AreAllowed (kept_of c.args.table.now))) (sym c.in_err-done.ensures.same) (broken_now c.args.events.now.items (kept_of c.args.table.now)))
+    (subst (λ (es : List Event). Tells c.args.events.now.items es (AreAllowed (kept_of c.args.table.now))) (sym c.in_err-done.ensures.err) (broken_now c.args.events.now.items (kept_of c.args.table.now)))
 
 pub returns-in_err-note_from-clause-broken : goal.returns-in_err-note_from-clause-broken
 returns-in_err-note_from-clause-broken g c =

@@ -1,8 +1,16 @@
-use Rattle.std.proofs.Common.{◌∙◌, Bool, subst, arith}
+use Rattle.std.proofs.Common.{◌∙◌, Bool, ap, subst, sym, arith}
+use Rattle.std.specs.List.{position}
 use Rattle.tp4_number.specs.Number.{wire}
+use Rattle.tp4_world.specs.World.{is_of}
 use Rattle.tp4_world.specs.steps.Parts.{Tells, TicksOnce, world_of}
+use Rattle.tp4_world.proofs.Entities.{listed_place, place_kept}
 use Rattle.tp4_world.proofs.Ticked.{tick_more, tick_over}
 use Rattle.tp4_world.proofs.ticking.tick_system.Goals as goal
+
+pub unreachable-requires : goal.unreachable-requires
+unreachable-requires g c =
+    listed_place c.args.transport.now.entities.items c.args.system c.requires.listed
+    (ap (position (is_of c.args.system)) (sym c.deref.ensures.value) ∙ sym c.place_of.ensures ∙ c.in_default.is)
 
 pub returns-clause-ticks : goal.returns-clause-ticks
 returns-clause-ticks g c =
@@ -23,7 +31,8 @@ loop-preserved g c =
       c.in_ok-tick_one.ensures.behind,
       c.in_ok-tick_one.ensures.systems ∙ c.loop.invariant.3,
       c.in_ok-tick_one.ensures.from,
-      λ other later. c.in_ok-tick_one.ensures.kept other (c.loop.invariant.5 other later),
+      place_kept c.loop.transport.entities.items c.tick_one.new.transport.entities.items c.args.system c.in-Some.place c.in_ok-tick_one.ensures.systems c.loop.invariant.5,
+      λ other later. c.in_ok-tick_one.ensures.kept other (c.loop.invariant.6 other later),
     )
 
 pub loop-smaller : goal.loop-smaller

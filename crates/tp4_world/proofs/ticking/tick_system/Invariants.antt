@@ -1,5 +1,7 @@
-use Rattle.std.proofs.Common.{◌≡◌, ℕ, []}
+use Rattle.std.proofs.Common.{◌≡◌, ℕ, [], Some}
+use Rattle.std.specs.List.{position}
 use Rattle.tp4_number.specs.Number.{wire}
+use Rattle.tp4_world.specs.World.{is_of}
 use Rattle.tp4_world.specs.steps.Parts.{AreBehind, AreFromAll, AreLaterAt, dues_at, systems_of, world_of}
 use Rattle.tp4_world.proofs.Going.{Going}
 use Rattle.tp4_world.proofs.Ticked.{OfEntity}
@@ -13,6 +15,7 @@ invariant-loop g l =
     × AreBehind l.now l.transport.entities.items
     × (systems_of l.transport.entities.items ≡ systems_of l.initial.transport.entities.items)
     × AreFromAll l.now l.transport.entities.items
+    × (position (is_of l.system) l.transport.entities.items ≡ Some l.place)
     × ((other : ℕ) → AreLaterAt l.now l.initial.transport.entities.items other → AreLaterAt l.now l.transport.entities.items other)
 
 abbrev pub decreases-loop : goal.decreases-loop

@@ -1,6 +1,5 @@
 use Rattle.std.proofs.Common.{refl}
-use Rattle.std.proofs.lemmas.Result.{IfOk-weaker}
 use Rattle.clnp_entity.proofs.entity.NetEntity.react.Goals as goal
 
-pub returns-in-Onward : goal.returns-in-Onward
-returns-in-Onward c = IfOk-weaker c.pass.result _ _ (λ handled h. rw c.in-Onward.is (h, refl)) c.pass.ensures
+pub returns-in_ok-passed-in-Onward : goal.returns-in_ok-passed-in-Onward
+returns-in_ok-passed-in-Onward c = rw c.in-Onward.is (c.in_ok-passed-in-Onward.ensures, refl)

@@ -6,4 +6,4 @@ use Rattle.clnp_net.proofs.net.ClnpNetCarrier.choose.Goals as goal
 
 pub returns-clause-link : goal.returns-clause-link
 returns-clause-link g c =
-    IfOk-weaker c.deliver.result _ _ (λ answer h. net_keeps g.C.Carrier.link g.C.Carrier.steps g.met.C.Carrier.keeps g.met.C.Carrier.given rows_tables c.args.self.now (Choose c.args.pick c.args.system answer) c.deliver.new.self h) c.deliver.ensures
+    IfOk-weaker c.choose_pick.result _ _ (λ answer h. net_keeps g.C.Carrier.link g.C.Carrier.steps g.met.C.Carrier.keeps g.met.C.Carrier.given rows_tables c.args.self.now (Choose c.args.pick c.args.system answer) c.choose_pick.new.self h) c.choose_pick.ensures

@@ -6,4 +6,4 @@ use Rattle.clnp_net.proofs.net.ClnpNetCarrier.inject.Goals as goal
 
 pub returns-clause-link : goal.returns-clause-link
 returns-clause-link g c =
-    IfOk-weaker c.receive.result _ _ (λ answer h. net_keeps g.C.Carrier.link g.C.Carrier.steps g.met.C.Carrier.keeps g.met.C.Carrier.given rows_tables c.args.self.now (Inject c.args.lan c.args.system c.args.octets.items answer) c.receive.new.self h) c.receive.ensures
+    IfOk-weaker c.inject_octets.result _ _ (λ answer h. net_keeps g.C.Carrier.link g.C.Carrier.steps g.met.C.Carrier.keeps g.met.C.Carrier.given rows_tables c.args.self.now (Inject c.args.lan c.args.system c.args.octets.items answer) c.inject_octets.new.self h) c.inject_octets.ensures

@@ -6,4 +6,4 @@ use Rattle.clnp_net.proofs.net.ClnpNetCarrier.tick.Goals as goal
 
 pub returns-clause-link : goal.returns-clause-link
 returns-clause-link g c =
-    IfOk-weaker c.pass.result _ _ (λ answer h. net_keeps g.C.Carrier.link g.C.Carrier.steps g.met.C.Carrier.keeps g.met.C.Carrier.given rows_tables c.args.self.now Tick c.pass.new.self h) c.pass.ensures
+    IfOk-weaker c.tick_once.result _ _ (λ answer h. net_keeps g.C.Carrier.link g.C.Carrier.steps g.met.C.Carrier.keeps g.met.C.Carrier.given rows_tables c.args.self.now Tick c.tick_once.new.self h) c.tick_once.ensures

@@ -5,4 +5,4 @@ use Rattle.inactive_net.proofs.net.InactiveNetCarrier.inject.Goals as goal
 
 pub returns-clause-link : goal.returns-clause-link
 returns-clause-link g c =
-    IfOk-weaker c.receive.result _ _ (λ answer h. inactive_keeps g.C.Carrier.link g.C.Carrier.steps g.met.C.Carrier.keeps g.met.C.Carrier.given c.args.self.now (Inject c.args.lan c.args.system c.args.octets.items answer) c.receive.new.self h) c.receive.ensures
+    IfOk-weaker c.inject_octets.result _ _ (λ answer h. inactive_keeps g.C.Carrier.link g.C.Carrier.steps g.met.C.Carrier.keeps g.met.C.Carrier.given c.args.self.now (Inject c.args.lan c.args.system c.args.octets.items answer) c.inject_octets.new.self h) c.inject_octets.ensures

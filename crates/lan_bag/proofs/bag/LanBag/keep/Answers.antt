@@ -1,11 +1,11 @@
-use Rattle.std.proofs.Common.{◌≡◌, ℕ, ◌+◌, ◌<◌, ◌++◌, ap, ◌∷◌, [], List, Option, Some, refl, sym, subst}
+use Rattle.std.proofs.Common.{◌≡◌, ◌∙◌, ℕ, ◌+◌, ◌<◌, ◌++◌, ap, ◌∷◌, [], List, length, length-append, Option, Some, refl, sym, subst}
 use Rattle.osi_base.specs.declared.unit.Offered.TheVariants.{Taken as WasTaken}
 use Rattle.lan_bag.specs.Frames.{offered, Frame}
 use Rattle.lan_bag.specs.steps.Openings.{IsFreshAt}
 use Rattle.lan_bag.specs.steps.Wheel.{listed}
 use Rattle.lan_bag.specs.Bag.{Bag}
 use Rattle.lan_bag.proofs.Offers.{taken_fits, bounds_fit}
-use Rattle.lan_bag.proofs.Openings.{closed_pushed, closed_same, fresh_pushed, fresh_same}
+use Rattle.lan_bag.proofs.Openings.{closed_pushed, closed_same, fresh_pushed, fresh_same, pushed_is}
 use Rattle.lan_bag.proofs.Wheels.{due_listed, due_offered, due_same}
 use Rattle.lan_bag.proofs.bag.LanBag.keep.Goals as goal
 
@@ -15,17 +15,26 @@ tell-requires c =
     (subst (λ (bag : Bag). WasTaken ≡ offered bag.lans bag.rows bag.frames c.args.unit) (sym c.self.view_is) c.requires.taken)
     c.self.invariant.lans_fit
 
-pub open_after-self-inside-requires-clause-closed : goal.open_after-self-inside-requires-clause-closed
-open_after-self-inside-requires-clause-closed c =
+pub open_with-self-inside-requires-clause-closed : goal.open_with-self-inside-requires-clause-closed
+open_with-self-inside-requires-clause-closed c =
     closed_same c.self.inside.clock c.self.inside.setup.lans c.self.inside.setup.rows (c.self.inside.frames ++ Some c.in_ok-sent.sent ∷ []) c.push.new.self c.self.inside.fresh.place
     (closed_pushed c.self.inside.clock c.self.inside.setup.lans c.self.inside.setup.rows c.self.inside.frames c.self.inside.fresh.place (Some c.in_ok-sent.sent) c.self.invariant.fresh.first)
     c.in_ok-push.ensures.ok
 
-pub open_after-self-inside-requires-clause-others : goal.open_after-self-inside-requires-clause-others
-open_after-self-inside-requires-clause-others c other =
+pub open_with-self-inside-requires-clause-others : goal.open_with-self-inside-requires-clause-others
+open_with-self-inside-requires-clause-others c other =
     fresh_same c.self.inside.clock c.self.inside.setup.lans c.self.inside.setup.rows (c.self.inside.frames ++ Some c.in_ok-sent.sent ∷ []) c.push.new.self c.self.inside.fresh.place c.self.inside.fresh.pair
     (fresh_pushed c.self.inside.clock c.self.inside.setup.lans c.self.inside.setup.rows c.self.inside.frames c.self.inside.fresh.place (c.count-place.result + 1) c.self.inside.fresh.pair (Some c.in_ok-sent.sent) c.self.invariant.fresh other (ap (λ (n : ℕ). n + 1) c.count-place.ensures))
     c.in_ok-push.ensures.ok
+
+pub open_with-self-inside-requires-clause-last : goal.open_with-self-inside-requires-clause-last
+open_with-self-inside-requires-clause-last c =
+    ap length c.in_ok-push.ensures.ok ∙ (length-append c.self.inside.frames (Some c.in_ok-sent.sent ∷ []) ∙ ap (λ (n : ℕ). n + 1) (sym c.count-place.ensures))
+
+pub open_with-self-inside-requires-clause-to : goal.open_with-self-inside-requires-clause-to
+open_with-self-inside-requires-clause-to c frame at =
+    ap (λ (f : Frame). f.unit.to)
+    (pushed_is c.self.inside.frames c.push.new.self c.in_ok-sent.sent (c.count-place.result + 1) c.in_ok-push.ensures.ok (ap (λ (n : ℕ). n + 1) c.count-place.ensures) frame at ∙ c.in_ok-sent.ensures)
 
 pub invariant_of-self-in_err-push : goal.invariant_of-self-in_err-push
 invariant_of-self-in_err-push c = record {
@@ -51,7 +60,7 @@ pub invariant_of-self-2 : goal.invariant_of-self-2
 invariant_of-self-2 c = record {
   lans_fit = c.self.invariant.lans_fit;
   strays = c.self.invariant.strays;
-  fresh = c.open_after-self-inside.ensures;
+  fresh = c.open_with-self-inside.ensures;
   due = due_offered c.self.inside.clock c.self.inside.setup.lans c.self.inside.frames c.push.new.self c.self.inside.wheel c.list.new.self c.in_ok-sent.sent c.args.unit c.bound.result c.count-place.result
       c.self.invariant.due c.in_ok-sent.ensures c.bound.ensures c.count-place.ensures
       (subst (λ (bound : ℕ). bound < 17) (sym c.bound.ensures) (bounds_fit c.self.inside.setup.lans c.args.unit.to.lan c.self.invariant.lans_fit))

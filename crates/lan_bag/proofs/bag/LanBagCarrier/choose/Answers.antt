@@ -5,4 +5,4 @@ use Rattle.lan_bag.proofs.bag.LanBagCarrier.choose.Goals as goal
 
 pub returns-clause-link : goal.returns-clause-link
 returns-clause-link c =
-    IfOk-weaker c.deliver.result _ _ (λ answer h. bag_keeps c.args.self.now (Choose c.args.pick c.args.system answer) c.deliver.new.self h) c.deliver.ensures
+    IfOk-weaker c.choose_pick.result _ _ (λ answer h. bag_keeps c.args.self.now (Choose c.args.pick c.args.system answer) c.choose_pick.new.self h) c.choose_pick.ensures

@@ -5,5 +5,5 @@ use Rattle.lan_bag.proofs.bag.LanBagCarrier.inject.Goals as goal
 
 pub returns-clause-link : goal.returns-clause-link
 returns-clause-link c =
-    IfOk-weaker c.receive.result _ _
-    (λ answer h. bag_keeps c.args.self.now (Inject c.args.lan c.args.system c.deref.result.now answer) c.receive.new.self h) c.receive.ensures
+    IfOk-weaker c.inject_octets.result _ _
+    (λ answer h. bag_keeps c.args.self.now (Inject c.args.lan c.args.system c.deref.result.now answer) c.inject_octets.new.self h) c.inject_octets.ensures

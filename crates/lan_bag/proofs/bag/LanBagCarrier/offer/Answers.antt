@@ -5,4 +5,4 @@ use Rattle.lan_bag.proofs.bag.LanBagCarrier.offer.Goals as goal
 
 pub returns-clause-link : goal.returns-clause-link
 returns-clause-link c =
-    IfOk-weaker c.send.result _ _ (λ answer h. bag_keeps c.args.self.now (Offer c.args.unit c.args.wish answer) c.send.new.self h) c.send.ensures
+    IfOk-weaker c.offer_unit.result _ _ (λ answer h. bag_keeps c.args.self.now (Offer c.args.unit c.args.wish answer) c.offer_unit.new.self h) c.offer_unit.ensures

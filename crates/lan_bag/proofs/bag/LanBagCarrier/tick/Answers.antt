@@ -3,4 +3,4 @@ use Rattle.lan_bag.specs.steps.Keeping.{bag_keeps}
 use Rattle.lan_bag.proofs.bag.LanBagCarrier.tick.Goals as goal
 
 pub returns-clause-link : goal.returns-clause-link
-returns-clause-link c = bag_keeps c.args.self.now Tick c.pass.new.self c.pass.ensures
+returns-clause-link c = bag_keeps c.args.self.now Tick c.tick_once.new.self c.tick_once.ensures

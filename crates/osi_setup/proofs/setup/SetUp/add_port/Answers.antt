@@ -10,4 +10,4 @@ invariant_of-self c =
     (record { system = c.args.system; end = c.is_end.result; port = record { lan = c.args.lan; snpa = c.args.snpa } }) c.self.invariant
     (subst (λ (s : SetUp). IsNewPort s c.args.system c.args.lan c.args.snpa) (sym c.self.view_is) c.requires)
     (c.is_end.ensures ∙ ap (λ (s : SetUp). end_at s.systems c.args.system) (sym c.self.view_is))
-    c.add_port.ensures.ok c.add_port.ensures.same
+    c.add_port.ensures.ok c.add_port.ensures.err

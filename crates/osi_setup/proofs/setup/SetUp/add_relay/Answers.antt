@@ -10,4 +10,4 @@ invariant_of-self c =
     relay_added c.add_relay.result old c.self-2.inside.shared c.add_relay.new.self c.self-2.inside.systems.items c.args.relay (subst IsWell c.self.view_is c.self.invariant) c.requires c.self-2.invariant
     (c.self-2.view_is ∙ c.in_ok-add_selector.ensures
     ∙ ap (λ (s : List ℕ). record old { systems = with_selector old.systems c.args.relay.system s }) (c.in_ok-selector.ensures ∙ c.as_slice.ensures))
-    c.add_relay.ensures.ok c.add_relay.ensures.same
+    c.add_relay.ensures.ok c.add_relay.ensures.err

@@ -14,7 +14,7 @@ invariant_of-self c =
     let is : slice_get c.self.inside.systems.items c.from.result ≡ Some c.index_mut-system.result.now =
     slice_get_read c.self.inside.systems.items (length c.self.inside.systems.items) c.from.result c.index_mut-system.result.now refl fits.known c.index_mut-system.ensures.value in
     selector_added c.add_selector.result setup c.from.result c.index_mut-system.result.now c.add_selector.new.self c.args.selector c.self.invariant is fits
-    c.add_selector.ensures.ok c.add_selector.ensures.same
+    c.add_selector.ensures.ok c.add_selector.ensures.err
 
 pub returns : goal.returns
 returns c =

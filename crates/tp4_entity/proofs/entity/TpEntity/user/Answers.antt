@@ -28,7 +28,7 @@ invariant_of-self-in-Err c =
     let at = c.from.result - 1 in
     let there = slice_get_read c.self.inside.ends.items _ at c.in-Some.place.now c.self.inside.ends.ok.0 (c.in-Some.ensures.variant.0 refl) c.in-Some.ensures.value in
     let clock = ap (λ (e : Entity). e.clock) c.self.view_is in
-    let same : is_memory c.in-Err.why ≡ false → c.call_place.new.place ≡ c.in-Some.place.now = λ off. (c.in-Err.ensures.same (is_not_memory c.in-Err.why off)).0 in (
+    let same : is_memory c.in-Err.why ≡ false → c.call_place.new.place ≡ c.in-Some.place.now = λ off. (c.in-Err.ensures.err (is_not_memory c.in-Err.why off)).0 in (
       entity_over _ c.clock_after-self-inside.result (is_memory c.in-Err.why) c.args.now at c.in-Some.place.now c.call_place.new.place (omega (arith, clock, c.requires.clock)) c.self.invariant.0 there
           (c.in-Err.ensures.kept c.self.inside.timers (at + 1)) same c.clock_after-self-inside.ensures,
       due_put c.self.inside.due c.call_place.new.due c.self.inside.ends.items at c.call_place.new.place _ c.self.invariant.1 (moved c.self.inside.due (c.from-2.result - 1) at (due_at c.call_place.new.place) c.call_place.new.due (omega (arith, c.from.ensures, c.from-2.ensures)) c.in-Err.ensures.due) refl,

@@ -37,6 +37,8 @@ invariant_of-self c = (
   (done c).1,
   freed_total c.self.inside.rules.piece c.args.n c.self.inside.end c.self.inside.waiting c.free.new.octets (record { units = c.self.inside.units.items; first = c.self.inside.first })
       (record { units = c.free.new.units.items; first = c.free.new.first }) c.self.invariant.1 c.free.ensures.freed c.free.ensures.octets,
+  c.self.invariant.2,
+  tt,
 )
 
 pub returns : goal.returns

@@ -13,5 +13,7 @@ returns-clause-step c =
     then_done (then_sends (resends s) resends_urgent) new_sends c.resend_urgent.new.self c.new_sends.new.self c.args.out.now c.resend_urgent.new.out c.new_sends.new.out
     (then_done (resends s) resends_urgent c.resend.new.self c.resend_urgent.new.self c.args.out.now c.resend.new.out c.resend_urgent.new.out
     c.in_ok-resend.ensures.step c.in_ok-resend_urgent.ensures.step) c.in_ok-new_sends.ensures.step in
-    subst (λ (f : FlowSender). Sends (ticked f) c.new_sends.new.self c.args.out.now c.new_sends.new.out) c.set_clock.ensures
-    (subst (λ (l : Life). Sends (ticked_as l s) c.new_sends.new.self c.args.out.now c.new_sends.new.out) (sym goes) whole)
+    let done : Sends (ticked s) c.new_sends.new.self c.args.out.now c.new_sends.new.out =
+    subst (λ (l : Life). Sends (ticked_as l s) c.new_sends.new.self c.args.out.now c.new_sends.new.out) (sym goes) whole in
+    subst (λ (f : FlowSender). Sends (ticked f) c.know_due.new.self c.args.out.now c.new_sends.new.out) c.set_clock.ensures
+    (subst (λ (f : FlowSender). Sends (ticked s) f c.args.out.now c.new_sends.new.out) (sym c.know_due.ensures) done)

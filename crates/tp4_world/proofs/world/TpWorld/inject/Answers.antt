@@ -6,6 +6,7 @@ use Rattle.tp4_world.specs.Run.{Injects}
 use Rattle.tp4_world.specs.Telling.{inject_event}
 use Rattle.tp4_world.specs.steps.Parts.{world_of}
 use Rattle.tp4_world.proofs.Heard.{all_made, arrives}
+use Rattle.tp4_world.proofs.Housed.{heard_all, still_sound}
 use Rattle.tp4_world.proofs.world.TpWorld.inject.Goals as goal
 
 pub returns : goal.returns
@@ -21,3 +22,10 @@ returns g c =
           c.args.events.now.items c.push.new.self.items c.hear_waiting.new.events.items c.in_ok-answer.ensures.steps
           (c.in_ok-push.ensures.items ∙ ap (λ (e : Event). c.args.events.now.items ++ e ∷ []) c.inject_event.ensures) c.in_ok-hear_waiting.ensures.hears),
     )
+
+pub invariant_of-self-2 : goal.invariant_of-self-2
+invariant_of-self-2 g c = λ _.
+    let sound = c.self.invariant c.in_ok-go_on.ensures in
+    let done = c.in_ok-hear_waiting.ensures in
+    still_sound g.C.Carrier.link g.C.Carrier.steps c.self.inside.carrier c.hear_waiting.new.carrier c.hear_waiting.new.transport.entities.items c.hear_waiting.new.transport.ends c.now-now.result sound.low c.now-now.ensures done.clock
+    done.behind done.later (heard_all g.C.Carrier.link g.C.Carrier.steps wire (world_of done.hears.are.below c.self.inside.transport.entities.items c.self.inside.transport.ends) done.hears.are.ups done.hears.are.later (world_of c.hear_waiting.new.carrier c.hear_waiting.new.transport.entities.items c.hear_waiting.new.transport.ends) done.hears.are.hears sound.housed)

@@ -1,0 +1,347 @@
+//! Rows by address, as far as they are known (ISO 9542, configuration information).
+//!
+//! Profile: a table has at most 256 rows.
+
+ghost use Rattle.std.specs.Prelude.{◌≡◌, ◌<◌, ◌≤◌, ◌↔◌, [], ◌∷◌, ◌++◌, false, Err, None, Some, IsTrue, OnOk, OnErr, IfOk, length, position, replicate, slice_set, take, option_copied, nat_eq};
+ghost use Rattle.std.specs.List.{All, filter};
+ghost use Rattle.std.specs.Cmp.Lexicographic.{pointwise};
+ghost use Rattle.esis_tables.specs.declared.address_table.HearRefusal.TheVariants.{Full};
+ghost use Rattle.esis_tables.specs.Rows.{IsTable, count_with, find_row, has_row, heard_table, is_row_known, no_rows, router_in, row_at, rows_with, swept_table};
+ghost use Rattle.esis_tables.specs.steps.Places.{ArePlaces, IsPlace, IsRenewed, row_added, told_by};
+ghost use Rattle.esis_tables.specs.steps.Deadlines.{AreDeadlines, IsKept, IsKeptBelow, IsMade, deadline_at};
+ghost use Rattle.esis_tables.specs.steps.Least.{IsLeastRouter, IsRouterHop, is_lesser};
+
+use crate::holding_time::{Heard, Row};
+use due_links::Due;
+use nsap::{Hop, Nsap};
+use osi_base::{NoMemory, Tick};
+use std::alloc::Global;
+use std::marker::Model;
+
+/// The most rows of a table.
+const MOST_ROWS: usize = 256;
+
+/// Why a hello was not heard.
+#[derive(Clone, Copy, Debug, PartialEq, Eq)]
+pub enum HearRefusal {
+    /// The addresses that it names and that are not there would pass 256 rows.
+    Full,
+    /// Memory ran out.
+    NoMemory,
+}
+
+impl From<NoMemory> for HearRefusal {
+    ghost use Rattle.std.specs.Prelude.{◌≡◌};
+    ghost use Rattle.esis_tables.specs.declared.address_table.HearRefusal.TheVariants.{NoMemory as HearNoMemory};
+
+    ghost from_gives = { λ _ e. e ≡ HearNoMemory };
+
+    fn from(_: NoMemory) -> HearRefusal {
+        HearRefusal::NoMemory
+    }
+}
+
+/// The rows of a table, and the latest tick of a call that changed them.
+#[derive(Drop)]
+pub struct AddressTable {
+    alloc: Global,
+    clock: Tick,
+    rows: Vec<Row>,
+    /// When rows are known no longer, by their places: a tick sweeps those alone. Made by the first hello.
+    due: Option<Due>,
+}
+
+// An address has at most one row, and there are at most 256. What is due is exactly the deadline of each row, and no row is
+// kept before that is made.
+impl Model for AddressTable {
+    ghost use Rattle.esis_tables.specs.Rows.{Rows, IsTable};
+    ghost use Rattle.esis_tables.specs.steps.Deadlines.{IsDue};
+
+    ghost Value = { Rows };
+
+    ghost view = { λ a. record { clock = a.clock; rows = a.rows.items } };
+
+    ghost invariant = { λ a. IsTable a.rows.items × IsDue a.due a.rows.items };
+}
+
+impl AddressTable {
+    /// No rows.
+    pub fn new(alloc: Global) -> AddressTable
+        ensures { result ≡ no_rows }
+    {
+        AddressTable {
+            alloc,
+            clock: 0,
+            rows: Vec::new(alloc),
+            due: None,
+        }
+    }
+
+    /// The hop to an address, where it has a row that is known.
+    pub fn find(&self, now: Tick, address: &Nsap) -> Option<Hop>
+        ensures { result ≡ find_row self.now.rows now address.now }
+    {
+        let row = self.row(address)?;
+        if row.is_known(now) {
+            Some(row.heard.hop)
+        } else {
+            None
+        }
+    }
+
+    /// Whether no address has a row.
+    pub fn is_empty(&self) -> bool
+        ensures { IsTrue result ↔ (self.now.rows ≡ []) }
+    {
+        self.rows.is_empty()
+    }
+
+    /// The hop to the known intermediate system of least title.
+    pub fn router(&self, now: Tick) -> Option<Hop>
+        ensures least { IsRouterHop self.now.rows now result }
+        ensures value { result ≡ router_in self.now.rows now }
+    {
+        hop_to_router(&self.rows, now)
+    }
+
+    /// Hears a hello that names these addresses.
+    pub fn hear(&mut self, names: &[Nsap], heard: &Heard) -> Result<(), HearRefusal>
+        ensures ok { OnOk result (self.new ≡ heard_table self.old (told_by names.now heard.now)) }
+        ensures room { OnOk result (count_with self.old.rows (told_by names.now heard.now) ≤ 256) }
+        ensures full { result ≡ Err Full → 256 < count_with self.old.rows (told_by names.now heard.now) }
+        ensures err { OnErr result (self.new ≡ self.old) }
+    {
+        let mut due = made(self.due.take(), self.alloc)?;
+        let stood = self.rows.len();
+        match places_of(self.alloc, &mut self.rows, names, heard) {
+            Ok(places) => {
+                renew(&mut self.rows, heard, &places);
+                keep_noted(&mut due, &self.rows, &places);
+                self.due = Some(due);
+                self.clock = heard.tick;
+                Ok(())
+            }
+            Err(refusal) => {
+                self.rows.truncate(stood);
+                self.due = Some(due);
+                Err(refusal)
+            }
+        }
+    }
+
+    /// Takes away the rows that are no longer known. Looks at none where none is due.
+    pub fn tick(&mut self, now: Tick)
+        ensures { self.new ≡ swept_table self.old now }
+    {
+        self.clock = now;
+        if let Some(due) = &mut self.due {
+            sweep_due(due, &mut self.rows, now);
+        }
+    }
+
+    // The row of an address.
+    fn row(&self, address: &Nsap) -> Option<&Row>
+        ensures { option_copied result ≡ row_at self.now.rows address.now }
+    {
+        self.rows.iter().find(|row| row.address == *address)
+    }
+}
+
+// The place of the row of an address.
+fn place_in(rows: &[Row], address: &Nsap) -> Option<usize>
+    ensures { result ≡ position (λ row. pointwise nat_eq row.address address.now) rows.now }
+{
+    rows.iter().position(|row| row.address == *address)
+}
+
+// Puts a row behind the others.
+fn put(rows: &mut Vec<Row>, address: Nsap, heard: &Heard) -> Result<(), NoMemory>
+    ensures ok { OnOk result (rows.new.items ≡ rows.old.items ++ record { address = address; heard = heard.now } ∷ []) }
+    ensures err { OnErr result (rows.new.items ≡ rows.old.items) }
+{
+    let title: Option<Nsap> = heard.hop.title;
+    let hop = Hop {
+        port: heard.hop.port,
+        title,
+    };
+    let heard = Heard { hop, ..*heard };
+    rows.push(Row { address, heard })?;
+    Ok(())
+}
+
+// The place of the row of an address, which is put behind the others where there is none.
+fn place_of(rows: &mut Vec<Row>, name: &Nsap, heard: &Heard) -> Result<usize, HearRefusal>
+    requires { IsTable rows.old.items }
+    ensures table { IsTable rows.new.items }
+    ensures ok { OnOk result (rows.new.items ≡ row_added rows.old.items name.now heard.now) }
+    ensures place { IfOk result (IsPlace rows.new.items name.now) }
+    ensures full { result ≡ Err Full → (256 ≤ length rows.old.items) × (has_row rows.old.items name.now ≡ false) }
+    ensures err { OnErr result (rows.new.items ≡ rows.old.items) }
+{
+    if let Some(place) = place_in(rows, name) {
+        return Ok(place);
+    }
+    if rows.len() >= MOST_ROWS {
+        return Err(HearRefusal::Full);
+    }
+    put(rows, *name, heard)?;
+    Ok(rows.len() - 1)
+}
+
+// Puts a row for each name that has none, and gives the places of the rows that are named.
+fn places_of(
+    alloc: Global,
+    rows: &mut Vec<Row>,
+    names: &[Nsap],
+    heard: &Heard,
+) -> Result<Vec<usize>, HearRefusal>
+    requires { IsTable rows.old.items }
+    ensures table { IsTable rows.new.items }
+    ensures ok { OnOk result (rows.new.items ≡ rows_with rows.old.items (told_by names.now heard.now)) }
+    ensures places { IfOk result (λ places. ArePlaces names.now rows.new.items places.items) }
+    ensures full { result ≡ Err Full → 256 < count_with rows.old.items (told_by names.now heard.now) }
+    ensures kept { take (length rows.old.items) rows.new.items ≡ rows.old.items }
+{
+    let mut places = Vec::new(alloc);
+    for name in names {
+        match place_of(rows, name, heard) {
+            Ok(place) => note(&mut places, place)?,
+            Err(refusal) => return Err(refusal),
+        }
+    }
+    Ok(places)
+}
+
+// Notes a place behind the others.
+fn note(places: &mut Vec<usize>, place: usize) -> Result<(), NoMemory>
+    ensures { OnOk result (places.new.items ≡ places.old.items ++ place ∷ []) }
+{
+    places.push(place)?;
+    Ok(())
+}
+
+// The rows at these places hold what was heard.
+fn renew(rows: &mut Vec<Row>, heard: &Heard, places: &[usize])
+    requires { All (λ place. place < length rows.old.items) places.now }
+    ensures { IsRenewed heard.now places.now rows.old.items rows.new.items }
+{
+    for place in places {
+        rows[*place].heard = *heard;
+    }
+}
+
+// What is due is the deadline of each row, made where it was not.
+fn made(due: Option<Due>, alloc: Global) -> Result<Due, NoMemory>
+    ensures ok { IfOk result (λ new. IsMade due new) }
+    ensures err { OnErr result (due ≡ None) }
+{
+    match due {
+        Some(due) => Ok(due),
+        None => Due::new(alloc, MOST_ROWS as u32),
+    }
+}
+
+// A place is due at that tick, or at none.
+fn keep(due: &mut Due, place: usize, tick: Option<Tick>)
+    requires within { place < length due.old }
+    requires few { length due.old ≡ 256 }
+    ensures { due.new ≡ slice_set due.old place tick }
+{
+    let id = place as u32;
+    match tick {
+        Some(tick) => due.set(id, tick),
+        None => due.clear(id),
+    }
+}
+
+// The deadline of the row at a place, where one stands there.
+fn deadline_at(rows: &[Row], place: usize) -> Option<Tick>
+    ensures { result ≡ deadline_at rows.now place }
+{
+    rows.get(place)?.deadline()
+}
+
+// The rows at these places are due at their deadlines.
+fn keep_noted(due: &mut Due, rows: &[Row], places: &[usize])
+    requires within { All (λ place. place < length due.old) places.now }
+    requires few { length due.old ≡ 256 }
+    ensures { IsKept rows.now places.now due.old due.new }
+{
+    for place in places {
+        keep(due, *place, deadline_at(rows, *place));
+    }
+}
+
+// The places below that one are due as their rows are.
+fn keep_below(due: &mut Due, rows: &[Row], count: usize)
+    requires within { count ≤ length due.old }
+    requires few { length due.old ≡ 256 }
+    ensures { IsKeptBelow rows.now count due.old due.new }
+{
+    for place in 0..count {
+        keep(due, place, deadline_at(rows, place));
+    }
+}
+
+// Only the rows that are known stay; none is looked at where none is due.
+// Apart, so that a tick before the first hello has no room for these values to clear.
+#[inline(never)]
+fn sweep_due(due: &mut Due, rows: &mut Vec<Row>, now: Tick)
+    requires few { length rows.old.items ≤ 256 }
+    requires due { AreDeadlines rows.old.items due.old }
+    ensures due { AreDeadlines rows.new.items due.new }
+    ensures rows { rows.new.items ≡ filter (is_row_known now) rows.old.items }
+{
+    if due.pop(now).is_some() {
+        let stood = rows.len();
+        sweep(rows, now);
+        keep_below(due, rows, stood);
+    }
+}
+
+// Only the rows that are known stay.
+fn sweep(rows: &mut Vec<Row>, now: Tick)
+    ensures { rows.new.items ≡ filter (is_row_known now) rows.old.items }
+{
+    let mut kept = 0;
+    for place in 0..rows.len() {
+        let row = rows[place];
+        if row.is_known(now) {
+            rows[kept] = row;
+            kept += 1;
+        }
+    }
+    rows.truncate(kept);
+}
+
+// The hop to the known intermediate system of least title.
+fn hop_to_router(rows: &[Row], now: Tick) -> Option<Hop>
+    ensures { IsRouterHop rows.now now result }
+{
+    let row = least_router(rows, now)?;
+    Some(row.heard.hop)
+}
+
+// The row of the known intermediate system of least title.
+fn least_router(rows: &[Row], now: Tick) -> Option<Row>
+    ensures { IsLeastRouter rows.now now result }
+{
+    let mut least = None;
+    for row in rows {
+        if is_lesser(row, &least, now) {
+            least = Some(*row);
+        }
+    }
+    least
+}
+
+// Whether the row is that of a known intermediate system, and its title comes before the least one so far.
+fn is_lesser(row: &Row, least: &Option<Row>, now: Tick) -> bool
+    ensures { result ≡ is_lesser row.now least.now now }
+{
+    let before = match least {
+        Some(least) => row.address.octets().cmp(least.address.octets()).is_lt(),
+        None => true,
+    };
+    before && row.is_router(now)
+}

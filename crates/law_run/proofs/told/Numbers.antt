@@ -1,0 +1,69 @@
+-- The number of a frame in a `deliver` line is one that was read, and so within its bounds.
+use Rattle.std.proofs.Common.{◌≡◌, ◌≤◌, ℕ, List, [], ◌∷◌, Ok, sym, subst}
+use Rattle.std.specs.Prelude.{None}
+use Rattle.osi_script.specs.declared.words.FieldKind.TheVariants as forms
+use Rattle.osi_script.specs.declared.words.NameKind.TheVariants as named
+use Rattle.osi_script.specs.declared.words.WordKind.TheVariants as plain
+use Rattle.osi_script.specs.declared.words.Word.{Word}
+use Rattle.osi_script.specs.declared.words.Word.TheVariants as words
+use Rattle.osi_script.specs.declared.line.Line.{Line}
+use Rattle.osi_script.specs.declared.line.Line.TheVariants as lines
+use Rattle.osi_script.specs.declared.field_values.FieldValues.{FieldValues}
+use Rattle.osi_script.specs.Field.{number_of}
+use Rattle.osi_script.specs.Grammar.{Reading, count_fault, fields_read, line_for, line_read, next_column, next_number}
+use Rattle.osi_script.specs.Known.{Declared, no_parts}
+use Rattle.osi_script.specs.Reading.{system_of}
+use Rattle.osi_script.specs.Table.{row_of}
+use Rattle.script_bench.specs.steps.Came.{Came, Idle, Worded, came}
+use Rattle.law_setup.proofs.Values.{number_within, same_parts, step}
+
+-- a frame of the line has a number of at most nine digits
+abbrev pub HasNumber : Line → Type 0
+HasNumber (lines.Deliver number system) = number ≤ 999999999
+HasNumber line = Unit {0}
+
+deliver_number : (names : Declared) (past column : ℕ) (fields : List (List ℕ)) (out : FieldValues) → count_fault past column (forms.Plain (plain.Number 0 999999999) ∷ forms.Named named.System ∷ []) fields ≡ None
+    → fields_read names no_parts column (forms.Plain (plain.Number 0 999999999) ∷ forms.Named named.System ∷ []) fields ≡ Ok out → out.number ≤ 999999999
+deliver_number names past column [] out count is = absurd (cc)
+deliver_number names past column (first ∷ []) out count is = absurd (cc)
+deliver_number names past column (first ∷ second ∷ third ∷ others) out count is = absurd (cc)
+deliver_number names past column (first ∷ second ∷ []) out count is =
+    let a = step column (number_of 0 999999999 first) (λ number. record no_parts { number = number }) (λ more. fields_read names more (next_column column first) (forms.Named named.System ∷ []) (second ∷ [])) out is in
+    let b = step (next_column column first) (system_of names second) (λ system. record no_parts { number = a.value; system = system }) (λ more. Ok more) out a.rest in
+    subst (λ (p : FieldValues). p.number ≤ 999999999) (same_parts _ out b.rest) (number_within 0 999999999 first a.value a.read_is).most_is
+
+word_number : (names : Declared) (past column number : ℕ) (fields : List (List ℕ)) (parts : FieldValues) (word : Word) → count_fault past column (row_of word).fields fields ≡ None
+    → fields_read names no_parts column (row_of word).fields fields ≡ Ok parts → HasNumber (line_for number word parts)
+word_number names past column number fields parts words.Deliver count filled = deliver_number names past column fields parts count filled
+word_number names past column number fields parts words.Es count filled = tt
+word_number names past column number fields parts words.Is count filled = tt
+word_number names past column number fields parts words.Port count filled = tt
+word_number names past column number fields parts words.Tsap count filled = tt
+word_number names past column number fields parts words.Relay count filled = tt
+word_number names past column number fields parts words.Connect count filled = tt
+word_number names past column number fields parts words.Accept count filled = tt
+word_number names past column number fields parts words.Refuse count filled = tt
+word_number names past column number fields parts words.Disconnect count filled = tt
+word_number names past column number fields parts words.Data count filled = tt
+word_number names past column number fields parts words.Expedite count filled = tt
+word_number names past column number fields parts words.Unit count filled = tt
+word_number names past column number fields parts words.Inject count filled = tt
+word_number names past column number fields parts words.Set count filled = tt
+word_number names past column number fields parts words.Lan count filled = tt
+word_number names past column number fields parts words.Route count filled = tt
+word_number names past column number fields parts words.Path count filled = tt
+word_number names past column number fields parts words.Version count filled = tt
+word_number names past column number fields parts words.Start count filled = tt
+word_number names past column number fields parts words.Window count filled = tt
+word_number names past column number fields parts words.Tick count filled = tt
+word_number names past column number fields parts words.Settle count filled = tt
+word_number names past column number fields parts words.Restart count filled = tt
+word_number names past column number fields parts words.Send count filled = tt
+
+came_number : (names : Declared) (reading : Reading) → Came names reading → HasNumber reading.line
+came_number names reading (Idle is) = subst (λ (r : Reading). HasNumber r.line) (sym is) tt
+came_number names reading (Worded word h) =
+    subst (λ (r : Reading). HasNumber r.line) (sym h.is) (word_number names h.past h.column (next_number names (row_of word).effect) h.fields h.parts word h.counted h.filled)
+
+pub line_number : (names : Declared) (octets : List ℕ) (line : Line) (new : Declared) → line_read names octets ≡ Ok (record { line = line; names = new }) → HasNumber line
+line_number names octets line new is = came_number names (record { line = line; names = new }) (came names octets (record { line = line; names = new }) is)

@@ -1,0 +1,49 @@
+-- What the claim follows from: each two partner ends that are Opened are a pair that went from its accept to where it is, and no end is due.
+use Rattle.std.specs.Prelude.{◌≡◌, ℕ, ◌+◌, true, false, List, Option, Some, Contains}
+use Rattle.osi_journal.specs.Lawful.{AreEnds, shown, submitted}
+use Rattle.osi_journal.specs.declared.event.Event.{Event}
+use Rattle.osi_journal.specs.declared.event.Event.TheVariants as events
+use Rattle.tp4_conn.specs.declared.call.UserCall.TheVariants.{Accept}
+use Rattle.tp4_conn.specs.declared.states.InOpened.{InOpened}
+use Rattle.tp4_conn.specs.declared.states.StateData.TheVariants.{Opened}
+use Rattle.tp4_conn.specs.End.{End}
+use Rattle.tp4_conn.specs.Living.{IsInTime}
+use Rattle.tp4_conn.specs.Table.{due}
+use Rattle.tp4_flow.specs.declared.rules.Options.{Options}
+use Rattle.tp4_flow.specs.declared.step.EndEvent.{EndEvent}
+use Rattle.tp4_flow.specs.declared.step.HeldKind.TheVariants.{Dt, Ed}
+use Rattle.tp4_flow.specs.declared.step.What.TheVariants.{Held}
+use Rattle.law_tp4_pair.specs.Pair.{Accepts, Asks_called, Happening, IsIdle, Leads, Pair, next}
+
+-- no end is due at this tick, by the numbers of ends
+abbrev pub AreLater : ℕ → (ℕ → Option End) → Type 0
+AreLater now end_of = (number : ℕ) (x : End) → end_of number ≡ Some x → IsInTime (due x.base x.stage) (now + 1)
+
+-- what an end told as held stands in the journal, under the number of the end
+pub record IsToldIn (journal : List Event) (end : ℕ) (told : List EndEvent) : Type 0 where
+  pub urgent : (reference n : ℕ) → Contains told (record { reference = reference; what = Held Ed n }) → Contains journal (events.Held end true n)
+  pub normal : (reference n : ℕ) → Contains told (record { reference = reference; what = Held Dt n }) → Contains journal (events.Held end false n)
+
+-- a pair went from its accept to these two ends, nothing waits there, and the journal has what was submitted, shown and told
+pub record IsPairOf (journal : List Event) (calling called : ℕ) (x y : End) : Type 0 where
+  pub first : Pair
+  pub asked : Options
+  pub octets : List ℕ
+  pub happenings : List Happening
+  pub last : Pair
+  pub accepts : Accepts first asked
+  pub leads : Leads (next first (Asks_called (Accept asked octets))) happenings last
+  pub idle : IsIdle last
+  pub calling_is : last.calling ≡ x
+  pub called_is : last.called ≡ y
+  pub calling_gave : last.calling_gave ≡ submitted calling journal
+  pub called_gave : last.called_gave ≡ submitted called journal
+  pub calling_showed : last.calling_showed ≡ shown calling journal
+  pub called_showed : last.called_showed ≡ shown called journal
+  pub calling_told : IsToldIn journal calling last.calling_told
+  pub called_told : IsToldIn journal called last.called_told
+
+-- each two partner ends that are both Opened are such a pair
+abbrev pub ArePairs : List Event → (ℕ → Option End) → Type 0
+ArePairs journal end_of = (calling called : ℕ) (x y : End) (o q : InOpened) → AreEnds journal calling called → end_of calling ≡ Some x → end_of called ≡ Some y
+    → x.stage ≡ Opened o → y.stage ≡ Opened q → IsPairOf journal calling called x y
