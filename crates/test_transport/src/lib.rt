@@ -1,4 +1,5 @@
-//! Tests of transport: due ticks, numbers, the halves of a connection, its ends row by row of the state tables, the ends of a system.
+//! Tests of transport: due ticks, numbers, the halves of a connection, its ends row by row of the state tables, the ends of a system,
+//! and a network with them.
 #![tactic(auto)]
 
 #[cfg(test)]
@@ -15,3 +16,5 @@ mod numbers;
 mod receiving;
 #[cfg(test)]
 mod sending;
+#[cfg(test)]
+mod worlds;
