@@ -9,7 +9,8 @@ use Rattle.clnp_header.specs.Values.{parameters}
 use Rattle.clnp_header.specs.Writing.{header_length}
 use Rattle.clnp_segment.specs.Cutting.{Pieces, piece_of, piece_pdus}
 use Rattle.clnp_segment.specs.Joining.{IsSegmentOf}
-use Rattle.clnp_segment.specs.Units.{CutsAlike, IsOfUnit, segment_in}
+use Rattle.clnp_segment.specs.Laws.{CutsAlike}
+use Rattle.clnp_segment.specs.Units.{IsOfUnit, segment_in}
 
 get_left : (xs ys : List ℕ) (i octet : ℕ) → slice_get xs i ≡ Some octet → slice_get (xs ++ ys) i ≡ Some octet
 get_left [] ys i octet h = absurd cc

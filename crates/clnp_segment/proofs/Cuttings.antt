@@ -11,7 +11,8 @@ use Rattle.clnp_header.specs.declared.pdu.SegmentPart.{SegmentPart}
 use Rattle.clnp_header.specs.Grammar.{IsPlaced, IsSegment, MayBeSegment, segment_part}
 use Rattle.clnp_header.specs.Values.{parameters}
 use Rattle.clnp_header.specs.Writing.{HasKind, IsWritable, header_length}
-use Rattle.clnp_segment.specs.Cutting.{Cuts, IsStep, MayGo, OneCutting, Pieces, PiecesJoin, piece_of, piece_pdus}
+use Rattle.clnp_segment.specs.Cutting.{Cuts, IsStep, MayGo, Pieces, piece_of, piece_pdus}
+use Rattle.clnp_segment.specs.Laws.{OneCutting, PiecesJoin}
 use Rattle.clnp_segment.proofs.Lists.{same_fronts}
 
 -- ---- the runs are the data

@@ -7,7 +7,8 @@ use Rattle.clnp_header.specs.declared.pdu.Pdu.{Pdu}
 use Rattle.clnp_header.specs.declared.pdu.SegmentPart.{SegmentPart}
 use Rattle.clnp_header.specs.Writing.{header_length}
 use Rattle.clnp_segment.specs.Cutting.{Cuts, Pieces, piece_of, piece_pdus}
-use Rattle.clnp_segment.specs.Delivery.{AreAllOf, ComesWhole, HasCome, IsForwarded, IsInitial, IsMoved, IsOneOf, IsPieceOf, IsReadAs, JoinsWhatWasCut, MovesTo, key_in}
+use Rattle.clnp_segment.specs.Delivery.{AreAllOf, ComesWhole, HasCome, IsForwarded, IsInitial, IsMoved, IsOneOf, IsPieceOf, IsReadAs, MovesTo, key_in}
+use Rattle.clnp_segment.specs.Laws.{JoinsWhatWasCut}
 use Rattle.clnp_segment.specs.Joining.{Has, IsOf, IsSegmentOf, Segment}
 use Rattle.clnp_segment.specs.Store.{Coming, Key, Partial, is_key, key_of}
 use Rattle.clnp_segment.specs.Units.{Came, IsOnly, segment_in}

@@ -3,7 +3,8 @@
 use Rattle.std.proofs.Common.{◌≡◌, ℕ, suc, ◌+◌, ◌<◌, ◌≤◌, false, List, [], ◌∷◌, ◌++◌, length, map, slice_get, Option, Some, None, refl, sym, ◌∙◌, ap, subst, arith}
 use Rattle.std.specs.List.{AllByRecursion, list_any}
 use Rattle.clnp_segment.specs.Joining.{Filled, Held, Segment, Together}
-use Rattle.clnp_segment.specs.Store.{At, Coming, Holding, Key, Partial, HasNoRoom, OneAnswer, OneExpiry, TakesAt, found_or_nothing, has_key, partial_with}
+use Rattle.clnp_segment.specs.Store.{At, Coming, Holding, Key, Partial, HasNoRoom, TakesAt, found_or_nothing, has_key, partial_with}
+use Rattle.clnp_segment.specs.Laws.{OneAnswer, OneExpiry}
 use Rattle.clnp_segment.specs.declared.store.Expired.{Expired}
 use Rattle.clnp_segment.specs.declared.store.Joined.{Joined}
 use Rattle.clnp_segment.specs.declared.store.Joined.TheVariants as joined

@@ -1,7 +1,8 @@
 -- The places stand for the set of pairs: a clash is found where there is one, what is written are the pairs of both, and
 -- the segments of one unit never clash and come to it.
 use Rattle.std.proofs.Common.{◌≡◌, ◌⊎◌, ℕ, zero, suc, ◌+◌, ◌-◌, ◌<◌, ◌≤◌, List, [], ◌∷◌, length, map, slice_get, Option, Some, refl, sym, ◌∙◌, ap, subst, arith, true, false, inl, inr}
-use Rattle.clnp_segment.specs.Joining.{Segment, Held, Clash, Together, IsUnit, IsOf, IsSegmentOf, JoinsUnits}
+use Rattle.clnp_segment.specs.Joining.{Segment, Held, Clash, Together, IsUnit, IsOf, IsSegmentOf}
+use Rattle.clnp_segment.specs.Laws.{JoinsUnits}
 use Rattle.clnp_segment.specs.steps.Places.{is_clash, written, Compares, Judges, with_segment}
 use Rattle.clnp_segment.specs.declared.held.Verdict.{Verdict}
 use Rattle.clnp_segment.specs.declared.held.Verdict.TheVariants as verdict

@@ -9,8 +9,8 @@ use Rattle.clnp_header.specs.Grammar.{IsPdu, IsPlaced, IsSegment, MayBeSegment}
 use Rattle.clnp_header.specs.Values.{value_of}
 use Rattle.clnp_header.specs.Writing.{header_length}
 use Rattle.clnp_header.proofs.Parts.{length-header}
-use Rattle.clnp_segment.specs.Delivery.{ReadIsHandedOn}
-use Rattle.clnp_segment.specs.Store.{FitsIn, MayCome, ReadMayCome}
+use Rattle.clnp_segment.specs.Laws.{ReadIsHandedOn, ReadMayCome}
+use Rattle.clnp_segment.specs.Store.{FitsIn, MayCome}
 
 placed_below : (more : Bool) (end total : ℕ) → IsPlaced more end total → end ≤ total
 placed_below true end total h = omega (arith, h)

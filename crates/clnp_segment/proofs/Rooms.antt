@@ -7,7 +7,8 @@ use Rattle.std.proofs.lemmas.List.Sums.{count_by-le-length}
 use Rattle.clnp_segment.specs.Joining.{Held, filled_places, nothing_of}
 use Rattle.clnp_segment.specs.Store.{AreApart, At, Coming, HasNoRoom, Holding, Key, Partial, TakesAt, found_or_nothing, key_of, octets_held, partial_with}
 use Rattle.clnp_segment.specs.Units.{Came, TakesAll}
-use Rattle.clnp_segment.specs.Whole.{HasShare, NoneIsFull, Share, octets_of}
+use Rattle.clnp_segment.specs.Whole.{HasShare, Share, octets_of}
+use Rattle.clnp_segment.specs.Laws.{NoneIsFull}
 use Rattle.clnp_segment.specs.declared.store.Joined.{Joined}
 use Rattle.clnp_segment.specs.declared.store.Joined.TheVariants as joined
 use Rattle.clnp_segment.proofs.Slots.{none_filled}

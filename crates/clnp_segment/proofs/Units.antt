@@ -5,7 +5,8 @@ use Rattle.std.specs.Cmp.Lexicographic.{pointwise}
 use Rattle.std.proofs.lemmas.List.{length-replicate}
 use Rattle.clnp_segment.specs.Joining.{Held, IsOf, IsSegmentOf, Segment, nothing_of}
 use Rattle.clnp_segment.specs.Store.{At, Coming, Holding, Key, Partial, TakesAt, found_or_nothing, has_key, key_of, partial_with}
-use Rattle.clnp_segment.specs.Units.{AnswersOnly, Came, IsOnly, JoinsAll, TakesAll}
+use Rattle.clnp_segment.specs.Units.{AnswersOnly, Came, IsOnly, TakesAll}
+use Rattle.clnp_segment.specs.Laws.{JoinsAll}
 use Rattle.clnp_segment.specs.declared.store.Joined.{Joined}
 use Rattle.clnp_segment.specs.declared.store.Joined.TheVariants as joined
 use Rattle.clnp_segment.proofs.Joins.{units_kept, units_no_clash, units_whole}

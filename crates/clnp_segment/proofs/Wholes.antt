@@ -5,7 +5,8 @@ use Rattle.std.specs.List.{AllByRecursion}
 use Rattle.clnp_segment.specs.Joining.{Filled, Held, Holds, IsOf, IsSegmentOf, Segment, Together, nothing_of}
 use Rattle.clnp_segment.specs.Store.{AreApart, At, Coming, Holding, Key, Partial, TakesAt, found_or_nothing, is_key, key_of, partial_with}
 use Rattle.clnp_segment.specs.Units.{AnswersOnly, Came, HoldsOnly, IsOnly, TakesAll}
-use Rattle.clnp_segment.specs.Whole.{AnswersBy, AnswersInTurn, Bring, BringAll, HoldsAt, HoldsWhatCame, WholeInTurn, of_key, so_far_after, so_far_in}
+use Rattle.clnp_segment.specs.Whole.{AnswersBy, AnswersInTurn, Bring, BringAll, HoldsAt, HoldsWhatCame, of_key, so_far_after, so_far_in}
+use Rattle.clnp_segment.specs.Laws.{WholeInTurn}
 use Rattle.clnp_segment.specs.declared.store.Joined.{Joined}
 use Rattle.clnp_segment.specs.declared.store.Joined.TheVariants as joined
 use Rattle.clnp_segment.proofs.Joins.{units_kept}

@@ -1,6 +1,5 @@
 -- Cutting a PDU for a room (X.233, segmentation).
 use Rattle.std.specs.Prelude.{◌≡◌, ℕ, ◌+◌, ◌<◌, ◌≤◌, ◌%◌, Bool, true, false, if◌then◌else◌, List, [], ◌∷◌, ◌++◌, length, Option, Some, None}
-use Rattle.std.specs.List.{AllByRecursion, concat}
 use Rattle.clnp_header.specs.declared.pdu.Pdu.{Pdu}
 use Rattle.clnp_header.specs.declared.pdu.SegmentPart.{SegmentPart}
 use Rattle.clnp_header.specs.Writing.{IsWritable, header_length, pdu_length}
@@ -39,24 +38,10 @@ Cuts pdu room (Some part) (Some pdus) =
     (pieces : List (List ℕ)) × Pieces room (header_length pdu) pdu.body pieces × (pdus ≡ piece_pdus pdu part 0 pieces)
 Cuts pdu room (Some part) None = ⊥
 
--- ---- laws
-
--- a PDU is cut for a room in one way
-abbrev pub OneCutting : Type 0
-OneCutting = (pdu : Pdu) (room : ℕ) (part : Option SegmentPart) (pdus others : List Pdu) → Cuts pdu room part (Some pdus)
-    → Cuts pdu room part (Some others) → pdus ≡ others
-
--- the runs are the data, one after another
-abbrev pub PiecesJoin : Type 0
-PiecesJoin = (room header : ℕ) (octets : List ℕ) (pieces : List (List ℕ)) → Pieces room header octets pieces → concat pieces ≡ octets
+-- ---- what may go
 
 -- the grammar allows the PDU, its header has 254 octets at most, and it fits the room
 pub record MayGo (room : ℕ) (pdu : Pdu) : Type 0 where
   pub writable : IsWritable pdu
   pub short : header_length pdu ≤ 254
   pub fits : pdu_length pdu ≤ room
-
--- the pieces of a PDU that the grammar allows, with a header of 254 octets at most, are alike and fit the room
-abbrev pub CutsWritable : Type 0
-CutsWritable = (pdu : Pdu) (room : ℕ) (pdus : List Pdu) → 264 ≤ room → IsWritable pdu → header_length pdu ≤ 254
-    → Cuts pdu room pdu.segment (Some pdus) → AllByRecursion (MayGo room) pdus

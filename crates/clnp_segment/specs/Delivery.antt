@@ -1,17 +1,14 @@
 -- The pieces of a PDU, cut and forwarded on the way and delivered in any order, come to its data (X.233, segmentation, reassembly).
-use Rattle.std.specs.Prelude.{◌≡◌, ◌≢◌, ◌⊎◌, ℕ, zero, suc, Bool, List, [], ◌∷◌, ◌++◌, length, take, Some}
+use Rattle.std.specs.Prelude.{◌≡◌, ◌⊎◌, ℕ, zero, suc, List, [], ◌∷◌, ◌++◌, length, Some}
 use Rattle.std.specs.List.{AllByRecursion}
-use Rattle.pdu_parts.specs.Front.{BeginsWith}
 use Rattle.clnp_header.specs.declared.pdu.Pdu.{Pdu}
 use Rattle.clnp_header.specs.declared.pdu.PduRef.{PduRef}
 use Rattle.clnp_header.specs.declared.pdu.SegmentPart.{SegmentPart}
-use Rattle.clnp_header.specs.Grammar.{IsPdu}
 use Rattle.clnp_header.specs.Values.{value_of}
 use Rattle.clnp_header.specs.Writing.{header_length, pdu_length}
 use Rattle.clnp_segment.specs.Cutting.{Cuts}
-use Rattle.clnp_segment.specs.Store.{AreApart, Coming, Holding, Key, coming_of, key_of}
-use Rattle.clnp_segment.specs.Units.{Came, TakesAll}
-use Rattle.clnp_segment.specs.Whole.{AnswersInTurn, HasRoomFor, of_key}
+use Rattle.clnp_segment.specs.Store.{Coming, Key, coming_of}
+use Rattle.clnp_segment.specs.Units.{Came}
 use Rattle.clnp_segment.specs.declared.store.Joined.TheVariants as joined
 
 -- ---- on the way
@@ -85,19 +82,3 @@ pub record ComesWhole (key : Key) (unit : List ℕ) (list : List Came) : Type 0 
   pub held : AllByRecursion (λ came. came.coming.key ≡ key → came.answer ≡ joined.Held) before
   pub key_is : last.coming.key ≡ key
   pub whole : last.answer ≡ joined.Whole unit
-
--- ---- laws
-
--- what is read, with the header that is lent, and handed on is the PDU that it is the value of
-abbrev pub ReadIsHandedOn : Type 0
-ReadIsHandedOn = (octets rest : List ℕ) (read : PduRef) (part : SegmentPart) (left : ℕ) (reportable : Bool) → BeginsWith IsPdu octets (value_of read) rest
-    → read.header.now ≡ take (header_length (value_of read)) octets → read.segment ≡ Some part
-    → IsReadAs (value_of read) (coming_of read part left reportable)
-
--- pieces of an initial PDU, in any order and with any repeats, among segments of any other keys: once all pieces of it have
--- come, its data were whole with one of them, and all before it were held; and each answer is as `AnswersInTurn` says
-abbrev pub JoinsWhatWasCut : Type 0
-JoinsWhatWasCut = (pdu : Pdu) (part : SegmentPart) (pdus : List Pdu) (store after : Holding) (list : List Came) → IsInitial pdu part → AreAllOf pdu pdus
-    → AreApart store.held → AllByRecursion (λ partial. key_of partial ≢ key_in pdu part) store.held → HasRoomFor store list
-    → AllByRecursion (IsPieceOf (key_in pdu part) pdu) list → AllByRecursion (HasCome list) pdus → TakesAll store list after
-    → ComesWhole (key_in pdu part) pdu.body list × AnswersInTurn pdu.body [] (of_key (key_in pdu part) list)

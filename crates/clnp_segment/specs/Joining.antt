@@ -53,7 +53,7 @@ nothing_of segment = record { header = segment.header; total = segment.total; sl
 abbrev pub filled_places : Held → ℕ
 filled_places held = count_by is_some held.slots
 
--- ---- laws
+-- ---- one unit
 
 -- what is held, and a segment, are of that unit
 pub record IsOf (unit : List ℕ) (header : ℕ) (held : Held) : Type 0 where
@@ -66,12 +66,3 @@ pub record IsSegmentOf (unit : List ℕ) (header : ℕ) (segment : Segment) : Ty
   pub header_is : segment.header ≡ header
   pub total_is : segment.total ≡ header + length unit
   pub octets : (position octet : ℕ) → Has segment position octet → slice_get unit position ≡ Some octet
-
--- segments of one unit never clash, stay of that unit, and come to it where they fill it
-pub record JoinsUnits : Type 0 where
-  pub no_clash : (unit : List ℕ) (header : ℕ) (held : Held) (segment : Segment) → IsOf unit header held → IsSegmentOf unit header segment
-      → Clash held segment → ⊥
-  pub kept : (unit : List ℕ) (header : ℕ) (old : Held) (segment : Segment) (new : Held) → IsOf unit header old → IsSegmentOf unit header segment
-      → Together old segment new
-      → IsOf unit header new
-  pub whole : (unit octets : List ℕ) (header : ℕ) (held : Held) → IsOf unit header held → IsUnit held octets → octets ≡ unit

@@ -1,13 +1,9 @@
 -- Units of which some segments came (X.233, reassembly, reassembly lifetime).
-use Rattle.std.specs.Prelude.{◌≡◌, ◌≢◌, ◌==◌, ◌&&◌, ◌⊎◌, ℕ, ◌+◌, ◌-◌, ◌<◌, ◌≤◌, max, Bool, true, false, nat_eq, List, [], ◌∷◌, ◌++◌, length, take, Option, Some, None, MatchOption}
+use Rattle.std.specs.Prelude.{◌≡◌, ◌≢◌, ◌==◌, ◌&&◌, ◌⊎◌, ℕ, ◌+◌, ◌-◌, ◌<◌, ◌≤◌, max, Bool, true, false, nat_eq, List, [], ◌∷◌, ◌++◌, length, Option, Some, None, MatchOption}
 use Rattle.std.specs.List.{list_any, AllByRecursion}
 use Rattle.std.specs.Cmp.Lexicographic.{pointwise}
-use Rattle.pdu_parts.specs.Front.{BeginsWith}
 use Rattle.clnp_header.specs.declared.pdu.PduRef.{PduRef}
 use Rattle.clnp_header.specs.declared.pdu.SegmentPart.{SegmentPart}
-use Rattle.clnp_header.specs.Grammar.{IsPdu}
-use Rattle.clnp_header.specs.Values.{value_of}
-use Rattle.clnp_header.specs.Writing.{header_length}
 use Rattle.clnp_segment.specs.Joining.{Segment, Held, Clash, Together, Filled, IsUnit, filled_places, nothing_of}
 use Rattle.clnp_segment.specs.declared.store.Joined.{Joined}
 use Rattle.clnp_segment.specs.declared.store.Joined.TheVariants as joined
@@ -170,22 +166,3 @@ pub record ExpiresFirst (store : Holding) (now : ℕ) (expired : Expired) (after
 abbrev pub Expires : Holding → ℕ → Option Expired → Holding → Type 0
 Expires store now None after = AllByRecursion (λ unit. now ≤ unit.deadline) store.held × (after ≡ record store { clock = now })
 Expires store now (Some expired) after = ExpiresFirst store now expired after
-
--- ---- laws
-
--- the answer and what is then held follow from what was held, the tick and the segment
-abbrev pub OneAnswer : Type 0
-OneAnswer = (store : Holding) (now : ℕ) (coming : Coming) (answer other : Joined) (after more : Holding) → Takes store now coming answer after
-    → Takes store now coming other more
-    → (answer ≡ other) × (after ≡ more)
-
--- what expires and what is then held follow from what was held and the tick
-abbrev pub OneExpiry : Type 0
-OneExpiry = (store : Holding) (now : ℕ) (expired other : Option Expired) (after more : Holding) → Expires store now expired after → Expires store now other more
-    → (expired ≡ other) × (after ≡ more)
-
--- a PDU that was read, with the header that is lent, ends within the initial PDU where it has a segmentation part
-abbrev pub ReadMayCome : Type 0
-ReadMayCome = (octets rest : List ℕ) (pdu : PduRef) (part : SegmentPart) → BeginsWith IsPdu octets (value_of pdu) rest
-    → pdu.header.now ≡ take (header_length (value_of pdu)) octets
-    → pdu.segment ≡ Some part → MayCome pdu

@@ -1,10 +1,9 @@
 -- The promise on segments: what segments of one unit come to is the unit, whatever else comes.
-use Rattle.std.specs.Prelude.{◌≡◌, ℕ, List, [], ◌∷◌, MatchOption, Some}
+use Rattle.std.specs.Prelude.{◌≡◌, ℕ, List, [], ◌∷◌, MatchOption}
 use Rattle.std.specs.List.{AllByRecursion}
 use Rattle.clnp_header.specs.declared.pdu.Pdu.{Pdu}
 use Rattle.clnp_header.specs.declared.pdu.SegmentPart.{SegmentPart}
 use Rattle.clnp_header.specs.Writing.{header_length}
-use Rattle.clnp_segment.specs.Cutting.{Cuts}
 use Rattle.clnp_segment.specs.Joining.{IsOf, IsSegmentOf, Segment}
 use Rattle.clnp_segment.specs.Store.{Coming, Holding, Key, Takes, key_of}
 use Rattle.clnp_segment.specs.declared.store.Joined.{Joined}
@@ -36,12 +35,6 @@ AnswersOnly unit (joined.Whole octets) = octets ≡ unit
 AnswersOnly unit joined.Full = Unit {0}
 AnswersOnly unit joined.Held = Unit {0}
 
--- the segments of a unit, in any order and with any repeats, among segments of any other keys
-abbrev pub JoinsAll : Type 0
-JoinsAll = (key : Key) (unit : List ℕ) (header : ℕ) (store after : Holding) (list : List Came) → HoldsOnly key unit header store
-    → AllByRecursion (IsOnly key unit header) list
-    → TakesAll store list after → AllByRecursion (λ came. came.coming.key ≡ key → AnswersOnly unit came.answer) list × HoldsOnly key unit header after
-
 -- ---- what is cut
 
 -- the segment that a PDU with that segmentation part is
@@ -51,9 +44,3 @@ segment_in pdu part = record { offset = part.offset; octets = pdu.body; header =
 -- the PDU is a segment of that unit
 abbrev pub IsOfUnit : List ℕ → ℕ → Pdu → Type 0
 IsOfUnit unit header pdu = MatchOption pdu.segment ⊥ (λ part. IsSegmentOf unit header (segment_in pdu part))
-
--- what a segment of a unit is cut into are segments of the unit, so however often it is cut
-abbrev pub CutsAlike : Type 0
-CutsAlike = (pdu : Pdu) (part : SegmentPart) (room : ℕ) (pdus : List Pdu) (unit : List ℕ) (header : ℕ) → pdu.segment ≡ Some part
-    → IsSegmentOf unit header (segment_in pdu part)
-    → Cuts pdu room (Some part) (Some pdus) → AllByRecursion (IsOfUnit unit header) pdus

@@ -2,8 +2,8 @@
 use Rattle.std.specs.Prelude.{◌≡◌, ◌⊎◌, ◌↔◌, ◌-◌, ◌+◌, ◌≤◌, ◌<◌, ℕ, List, [], ◌∷◌, length, if◌then◌else◌}
 use Rattle.std.specs.List.{AllByRecursion}
 use Rattle.clnp_segment.specs.Joining.{Has, Holds, Segment}
-use Rattle.clnp_segment.specs.Store.{AreApart, Holding, Key, Partial, is_key, key_of}
-use Rattle.clnp_segment.specs.Units.{Came, HoldsOnly, IsOnly, TakesAll}
+use Rattle.clnp_segment.specs.Store.{Holding, Key, Partial, is_key, key_of}
+use Rattle.clnp_segment.specs.Units.{Came, HoldsOnly}
 use Rattle.clnp_segment.specs.declared.store.Joined.{Joined}
 use Rattle.clnp_segment.specs.declared.store.Joined.TheVariants as joined
 
@@ -84,17 +84,3 @@ pub record HasRoomFor (store : Holding) (list : List Came) : Type 0 where
   pub octets : octets_of shares ≤ store.octets
   pub held : AllByRecursion (λ partial. HasShare shares (key_of partial) (length partial.held.slots)) store.held
   pub coming : AllByRecursion (λ came. HasShare shares came.coming.key (came.coming.segment.total - came.coming.segment.header)) list
-
--- ---- laws
-
--- segments of a unit, in any order and with any repeats, among segments of any other keys: the answer to each is Whole with
--- the unit exactly where with it each position has come since the unit was last whole, and else it is Held or Full
-abbrev pub WholeInTurn : Type 0
-WholeInTurn = (key : Key) (unit : List ℕ) (header : ℕ) (so_far : List Segment) (store after : Holding) (list : List Came) → AreApart store.held
-    → HoldsWhatCame key unit header so_far store → AllByRecursion (IsOnly key unit header) list → TakesAll store list after
-    → AnswersInTurn unit so_far (of_key key list) × HoldsWhatCame key unit header (so_far_in so_far (of_key key list)) after
-
--- where there is room, nothing is Full
-abbrev pub NoneIsFull : Type 0
-NoneIsFull = (store after : Holding) (list : List Came) → AreApart store.held → HasRoomFor store list → TakesAll store list after
-    → AllByRecursion (λ came. came.answer ≡ joined.Full → ⊥) list

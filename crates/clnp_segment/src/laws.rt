@@ -1,11 +1,6 @@
 //! What holds of cutting and joining, for all PDUs, rooms and segments.
 
-ghost use Rattle.clnp_segment.specs.Cutting.{CutsWritable, OneCutting, PiecesJoin};
-ghost use Rattle.clnp_segment.specs.Delivery.{JoinsWhatWasCut, ReadIsHandedOn};
-ghost use Rattle.clnp_segment.specs.Joining.{JoinsUnits};
-ghost use Rattle.clnp_segment.specs.Store.{OneAnswer, OneExpiry, ReadMayCome};
-ghost use Rattle.clnp_segment.specs.Units.{CutsAlike, JoinsAll};
-ghost use Rattle.clnp_segment.specs.Whole.{NoneIsFull, WholeInTurn};
+ghost use Rattle.clnp_segment.specs.Laws.{CutsWritable, OneCutting, PiecesJoin, JoinsWhatWasCut, ReadIsHandedOn, JoinsUnits, OneAnswer, OneExpiry, ReadMayCome, CutsAlike, JoinsAll, NoneIsFull, WholeInTurn};
 
 /// A PDU is cut for a room in one way.
 pub fn one_cutting()

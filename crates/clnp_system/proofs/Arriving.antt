@@ -33,7 +33,8 @@ use Rattle.clnp_system.specs.Hearing.{HeardBy, HeedsIf, Hears, RedirectedBy, onl
 use Rattle.clnp_system.specs.Receiving.{Elsewhere, Alien, Faulty, Reads, BadHello, HearsHello, Does, JoinGives, came, coming, told_reason}
 use Rattle.clnp_system.specs.Forwarding.{GoesOnward, Sent, TooLong}
 use Rattle.clnp_system.specs.Hellos.{sender}
-use Rattle.clnp_system.specs.Deriving.{ComesIf, ComesUp, IsForEnd, IsWholeOrJoined, KeepsRest, Stored, StoresOrStays, Stays, Takes}
+use Rattle.clnp_system.specs.Deriving.{ComesIf, IsForEnd, IsWholeOrJoined, KeepsRest, StoresOrStays, Stays, Takes}
+use Rattle.clnp_system.specs.Laws.{ComesUp, Stored}
 
 -- ---- the verdicts that hand up
 abbrev is_up : Verdict → Bool

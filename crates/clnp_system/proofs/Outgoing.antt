@@ -46,7 +46,8 @@ use Rattle.clnp_system.specs.Forwarding.{GoesOnward, IsOnward, Sent, TooLong}
 use Rattle.clnp_system.specs.Receiving.{Elsewhere, Alien, Faulty, Reads, BadHello, HearsHello, Does, JoinGives}
 use Rattle.clnp_system.specs.Ticking.{ReportsEach, discarded_unit, expiry_note}
 use Rattle.clnp_system.proofs.Lengths.{onward_length}
-use Rattle.clnp_system.specs.Deriving.{AllCarry, Carries, Derived, Derives, DerivesFrom, IsPartOf, IsRun, IsSentFrom, IsSentPart, QuietTick, SentAll}
+use Rattle.clnp_system.specs.Deriving.{AllCarry, Carries, Derives, DerivesFrom, IsPartOf, IsRun, IsSentFrom, IsSentPart}
+use Rattle.clnp_system.specs.Laws.{Derived, QuietTick, SentAll}
 
 er_no_dt : Er ≡ Dt → ⊥
 er_no_dt e = cc e

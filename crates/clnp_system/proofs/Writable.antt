@@ -24,7 +24,8 @@ use Rattle.clnp_header.specs.Grammar.{IsPdu, MayBeSegment}
 use Rattle.clnp_header.specs.Values.{own, parameter, parameters}
 use Rattle.clnp_header.specs.Writing.{HasKind, header_length, pdu_length}
 use Rattle.clnp_header.proofs.Parts.{length-header}
-use Rattle.clnp_segment.specs.Cutting.{Cuts, CutsWritable, MayGo, piece_of}
+use Rattle.clnp_segment.specs.Cutting.{Cuts, MayGo, piece_of}
+use Rattle.clnp_segment.specs.Laws.{CutsWritable}
 use Rattle.clnp_system.specs.Setting.{Setting}
 use Rattle.clnp_system.specs.Node.{Frame}
 use Rattle.clnp_system.specs.Written.{AreFrames, HasPdu, IsPduFrame, WasRead, MayBeWritten}

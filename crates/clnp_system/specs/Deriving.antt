@@ -1,12 +1,11 @@
 -- What goes out derives from what came in.
-use Rattle.std.specs.Prelude.{◌≡◌, ℕ, ◌+◌, ◌<◌, ◌≤◌, true, List, ◌++◌, length, Option, Some, None, Ok}
+use Rattle.std.specs.Prelude.{◌≡◌, ℕ, ◌+◌, ◌<◌, ◌≤◌, true, List, ◌++◌, length, Option, Some, None}
 use Rattle.std.specs.List.{AllByRecursion}
 use Rattle.osi_base.specs.declared.unit.Arrival.{Arrival}
 use Rattle.osi_base.specs.declared.unit.Unit.{Unit as CarriedUnit}
 use Rattle.osi_base.specs.declared.unit.Up.{Up}
 use Rattle.osi_base.specs.declared.unit.Up.TheVariants.{Unit as Came, Note as Noted}
 use Rattle.osi_base.specs.declared.unit.Wish.{Wish}
-use Rattle.osi_base.specs.Link.{IsNote}
 use Rattle.clnp_options.specs.declared.reason.PduKind.TheVariants.{Dt}
 use Rattle.clnp_header.specs.declared.pdu.Pdu.{Pdu}
 use Rattle.clnp_header.specs.declared.pdu.SegmentPart.{SegmentPart}
@@ -16,12 +15,10 @@ use Rattle.clnp_segment.specs.Store.{Takes as TakesSegment}
 use Rattle.clnp_segment.specs.declared.store.Joined.{Joined}
 use Rattle.clnp_segment.specs.declared.store.Joined.TheVariants.{Whole}
 use Rattle.clnp_system.specs.Setting.{bound_of, is_own_system}
-use Rattle.clnp_system.specs.Tables.{Tables}
-use Rattle.clnp_system.specs.Node.{Node, Frame, Reaction}
+use Rattle.clnp_system.specs.Node.{Node, Frame}
 use Rattle.clnp_system.specs.Written.{HasPdu}
-use Rattle.clnp_system.specs.Sending.{Sends, first_pdu}
-use Rattle.clnp_system.specs.Receiving.{Receives, coming}
-use Rattle.clnp_system.specs.Ticking.{NodeTicks}
+use Rattle.clnp_system.specs.Sending.{first_pdu}
+use Rattle.clnp_system.specs.Receiving.{coming}
 
 -- a run of the data at that position
 pub record IsRun (octets run : List ℕ) (position : ℕ) : Type 0 where
@@ -65,11 +62,6 @@ AllCarry frames P = AllByRecursion (λ frame. Carries frame P) frames
 abbrev pub DerivesFrom : List ℕ → ℕ → Pdu → Type 0
 DerivesFrom octets bound out = (pdu : Pdu) × HasPdu octets pdu × Derives pdu bound out
 
--- a DT PDU of what goes out derives from the PDU that came in
-abbrev pub Derived : Type 0 → Type 0
-Derived N = (tables : Tables N) (old : Node N) (now : ℕ) (frame : Frame) (reaction : Reaction) (new : Node N)
-    → Receives tables old now frame reaction new → AllCarry reaction.frames (DerivesFrom frame.octets (bound_of old.setup frame.to.lan))
-
 -- of a unit that is sent: the whole, or a run of it with the identifier given
 abbrev pub IsSentPart : ℕ → ℕ → CarriedUnit (List ℕ) → Pdu → Option SegmentPart → Type 0
 IsSentPart id header unit pdu None = pdu.body ≡ unit.octets
@@ -82,16 +74,6 @@ pub record IsSentFrom {N : Type 0} (node : Node N) (unit : CarriedUnit (List ℕ
   pub lifetime : pdu.lifetime ≡ node.setup.life
   pub cut : is_segment pdu.segment ≡ wish.cut
   pub part : IsSentPart node.next_id (header_length (first_pdu node.setup unit wish node.next_id)) unit pdu pdu.segment
-
--- a DT PDU of what is sent is from the unit
-abbrev pub SentAll : Type 0 → Type 0
-SentAll N = (tables : Tables N) (old : Node N) (now : ℕ) (unit : CarriedUnit (List ℕ)) (wish : Wish) (frames : List Frame) (new : Node N)
-    → Sends tables old now unit wish (Ok frames) new → AllCarry frames (IsSentFrom old unit wish)
-
--- a tick sends no DT PDU, and tells notes alone
-abbrev pub QuietTick : Type 0 → Type 0
-QuietTick N = (tables : Tables N) (old : Node N) (now : ℕ) (reaction : Reaction) (new : Node N)
-    → NodeTicks tables old now reaction new → AllCarry reaction.frames (λ pdu. ⊥) × AllByRecursion IsNote reaction.ups
 
 -- the octets of a unit: the data of the PDU, or what the store joined
 abbrev pub IsWholeOrJoined : {N : Type 0} → Node N → ℕ → Frame → Pdu → Option SegmentPart → List ℕ → Node N → Type 0
@@ -120,10 +102,6 @@ abbrev pub ComesIf : {N : Type 0} → Node N → ℕ → Frame → Node N → Up
 ComesIf old now frame new (Noted note) = Prim.Unit {0}
 ComesIf old now frame new (Came arrival) = ComesFrom old now frame arrival new
 
-abbrev pub ComesUp : Type 0 → Type 0
-ComesUp N = (tables : Tables N) (old : Node N) (now : ℕ) (frame : Frame) (reaction : Reaction) (new : Node N)
-    → Receives tables old now frame reaction new → AllByRecursion (ComesIf old now frame new) reaction.ups
-
 -- what a frame does to the store: nothing, or a segment that it takes from such a PDU
 pub data StoresOrStays {N : Type 0} (old : Node N) (now : ℕ) (frame : Frame) (new : Node N) : Type 0 where
   Stays : new.store ≡ old.store → StoresOrStays old now frame new
@@ -137,7 +115,3 @@ pub record KeepsRest {N : Type 0} (old : Node N) (now : ℕ) (new : Node N) : Ty
   pub next_id : new.next_id ≡ old.next_id
   pub low : new.low ≡ old.low
   pub high : new.high ≡ old.high
-
-abbrev pub Stored : Type 0 → Type 0
-Stored N = (tables : Tables N) (old : Node N) (now : ℕ) (frame : Frame) (reaction : Reaction) (new : Node N)
-    → Receives tables old now frame reaction new → StoresOrStays old now frame new × KeepsRest old now new

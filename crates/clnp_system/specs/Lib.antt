@@ -4,6 +4,7 @@ pub mod Hearing
 pub mod Hellos
 pub mod Hops
 pub mod Identifiers
+pub mod Laws
 pub mod Node
 pub mod Receiving
 pub mod Reporting

@@ -1,5 +1,5 @@
 -- What a system is set up with (X.233, network entity title, route PDU; ISO 9542, holding time).
-use Rattle.std.specs.Prelude.{◌≡◌, ◌≢◌, ℕ, ◌-◌, ◌==◌, ◌%◌, ◌≤◌, Bool, nat_eq, if◌then◌else◌, List, [], ◌∷◌, ◌++◌, find, length, slice_get, slice_index, Option, None, IsSome, unwrap_or}
+use Rattle.std.specs.Prelude.{◌≢◌, ℕ, ◌-◌, ◌==◌, ◌%◌, ◌≤◌, Bool, nat_eq, if◌then◌else◌, List, [], ◌∷◌, ◌++◌, find, length, slice_get, slice_index, Option, None, IsSome, unwrap_or}
 use Rattle.std.specs.Cmp.Lexicographic.{pointwise}
 use Rattle.std.specs.List.{AllByRecursion}
 use Rattle.nsap.specs.Address.{system_part, is_same_system}

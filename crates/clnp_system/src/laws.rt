@@ -1,6 +1,6 @@
 //! What holds of each step of a system.
 
-ghost use Rattle.clnp_system.specs.Deriving.{ComesUp, Derived, QuietTick, SentAll, Stored};
+ghost use Rattle.clnp_system.specs.Laws.{ComesUp, Derived, QuietTick, SentAll, Stored};
 
 /// A DT PDU that goes out derives from the PDU that came in: less lifetime, a header of the same length, a run of the data.
 pub fn derived<N>()

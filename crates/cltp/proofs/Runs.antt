@@ -16,7 +16,8 @@ use Rattle.osi_journal.specs.declared.event.Event.TheVariants as events
 use Rattle.cltp.specs.declared.sending.Request.{Request}
 use Rattle.cltp.specs.declared.sending.ClAnswer.{ClAnswer}
 use Rattle.cltp.specs.declared.system.ClSystem.{ClSystem}
-use Rattle.cltp.specs.Laws.{IsNew, ShowsSentDatagrams}
+use Rattle.cltp.specs.First.{IsNew}
+use Rattle.cltp.specs.Laws.{ShowsSentDatagrams}
 use Rattle.cltp.specs.Run.{ClCall, Sending, Delivering, Ticking, Settling, Delivers, NoneLeft, OneMore, RunsCall, RunsCalls, SendsIf, Settles, Starts, TakesUp, TooMany}
 use Rattle.cltp.specs.Sending.{send_event, ud_for, ud_wish}
 use Rattle.cltp.specs.Systems.{World, system_at}

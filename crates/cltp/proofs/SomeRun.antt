@@ -30,7 +30,8 @@ use Rattle.cltp.specs.Hearing.{HearsAll}
 use Rattle.cltp.specs.Run.{Arrives, ClCall, Sending, Delivering, Ticking as TicksOnce, Settling, Delivers, NoneLeft, OneMore, SendsIf, Settles, TooMany}
 use Rattle.cltp.specs.Sending.{answer_of, send_event, ud_for, ud_wish}
 use Rattle.cltp.specs.Systems.{World}
-use Rattle.cltp.specs.Total.{CanRun, CanSend, HasRun, HasStart, Serves, ServesOn, SomeRun, SomeStart}
+use Rattle.cltp.specs.Total.{CanRun, CanSend, HasRun, HasStart, Serves, ServesOn}
+use Rattle.cltp.specs.Laws.{SomeRun, SomeStart}
 use Rattle.cltp.specs.Ud.{Ud, IsSelector}
 use Rattle.cltp.specs.Writing.{IsWritten}
 use Rattle.cltp.proofs.Hearings.{one_hearing}

@@ -19,7 +19,7 @@ use Rattle.osi_journal.specs.declared.event.Event.TheVariants as events
 use Rattle.cltp.specs.declared.sending.Request.{Request}
 use Rattle.cltp.specs.declared.system.ClSystem.{ClSystem}
 use Rattle.cltp.specs.Hearing.{HearsAll}
-use Rattle.cltp.specs.Laws.{IsNew}
+use Rattle.cltp.specs.First.{IsNew}
 use Rattle.cltp.specs.Lawful.{DatagramLawful}
 use Rattle.cltp.specs.Sending.{send_event, ud_for}
 use Rattle.cltp.specs.Systems.{system_at}

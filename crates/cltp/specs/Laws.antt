@@ -1,8 +1,7 @@
 -- What holds of every run of a network of users of datagrams.
-use Rattle.std.specs.Prelude.{◌≡◌, ℕ, ◌≤◌, true, List, [], ◌++◌}
-use Rattle.std.specs.List.{All}
+use Rattle.std.specs.Prelude.{◌≡◌, ℕ, List, ◌++◌, Bool}
 use Rattle.osi_base.specs.declared.unit.Arrival.{Arrival}
-use Rattle.osi_base.specs.Link.{Link, IsNote}
+use Rattle.osi_base.specs.Link.{Link}
 use Rattle.osi_base.specs.Calls.{Call}
 use Rattle.law_carrier_answers.specs.Answers.{OneStep}
 use Rattle.osi_journal.specs.declared.event.Event.{Event}
@@ -11,15 +10,8 @@ use Rattle.cltp.specs.Hearing.{Hears}
 use Rattle.cltp.specs.Lawful.{DatagramLawful}
 use Rattle.cltp.specs.Run.{ClCall, RunsCall, RunsCalls, Starts}
 use Rattle.cltp.specs.Systems.{World}
-
--- a network before its first call: nothing floats, notes alone wait, nothing was injected, its clock is 0, and a unit floats for the
--- lifetime at most
-pub record IsNew (life : ℕ) (link : Link (List ℕ)) : Type 0 where
-  pub clock : link.clock ≡ 0
-  pub none : link.floating ≡ []
-  pub notes : All IsNote link.waiting
-  pub honest : link.honest ≡ true
-  pub bounds : (to : List ℕ) → link.bound to ≤ life
+use Rattle.cltp.specs.First.{IsNew}
+use Rattle.cltp.specs.Total.{ServesOn, CanRun, HasRun, HasStart}
 
 -- each datagram that is shown was sent
 abbrev pub ShowsSentDatagrams : {C : Type 0} → (C → Link (List ℕ)) → (C → Call (List ℕ) → C → Type 0) → Type 0
@@ -41,3 +33,13 @@ OneRun {C} link steps = OneStep steps → (old : World C) (call : ClCall) (made 
 abbrev pub OneStart : {C : Type 0} → (C → Link (List ℕ)) → (C → Call (List ℕ) → C → Type 0) → Type 0
 OneStart {C} link steps = OneStep steps → (first : C) (systems : List ClSystem) (made other : List Event) (new next : World C)
     → Starts link steps first systems made new → Starts link steps first systems other next → (made ≡ other) × (new ≡ next)
+
+-- where the carrier serves from then on, each call that may be asked has a run, after which it still does
+abbrev pub SomeRun : {C : Type 0} → (C → Link (List ℕ)) → (C → Call (List ℕ) → C → Type 0) → Type 0
+SomeRun {C} link steps = (is_address : List ℕ → Bool) (old : World C) (call : ClCall) → ServesOn is_address link steps old.carrier → CanRun is_address link old call
+    → HasRun link steps (ServesOn is_address link steps) old call
+
+-- and so has the start
+abbrev pub SomeStart : {C : Type 0} → (C → Link (List ℕ)) → (C → Call (List ℕ) → C → Type 0) → Type 0
+SomeStart {C} link steps = (is_address : List ℕ → Bool) (first : C) (systems : List ClSystem) → ServesOn is_address link steps first
+    → HasStart link steps (ServesOn is_address link steps) first systems

@@ -1,4 +1,5 @@
 pub mod Faults
+pub mod First
 pub mod Hearing
 pub mod Lawful
 pub mod Laws

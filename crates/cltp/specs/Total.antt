@@ -58,12 +58,3 @@ pub record HasStart {C : Type 0} (link : C → Link (List ℕ)) (steps : C → C
   pub new : World C
   pub starts : Starts link steps first systems made new
   pub stands : Stands new.carrier
-
--- where the carrier serves from then on, each call that may be asked has a run, after which it still does
-abbrev pub SomeRun : {C : Type 0} → (C → Link (List ℕ)) → (C → Call (List ℕ) → C → Type 0) → Type 0
-SomeRun {C} link steps = (is_address : List ℕ → Bool) (old : World C) (call : ClCall) → ServesOn is_address link steps old.carrier → CanRun is_address link old call
-    → HasRun link steps (ServesOn is_address link steps) old call
-
-abbrev pub SomeStart : {C : Type 0} → (C → Link (List ℕ)) → (C → Call (List ℕ) → C → Type 0) → Type 0
-SomeStart {C} link steps = (is_address : List ℕ → Bool) (first : C) (systems : List ClSystem) → ServesOn is_address link steps first
-    → HasStart link steps (ServesOn is_address link steps) first systems

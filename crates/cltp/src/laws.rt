@@ -3,8 +3,7 @@
 ghost use Rattle.std.specs.Prelude.{◌≡◌, ◌⊎◌, List, ℕ};
 ghost use Rattle.pdu_parts.specs.Front.{OneValue};
 ghost use Rattle.cltp.specs.Faults.{IsUdFault};
-ghost use Rattle.cltp.specs.Laws.{OneHearing, OneRun, OneStart, ShowsSentDatagrams};
-ghost use Rattle.cltp.specs.Total.{SomeRun, SomeStart};
+ghost use Rattle.cltp.specs.Laws.{OneHearing, OneRun, OneStart, ShowsSentDatagrams, SomeRun, SomeStart};
 ghost use Rattle.cltp.specs.Ud.{Ud, IsUd};
 ghost use Rattle.cltp.specs.Writing.{IsWritten};
 ghost use Rattle.cltp.specs.declared.fault.UdFault.{UdFault};

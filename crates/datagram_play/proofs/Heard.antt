@@ -17,7 +17,8 @@ use Rattle.cltp.proofs.Hearings.{one_hearing}
 use Rattle.osi_setup.specs.SetUp.{SetUp}
 use Rattle.script_world.specs.Networks.{NetworkLaws}
 use Rattle.tp4_world.specs.Run.{transport_address}
-use Rattle.datagram_play.specs.Claims.{GivesOne, HearsEach}
+use Rattle.datagram_play.specs.Claims.{GivesOne}
+use Rattle.datagram_play.specs.Laws.{HearsEach}
 use Rattle.datagram_play.specs.Users.{users_of}
 use Rattle.datagram_play.specs.steps.Peopled.{has_users}
 

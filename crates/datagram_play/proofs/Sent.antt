@@ -4,8 +4,8 @@ use Rattle.std.proofs.Common.{◌≡◌, ℕ, Bool, true, false, List, [], ◌�
 use Rattle.std.proofs.lemmas.List.{append-nil}
 use Rattle.osi_base.specs.Link.{Link}
 use Rattle.osi_base.specs.Calls.{Call, Keeps}
-use Rattle.net_world.specs.Laws.{IsFirst}
-use Rattle.cltp.specs.Laws.{IsNew}
+use Rattle.net_world.specs.First.{IsFirst}
+use Rattle.cltp.specs.First.{IsNew}
 use Rattle.cltp.specs.Lawful.{DatagramLawful}
 use Rattle.cltp.specs.Systems.{World}
 use Rattle.cltp.specs.declared.system.ClSystem.{ClSystem}

@@ -1,4 +1,5 @@
 pub mod Claims
 pub mod Datagrams
+pub mod Laws
 pub mod Users
 pub mod steps

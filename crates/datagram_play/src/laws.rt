@@ -2,7 +2,8 @@
 
 ghost use Rattle.script_world.specs.Plays.{world_acts};
 ghost use Rattle.script_bench.specs.Claims.{IsLaw};
-ghost use Rattle.datagram_play.specs.Claims.{HearsEach, ShownWasSent};
+ghost use Rattle.datagram_play.specs.Laws.{HearsEach};
+ghost use Rattle.datagram_play.specs.Claims.{ShownWasSent};
 ghost use Rattle.datagram_play.specs.Datagrams.{cl_play};
 
 use script_world::Network;

@@ -8,7 +8,8 @@ use Rattle.osi_base.proofs.FletcherPair.{one_pair}
 use Rattle.pdu_parts.specs.Number.{two_octets}
 use Rattle.esis_pdu.specs.declared.hello.Hello.{Hello}
 use Rattle.esis_pdu.specs.declared.hello.Hello.TheVariants.{Esh, Ish, Rd}
-use Rattle.esis_pdu.specs.Hellos.{IsAddressed, IsEsis, IsWritten, OneWriting, hold_of, parts, size_of, type_of}
+use Rattle.esis_pdu.specs.Hellos.{IsAddressed, IsEsis, IsWritten, hold_of, parts, size_of, type_of}
+use Rattle.esis_pdu.specs.Laws.{OneWriting}
 use Rattle.esis_pdu.specs.steps.Writing.{draft_part, within}
 
 type_low : (hello : Hello) → type_of hello % 32 ≡ type_of hello

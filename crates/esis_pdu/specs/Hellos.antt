@@ -69,7 +69,3 @@ pub record IsWritten (hello : Hello) (octets : List ℕ) : Type 0 where
   pub second : ℕ
   pub written : octets ≡ 130 ∷ size_of hello ∷ 1 ∷ 0 ∷ type_of hello ∷ two_octets (hold_of hello) ++ first ∷ second ∷ parts hello
   pub checked : IsChecksum true first second octets
-
--- the octets that are written of a PDU are one list
-abbrev pub OneWriting : Type 0
-OneWriting = (hello : Hello) (octets others : List ℕ) → IsWritten hello octets → IsWritten hello others → octets ≡ others

@@ -2,7 +2,8 @@
 
 ghost use Rattle.pdu_parts.specs.Front.{Apart, FrontOrFault, OneFront, OneValue};
 ghost use Rattle.esis_pdu.specs.Faults.{IsEsisFault};
-ghost use Rattle.esis_pdu.specs.Hellos.{IsEsis, OneWriting};
+ghost use Rattle.esis_pdu.specs.Hellos.{IsEsis};
+ghost use Rattle.esis_pdu.specs.Laws.{OneWriting};
 
 /// Octets are one PDU at most.
 pub fn one_value()

@@ -15,7 +15,8 @@ use Rattle.esis_tables.specs.Told.{Told, is_among, is_known, known_hop, known_of
 use Rattle.esis_tables.specs.Rows.{AreDistinct, Rows, addresses, find_row, has_row, heard_of, heard_table, is_router, is_row_known, new_names}
 use Rattle.esis_tables.specs.Rows.{router_in, row_at, rows_with, swept_table}
 use Rattle.esis_tables.specs.Stands.{IsRowOf}
-use Rattle.esis_tables.specs.Swept.{CountIsTold, FindsWhatIsTold, IsSwept, StaysSwept, StaysTable, has_standing, is_standing, names_in, standing}
+use Rattle.esis_tables.specs.Laws.{CountIsTold, FindsWhatIsTold, StaysSwept, StaysTable}
+use Rattle.esis_tables.specs.Swept.{IsSwept, has_standing, is_standing, names_in, standing}
 use Rattle.esis_tables.specs.steps.Least.{IsLeastRouter, IsRouterHop, is_before}
 use Rattle.esis_tables.proofs.Names.{distinct_push, is_among-append, named_somewhere, new_are_names}
 use Rattle.esis_tables.proofs.Placing.{addresses-renewed, addresses-with, long-with, table_renewed}

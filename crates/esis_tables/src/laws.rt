@@ -5,7 +5,7 @@ ghost use Rattle.nsap.specs.declared.port.Hop.{Hop};
 ghost use Rattle.esis_tables.specs.Told.{IsRouter, Told, is_among};
 ghost use Rattle.esis_tables.specs.Rows.{Rows, has_row, heard_table, no_rows};
 ghost use Rattle.esis_tables.specs.Stands.{Stands};
-ghost use Rattle.esis_tables.specs.Swept.{CountIsTold, FindsWhatIsTold, StaysSwept, StaysTable};
+ghost use Rattle.esis_tables.specs.Laws.{CountIsTold, FindsWhatIsTold, StaysSwept, StaysTable};
 
 /// A table without rows stands for no hellos.
 pub fn empty_stands()

@@ -1,14 +1,15 @@
 -- Each record is read back as it was written: the four numbers are below 2 ^ 32, and the header is one of this format.
-use Rattle.std.proofs.Common.{◌≡◌, ℕ, ◌/◌, ◌%◌, ◌*◌, ◌<◌, ◌≤◌, List, [], ◌∷◌, ◌++◌, length, refl, sym, ap, inl, arith}
+use Rattle.std.proofs.Common.{◌≡◌, ℕ, ◌/◌, ◌%◌, ◌*◌, ◌<◌, List, [], ◌∷◌, ◌++◌, length, refl, sym, ap, inl, arith}
 use Rattle.std.specs.Prelude.{map}
 use Rattle.std.specs.List.{AllByRecursion}
 use Rattle.std.proofs.Math.Nat.{mod-lt}
 use Rattle.std.proofs.lemmas.List.{append-nil}
 use Rattle.byteorder.specs.Endian.{big_bytes, big_number}
 use Rattle.byteorder.specs.Numbers.{big_number-reads_back}
-use Rattle.osi_capture.specs.Capture.{IsCapture, IsHeader, IsRecord, AreRecords, Begins}
+use Rattle.osi_capture.specs.Capture.{IsHeader, IsRecord, AreRecords}
 use Rattle.osi_capture.specs.declared.order.Order.TheVariants.{Big}
-use Rattle.frame_capture.specs.Written.{IsWritable, SentFrame, WritesCapture, capture_of, header_octets, record_octets, record_of, records_octets}
+use Rattle.frame_capture.specs.Written.{IsWritable, SentFrame, header_octets, record_octets, record_of, records_octets}
+use Rattle.frame_capture.specs.Laws.{WritesCapture}
 
 reads : (x : ℕ) (rest : List ℕ) → x < 4294967296 → x ≡ big_number 4 (big_bytes 4 x ++ rest)
 reads x rest h = sym (big_number-reads_back 4 x rest h)

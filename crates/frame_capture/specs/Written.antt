@@ -1,8 +1,7 @@
 -- The capture of frames (libpcap file format 2.4): microseconds, numbers highest octet first, link type Ethernet.
-use Rattle.std.specs.Prelude.{◌≡◌, ◌≤◌, ◌<◌, ℕ, ◌/◌, ◌%◌, ◌*◌, List, [], ◌∷◌, ◌++◌, length, map}
-use Rattle.std.specs.List.{AllByRecursion}
+use Rattle.std.specs.Prelude.{◌≤◌, ◌<◌, ℕ, ◌/◌, ◌%◌, ◌*◌, List, [], ◌∷◌, ◌++◌, length}
 use Rattle.byteorder.specs.Endian.{big_bytes}
-use Rattle.osi_capture.specs.Capture.{IsCapture, Record}
+use Rattle.osi_capture.specs.Capture.{Record}
 
 -- a frame as it stood on its LAN, and the tick at which it was sent
 pub record SentFrame : Type 0 where
@@ -36,7 +35,3 @@ record_of frame = record { seconds = frame.tick / 2; fraction = frame.tick % 2 *
 -- no tick of a run is so late, and no frame so long
 abbrev pub IsWritable : SentFrame → Type 0
 IsWritable frame = (frame.tick < 4294967296) × (length frame.octets ≤ 65535)
-
--- what is written is a capture, and its records are the frames
-abbrev pub WritesCapture : Type 0
-WritesCapture = (frames : List SentFrame) → AllByRecursion IsWritable frames → IsCapture (capture_of frames) (map record_of frames)

@@ -1,6 +1,6 @@
 //! What is written is a capture.
 
-ghost use Rattle.frame_capture.specs.Written.{WritesCapture};
+ghost use Rattle.frame_capture.specs.Laws.{WritesCapture};
 
 /// What is written of frames is a capture, and its records are the frames.
 pub fn writes_capture()

@@ -105,7 +105,7 @@ impl LanBag {
     }
 
     /// Offers the frame of a unit.
-    // Inlined: what is told of a frame is moved once less.
+    // Inlined: a unit goes on to `keep` with no call between.
     #[inline(always)]
     fn offer_unit(&mut self, unit: Unit<Port>, wish: Wish) -> Result<Offered, NoMemory>
         ensures { IfOk result (λ answer. BagStep self.old (Offer unit wish answer) self.new) }
@@ -254,7 +254,7 @@ impl Carrier for LanBag {
 
     ghost steps = { BagStep };
 
-    // Inlined: what is told of a frame is moved once less.
+    // Inlined: a unit goes on to `keep` with no call between.
     #[inline(always)]
     fn offer(&mut self, unit: Unit<Port>, wish: Wish) -> Result<Offered, NoMemory>
         ensures link { IfOk result (λ answer. Offers (link_of self.old) unit answer (link_of self.new)) }

@@ -50,7 +50,7 @@ use Rattle.law_calm_run.proofs.Asking.{IsAsked}
 use Rattle.law_calm_run.proofs.Going.{HasSettled, Stands, acts_go, have_after, kept_after, settled, stands_then, waiting_after}
 use Rattle.law_calm_run.proofs.Queueing.{all_parts}
 use Rattle.law_calm_run.proofs.Starting.{first_hall, run_settles}
-use Rattle.law_tp4_lawful.specs.Headline.{AreDistinct}
+use Rattle.law_tp4_lawful.specs.First.{AreDistinct}
 use Rattle.law_tp4_lawful.proofs.WorldPlaces.{some_same}
 use Rattle.tp4_conn.specs.declared.timers.Timers.{Timers}
 use Rattle.tp4_entity.proofs.Restarts.{connecting_same}

@@ -16,7 +16,7 @@ use Rattle.law_tp4_pair.specs.Calm.{IsSettledScript, Settles as IsSettledNext}
 use Rattle.law_tp4_pair.specs.Claim.{IsUndropped}
 use Rattle.tp4_world.specs.Run.{RunsLine, RunsLines}
 use Rattle.tp4_world.specs.World.{World}
-use Rattle.law_tp4_lawful.specs.Headline.{IsProperLine}
+use Rattle.law_tp4_lawful.specs.Limits.{IsProperLine}
 use Rattle.law_calm_run.specs.Run.{IsUnrouted}
 use Rattle.law_calm_run.specs.steps.Hall.{Done, Hall}
 use Rattle.law_calm_run.specs.steps.Posting.{IsHall}

@@ -14,11 +14,11 @@ use Rattle.tp4_conn.specs.declared.timers.Timers.{Timers}
 use Rattle.tp4_entity.specs.Entity.{Entity}
 use Rattle.law_tp4_proper.specs.Rest.{IsAtRest}
 use Rattle.law_tp4_proper.proofs.Ends.{new_rests}
-use Rattle.tp4_world.specs.Laws.{HasNoEnd, IsNew}
+use Rattle.tp4_world.specs.First.{HasNoEnd, IsNew}
 use Rattle.tp4_world.specs.World.{World, entity_at, is_of}
 use Rattle.tp4_world.specs.declared.place.Placed.{Placed}
 use Rattle.tp4_world.proofs.Destinations.{EndsFine}
-use Rattle.law_tp4_lawful.specs.Headline.{IsUntouched}
+use Rattle.law_tp4_lawful.specs.First.{IsUntouched}
 use Rattle.law_tp4_lawful.proofs.WorldPlaces.{none_some, some_same}
 use Rattle.law_calm_run.specs.Run.{IsCalmRun, IsStart}
 use Rattle.law_calm_run.specs.steps.Hall.{Hall, IsAddress}

@@ -13,11 +13,12 @@ use Rattle.tp4_conn.specs.declared.timers.Timers.{Timers}
 use Rattle.tp4_entity.specs.Entity.{Entity}
 use Rattle.law_tp4_pair.specs.Calm.{IsSettledScript}
 use Rattle.law_tp4_pair.specs.Claim.{IsUndropped}
-use Rattle.tp4_world.specs.Laws.{IsNew}
+use Rattle.tp4_world.specs.First.{IsNew}
 use Rattle.tp4_world.specs.Run.{RunsLines}
 use Rattle.tp4_world.specs.World.{World, entity_at}
 use Rattle.tp4_world.specs.declared.place.Placed.{Placed}
-use Rattle.law_tp4_lawful.specs.Headline.{AreDistinct, IsProperLine, IsUntouched}
+use Rattle.law_tp4_lawful.specs.First.{AreDistinct, IsUntouched}
+use Rattle.law_tp4_lawful.specs.Limits.{IsProperLine}
 
 -- a raw unit asks for no path
 abbrev pub IsUnrouted : Line → Type 0

@@ -21,7 +21,7 @@ use Rattle.law_tp4_pair.specs.Claim.{IsUndropped}
 use Rattle.tp4_world.specs.Run.{RunsLine}
 use Rattle.tp4_world.specs.World.{World, end_numbered, entity_at, latest}
 use Rattle.tp4_world.specs.declared.place.EndAt.{EndAt}
-use Rattle.law_tp4_lawful.specs.Headline.{IsProperLine}
+use Rattle.law_tp4_lawful.specs.Limits.{IsProperLine}
 use Rattle.law_calm_run.specs.Run.{IsCalmRun, IsStart}
 
 -- the end of a number, where it still stands

@@ -48,7 +48,8 @@ use Rattle.tp4_world.specs.World.{entity_at, latest, with_entity}
 use Rattle.tp4_world.specs.declared.place.EndAt.{EndAt}
 use Rattle.tp4_world.specs.declared.place.Placed.{Placed}
 use Rattle.law_tp4_associations.specs.Association.{Association, Posted, post, with_party}
-use Rattle.law_tp4_associations.specs.Laws.{Aside, AreProperEnds, Begins, IsBetweenOpen, Laws, Taken, Takes}
+use Rattle.law_tp4_associations.specs.Handing.{Aside, AreProperEnds, Begins, IsBetweenOpen, Taken, Takes}
+use Rattle.law_tp4_associations.specs.steps.Together.{Laws}
 use Rattle.law_tp4_associations.specs.Standing.{IsParty, Standing}
 use Rattle.law_tp4_associations.specs.Ticking.{IsTicking}
 use Rattle.law_tp4_associations.proofs.Together.{all_laws}

@@ -16,7 +16,7 @@ use Rattle.tp4_world.specs.declared.place.EndAt.{EndAt}
 use Rattle.law_tp4_lawful.specs.steps.Acting.{first_of}
 use Rattle.law_tp4_lawful.proofs.ActsRows.{AreTold}
 use Rattle.law_tp4_lawful.proofs.ActsTold.{ends_stay}
-use Rattle.law_tp4_associations.specs.Laws.{TellsOfNoEnd}
+use Rattle.law_tp4_associations.specs.Handing.{TellsOfNoEnd}
 use Rattle.law_calm_service.specs.steps.Story.{AreOwn, HasNoUnits}
 use Rattle.law_calm_service.proofs.Rows.{row_told}
 use Rattle.law_calm_service.proofs.Telling.{ActsIn, acts_in}

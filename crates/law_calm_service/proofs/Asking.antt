@@ -23,7 +23,8 @@ use Rattle.tp4_world.specs.Telling.{call_events, events_after}
 use Rattle.tp4_world.specs.World.{latest, with_entity}
 use Rattle.tp4_world.specs.declared.place.EndAt.{EndAt}
 use Rattle.law_tp4_associations.specs.Association.{Association, Posted, post, with_party}
-use Rattle.law_tp4_associations.specs.Laws.{Answerable, AreProperEnds, MayAccept, WasCalled}
+use Rattle.law_tp4_associations.specs.Laws.{Answerable, MayAccept, WasCalled}
+use Rattle.law_tp4_associations.specs.Handing.{AreProperEnds}
 use Rattle.law_tp4_associations.specs.Standing.{IsParty, Standing}
 use Rattle.law_calm_run.specs.steps.Hall.{AreAllProper, Calls, Hall, Post, after, posted}
 use Rattle.law_calm_service.specs.steps.Story.{ArePosts, IsRunning, IsYoung, Story, Tells}

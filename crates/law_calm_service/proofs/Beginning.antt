@@ -13,10 +13,10 @@ use Rattle.tp4_conn.specs.End.{End}
 use Rattle.tp4_conn.specs.declared.timers.Timers.{Timers}
 use Rattle.tp4_entity.specs.Entity.{Entity, end_at, there}
 use Rattle.law_tp4_history.specs.Journals.{IsAside, MakesNone, makes_end}
-use Rattle.tp4_world.specs.Laws.{HasNoEnd, IsNew}
+use Rattle.tp4_world.specs.First.{HasNoEnd, IsNew}
 use Rattle.tp4_world.specs.Run.{transport_address}
 use Rattle.tp4_world.specs.World.{World, entity_at}
-use Rattle.law_tp4_lawful.specs.Headline.{IsUntouched}
+use Rattle.law_tp4_lawful.specs.First.{IsUntouched}
 use Rattle.law_tp4_associations.specs.Association.{Association}
 use Rattle.law_tp4_associations.specs.Standing.{AreSystems}
 use Rattle.law_calm_run.specs.Run.{IsStart}

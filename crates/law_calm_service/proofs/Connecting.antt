@@ -13,7 +13,8 @@ use Rattle.tp4_entity.specs.Step.{call_of, connecting}
 use Rattle.tp4_world.specs.Run.{transport_address}
 use Rattle.tp4_world.specs.World.{entity_at}
 use Rattle.law_tp4_associations.specs.Association.{Association, Posted, cleared, post, waiting}
-use Rattle.law_tp4_associations.specs.Laws.{AreProperEnds, Connected, requested_by}
+use Rattle.law_tp4_associations.specs.Handing.{AreProperEnds, requested_by}
+use Rattle.law_tp4_associations.specs.Laws.{Connected}
 use Rattle.law_tp4_associations.specs.Standing.{Standing}
 use Rattle.law_calm_run.specs.steps.Hall.{AreAllProper, Connects, Hall, Post, after, posted, with_new}
 use Rattle.law_calm_service.specs.steps.Story.{ArePosts, IsRunning, Story, Tells, address_of}

@@ -20,7 +20,8 @@ use Rattle.tp4_world.specs.Run.{transport_address}
 use Rattle.tp4_world.specs.Telling.{events_after}
 use Rattle.tp4_world.specs.World.{entity_at}
 use Rattle.law_tp4_associations.specs.Association.{Posted, system_of}
-use Rattle.law_tp4_associations.specs.Laws.{Addressed, AreProperEnds, Formatted, Handed, Hands}
+use Rattle.law_tp4_associations.specs.Laws.{Addressed, Formatted, Handed}
+use Rattle.law_tp4_associations.specs.Handing.{AreProperEnds, Hands}
 use Rattle.law_tp4_associations.specs.Standing.{Standing}
 use Rattle.law_calm_run.specs.steps.Hall.{AreAllProper, Hall, IsReadBy, Meets, after}
 use Rattle.law_calm_service.specs.steps.Story.{IsRunning, Story, Tells, address_of}

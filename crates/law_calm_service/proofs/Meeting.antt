@@ -20,7 +20,7 @@ use Rattle.tp4_world.specs.World.{entity_at, latest, with_entity}
 use Rattle.tp4_world.specs.declared.place.EndAt.{EndAt}
 use Rattle.tp4_world.specs.declared.place.Placed.{Placed}
 use Rattle.law_tp4_associations.specs.Association.{Association, Posted, cleared, party, post, system_of, waiting, with_party}
-use Rattle.law_tp4_associations.specs.Laws.{Aside, Begins, Hands, IsBetweenOpen, Taken, Takes, TellsOfNoEnd}
+use Rattle.law_tp4_associations.specs.Handing.{Aside, Begins, Hands, IsBetweenOpen, Taken, Takes, TellsOfNoEnd}
 use Rattle.law_tp4_associations.specs.Phase.{Answered, Asking, Late, Leaving, Over, Paired, Phase, Refused, Rejected, Waiting}
 use Rattle.law_tp4_associations.specs.Standing.{Standing}
 use Rattle.law_calm_run.specs.steps.Hall.{Hall, Post, after, posted}

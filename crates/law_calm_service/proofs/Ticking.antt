@@ -14,7 +14,8 @@ use Rattle.tp4_world.specs.World.{entity_at, latest, with_entity}
 use Rattle.tp4_world.specs.declared.place.EndAt.{EndAt}
 use Rattle.tp4_world.specs.declared.place.Placed.{Placed}
 use Rattle.law_tp4_associations.specs.Association.{Association, Posted, post, with_party}
-use Rattle.law_tp4_associations.specs.Laws.{AreProperEnds, Ticks as TickLaws}
+use Rattle.law_tp4_associations.specs.Handing.{AreProperEnds}
+use Rattle.law_tp4_associations.specs.Laws.{Ticks as TickLaws}
 use Rattle.law_tp4_associations.specs.Phase.{IsInUse}
 use Rattle.law_tp4_associations.specs.Standing.{IsParty, Standing}
 use Rattle.law_calm_run.specs.steps.Hall.{AreAllProper, Clocks, Hall, IsOver, Over, Post, TickGoes, TickStep, Ticking, Ticks, TicksDone, TicksMore, after, posted}

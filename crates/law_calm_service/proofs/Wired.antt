@@ -17,7 +17,9 @@ use Rattle.tp4_conn.specs.declared.states.StateData.TheVariants.{CrWait, WaitBef
 use Rattle.tp4_entity.specs.Association.{is_called, is_frozen}
 use Rattle.tp4_entity.specs.Entity.{Entity}
 use Rattle.tp4_entity.specs.Wire.{entity_on_wire}
-use Rattle.tp4_world.specs.Laws.{HasNoEnd, IsNew, WholeLine, WholeRun, placed_on_wire}
+use Rattle.tp4_world.specs.First.{HasNoEnd, IsNew}
+use Rattle.tp4_world.specs.Laws.{WholeLine, WholeRun}
+use Rattle.tp4_world.specs.Wire.{placed_on_wire}
 use Rattle.tp4_world.specs.Run.{RunsLine}
 use Rattle.tp4_world.specs.World.{World, entity_at, is_of}
 use Rattle.tp4_world.specs.declared.place.Placed.{Placed}

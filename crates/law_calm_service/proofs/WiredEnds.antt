@@ -19,7 +19,8 @@ use Rattle.tp4_conn.specs.Wire.{end_on_wire, halves_on_wire, stage_on_wire}
 use Rattle.tp4_entity.specs.Entity.{Entity, end_at, there}
 use Rattle.tp4_entity.specs.Wire.{entity_on_wire}
 use Rattle.law_tp4_pair.specs.Claim.{AllShown, HasShown}
-use Rattle.tp4_world.specs.Laws.{WholeLine, WholeRun, placed_on_wire, world_on_wire}
+use Rattle.tp4_world.specs.Laws.{WholeLine, WholeRun}
+use Rattle.tp4_world.specs.Wire.{placed_on_wire, world_on_wire}
 use Rattle.tp4_world.specs.Run.{RunsLine}
 use Rattle.tp4_world.specs.World.{World, end_numbered, entity_at, latest}
 use Rattle.tp4_world.specs.declared.place.EndAt.{EndAt}

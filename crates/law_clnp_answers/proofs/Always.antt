@@ -28,7 +28,8 @@ use Rattle.law_clnp_step.specs.Network.{Network, net_link}
 use Rattle.law_clnp_step.specs.Sound.{IsNew, IsPeopled, IsSound, settings_of}
 use Rattle.law_clnp_step.specs.Step.{Arrives, IsDropped, IsFull, IsNobodys, IsTaken, NetStep, counted, is_source, strays_in}
 use Rattle.law_clnp_step.proofs.Kept.{begins_soundly, net_keeps, stays_sound}
-use Rattle.law_clnp_answers.specs.Laws.{BeginsAs, BeginsServing, BeginsStanding, MayBegin, NetServes, first_node}
+use Rattle.law_clnp_answers.specs.Beginning.{BeginsAs, MayBegin, first_node}
+use Rattle.law_clnp_answers.specs.Laws.{BeginsServing, BeginsStanding, NetServes}
 use Rattle.law_clnp_answers.specs.Serving.{StandsInOctets, WaitsInOctets}
 use Rattle.law_clnp_answers.specs.Standing.{FitsBag, FitsNode, IsSetUp, Stands, is_nsap}
 use Rattle.law_clnp_answers.proofs.Bags.{one_bag_answer}

@@ -1,14 +1,11 @@
 -- A network by the hellos that its systems heard: each step over rows is one over hellos, system by system, and what was read of a network
 -- for the step does not look at what its systems know of others.
-use Rattle.std.proofs.Common.{◌≡◌, ℕ, ◌+◌, ◌<◌, ◌≤◌, Bool, true, false, List, [], ◌∷◌, ◌++◌, length, map, Option, Some, None, Result, Ok, Err, refl, sym, ◌∙◌, ap, subst, arith}
+use Rattle.std.proofs.Common.{◌≡◌, ℕ, ◌+◌, ◌<◌, Bool, List, [], ◌∷◌, ◌++◌, map, Ok, Err, refl, sym, ◌∙◌, ap, subst, arith}
 use Rattle.std.specs.Prelude.{◌||◌}
 use Rattle.std.specs.List.{AllByRecursion, list_any}
 use Rattle.nsap.specs.declared.port.Port.{Port}
 use Rattle.osi_base.specs.declared.unit.Arrival.{Arrival}
-use Rattle.osi_base.specs.declared.unit.DropCause.{DropCause}
-use Rattle.osi_base.specs.declared.unit.Injected.{Injected}
 use Rattle.osi_base.specs.declared.unit.Offered.{Offered}
-use Rattle.osi_base.specs.declared.unit.Picked.{Picked}
 use Rattle.osi_base.specs.declared.unit.Unit.{Unit as CarriedUnit}
 use Rattle.osi_base.specs.declared.unit.Up.{Up}
 use Rattle.osi_base.specs.declared.unit.Up.TheVariants.{Unit as Came, Note as Noted}
@@ -17,20 +14,18 @@ use Rattle.osi_base.specs.Calls.{Call, Offer, Choose, Inject, NextUp, Tick, Keep
 use Rattle.osi_base.specs.Link.{Link, IsGiven}
 use Rattle.esis_tables.specs.Told.{Told}
 use Rattle.esis_tables.specs.Rows.{Rows, no_rows, swept_table}
-use Rattle.clnp_system.specs.Node.{Frame, Node, Reaction, fresh_node}
-use Rattle.clnp_system.specs.Receiving.{Receives}
-use Rattle.clnp_system.specs.Sending.{Sends}
+use Rattle.clnp_system.specs.Node.{Node, Reaction, fresh_node}
 use Rattle.clnp_system.specs.Setting.{Setting}
 use Rattle.clnp_system.specs.Tables.{rows_tables}
-use Rattle.clnp_system.specs.Ticking.{NodeTicks}
-use Rattle.law_clnp_step.specs.Handling.{Changes, Handles, IsReceived, Nobody, OffersFrames, Somebody, TicksAll, is_system}
+use Rattle.law_clnp_step.specs.Handling.{Changes, Handles, IsReceived, Nobody, Somebody, TicksAll, is_system}
 use Rattle.law_clnp_step.specs.Network.{Network}
 use Rattle.law_clnp_step.specs.Sound.{IsNumberedBy, IsPeopled, IsSound, IsTimely, Knows, Origin, settings_of}
-use Rattle.law_clnp_step.specs.Step.{Arrives, Begins, IsDropped, IsFull, IsNobodys, IsTaken, NetDoes, NetOffers, NetStep, NetTakesUp, NetTicks, Was, is_source}
+use Rattle.law_clnp_step.specs.Step.{Arrives, IsDropped, IsFull, IsNobodys, IsTaken, NetOffers, NetTicks, is_source}
 use Rattle.law_clnp_step.proofs.Kept.{net_keeps}
 use Rattle.law_clnp_step.proofs.Lists.{all_weaker}
 use Rattle.law_clnp_step.proofs.Passed.{all_ticked}
-use Rattle.law_clnp_answers.specs.Hellos.{AreByHellos, BeginsByHellos, IsByHellos, StandFor, StepsByHellos, by_hellos, hello_tables, with_nodes}
+use Rattle.law_clnp_answers.specs.Hellos.{AreByHellos, IsByHellos, StandFor, by_hellos, hello_tables, with_nodes}
+use Rattle.law_clnp_answers.specs.Laws.{BeginsByHellos, StepsByHellos}
 use Rattle.law_clnp_answers.proofs.Hellos.{none_sweeps, receives_same, sends_same, sweeps, ticks_same}
 
 -- ---- lists of systems

@@ -49,7 +49,8 @@ use Rattle.clnp_system.specs.Setting.{bound_of, is_own_system, path_of}
 use Rattle.clnp_system.specs.Tables.{heard_rows, rows_tables}
 use Rattle.clnp_system.specs.Ticking.{NodeTicks, ReportsEach, discarded_unit}
 use Rattle.clnp_system.specs.Verdicts.{aim_of, by_aim, for_this, is_titled, to_destination, to_entry, verdict}
-use Rattle.law_clnp_answers.specs.Hellos.{IsByHellos, RouterIsTold, StandFor, by_hellos, heard_hellos, hello_tables, hop_by_title, is_router_title, known_router, least_title, lesser, tells_title}
+use Rattle.law_clnp_answers.specs.Hellos.{IsByHellos, StandFor, by_hellos, heard_hellos, hello_tables, hop_by_title, is_router_title, known_router, least_title, lesser, tells_title}
+use Rattle.law_clnp_answers.specs.Laws.{RouterIsTold}
 
 -- ---- the router of least title
 

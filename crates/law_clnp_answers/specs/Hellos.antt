@@ -1,18 +1,13 @@
 -- The network by the hellos that its systems heard, in place of rows (ISO 9542, record configuration function, record redirect function).
-use Rattle.std.specs.Prelude.{◌≡◌, ℕ, Bool, false, nat_lt, if◌then◌else◌, List, [], ◌∷◌, ◌++◌, map, Option, Some, None}
+use Rattle.std.specs.Prelude.{◌≡◌, ℕ, Bool, false, nat_lt, if◌then◌else◌, List, [], ◌∷◌, ◌++◌, Option, Some, None}
 use Rattle.nsap.specs.declared.port.Hop.{Hop}
-use Rattle.nsap.specs.declared.port.Port.{Port}
-use Rattle.osi_base.specs.Calls.{Call}
-use Rattle.osi_base.specs.Link.{Link}
-use Rattle.esis_tables.specs.Told.{IsRouter, Told, is_upto, known_hop}
-use Rattle.esis_tables.specs.Rows.{IsTable, Rows, no_rows}
+use Rattle.esis_tables.specs.Told.{Told, is_upto, known_hop}
+use Rattle.esis_tables.specs.Rows.{IsTable, Rows}
 use Rattle.esis_tables.specs.Swept.{IsSwept, count_told, names_in}
-use Rattle.clnp_system.specs.Node.{Node, fresh_node}
-use Rattle.clnp_system.specs.Setting.{Setting}
-use Rattle.clnp_system.specs.Tables.{Tables, rows_tables}
+use Rattle.clnp_system.specs.Node.{Node}
+use Rattle.clnp_system.specs.Tables.{Tables}
 use Rattle.clnp_system.specs.Verdicts.{is_titled}
 use Rattle.law_clnp_step.specs.Network.{Network}
-use Rattle.law_clnp_step.specs.Step.{Begins, NetStep}
 
 -- ---- what hellos make known
 
@@ -94,23 +89,3 @@ AreByHellos now (node ∷ nodes) (other ∷ others) = IsByHellos now node other 
 abbrev pub with_nodes : {C : Type 0} → Network C Rows → List (Node (List Told)) → Network C (List Told)
 with_nodes net nodes =
     record { link = net.link; nodes = nodes; floating = net.floating; waiting = net.waiting; strays = net.strays; life = net.life }
-
--- ---- laws
-
--- the hellos tell that router
-abbrev pub RouterIsTold : Type 0
-RouterIsTold = (hellos : List Told) (now : ℕ) → IsRouter hellos now (known_router hellos now)
-
--- each step of a network over rows is a step over the hellos heard, with the same calls below and the same units, frames and notes
-abbrev pub StepsByHellos : {C : Type 0} → (C → Link Port) → (C → Call Port → C → Type 0) → Type 0
-StepsByHellos {C} link steps = (old new : Network C Rows) (call : Call (List ℕ)) (nodes : List (Node (List Told)))
-    → AreByHellos (link old.link).clock old.nodes nodes → NetStep link steps rows_tables old call new
-    → (after : List (Node (List Told))) × NetStep link steps hello_tables (with_nodes old nodes) call (with_nodes new after)
-    × AreByHellos (link new.link).clock new.nodes after
-
--- so it begins, with systems that heard nothing
-abbrev pub BeginsByHellos : {C : Type 0} → (C → Link Port) → (C → Call Port → C → Type 0) → Type 0
-BeginsByHellos {C} link steps = (first : C) (settings : List Setting) (life : ℕ) (new : Network C Rows) → (link first).clock ≡ 0
-    → Begins link steps rows_tables first (map (λ setting. fresh_node setting no_rows) settings) life new
-    → (after : List (Node (List Told))) × Begins link steps hello_tables first (map (λ setting. fresh_node setting []) settings) life (with_nodes new after)
-    × AreByHellos (link new.link).clock new.nodes after

@@ -1,12 +1,11 @@
 -- What a network answers (X.233, connectionless-mode network service): where the carrier of its frames answers in one way, so does it; and
 -- over LANs it always answers.
-use Rattle.std.specs.Prelude.{◌≡◌, ℕ, List, map}
-use Rattle.std.specs.List.{AllByRecursion}
+use Rattle.std.specs.Prelude.{◌≡◌, ℕ, List, [], map}
 use Rattle.nsap.specs.declared.port.Port.{Port}
 use Rattle.osi_base.specs.Calls.{Call}
 use Rattle.osi_base.specs.Link.{Link}
 use Rattle.law_carrier_answers.specs.Answers.{AlwaysAnswers, OneStep, SomeGathering}
-use Rattle.lan_bag.specs.Bag.{Bag, BagStep, link_of, new_bag}
+use Rattle.lan_bag.specs.Bag.{Bag, BagStep, link_of}
 use Rattle.lan_bag.specs.declared.setup.Lan.{Lan}
 use Rattle.lan_bag.specs.declared.setup.PortRow.{PortRow}
 use Rattle.esis_tables.specs.Rows.{Rows, no_rows}
@@ -14,10 +13,12 @@ use Rattle.clnp_system.specs.Node.{Node, fresh_node}
 use Rattle.clnp_system.specs.Setting.{Setting}
 use Rattle.clnp_system.specs.Tables.{Tables, rows_tables}
 use Rattle.law_clnp_step.specs.Network.{Network, net_link}
-use Rattle.law_clnp_step.specs.Sound.{IsPeopled}
 use Rattle.law_clnp_step.specs.Step.{Begins, NetStep}
 use Rattle.law_clnp_answers.specs.Serving.{Serves, StandsInOctets}
-use Rattle.law_clnp_answers.specs.Standing.{FitsBag, IsSetUp, Stands, is_nsap, is_port}
+use Rattle.law_clnp_answers.specs.Standing.{FitsBag, Stands, is_nsap, is_port}
+use Rattle.law_clnp_answers.specs.Beginning.{BeginsAs, MayBegin}
+use Rattle.esis_tables.specs.Told.{IsRouter, Told}
+use Rattle.law_clnp_answers.specs.Hellos.{known_router, hello_tables, AreByHellos, with_nodes}
 
 -- what is asked of the network has one answer, and leads to one network, whatever its systems know of each other
 abbrev pub OneAnswer : {C : Type 0} → (C → Link Port) → (C → Call Port → C → Type 0) → Type 0 → Type 0
@@ -40,19 +41,6 @@ OneNetAnswer = OneStep (NetStep link_of BagStep rows_tables)
 abbrev pub OneNetBeginning : Type 0
 OneNetBeginning = (first : Bag) (nodes : List (Node Rows)) (life : ℕ) (new next : Network Bag Rows)
     → Begins link_of BagStep rows_tables first nodes life new → Begins link_of BagStep rows_tables first nodes life next → new ≡ next
-
--- a system that knows nothing yet
-abbrev pub first_node : Setting → Node Rows
-first_node setting = fresh_node setting no_rows
-
--- of these set-ups a network begins over LANs without frames
-abbrev pub BeginsAs : List Lan → List PortRow → List Setting → ℕ → Network Bag Rows → Type 0
-BeginsAs lans rows settings life new = Begins link_of BagStep rows_tables (new_bag lans rows) (map first_node settings) life new
-
--- set-ups in octets, of different systems, within the bounds of the LANs
-pub record MayBegin (lans : List Lan) (rows : List PortRow) (settings : List Setting) (life : ℕ) : Type 0 where
-  pub set : AllByRecursion IsSetUp settings
-  pub peopled : IsPeopled (link_of (new_bag lans rows)).bound life settings
 
 -- a network begins, and stands
 pub record BeginsStanding : Type 0 where
@@ -81,3 +69,23 @@ NetServes = Serves is_nsap (net_link link_of) (NetStep link_of BagStep rows_tabl
 abbrev pub BeginsServing : Type 0
 BeginsServing = (lans : List Lan) (rows : List PortRow) (settings : List Setting) (life : ℕ) (new : Network Bag Rows) → MayBegin lans rows settings life
     → BeginsAs lans rows settings life new → StandsInOctets new
+
+-- ---- by hellos
+
+-- the router that the hellos make known is the known intermediate system of least title, or none
+abbrev pub RouterIsTold : Type 0
+RouterIsTold = (hellos : List Told) (now : ℕ) → IsRouter hellos now (known_router hellos now)
+
+-- each step of a network over rows is a step over the hellos heard, with the same calls below and the same units, frames and notes
+abbrev pub StepsByHellos : {C : Type 0} → (C → Link Port) → (C → Call Port → C → Type 0) → Type 0
+StepsByHellos {C} link steps = (old new : Network C Rows) (call : Call (List ℕ)) (nodes : List (Node (List Told)))
+    → AreByHellos (link old.link).clock old.nodes nodes → NetStep link steps rows_tables old call new
+    → (after : List (Node (List Told))) × NetStep link steps hello_tables (with_nodes old nodes) call (with_nodes new after)
+    × AreByHellos (link new.link).clock new.nodes after
+
+-- so it begins, with systems that heard nothing
+abbrev pub BeginsByHellos : {C : Type 0} → (C → Link Port) → (C → Call Port → C → Type 0) → Type 0
+BeginsByHellos {C} link steps = (first : C) (settings : List Setting) (life : ℕ) (new : Network C Rows) → (link first).clock ≡ 0
+    → Begins link steps rows_tables first (map (λ setting. fresh_node setting no_rows) settings) life new
+    → (after : List (Node (List Told))) × Begins link steps hello_tables first (map (λ setting. fresh_node setting []) settings) life (with_nodes new after)
+    × AreByHellos (link new.link).clock new.nodes after

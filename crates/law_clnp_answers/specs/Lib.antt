@@ -1,3 +1,4 @@
+pub mod Beginning
 pub mod Hellos
 pub mod Laws
 pub mod Serving

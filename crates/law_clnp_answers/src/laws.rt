@@ -1,9 +1,7 @@
 //! What holds of each call of the network.
 
 ghost use Rattle.std.specs.Prelude.{◌≡◌};
-ghost use Rattle.law_clnp_answers.specs.Hellos.{BeginsByHellos, RouterIsTold, StepsByHellos};
-ghost use Rattle.law_clnp_answers.specs.Laws.{AlwaysAnswered, AlwaysGathered, BeginsServing, BeginsStanding, LansAlwaysAnswered};
-ghost use Rattle.law_clnp_answers.specs.Laws.{NetServes, OneAnswer, OneBeginning, OneLanAnswer, OneNetAnswer, OneNetBeginning};
+ghost use Rattle.law_clnp_answers.specs.Laws.{BeginsByHellos, RouterIsTold, StepsByHellos, AlwaysAnswered, AlwaysGathered, BeginsServing, BeginsStanding, LansAlwaysAnswered, NetServes, OneAnswer, OneBeginning, OneLanAnswer, OneNetAnswer, OneNetBeginning};
 
 use nsap::Port;
 use osi_base::Carrier;

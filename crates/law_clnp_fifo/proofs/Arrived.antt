@@ -23,8 +23,7 @@ use Rattle.net_world.specs.Fifo.{First, Hands, IsUser, Nothing, arrivals}
 use Rattle.law_clnp_fifo.specs.Calm.{IsCalmNet}
 use Rattle.law_clnp_fifo.specs.Cutting.{Bring, BringsBy, IsEmptyStore, IsFrameTo}
 use Rattle.law_clnp_fifo.specs.Frames.{GoesOnlyTo, HasWaiting, IsAt}
-use Rattle.law_clnp_fifo.specs.Laws.{titles_of}
-use Rattle.law_clnp_fifo.specs.Waiting.{AreLeft, AreOf, GoesIn, IsCalmNode, NoneLeft, ToFirst, ToSecond, Waits}
+use Rattle.law_clnp_fifo.specs.Waiting.{titles_of, AreLeft, AreOf, GoesIn, IsCalmNode, NoneLeft, ToFirst, ToSecond, Waits}
 use Rattle.law_clnp_fifo.proofs.Gathered.{Net}
 use Rattle.law_clnp_fifo.proofs.Departed.{calm_stored}
 use Rattle.law_clnp_fifo.proofs.Queues.{Firsts, Front, Nobodys, Seconds, front, made, to_first, to_second}

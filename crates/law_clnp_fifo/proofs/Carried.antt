@@ -16,8 +16,9 @@ use Rattle.net_world.specs.Fifo.{NoneDropped, arrivals}
 use Rattle.law_clnp_fifo.specs.Calm.{IsCalmNet}
 use Rattle.law_clnp_fifo.specs.Cutting.{IsEmptyStore}
 use Rattle.law_clnp_fifo.specs.Frames.{HasWaiting}
-use Rattle.law_clnp_fifo.specs.Laws.{BeginsEmpty, IsFifoNet, WaitsIn, first_node, titles_of}
-use Rattle.law_clnp_fifo.specs.Waiting.{IsCalmNode, NoneLeft}
+use Rattle.law_clnp_answers.specs.Beginning.{first_node}
+use Rattle.law_clnp_fifo.specs.Laws.{BeginsEmpty, IsFifoNet}
+use Rattle.law_clnp_fifo.specs.Waiting.{WaitsIn, titles_of, IsCalmNode, NoneLeft}
 use Rattle.law_clnp_fifo.proofs.Arrived.{chosen_net, none_net}
 use Rattle.law_clnp_fifo.proofs.Both.{BothTicked, both_tick}
 use Rattle.law_clnp_fifo.proofs.Departed.{offered_net}

@@ -26,8 +26,7 @@ use Rattle.clnp_segment.proofs.Lists.{same_some}
 use Rattle.net_world.specs.Fifo.{IsBetween, IsUser, NoneDropped, arrivals, queued}
 use Rattle.law_clnp_fifo.specs.Calm.{IsCalmNet}
 use Rattle.law_clnp_fifo.specs.Cutting.{IsFrameTo, KeepsAll, SendsTo}
-use Rattle.law_clnp_fifo.specs.Laws.{titles_of}
-use Rattle.law_clnp_fifo.specs.Waiting.{AreLeft, GoesAcross, IsCalmNode, Waits}
+use Rattle.law_clnp_fifo.specs.Waiting.{titles_of, AreLeft, GoesAcross, IsCalmNode, Waits}
 use Rattle.law_clnp_fifo.proofs.Addresses.{made_of, own_title, titles_turned}
 use Rattle.law_clnp_fifo.proofs.Gathered.{Net}
 use Rattle.law_clnp_fifo.proofs.Queues.{left_behind, made}

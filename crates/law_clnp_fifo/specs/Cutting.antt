@@ -1,6 +1,5 @@
 -- A unit that is cut for one LAN and joined at its far end, segment after segment (X.233, segmentation, reassembly).
 use Rattle.std.specs.Prelude.{◌≡◌, ◌⊎◌, ℕ, ◌≤◌, true, false, List, [], ◌∷◌, length, Some, Ok}
-use Rattle.std.specs.List.{AllByRecursion}
 use Rattle.nsap.specs.Address.{selector_of}
 use Rattle.nsap.specs.declared.port.Hop.{Hop}
 use Rattle.nsap.specs.declared.port.Port.{Port}
@@ -92,20 +91,3 @@ Bring tables setting unit [] store = ⊥
 Bring {N} tables setting unit (frame ∷ frames) store =
     (old : Node N) (now : ℕ) (reaction : Reaction) (new : Node N) → old.setup ≡ setting → old.store ≡ store → Receives tables old now frame reaction new
     → BringsBy (Bring tables setting unit frames) unit frames old now reaction new
-
--- ---- laws
-
--- an empty store there: the frames bring the unit
-abbrev pub CutBrings : Type 0 → Type 0
-CutBrings N = (tables : Tables N) (node : Node N) (now : ℕ) (other : Setting) (unit : CarriedUnit (List ℕ)) (port : Port) (frames : List Frame) (after : Node N) (store : Holding)
-    → SendsTo tables node now other unit port frames after → IsEmptyStore store → Bring tables other unit frames store
-
--- each frame goes from the one port to the other
-abbrev pub CutGoes : Type 0 → Type 0
-CutGoes N = (tables : Tables N) (node : Node N) (now : ℕ) (other : Setting) (unit : CarriedUnit (List ℕ)) (port : Port) (frames : List Frame) (after : Node N)
-    → SendsTo tables node now other unit port frames after → AllByRecursion (IsFrameTo node.setup port unit) frames
-
--- the sender gives an identifier, and else stays as it was
-abbrev pub CutKeeps : Type 0 → Type 0
-CutKeeps N = (tables : Tables N) (node : Node N) (now : ℕ) (other : Setting) (unit : CarriedUnit (List ℕ)) (port : Port) (frames : List Frame) (after : Node N)
-    → SendsTo tables node now other unit port frames after → KeepsAll node now after

@@ -62,3 +62,11 @@ module _ (titles : List (List ℕ)) (first second : Setting) (here there : Port)
     pub frames : List Frame
     pub waiting : HasWaiting net.link frames
     pub left : AreLeft one.store two.store queue frames
+
+-- the titles of the two systems, by their numbers
+abbrev pub titles_of : Setting → Setting → List (List ℕ)
+titles_of first second = first.title ∷ second.title ∷ []
+
+-- what waits in a calm network
+abbrev pub WaitsIn : List PortRow → Setting → Setting → Port → Port → Network Bag Rows → List (CarriedUnit (List ℕ)) → Type 0
+WaitsIn rows first second here there = Waits (titles_of first second) first second here there rows

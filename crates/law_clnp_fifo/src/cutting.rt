@@ -1,6 +1,6 @@
 //! What holds of a unit that is cut for one LAN and joined at its far end (X.233, segmentation, reassembly).
 
-ghost use Rattle.law_clnp_fifo.specs.Cutting.{CutBrings, CutGoes, CutKeeps};
+ghost use Rattle.law_clnp_fifo.specs.Laws.{CutBrings, CutGoes, CutKeeps};
 
 /// The frames of a unit, handed in order to the other end system, bring it: with the last one the unit comes up and nothing is held; before
 /// that nothing comes up, and no frame goes out.

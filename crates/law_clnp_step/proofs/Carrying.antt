@@ -1,15 +1,14 @@
 -- A PDU that carries a unit goes on doing so: with less lifetime it goes onward, and its unit stays afloat as long as it has any.
-use Rattle.std.proofs.Common.{◌≡◌, ◌⊎◌, ℕ, ◌+◌, ◌<◌, ◌≤◌, Bool, true, false, List, [], ◌∷◌, ◌++◌, length, map, refl, sym, ◌∙◌, ap, subst, inl, inr, arith, Option, Some, None}
-use Rattle.std.specs.Prelude.{nat_le}
-use Rattle.std.specs.List.{AllByRecursion, filter}
-use Rattle.std.proofs.lemmas.Bool.{le-leb, leb-true}
+use Rattle.std.proofs.Common.{◌≡◌, ℕ, ◌+◌, ◌≤◌, Bool, List, ◌++◌, length, sym, ◌∙◌, ap, subst, arith, Option, Some, None}
+use Rattle.std.specs.List.{filter}
+use Rattle.std.proofs.lemmas.Bool.{le-leb}
 use Rattle.std.proofs.lemmas.List.{length-append}
 use Rattle.osi_base.specs.Floated.{is_young}
 use Rattle.clnp_header.specs.declared.pdu.Pdu.{Pdu}
 use Rattle.clnp_header.specs.declared.pdu.SegmentPart.{SegmentPart}
 use Rattle.clnp_header.specs.Writing.{header_length}
 use Rattle.clnp_system.specs.Deriving.{Derives, IsPartOf, IsRun}
-use Rattle.law_clnp_step.specs.Sound.{IsAmong, IsCarrying, IsHeldFor, IsPart, Origin, entry_of}
+use Rattle.law_clnp_step.specs.Sound.{IsCarrying, IsPart, Origin, entry_of}
 use Rattle.law_clnp_step.proofs.Lists.{among_filter, among_left, both_on}
 
 -- a run of a run

@@ -1,5 +1,5 @@
 -- The list of units afloat loses exactly those that are older than the lifetime.
-use Rattle.std.proofs.Common.{◌≡◌, ℕ, ◌+◌, ◌≤◌, Bool, true, false, cond, List, [], ◌∷◌, subst, refl, inl, inr}
+use Rattle.std.proofs.Common.{ℕ, ◌+◌, ◌≤◌, Bool, true, false, cond, List, [], ◌∷◌, inl, inr}
 use Rattle.std.specs.List.{Contains, filter}
 use Rattle.std.proofs.lemmas.Bool.{le-leb}
 use Rattle.osi_base.specs.declared.unit.Unit.{Unit as CarriedUnit}

@@ -1,9 +1,8 @@
 -- What came up is handled: what the frames below are known to carry is kept, what each system knows too, and what comes up is fine.
 -- Of the carrier below only its law is used, and of a system what one step of it keeps.
-use Rattle.std.proofs.Common.{◌≡◌, ◌⊎◌, ℕ, ◌+◌, ◌≤◌, Bool, true, false, List, [], ◌∷◌, ◌++◌, map, refl, sym, ◌∙◌, ap, subst, inl, inr, arith}
+use Rattle.std.proofs.Common.{◌≡◌, ℕ, ◌+◌, Bool, List, [], ◌∷◌, ◌++◌, map, refl, sym, ◌∙◌, ap, subst, inl, inr}
 use Rattle.std.specs.List.{Contains, AllByRecursion}
 use Rattle.nsap.specs.declared.port.Port.{Port}
-use Rattle.osi_base.specs.declared.unit.Unit.{Unit as CarriedUnit}
 use Rattle.osi_base.specs.declared.unit.Arrival.{Arrival}
 use Rattle.osi_base.specs.declared.unit.Up.{Up}
 use Rattle.osi_base.specs.declared.unit.Up.TheVariants.{Unit as Came, Note as Noted}
@@ -22,7 +21,7 @@ use Rattle.clnp_system.specs.Receiving.{Receives}
 use Rattle.clnp_system.specs.Ticking.{NodeTicks}
 use Rattle.law_clnp_step.specs.Handling.{OffersFrame, OffersFrames, IsReceived, Nobody, Somebody, Changes, Handles, TicksAll, notes_of, drop_note, plain_wish, is_system}
 use Rattle.law_clnp_step.specs.Sound.{IsAmong, settings_of}
-use Rattle.law_clnp_step.proofs.Lists.{all_both, all_front, all_back, among_left, among_right, map_both}
+use Rattle.law_clnp_step.proofs.Lists.{all_both, all_front, all_back, among_right, map_both}
 
 -- an arrival, where it is one
 abbrev pub ComesIf : (Arrival Port → Type 0) → Up Port → Type 0

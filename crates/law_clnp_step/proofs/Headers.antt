@@ -1,5 +1,5 @@
 -- The header of a PDU that stands at the front of octets has the length that its fields give.
-use Rattle.std.proofs.Common.{◌≡◌, ℕ, ◌+◌, ◌≤◌, List, ◌++◌, length, take, ◌∙◌, ap, sym, arith, length-append, length-take-le}
+use Rattle.std.proofs.Common.{◌≡◌, ℕ, ◌+◌, List, length, take, ◌∙◌, ap, arith, length-append, length-take-le}
 use Rattle.clnp_header.specs.declared.pdu.Pdu.{Pdu}
 use Rattle.clnp_header.specs.Writing.{header_length}
 use Rattle.clnp_header.proofs.Parts.{length-header}

@@ -1,5 +1,5 @@
 -- Each call of the network keeps the link contract, and leaves it sound.
-use Rattle.std.proofs.Common.{◌≡◌, ℕ, ◌≤◌, Bool, true, List, [], ◌∷◌, ◌++◌, refl, sym, ◌∙◌, ap, subst, inl, arith, Option}
+use Rattle.std.proofs.Common.{◌≡◌, ℕ, List, [], refl, sym, ◌∙◌, subst, inl, arith, Option}
 use Rattle.std.specs.List.{AllByRecursion, Contains}
 use Rattle.nsap.specs.declared.port.Port.{Port}
 use Rattle.osi_base.specs.declared.unit.Up.{Up}
@@ -7,11 +7,10 @@ use Rattle.osi_base.specs.Link.{Link, IsGiven}
 use Rattle.osi_base.specs.Calls.{Call, Offer, Choose, Inject, NextUp, Tick, Keeps, TakesUp}
 use Rattle.osi_base.proofs.Standings.{took_same}
 use Rattle.clnp_system.specs.Node.{Node, Frame}
-use Rattle.clnp_system.specs.Setting.{Setting}
 use Rattle.clnp_system.specs.Tables.{Tables}
 use Rattle.law_clnp_step.specs.Network.{Network, net_link}
-use Rattle.law_clnp_step.specs.Sound.{IsCarried, IsHeldFor, IsNew, IsPeopled, IsSound, IsTimely, Knows, Origin, settings_of}
-use Rattle.law_clnp_step.specs.Step.{Begins, NetDoes, NetStep, NetTakesUp, Was}
+use Rattle.law_clnp_step.specs.Sound.{IsCarried, IsHeldFor, IsNew, IsPeopled, IsSound, IsTimely, Knows, settings_of}
+use Rattle.law_clnp_step.specs.Step.{Begins, NetStep, NetTakesUp}
 use Rattle.law_clnp_step.proofs.Arrived.{arrives_soundly, choice_keeps, injection_keeps, peopled_same, raised_choice, raised_injection}
 use Rattle.law_clnp_step.proofs.Lists.{all_weaker}
 use Rattle.law_clnp_step.proofs.Offered.{offer_keeps}

@@ -1,11 +1,10 @@
 -- A tick: units older than the lifetime are given up, and so is what systems hold of them; nothing comes up but notes.
-use Rattle.std.proofs.Common.{◌≡◌, ◌⊎◌, ℕ, ◌+◌, ◌<◌, ◌≤◌, Bool, true, false, List, [], ◌∷◌, ◌++◌, map, refl, sym, ◌∙◌, ap, subst, inl, inr, arith, Option}
+use Rattle.std.proofs.Common.{◌≡◌, ℕ, ◌+◌, ◌<◌, ◌≤◌, Bool, true, false, List, [], ◌∷◌, ◌++◌, refl, sym, ◌∙◌, ap, subst, arith}
 use Rattle.std.specs.Prelude.{if◌then◌else◌}
 use Rattle.std.specs.List.{AllByRecursion, Contains, filter}
 use Rattle.std.proofs.lemmas.Bool.{leb-true}
 use Rattle.std.proofs.lemmas.List.Elements.{All-from_recursion}
 use Rattle.nsap.specs.declared.port.Port.{Port}
-use Rattle.osi_base.specs.declared.unit.Unit.{Unit as CarriedUnit}
 use Rattle.osi_base.specs.declared.unit.Up.{Up}
 use Rattle.osi_base.specs.declared.unit.Up.TheVariants.{Unit as Came, Note as Noted}
 use Rattle.osi_base.specs.Floated.{is_young}
@@ -14,10 +13,8 @@ use Rattle.osi_base.specs.Calls.{Call, Tick, Keeps, Ticks}
 use Rattle.osi_base.specs.Gathering.{Stands}
 use Rattle.osi_base.proofs.Chains.{picks_on}
 use Rattle.osi_base.proofs.Standings.{stands_on, tick_took}
-use Rattle.clnp_system.specs.Node.{Node, Reaction, Frame}
-use Rattle.clnp_system.specs.Setting.{Setting}
+use Rattle.clnp_system.specs.Node.{Node, Frame}
 use Rattle.clnp_system.specs.Tables.{Tables}
-use Rattle.clnp_system.specs.Ticking.{NodeTicks}
 use Rattle.law_clnp_step.specs.Handling.{TicksAll, notes_of}
 use Rattle.law_clnp_step.specs.Network.{Network, net_link}
 use Rattle.law_clnp_step.specs.Sound.{AreTellable, HaveDifferentIds, IsAmong, IsCarried, IsPeopled, IsSound, IsTimely, IsTraced, Knows, Origin, entry_of, settings_of}
@@ -28,7 +25,7 @@ use Rattle.law_clnp_step.proofs.Dropping.{none_lost, none_new}
 use Rattle.law_clnp_step.proofs.Handled.{AreTicked, ticks_kept}
 use Rattle.law_clnp_step.proofs.Lists.{all_both, all_filter, all_passes, all_weaker, among_map, filter_map}
 use Rattle.law_clnp_step.proofs.Seen.{belongs_same}
-use Rattle.law_clnp_step.proofs.Ticked.{notes_all, ticked_knows, ticked_notes, ticked_quiet, ticked_setup, ticked_timely}
+use Rattle.law_clnp_step.proofs.Ticked.{ticked_knows, ticked_notes, ticked_quiet, ticked_setup, ticked_timely}
 
 tellable_filter : (test : Origin → Bool) (origins : List Origin) → AreTellable origins → AreTellable (filter test origins)
 tellable_filter test [] h = tt

@@ -1,13 +1,12 @@
 -- One system ticks: it sends no DT PDU and shows no unit, and what it still holds is of units that stay afloat.
-use Rattle.std.proofs.Common.{◌≡◌, ◌⊎◌, ℕ, ◌+◌, ◌<◌, ◌≤◌, Bool, true, false, List, [], ◌∷◌, refl, sym, ◌∙◌, ap, subst, arith}
+use Rattle.std.proofs.Common.{◌≡◌, ℕ, List, [], ◌∷◌, refl, sym, ap, subst, arith}
 use Rattle.std.specs.List.{AllByRecursion, filter}
 use Rattle.osi_base.specs.declared.unit.Up.{Up}
 use Rattle.osi_base.specs.declared.unit.Up.TheVariants.{Unit as Came, Note as Noted}
 use Rattle.osi_base.specs.declared.note.Note.{Note}
 use Rattle.osi_base.specs.Link.{IsNote}
 use Rattle.clnp_system.specs.Deriving.{Carries}
-use Rattle.clnp_system.specs.Node.{Node, Reaction, Frame}
-use Rattle.clnp_system.specs.Setting.{Setting}
+use Rattle.clnp_system.specs.Node.{Node, Reaction}
 use Rattle.clnp_system.specs.Tables.{Tables}
 use Rattle.clnp_system.specs.Ticking.{NodeTicks}
 use Rattle.clnp_system.proofs.Outgoing.{quiet_tick_is as quiet_tick}

@@ -1,5 +1,5 @@
 -- The promise of the network layer: over any carrier of frames that keeps the link contract, the network keeps it for units.
-use Rattle.std.specs.Prelude.{◌≡◌, ℕ, ◌≤◌, true, List, []}
+use Rattle.std.specs.Prelude.{◌≡◌, ℕ, List, []}
 use Rattle.nsap.specs.declared.port.Port.{Port}
 use Rattle.osi_base.specs.Link.{Link}
 use Rattle.osi_base.specs.Calls.{Call, Keeps}

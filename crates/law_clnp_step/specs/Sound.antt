@@ -1,6 +1,6 @@
 -- What holds of the network between two calls: each PDU on its way carries a unit that was taken, within its lifetime, and
 -- units of one system that are afloat have different identifiers (X.233, PDU lifetime control, data unit identifier).
-use Rattle.std.specs.Prelude.{◌≡◌, ◌≢◌, ◌⊎◌, ℕ, ◌+◌, ◌<◌, ◌≤◌, Bool, true, false, nat_lt, if◌then◌else◌, List, [], ◌∷◌, length, map, Option, Some, None}
+use Rattle.std.specs.Prelude.{◌≡◌, ◌≢◌, ◌⊎◌, ℕ, ◌+◌, ◌<◌, ◌≤◌, true, false, nat_lt, if◌then◌else◌, List, [], ◌∷◌, length, map, Option, Some, None}
 use Rattle.std.specs.List.{Contains, AllByRecursion}
 use Rattle.nsap.specs.Address.{is_same_system}
 use Rattle.nsap.specs.declared.port.Port.{Port}

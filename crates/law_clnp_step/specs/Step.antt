@@ -1,5 +1,5 @@
 -- The calls of the network: the calls of the carrier below that each goes through, in order, and the steps of its systems between.
-use Rattle.std.specs.Prelude.{◌≡◌, ◌≢◌, ℕ, ◌+◌, ◌<◌, ◌≤◌, min, Bool, true, false, ◌&&◌, nat_eq, if◌then◌else◌, List, [], ◌∷◌, ◌++◌, length, Option, Some, None, Result, Ok, Err}
+use Rattle.std.specs.Prelude.{◌≡◌, ℕ, ◌+◌, ◌<◌, ◌≤◌, min, Bool, true, false, ◌&&◌, nat_eq, if◌then◌else◌, List, [], ◌∷◌, ◌++◌, length, Option, None, Ok, Err}
 use Rattle.std.specs.List.{filter, list_any}
 use Rattle.std.specs.Cmp.Lexicographic.{pointwise}
 use Rattle.nsap.specs.declared.port.Port.{Port}
@@ -11,9 +11,7 @@ use Rattle.osi_base.specs.declared.unit.Offered.{Offered}
 use Rattle.osi_base.specs.declared.unit.Offered.TheVariants.{Taken as WasTaken, Dropped}
 use Rattle.osi_base.specs.declared.unit.DropCause.{DropCause}
 use Rattle.osi_base.specs.declared.unit.DropCause.TheVariants as causes
-use Rattle.osi_base.specs.declared.unit.Picked.{Picked}
-use Rattle.osi_base.specs.declared.unit.Injected.{Injected}
-use Rattle.osi_base.specs.Floated.{Floated, is_unit_of, is_young}
+use Rattle.osi_base.specs.Floated.{is_unit_of, is_young}
 use Rattle.osi_base.specs.Link.{Link}
 use Rattle.osi_base.specs.Calls.{Call, Offer, Choose, Inject, NextUp, Tick, after_first}
 use Rattle.osi_base.specs.Gathering.{Gathers}

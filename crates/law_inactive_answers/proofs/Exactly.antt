@@ -18,7 +18,8 @@ use Rattle.inactive_step.specs.Sound.{IsSound}
 use Rattle.inactive_step.specs.Step.{InactiveOffers, Long, NoWay, Sent}
 use Rattle.inactive_step.proofs.Found.{found_of}
 use Rattle.inactive_step.proofs.Seen.{ends_of}
-use Rattle.law_inactive_answers.specs.Laws.{AnswersExactly, ArePorts, are_full, offered_on}
+use Rattle.law_inactive_answers.specs.Laws.{AnswersExactly}
+use Rattle.law_inactive_answers.specs.Offering.{ArePorts, are_full, offered_on}
 
 first_part : (a b : Bool) → (a && b) ≡ true → a ≡ true
 first_part true b e = refl

@@ -1,23 +1,18 @@
 -- What a network by the inactive subset answers: where the carrier of its frames answers in one way, so does it; and over LANs it always
 -- answers (X.233, Inactive Network Layer Protocol subset).
-use Rattle.std.specs.Prelude.{◌≡◌, ℕ, ◌+◌, Bool, ◌||◌, nat_le, nat_lt, if◌then◌else◌, List, length, Option, Some, None}
+use Rattle.std.specs.Prelude.{◌≡◌, ℕ, List}
 use Rattle.std.specs.List.{AllByRecursion}
 use Rattle.nsap.specs.declared.port.Port.{Port}
-use Rattle.osi_base.specs.declared.unit.DropCause.TheVariants.{Full, NoRoute, TooLong}
 use Rattle.osi_base.specs.declared.unit.Offered.{Offered}
-use Rattle.osi_base.specs.declared.unit.Offered.TheVariants.{Taken as WasTaken, Dropped}
 use Rattle.osi_base.specs.declared.unit.Unit.{Unit as CarriedUnit}
 use Rattle.osi_base.specs.declared.unit.Wish.{Wish}
 use Rattle.osi_base.specs.Calls.{Call, Offer}
 use Rattle.osi_base.specs.Link.{Link}
 use Rattle.law_carrier_answers.specs.Answers.{OneStep}
 use Rattle.lan_bag.specs.Bag.{Bag, BagStep, link_of, new_bag}
-use Rattle.lan_bag.specs.Frames.{live_count}
-use Rattle.lan_bag.specs.Rows.{sender_of}
 use Rattle.lan_bag.specs.declared.setup.Lan.{Lan}
 use Rattle.lan_bag.specs.declared.setup.PortRow.{PortRow}
 use Rattle.inactive_step.specs.declared.row.InactiveRow.{InactiveRow}
-use Rattle.inactive_step.specs.declared.row.Way.{Way}
 use Rattle.inactive_step.specs.Frames.{way_from}
 use Rattle.inactive_step.specs.Network.{Inactive, inactive_link, new_inactive}
 use Rattle.inactive_step.specs.Rows.{AreServed}
@@ -25,6 +20,7 @@ use Rattle.inactive_step.specs.Step.{InactiveStep}
 use Rattle.law_clnp_answers.specs.Serving.{Serves}
 use Rattle.law_clnp_answers.specs.Standing.{is_nsap}
 use Rattle.law_inactive_answers.specs.Standing.{FitsRow, Stands}
+use Rattle.law_inactive_answers.specs.Offering.{ArePorts, offered_on}
 
 -- what is asked of the network has one answer, and leads to one network
 abbrev pub OneAnswer : {C : Type 0} → (C → Link Port) → (C → Call Port → C → Type 0) → Type 0
@@ -32,26 +28,11 @@ OneAnswer link steps = OneStep steps → OneStep (InactiveStep link steps)
 
 -- ---- over LANs
 
+-- so it has over LANs
 abbrev pub OneNetAnswer : Type 0
 OneNetAnswer = OneStep (InactiveStep link_of BagStep)
 
--- each port is that of its system on the LANs
-abbrev pub ArePorts : List PortRow → List InactiveRow → Type 0
-ArePorts ports rows = AllByRecursion (λ row. sender_of ports row.port ≡ Some row.system) rows
-
--- the LANs keep as many frames as they may, or have numbered as many
-abbrev pub are_full : Bag → Bool
-are_full bag = nat_le 16384 (live_count bag.frames) || nat_le 4294967295 (length bag.frames)
-
--- the answer to an offer on a way: the first that applies
-abbrev pub offered_on : Bag → CarriedUnit (List ℕ) → Option Way → Offered
-offered_on bag unit None = Dropped NoRoute
-offered_on bag unit (Some way) =
-    if nat_lt way.goal.room (length unit.octets + 1) then Dropped TooLong
-    else if are_full bag then Dropped Full
-    else WasTaken
-
--- an offer has that answer
+-- an offer has the answer of `offered_on`
 abbrev pub AnswersExactly : Type 0
 AnswersExactly = (old : Inactive Bag) (unit : CarriedUnit (List ℕ)) (wish : Wish) (answer : Offered) (new : Inactive Bag)
     → ArePorts old.link.rows old.rows → InactiveStep link_of BagStep old (Offer unit wish answer) new

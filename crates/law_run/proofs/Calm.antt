@@ -11,7 +11,7 @@ use Rattle.esis_tables.specs.Rows.{Rows}
 use Rattle.clnp_system.specs.Node.{Node}
 use Rattle.clnp_system.specs.Tables.{rows_tables}
 use Rattle.law_clnp_step.specs.Step.{Begins}
-use Rattle.law_clnp_fifo.specs.Laws.{WaitsIn}
+use Rattle.law_clnp_fifo.specs.Waiting.{WaitsIn}
 use Rattle.law_clnp_fifo.proofs.Carried.{begins_empty, is_fifo}
 use Rattle.net_world.specs.Fifo.{IsFifo}
 use Rattle.net_world.specs.Told.{told}
@@ -28,7 +28,7 @@ use Rattle.law_tp4_history.specs.Journals.{IsAside}
 use Rattle.law_tp4_pair.specs.Claim.{AllShown, IsUndropped}
 use Rattle.law_tp4_lawful.proofs.WorldAsides.{AreQuiet, are_aside, told_quiet}
 use Rattle.tp4_entity.specs.Entity.{Entity}
-use Rattle.law_tp4_lawful.specs.Headline.{IsProperLine}
+use Rattle.law_tp4_lawful.specs.Limits.{IsProperLine}
 use Rattle.tp4_world.specs.Laws.{WholeLine, WholeRun}
 use Rattle.tp4_world.specs.Run.{RunsLine, RunsLines}
 use Rattle.tp4_world.specs.World.{entity_at}
@@ -45,7 +45,8 @@ use Rattle.law_calm_service.proofs.WiredEnds.{confirmed_on_wire, shown_on_wire}
 use Rattle.osi_setup.specs.Fitting.{IsWell}
 use Rattle.osi_setup.specs.SetUp.{SetUp, entities_of, timers_of, titles_of as titles_said}
 use Rattle.osi_setup.proofs.Entities.{are_timed}
-use Rattle.law_run.specs.Calm.{AcceptsAreConfirmed, ActsCalmly, ConnectsAreIndicated, RunsCalmly, ServesCalmScripts}
+use Rattle.law_run.specs.Calm.{AcceptsAreConfirmed, ActsCalmly, ConnectsAreIndicated, RunsCalmly}
+use Rattle.law_run.specs.Laws.{ServesCalmScripts}
 use Rattle.law_run.specs.World.{TransportNet, Net, NetDoes, Started, World, WorldRuns, WorldStep, link_of_net, running, titles_of}
 use Rattle.script_world.specs.declared.play.World.TheVariants.{SettingUp, Running}
 use Rattle.script_bench.specs.steps.Moves.{line_moves}

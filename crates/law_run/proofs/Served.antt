@@ -5,7 +5,8 @@ use Rattle.line_loop.specs.Lines.{open_line, last_line}
 use Rattle.osi_journal.specs.declared.event.Event.{Event}
 use Rattle.law_tp4_pair.specs.Calm.{IsCalmScript}
 use Rattle.law_run.specs.Bench.{Bench, bench_meaning, first_bench}
-use Rattle.law_run.specs.Calm.{ServesUsers, ServesCalmScripts}
+use Rattle.law_run.specs.Calm.{ServesUsers}
+use Rattle.law_run.specs.Laws.{ServesCalmScripts}
 use Rattle.law_run.specs.Transcript.{IsRun, RanWhole, ServesWhereCalm, lines_handled, lines_run, texts_in}
 use Rattle.law_run.specs.World.{TransportNet, World, WorldRun, running, world_acts}
 use Rattle.script_bench.proofs.Runs.{ran}

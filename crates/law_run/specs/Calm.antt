@@ -64,8 +64,3 @@ pub record ServesUsers (names : Declared) (journal : List Event) (titles : List 
   pub shown : AllByRecursion IsUndropped journal → AllShown (link_of_net last.carrier).clock journal (end_at_number last)
   pub indicated : ConnectsAreIndicated names journal titles last
   pub confirmed : AcceptsAreConfirmed names journal titles last
-
--- so it does after each calm script
-abbrev pub ServesCalmScripts : Type 0
-ServesCalmScripts = (texts : List (List ℕ)) (script : List Line) (names : Declared) (journal : List Event) (titles : List (List ℕ)) (last : TransportNet) → RunsCalmly texts script names journal titles last
-    → ServesUsers names journal titles last

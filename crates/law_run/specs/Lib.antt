@@ -1,6 +1,6 @@
 pub mod Bench
 pub mod Calm
-pub mod Reader
+pub mod Laws
 pub mod Transcript
 pub mod World
 pub mod steps

@@ -29,10 +29,6 @@ pub record IsScriptRun (texts : List (List ℕ)) (journal : List Event) (last : 
   pub run : WorldRun script journal last.world
   pub sent : strays_of last.world ≡ None → RawLawful (life_of last.world) (titles_of last.world) journal
 
--- what runs on the bench is a script, line by line, and the run of the network for its lines
-abbrev pub RunsScripts : Type 0
-RunsScripts = (texts : List (List ℕ)) (journal : List Event) (last : Bench) → Runs bench_meaning first_bench texts journal last → IsScriptRun texts journal last
-
 -- the texts are the lines of a script whose journal by the run of the network is longer than a journal may be, and this is its front
 pub record IsFilledRun (texts : List (List ℕ)) (journal : List Event) (last : Bench) : Type 0 where
   pub whole : List Event

@@ -1,12 +1,10 @@
 //! What holds of every run of the network, for all scripts.
 
 ghost use Rattle.std.specs.Prelude.{◌≡◌, List, None, ℕ};
-ghost use Rattle.law_run.specs.Calm.{ServesCalmScripts};
+ghost use Rattle.law_run.specs.Laws.{ServesCalmScripts, RunsScripts};
 ghost use Rattle.osi_script.specs.declared.words.Dialect.TheVariants as dialects;
 ghost use Rattle.law_run.specs.Bench.{bench_meaning, first_bench};
-ghost use Rattle.line_loop.specs.Total.{AsksSomething};
-ghost use Rattle.line_loop.specs.Exact.{OneCourse, AsksOne};
-ghost use Rattle.law_run.specs.Transcript.{RunsScripts};
+ghost use Rattle.line_loop.specs.Laws.{AsksSomething, OneCourse, AsksOne};
 ghost use Rattle.osi_journal.specs.declared.event.Event.{Event};
 ghost use Rattle.osi_script.specs.declared.line.Line.{Line};
 ghost use Rattle.osi_script.specs.Injecting.{HasNoInject};

@@ -1,6 +1,6 @@
 //! What a reader of a transcript may conclude from its text.
 
-ghost use Rattle.law_run.specs.Reader.{
+ghost use Rattle.law_run.specs.Laws.{
   EventsTellRightly,
   HasOneReading,
   IsReadBack,

@@ -13,7 +13,7 @@ use Rattle.clnp_system.specs.Node.{Node}
 use Rattle.clnp_system.specs.Setting.{Setting}
 use Rattle.esis_tables.specs.Rows.{Rows}
 use Rattle.law_clnp_step.specs.Sound.{IsPeopled, settings_of}
-use Rattle.law_clnp_answers.specs.Laws.{MayBegin, first_node}
+use Rattle.law_clnp_answers.specs.Beginning.{MayBegin, first_node}
 use Rattle.law_clnp_answers.specs.Standing.{IsHop, IsNsap, IsSetUp, IsSnpa}
 use Rattle.osi_script.specs.declared.words.Word.{Word}
 use Rattle.osi_script.specs.declared.words.Word.TheVariants as words

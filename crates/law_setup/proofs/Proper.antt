@@ -22,7 +22,7 @@ use Rattle.osi_script.specs.Known.{Declared, no_parts}
 use Rattle.osi_script.specs.Reading.{field_read, new_selector, selector_of}
 use Rattle.osi_script.specs.Script.{Says}
 use Rattle.osi_script.specs.Table.{row_of}
-use Rattle.law_tp4_lawful.specs.Headline.{IsProperLine}
+use Rattle.law_tp4_lawful.specs.Limits.{IsProperLine}
 use Rattle.script_bench.specs.steps.Came.{Came, Idle, Worded, came}
 use Rattle.law_setup.specs.Lines.{RunsAt}
 use Rattle.script_bench.specs.steps.Moves.{line_moves}

@@ -7,7 +7,7 @@ use Rattle.osi_script.specs.Known.{Declared}
 use Rattle.osi_script.specs.Script.{Says}
 use Rattle.osi_setup.specs.Fitting.{IsWell}
 use Rattle.osi_setup.specs.SetUp.{SetUp}
-use Rattle.law_tp4_lawful.specs.Headline.{IsProperLine}
+use Rattle.law_tp4_lawful.specs.Limits.{IsProperLine}
 use Rattle.law_setup.specs.Agreeing.{AreOne}
 use Rattle.law_setup.specs.Lines.{Kept, LineInOctets, RunsAt}
 

@@ -11,7 +11,8 @@ use Rattle.tp4_entity.specs.Step.{call_of, connecting}
 use Rattle.tp4_world.specs.World.{entity_at, with_entity}
 use Rattle.tp4_world.specs.declared.place.Placed.{Placed}
 use Rattle.law_tp4_associations.specs.Association.{Association, cleared, party, post, system_of, waiting, with_party}
-use Rattle.law_tp4_associations.specs.Laws.{Connected, requested_by}
+use Rattle.law_tp4_associations.specs.Laws.{Connected}
+use Rattle.law_tp4_associations.specs.Handing.{requested_by}
 use Rattle.law_tp4_associations.specs.Phase.{Asking}
 use Rattle.law_tp4_associations.specs.Standing.{IsAssociation, IsCaller, IsParty}
 use Rattle.law_tp4_associations.proofs.Handed.{all_post, placing_of, standing_on, within_list}

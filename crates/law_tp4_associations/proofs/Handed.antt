@@ -18,7 +18,8 @@ use Rattle.tp4_entity.specs.References.{is_free_place, least_free, was_frozen}
 use Rattle.tp4_world.specs.World.{entity_at, with_entity}
 use Rattle.tp4_world.specs.declared.place.Placed.{Placed}
 use Rattle.law_tp4_associations.specs.Association.{Association, Posted, cleared, party, post, system_of, waiting, with_party}
-use Rattle.law_tp4_associations.specs.Laws.{Aside, Begins, Hands, Handed, IsBetweenOpen, Taken, Takes, TellsOfNoEnd}
+use Rattle.law_tp4_associations.specs.Handing.{Aside, Begins, Hands, IsBetweenOpen, Taken, Takes, TellsOfNoEnd}
+use Rattle.law_tp4_associations.specs.Laws.{Handed}
 use Rattle.law_tp4_associations.specs.Phase.{IsFrozen}
 use Rattle.law_tp4_associations.specs.Standing.{AreSystems, IsAssociation, IsParty, Standing}
 use Rattle.law_tp4_associations.proofs.Handing.{Begins_one, Deals, Leaves_it, Takes_one, dealt_back, dealt_forth}

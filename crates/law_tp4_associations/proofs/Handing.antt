@@ -34,7 +34,7 @@ use Rattle.law_tp4_pair.proofs.Confirming.{indicates}
 use Rattle.law_tp4_pair.proofs.Opening.{confirm_sum}
 use Rattle.law_tp4_pair.proofs.Meeting.{back_met, forth_met}
 use Rattle.law_tp4_associations.specs.Association.{Association, party, with_party}
-use Rattle.law_tp4_associations.specs.Laws.{IsBetweenOpen, TellsOfNoEnd}
+use Rattle.law_tp4_associations.specs.Handing.{IsBetweenOpen, TellsOfNoEnd}
 use Rattle.law_tp4_associations.specs.Phase.{AllCome, AreAll, AreParting, Asking, Asks, Answered, IsAsking, IsConfirming, IsFrozen, IsInUse, IsIndicated, IsOver, IsPaired, IsRefusal, IsRequest, Late, MayCome, Leaving, Over, Paired, Phase, Refused, Rejected, Waiting, WillFreeze, Writes}
 use Rattle.law_tp4_associations.specs.Standing.{IsAssociation, IsCalled, IsCaller}
 use Rattle.law_tp4_associations.proofs.Freezing.{release_comes}
@@ -217,7 +217,6 @@ module _ (timers : Timers) (own : ℕ → List ℕ) (now : ℕ) (a : Association
   abbrev call_of_request : (x : End) (r : InCrWait) → ConnectCall
   call_of_request x r = record {
     own = x.base.own;
-    from = [];
     request = record { from_selector = x.base.calling; to = x.base.to; to_selector = x.base.called; options = x.base.proposed.options; octets = r.octets };
     rules = x.base.timers;
   }

@@ -21,7 +21,7 @@ use Rattle.tp4_conn.specs.declared.states.InClosing.{InClosing}
 use Rattle.tp4_conn.specs.declared.states.InCrWait.{InCrWait}
 use Rattle.tp4_conn.specs.declared.states.StateData.{StateData}
 use Rattle.tp4_conn.specs.declared.states.StateData.TheVariants.{CrWait, WaitBeforeClose, UserWait, AkWait, Opened, Closing, Frozen}
-use Rattle.tp4_conn.specs.Agreeing.{is_within, options_in}
+use Rattle.tp4_conn.specs.Agreeing.{is_within}
 use Rattle.tp4_conn.specs.AkWait.{ak_wait_tick, ak_wait_tpdu}
 use Rattle.tp4_conn.specs.Closing.{closing_tick, closing_tpdu}
 use Rattle.tp4_conn.specs.CrWait.{cr_wait_tick, cr_wait_tpdu}

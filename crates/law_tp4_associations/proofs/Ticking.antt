@@ -13,7 +13,8 @@ use Rattle.tp4_entity.specs.Step.{first_due, is_due, kept_end, ticking, ticking_
 use Rattle.tp4_world.specs.World.{entity_at, with_entity}
 use Rattle.tp4_world.specs.declared.place.Placed.{Placed}
 use Rattle.law_tp4_associations.specs.Association.{Association, Posted, party, post, system_of, waiting, with_party}
-use Rattle.law_tp4_associations.specs.Laws.{AreProperEnds, Ticks}
+use Rattle.law_tp4_associations.specs.Handing.{AreProperEnds}
+use Rattle.law_tp4_associations.specs.Laws.{Ticks}
 use Rattle.law_tp4_associations.specs.Standing.{AreSystems, IsAssociation, IsParty, Standing}
 use Rattle.law_tp4_associations.specs.Ticking.{HasTicked, IsTicking, ticked_end, ticked_tpdus}
 use Rattle.law_tp4_associations.proofs.Dues.{IsDueAt, first_is_due, none_due, ticked_not_due}

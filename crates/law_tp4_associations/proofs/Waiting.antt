@@ -23,7 +23,8 @@ use Rattle.law_tp4_pair.specs.steps.Standing.{AreBoth, Both, Confirming, First, 
 use Rattle.law_tp4_pair.specs.steps.Waiting.{AreData, IsDataFor}
 use Rattle.law_tp4_pair.proofs.Meeting.{back_met, forth_met}
 use Rattle.law_tp4_associations.specs.Association.{Association, Posted, system_of, waiting}
-use Rattle.law_tp4_associations.specs.Laws.{Addressed, Answerable, Formatted, IsFormatted, MayAccept}
+use Rattle.law_tp4_associations.specs.Laws.{Addressed, Answerable, Formatted, MayAccept}
+use Rattle.law_tp4_associations.specs.Handing.{IsFormatted}
 use Rattle.law_tp4_associations.specs.Phase.{Answered, Asking, IsAsking, IsFrozen, IsPaired, IsRefusal, IsRequest, Late, Leaving, MayCome, Over, Paired, Phase, Refused, Rejected, Waiting, WillFreeze}
 use Rattle.law_tp4_associations.specs.Standing.{IsAssociation, Standing}
 use Rattle.law_tp4_associations.proofs.Handed.{place_of}

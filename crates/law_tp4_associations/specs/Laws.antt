@@ -1,111 +1,54 @@
--- What is asked of the associations of a network in which nothing is lost, and all is handed over in order before a user or the clock acts (X.224,
+-- What holds of the associations of a network in which nothing is lost, and all is handed over in order before a user or the clock acts (X.224,
 -- class 4: association of TPDUs with connections; class 4 state tables).
 use Rattle.std.specs.Prelude.{◌≡◌, ◌⊎◌, ℕ, ◌+◌, Bool, true, not, List, [], ◌∷◌, ◌++◌, length, map, slice_get, slice_set, Some, None}
 use Rattle.tpdu.specs.Kinds.{has_number}
-use Rattle.tpdu.specs.Values.{destination_of}
 use Rattle.tpdu.specs.Writing.{kind_for}
-use Rattle.tpdu.specs.declared.kind.Kind.{Kind}
 use Rattle.tp4_number.specs.Number.{whole}
 use Rattle.tp4_flow.specs.declared.rules.Options.{Options}
-use Rattle.tp4_flow.specs.declared.step.EndEvent.{EndEvent}
-use Rattle.tp4_flow.specs.declared.step.What.TheVariants.{Unknown}
 use Rattle.tp4_conn.specs.Calls.{IsCall}
-use Rattle.tp4_conn.specs.End.{End, IsSized, agreed_format, end_of}
-use Rattle.tp4_conn.specs.Making.{connected, indicated}
-use Rattle.tp4_conn.specs.Proper.{IsProper, IsProperCall}
-use Rattle.tp4_conn.specs.Table.{Called, Ticked, Took, due, stepped}
-use Rattle.tp4_conn.specs.declared.end_record.EndRecord.{EndRecord}
+use Rattle.tp4_conn.specs.End.{End, IsSized, end_of}
+use Rattle.tp4_conn.specs.Proper.{IsProperCall}
+use Rattle.tp4_conn.specs.Table.{Called, Ticked, due, stepped}
 use Rattle.tp4_conn.specs.declared.call.ConnectRequest.{ConnectRequest}
 use Rattle.tp4_conn.specs.declared.call.UserCall.{UserCall}
 use Rattle.tp4_conn.specs.declared.states.InCrWait.{InCrWait}
 use Rattle.tp4_conn.specs.declared.states.StateData.TheVariants.{CrWait, UserWait}
 use Rattle.tp4_conn.specs.declared.timers.Timers.{Timers}
 use Rattle.tp4_entity.specs.Association.{met}
-use Rattle.tp4_entity.specs.Entity.{Acted, Entity, at, end_at, moved}
+use Rattle.tp4_entity.specs.Entity.{Entity, at, end_at}
 use Rattle.tp4_entity.specs.References.{least_free}
 use Rattle.tp4_entity.specs.Step.{call_of, calling, connecting, first_due, kept_end, ticking, user_refusal}
 use Rattle.law_tp4_pair.specs.Pair.{Accepts}
 use Rattle.law_tp4_pair.specs.steps.Standing.{HasLeft}
 use Rattle.tp4_world.specs.World.{entity_at, with_entity}
 use Rattle.tp4_world.specs.declared.place.Placed.{Placed}
-use Rattle.law_tp4_associations.specs.Association.{Association, Posted, cleared, party, post, system_of, with_party}
-use Rattle.law_tp4_associations.specs.Standing.{IsParty, Standing, StandsAt}
-
--- each end that stands is proper
-abbrev pub AreProperEnds : List Placed → Type 0
-AreProperEnds entities = (system reference : ℕ) (end : End) → StandsAt entities system reference end → IsProper end.base end.stage
-
--- nothing is told, or a TPDU that belongs to no end
-abbrev pub TellsOfNoEnd : List EndEvent → Type 0
-TellsOfNoEnd events = (events ≡ []) ⊎ ((kind : Kind) × (events ≡ record { reference = 0; what = Unknown kind } ∷ []))
-
--- both ends stand, neither has left, and the called one's user has answered
-pub record IsBetweenOpen (a : Association) : Type 0 where
-  pub x : End
-  pub y : End
-  pub calling : a.calling ≡ Some x
-  pub called : a.called ≡ Some y
-  pub stays : HasLeft x.stage ⊎ HasLeft y.stage → ⊥
-  pub answered : (since : ℕ) → y.stage ≡ UserWait since → ⊥
-
--- a TPDU that waits first comes to the entity e of the other side, which does this; the association `a` is `b` then, and `others` are all the associations, but for
--- an end whose reference is given to another one
-pub data Takes (own : ℕ → List ℕ) (now : ℕ) (e : Entity) (posted : Posted) (acted : Acted) (all others : List Association) (a b : Association) : Type 0 where
-  -- the end takes it
-  Taken : (end : End) → party a (not posted.by) ≡ Some end → acted ≡ moved e end.base.own (stepped whole now end (Took posted.sent.tpdu posted.sent.sum))
-      → b ≡ with_party a (not posted.by) (Some (end_of (stepped whole now end (Took posted.sent.tpdu posted.sent.sum)))) → others ≡ all → Takes own now e posted acted all others a b
-  -- no end does: one of the two has left, or its user has not answered
-  Aside : acted.entity ≡ e → TellsOfNoEnd acted.events → b ≡ a → others ≡ all → (IsBetweenOpen a → ⊥) → Takes own now e posted acted all others a b
-  -- it is the CR, and the called end is made
-  Begins : (reference : ℕ) (base : EndRecord) (octets : List ℕ) → posted.by ≡ true → a.called ≡ None → least_free now e ≡ Some reference → base.own ≡ reference → base.to ≡ own a.from.system
-      → base.partner ≡ a.from.reference → acted ≡ moved e reference (indicated base octets) → b ≡ record a { called = Some (end_of (indicated base octets)) }
-      → others ≡ map (cleared a.to reference) all → Takes own now e posted acted all others a b
+use Rattle.law_tp4_associations.specs.Association.{Association, Posted, cleared, post, system_of, with_party}
+use Rattle.law_tp4_associations.specs.Standing.{IsParty, Standing}
+use Rattle.law_tp4_associations.specs.Handing.{AreProperEnds, Hands, IsFormatted, requested_by}
 
 module _ (timers : Timers) (own : ℕ → List ℕ) where
-  pub record Hands (now : ℕ) (entities : List Placed) (all : List Association) (posted : Posted) (rest : List Posted) (e : Entity) (a : Association) (acted : Acted) : Type 0 where
-    pub b : Association
-    pub others : List Association
-    pub takes : Takes own now (at now e) posted acted all others a b
-    pub standing : Standing timers own now (with_entity entities (system_of a (not posted.by)) acted.entity) (slice_set others posted.of b) (rest ++ post posted.of (not posted.by) acted.tpdus)
-
+  -- what waits first is handed over
   abbrev pub Handed : Type 0
   Handed = (now : ℕ) (entities : List Placed) (all : List Association) (posted : Posted) (rest : List Posted) (e : Entity) (a : Association)
       → Standing timers own now entities all (posted ∷ rest) → AreProperEnds entities → slice_get all posted.of ≡ Some a → entity_at entities (system_of a (not posted.by)) ≡ Some e
-      → Hands now entities all posted rest e a (met whole now (at now e) (own (system_of a posted.by)) (posted.sent.tpdu, posted.sent.sum))
+      → Hands timers own now entities all posted rest e a (met whole now (at now e) (own (system_of a posted.by)) (posted.sent.tpdu, posted.sent.sum))
 
   -- it goes to the other side's system
   abbrev pub Addressed : Type 0
   Addressed = (now : ℕ) (entities : List Placed) (all : List Association) (posted : Posted) (rest : List Posted) (a : Association)
       → Standing timers own now entities all (posted ∷ rest) → slice_get all posted.of ≡ Some a → posted.sent.to ≡ own (system_of a (not posted.by))
 
-  -- a DT, ED, AK or EA is in the format that the end at its destination agreed on
-  pub record IsFormatted (e : Entity) (posted : Posted) : Type 0 where
-    pub reference : ℕ
-    pub end : End
-    pub destination : destination_of posted.sent.tpdu ≡ Some reference
-    pub stands : end_at e reference ≡ Some end
-    pub format : posted.sent.format ≡ agreed_format end.base.agreed
-
   abbrev pub Formatted : Type 0
   Formatted = (now : ℕ) (entities : List Placed) (all : List Association) (posted : Posted) (rest : List Posted) (e : Entity) (a : Association)
       → Standing timers own now entities all (posted ∷ rest) → slice_get all posted.of ≡ Some a → entity_at entities (system_of a (not posted.by)) ≡ Some e
-      → has_number (kind_for posted.sent.tpdu) ≡ true → IsFormatted e posted
-
-  -- the association of a connect request
-  abbrev pub requested_by : ℕ → Entity → ℕ → ℕ → ConnectRequest → ℕ → Association
-  requested_by now e system reference request to = record {
-    from = record { system = system; reference = reference };
-    to = to;
-    calling = Some (end_of (connected now (call_of e reference request)));
-    called = None;
-  }
+      → has_number (kind_for posted.sent.tpdu) ≡ true → IsFormatted timers own e posted
 
   -- a connect request, where nothing waits
   abbrev pub Connected : Type 0
   Connected = (now : ℕ) (entities : List Placed) (all : List Association) (system : ℕ) (e : Entity) (reference : ℕ) (request : ConnectRequest) (to : ℕ) (f : Entity)
       → Standing timers own now entities all [] → AreProperEnds entities → entity_at entities system ≡ Some e → least_free now e ≡ Some reference → IsProperCall (call_of e reference request)
       → request.to ≡ own to → entity_at entities to ≡ Some f
-      → Standing timers own now (with_entity entities system (connecting now e reference request).entity) (map (cleared system reference) all ++ requested_by now e system reference request to ∷ [])
+      → Standing timers own now (with_entity entities system (connecting now e reference request).entity) (map (cleared system reference) all ++ requested_by timers own now e system reference request to ∷ [])
       (post (length all) true (connecting now e reference request).tpdus)
 
   -- a call on an end, where nothing waits
@@ -137,13 +80,3 @@ module _ (timers : Timers) (own : ℕ → List ℕ) where
   MayAccept = (now : ℕ) (entities : List Placed) (all : List Association) (k : ℕ) (a : Association) (x y : End) (since : ℕ) (r : InCrWait) (asked : Options) → Standing timers own now entities all []
       → AreProperEnds entities → slice_get all k ≡ Some a → a.calling ≡ Some x → a.called ≡ Some y → y.stage ≡ UserWait since → x.stage ≡ CrWait r → IsSized asked
       → Accepts (record { clock = now; calling = x; called = y; forth = []; back = []; calling_gave = []; called_gave = []; calling_showed = []; called_showed = []; calling_told = []; called_told = [] }) asked
-
-  pub record Laws (IsTicking : ℕ → List Placed → List Association → List Association → List Posted → Type 0) : Type 0 where
-    pub handed : Handed
-    pub addressed : Addressed
-    pub formatted : Formatted
-    pub connects : Connected
-    pub calls : WasCalled
-    pub ticks : Ticks IsTicking
-    pub answerable : Answerable
-    pub accepts : MayAccept

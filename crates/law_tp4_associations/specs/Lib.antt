@@ -1,5 +1,7 @@
 pub mod Association
+pub mod Handing
 pub mod Laws
 pub mod Phase
 pub mod Standing
 pub mod Ticking
+pub mod steps

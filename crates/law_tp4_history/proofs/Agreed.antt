@@ -9,7 +9,7 @@ use Rattle.tp4_number.proofs.Past.{if_kept}
 use Rattle.tp4_number.proofs.Accounts.{none}
 use Rattle.law_tp4_history.specs.Ends.{Times, IsFit, Cc, Flow, Terms, Tpdu, Origin, Sent, Answer, Offer, Opened, Birth, End, Cause, Alone, Took, Agrees, Accepts, Confirmed, IsOpen, IsMove}
 use Rattle.law_tp4_history.specs.History.{Event, event_of, History, nothing, set_end, IsCaller, IsPartner, IsNew, IsIndicated, IsTaken, answers_to, Step, Tick, Connect, Indicate, Reply, Take, Act, Release, Restart, Note, May, next, Leads}
-use Rattle.law_tp4_history.specs.Laws.{Reached, FlowInFormat}
+use Rattle.law_tp4_history.specs.Reached.{Reached, FlowInFormat}
 use Rattle.law_tp4_history.proofs.Sound.{at_end, Sound, one_partner}
 use Rattle.law_tp4_history.proofs.Later.{IsLater, caller_back, caller_on}
 use Rattle.law_tp4_history.proofs.Meets.{swap, Meets, Of_partner, Of_entity, meets}

@@ -6,7 +6,7 @@ use Rattle.std.proofs.Math.Seq.{get_or-append_seam, get_or-append_right}
 use Rattle.std.proofs.lemmas.Bool.{cases_eq, cases_lt, cases_order, cases_Bool, cond-true, cond-false}
 use Rattle.law_tp4_history.specs.Ends.{Times, IsFit, Offer, Birth, Words, End}
 use Rattle.law_tp4_history.specs.History.{Event, Connected, Indicated, Other, event_by, event_of, History, nothing, IsCaller, IsIndicated, IsNew, Step, Tick, Connect, Indicate, Reply, Take, Act, Release, Restart, Note, May, next, Leads}
-use Rattle.law_tp4_history.specs.Laws.{Reached}
+use Rattle.law_tp4_history.specs.Reached.{Reached}
 use Rattle.law_tp4_history.specs.Indications.{IsLatest, IsPartnerOf, AreIndications, IndicatesEach}
 use Rattle.law_tp4_history.proofs.Sound.{SentFacts, Sound}
 use Rattle.law_tp4_history.proofs.Later.{IsLater, caller_back}

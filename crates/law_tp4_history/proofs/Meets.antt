@@ -4,7 +4,7 @@ use Rattle.std.proofs.Common.{◌≡◌, ◌≢◌, ◌⊎◌, inl, inr, ℕ, �
 use Rattle.std.proofs.lemmas.Bool.{cases_order}
 use Rattle.law_tp4_history.specs.Ends.{Times, IsFit, frozen, Kind, Cr, Cc, Dr, Dc, Er, Flow, Origin, Sent, Answer, Offer}
 use Rattle.law_tp4_history.specs.History.{History, IsCaller, IsPartner, IsFresh}
-use Rattle.law_tp4_history.specs.Laws.{IsFor, From_partner, Answering, MeetsOwn, IsQuiet, FreeIsQuiet, EachEnd}
+use Rattle.law_tp4_history.specs.Reached.{IsFor, MeetsOwn, IsQuiet, FreeIsQuiet, EachEnd, From_partner, Answering}
 use Rattle.law_tp4_history.proofs.Sound.{Until, AimedFacts, SentFacts, AnswerFacts, OfferFacts, Sound, partner_low, one_partner}
 
 pub swap : (h : History) (x y : ℕ) → IsPartner h x y → IsPartner h y x

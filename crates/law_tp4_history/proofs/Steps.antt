@@ -11,7 +11,7 @@ use Rattle.law_tp4_history.specs.Ends.{Times, IsFit, frozen, Dr, Dc, Origin, Sen
 use Rattle.law_tp4_history.proofs.Sound.{Until, OwnFacts, SentFacts, AnswerFacts, OfferFacts, Sound, partner_low}
 use Rattle.law_tp4_history.proofs.Later.{Stops, EndLater, end_same, IsLater, until_on, own_on, caller_back, sound_on}
 use Rattle.law_tp4_history.specs.History.{Event, Other, History, nothing, IsPartner, IsAnswer, answers_to, ended, lost, Step, Tick, Connect, Indicate, Reply, Take, Act, Release, Restart, Note, May, next, Leads, event_of}
-use Rattle.law_tp4_history.specs.Laws.{Reached}
+use Rattle.law_tp4_history.specs.Reached.{Reached}
 use Rattle.law_tp4_history.proofs.Moves.{with_end, later, changed, move_later, acted, took_sound}
 use Rattle.law_tp4_history.proofs.Begins.{new_later, begun, indicates}
 

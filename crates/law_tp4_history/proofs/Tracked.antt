@@ -24,7 +24,7 @@ use Rattle.law_tp4_history.proofs.Agreed.{no_sender, Agreed, Stay, step_stay, ag
 use Rattle.law_tp4_history.proofs.Complete.{cut_more}
 use Rattle.law_tp4_history.proofs.Marks.{normals-append, expediteds-append}
 use Rattle.law_tp4_history.proofs.Lines.{lawful, line_sound, line_alone, line_obeys}
-use Rattle.law_tp4_history.specs.Laws.{Reached}
+use Rattle.law_tp4_history.specs.Reached.{Reached}
 use Rattle.tp4_number.proofs.Rule.{keeps}
 use Rattle.tp4_number.proofs.Sound.{Sound as LineSound, reads}
 

@@ -2,8 +2,8 @@ pub mod Ends
 pub mod History
 pub mod Indications
 pub mod Journals
-pub mod Laws
 pub mod Line
+pub mod Reached
 pub mod Tracks
 pub mod Units
 pub mod Worked

@@ -8,7 +8,7 @@ ghost use Rattle.law_tp4_history.specs.Ends.{Times, IsFit};
 ghost use Rattle.law_tp4_history.specs.History.{History};
 ghost use Rattle.law_tp4_history.specs.Indications.{IndicatesEach};
 ghost use Rattle.law_tp4_history.specs.Journals.{MayFollow, Written};
-ghost use Rattle.law_tp4_history.specs.Laws.{Reached, MeetsOwn, FreeIsQuiet, FlowInFormat, EachEnd};
+ghost use Rattle.law_tp4_history.specs.Reached.{Reached, MeetsOwn, FreeIsQuiet, FlowInFormat, EachEnd};
 ghost use Rattle.law_tp4_history.specs.Line.{Line, Happening, Runs, empty};
 ghost use Rattle.law_tp4_history.specs.Tracks.{Whole, Moment, onward, IsNothing, ReachedAll, IsTold, IsNumbered};
 ghost use Rattle.law_tp4_history.specs.Units.{Spoken, TellsTrue};

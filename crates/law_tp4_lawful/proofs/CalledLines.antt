@@ -13,13 +13,15 @@ use Rattle.tp4_conn.specs.declared.call.UserCall.TheVariants as asks
 use Rattle.tp4_conn.specs.declared.timers.Timers.{Timers}
 use Rattle.tp4_world.specs.Called.{Did, DidAll, KeepsLimits, WorldCall}
 use Rattle.tp4_world.specs.Called as requests
-use Rattle.tp4_world.specs.Laws.{IsFirst}
+use Rattle.tp4_world.specs.First.{IsFirst}
 use Rattle.tp4_world.specs.Run.{RunsLine, RunsLines, Starts}
 use Rattle.tp4_world.specs.Telling.{asked_options}
 use Rattle.tp4_world.specs.World.{World}
 use Rattle.tp4_world.specs.declared.place.Placed.{Placed}
-use Rattle.law_tp4_lawful.specs.Called.{AreCalls, AreHonestCalls, CallsAreLawful, CallsAreSilent, OnCalls}
-use Rattle.law_tp4_lawful.specs.Headline.{AreDistinct, IsProperLine, IsUntouched, ReceivesWhatWasSubmitted, StaysSilent}
+use Rattle.law_tp4_lawful.specs.Called.{AreCalls, AreHonestCalls, OnCalls}
+use Rattle.law_tp4_lawful.specs.First.{AreDistinct, IsUntouched}
+use Rattle.law_tp4_lawful.specs.Laws.{CallsAreLawful, CallsAreSilent, ReceivesWhatWasSubmitted, StaysSilent}
+use Rattle.law_tp4_lawful.specs.Limits.{IsProperLine}
 use Rattle.law_tp4_lawful.specs.References.{OnRuns}
 
 module _ {C : Type 0} (link : C → Link (List ℕ)) (steps : C → Call (List ℕ) → C → Type 0) where

@@ -11,8 +11,9 @@ use Rattle.law_tp4_history.specs.Ends.{IsFit, Times}
 use Rattle.law_tp4_history.specs.Journals.{Written}
 use Rattle.law_tp4_history.specs.Tracks.{IsNothing, Whole}
 use Rattle.law_tp4_moves.specs.Moves.{times_of}
-use Rattle.tp4_world.specs.Called.{WholeCalls}
-use Rattle.tp4_world.specs.Laws.{HasNoEnd, world_on_wire}
+use Rattle.tp4_world.specs.Laws.{WholeCalls}
+use Rattle.tp4_world.specs.First.{HasNoEnd}
+use Rattle.tp4_world.specs.Wire.{world_on_wire}
 use Rattle.tp4_world.specs.World.{World}
 use Rattle.tp4_world.specs.declared.place.Placed.{Placed}
 use Rattle.law_tp4_lawful.specs.steps.Worlds.{Explains, Followed, Rests}
@@ -29,7 +30,8 @@ use Rattle.law_tp4_lawful.proofs.WorldStarts.{front_silent, no_ends, started}
 use Rattle.law_tp4_lawful.proofs.WorldSteps.{after_call, after_tick}
 use Rattle.law_tp4_lawful.proofs.WorldCalls.{calls_hold}
 use Rattle.tp4_number.specs.Number.{whole, wire}
-use Rattle.law_tp4_lawful.specs.Called.{AreHonestCalls, CallsAreLawful, CallsAreSilent, OfWhole, OnCalls}
+use Rattle.law_tp4_lawful.specs.Called.{AreHonestCalls, OfWhole, OnCalls}
+use Rattle.law_tp4_lawful.specs.Laws.{CallsAreLawful, CallsAreSilent}
 use Rattle.law_tp4_lawful.proofs.WorldRestarts.{after_restart}
 
 -- the history follows each step of an entity

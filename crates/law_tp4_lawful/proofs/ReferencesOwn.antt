@@ -13,7 +13,7 @@ use Rattle.tp4_conn.specs.declared.timers.Timers.{Timers}
 use Rattle.tp4_sending.specs.Pieces.{cut_at}
 use Rattle.law_tp4_history.specs.Ends.{Body, Dc, Dr, Flow, Tpdu}
 use Rattle.law_tp4_history.specs.History.{IsCaller, IsPartner}
-use Rattle.law_tp4_history.specs.Laws.{Answering, From_partner, IsFor}
+use Rattle.law_tp4_history.specs.Reached.{Answering, From_partner, IsFor}
 use Rattle.law_tp4_history.specs.Tracks.{Noted, Whole}
 use Rattle.law_tp4_history.proofs.Meets.{meets_own}
 use Rattle.law_tp4_history.proofs.Places.{are_called, are_ends}

@@ -20,7 +20,7 @@ use Rattle.tp4_entity.specs.Entity.{Entity, end_at, there}
 use Rattle.tp4_entity.specs.Unit.{EndsWith, Separates, extended_of}
 use Rattle.tp4_entity.specs.Wire.{entity_on_wire}
 use Rattle.law_tp4_history.specs.Tracks.{Whole}
-use Rattle.tp4_world.specs.Laws.{world_on_wire}
+use Rattle.tp4_world.specs.Wire.{world_on_wire}
 use Rattle.tp4_world.specs.World.{World}
 use Rattle.tp4_world.proofs.OnWire.{formats_on, lower_there, upper}
 use Rattle.law_tp4_lawful.specs.References.{AreCarried, AreSizes, Carries, ComesTo, IsEnd, IsMadeBy, IsNotBefore, IsOfPartner}

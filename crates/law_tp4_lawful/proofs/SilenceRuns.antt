@@ -46,15 +46,15 @@ use Rattle.tp4_entity.proofs.Restarts.{none_stands}
 use Rattle.tp4_entity.proofs.Standings.{free_least}
 use Rattle.tp4_world.specs.Called.{Did as DoesCall, DidAll, WorldCall}
 use Rattle.tp4_world.specs.Called as requests
-use Rattle.tp4_world.specs.Laws.{IsFirst, IsNew}
+use Rattle.tp4_world.specs.First.{IsFirst, IsNew}
 use Rattle.tp4_world.specs.Run.{Acts, Arrives, BeginsAt, CallsAt, CallsBy, CallsEnd, ConnectsBy, Delivers, HearsAll, HearsIf, IsRefused, NoneDue, NoneLeft, OneDue, OneMore, Restarts, SendsTpdus, Settles, Starts, Ticks, TicksAll, TicksEntity, TooMany, clock_of, has_ended, is_for}
 use Rattle.tp4_world.specs.Telling.{call_events, drop_events, ends_after, events_after, inject_event}
 use Rattle.tp4_world.specs.World.{World, end_numbered, entity_at, latest, with_entity}
 use Rattle.tp4_world.specs.declared.place.EndAt.{EndAt}
 use Rattle.tp4_world.specs.declared.place.Placed.{Placed}
 use Rattle.tp4_world.proofs.Having.{with_any}
-use Rattle.law_tp4_lawful.specs.Called.{CallsAreSilent}
-use Rattle.law_tp4_lawful.specs.Headline.{IsUntouched}
+use Rattle.law_tp4_lawful.specs.Laws.{CallsAreSilent}
+use Rattle.law_tp4_lawful.specs.First.{IsUntouched}
 use Rattle.law_tp4_lawful.specs.steps.Silence.{Begins, BeginsAgain, Clock, Goes, IsStanding, IsUnused, Kind, Makes, Noting, Of, Other, Restarting, Runs, Seen, Stays, Stops, Telling, Ticking, kind_of, kinds_of, last_restart}
 use Rattle.law_tp4_lawful.proofs.Frames.{entity_other, entity_set}
 use Rattle.law_tp4_lawful.proofs.ReferencesSince.{passed, raw_sent, sent_all}

@@ -19,11 +19,11 @@ use Rattle.law_tp4_history.specs.Journals.{Written}
 use Rattle.law_tp4_history.specs.Line.{empty}
 use Rattle.law_tp4_history.specs.Tracks.{IsNothing, Track, Whole}
 use Rattle.law_tp4_moves.specs.Moves.{times_of}
-use Rattle.tp4_world.specs.Laws.{HasNoEnd, IsFirst, IsNew}
+use Rattle.tp4_world.specs.First.{HasNoEnd, IsFirst, IsNew}
 use Rattle.tp4_world.specs.Run.{Starts, transport_address}
 use Rattle.tp4_world.specs.World.{World, entity_at, is_of}
 use Rattle.tp4_world.specs.declared.place.Placed.{Placed}
-use Rattle.law_tp4_lawful.specs.Headline.{AreDistinct, IsUntouched}
+use Rattle.law_tp4_lawful.specs.First.{AreDistinct, IsUntouched}
 use Rattle.law_tp4_lawful.specs.steps.Known.{Holds, IsThere, Known}
 use Rattle.law_tp4_lawful.specs.steps.Worlds.{AreAtRest, Followed, Outcomes, Rests}
 use Rattle.law_tp4_lawful.proofs.WorldActs.{Went, went_aside}

@@ -3,17 +3,16 @@ use Rattle.std.specs.Prelude.{◌≡◌, ℕ, true, List, ◌++◌}
 use Rattle.std.specs.List.{AllByRecursion}
 use Rattle.osi_base.specs.Link.{Link}
 use Rattle.osi_base.specs.Calls.{Call}
-use Rattle.osi_journal.specs.Lawful.{KeepsSilence, Lawful}
 use Rattle.osi_journal.specs.declared.event.Event.{Event}
-use Rattle.tp4_number.specs.Number.{wire}
-use Rattle.tp4_conn.specs.End.{IsTimed, frozen_for}
+use Rattle.tp4_conn.specs.End.{IsTimed}
 use Rattle.tp4_conn.specs.declared.timers.Timers.{Timers}
 use Rattle.tp4_world.specs.Called.{DidAll, KeepsLimits, WorldCall}
-use Rattle.tp4_world.specs.Laws.{IsFirst, world_on_wire}
+use Rattle.tp4_world.specs.First.{IsFirst}
+use Rattle.tp4_world.specs.Wire.{world_on_wire}
 use Rattle.tp4_world.specs.Run.{Starts}
 use Rattle.tp4_world.specs.World.{World}
 use Rattle.tp4_world.specs.declared.place.Placed.{Placed}
-use Rattle.law_tp4_lawful.specs.Headline.{AreDistinct, IsUntouched}
+use Rattle.law_tp4_lawful.specs.First.{AreDistinct, IsUntouched}
 
 -- A network of systems with these titles and timers, to which nothing happened before it started; its start and the calls after it gave these events, and
 -- lead to this state. `wrap` is what a receiving half keeps of a number, by its block
@@ -37,17 +36,6 @@ pub record AreHonestCalls {C : Type 0} (link : C → Link (List ℕ)) (steps : C
   pub distinct : AreDistinct titles
   pub limits : AllByRecursion KeepsLimits run.calls
   pub honest : (link last.carrier).honest ≡ true
-
--- over any carrier, while it is honest: each front of the events is lawful
-abbrev pub CallsAreLawful : {C : Type 0} → (C → Link (List ℕ)) → (C → Call (List ℕ) → C → Type 0) → Type 0
-CallsAreLawful {C} link steps = (titles : List (List ℕ)) (timers : Timers) (journal : List Event) (last : World C)
-    → AreHonestCalls link steps wire titles timers journal last → Lawful (frozen_for timers) titles journal
-
--- over any carrier, and also where octets were injected: after a system began again nothing is told of the ends that it had, and it makes none for as
--- long as references are frozen
-abbrev pub CallsAreSilent : {C : Type 0} → (C → Link (List ℕ)) → (C → Call (List ℕ) → C → Type 0) → Type 0
-CallsAreSilent {C} link steps = (titles : List (List ℕ)) (timers : Timers) (journal : List Event) (last : World C)
-    → AreCalls link steps wire titles timers journal last → KeepsSilence (frozen_for timers) journal
 
 -- over any carrier, while it is honest: it holds of the events and the last state
 abbrev pub OnCalls : {C : Type 0} → (C → Link (List ℕ)) → (C → Call (List ℕ) → C → Type 0) → (ℕ → ℕ → ℕ) → (List Event → World C → Type 0) → Type 0

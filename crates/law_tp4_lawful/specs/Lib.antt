@@ -1,5 +1,7 @@
 pub mod Called
-pub mod Headline
+pub mod First
+pub mod Laws
+pub mod Limits
 pub mod Numbers
 pub mod Own
 pub mod References

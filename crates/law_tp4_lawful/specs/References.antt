@@ -29,12 +29,13 @@ use Rattle.tp4_conn.specs.declared.states.StateData.TheVariants.{AkWait, Opened}
 use Rattle.tp4_conn.specs.declared.timers.Timers.{Timers}
 use Rattle.tp4_entity.specs.Entity.{Entity, end_at}
 use Rattle.tp4_entity.specs.Unit.{EndsWith, Separates, extended_of}
-use Rattle.tp4_world.specs.Laws.{IsFirst}
+use Rattle.tp4_world.specs.First.{IsFirst}
 use Rattle.tp4_world.specs.Run.{RunsLines, Starts}
 use Rattle.tp4_world.specs.World.{World, end_numbered, entity_at, latest}
 use Rattle.tp4_world.specs.declared.place.EndAt.{EndAt}
 use Rattle.tp4_world.specs.declared.place.Placed.{Placed}
-use Rattle.law_tp4_lawful.specs.Headline.{AreDistinct, IsProperLine, IsUntouched}
+use Rattle.law_tp4_lawful.specs.First.{AreDistinct, IsUntouched}
+use Rattle.law_tp4_lawful.specs.Limits.{IsProperLine}
 
 -- it holds of the journal and the last state of each run after which the carrier is honest, since no injection was taken. `wrap` is what a receiving half
 -- keeps of a number

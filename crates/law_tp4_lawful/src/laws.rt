@@ -1,7 +1,7 @@
 //! What a receiver of a connection may see, over any carrier of units (X.214, model of the transport service).
 
-ghost use Rattle.law_tp4_lawful.specs.Called.{CallsAreLawful, CallsAreSilent, OfWhole, OnCalls};
-ghost use Rattle.law_tp4_lawful.specs.Headline.{ReceivesWhatWasSubmitted, StaysSilent};
+ghost use Rattle.law_tp4_lawful.specs.Laws.{CallsAreLawful, CallsAreSilent, ReceivesWhatWasSubmitted, StaysSilent};
+ghost use Rattle.law_tp4_lawful.specs.Called.{OfWhole, OnCalls};
 ghost use Rattle.law_tp4_lawful.specs.Numbers.{AreRead};
 ghost use Rattle.law_tp4_lawful.specs.References.{AreCarried, IsNotBefore, IsOfPartner, OnRuns};
 ghost use Rattle.tp4_number.specs.Number.{whole, wire};

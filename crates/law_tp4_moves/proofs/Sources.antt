@@ -2,7 +2,7 @@
 use Rattle.std.proofs.Common.{◌≡◌, ◌≢◌, inl, inr, Contains, refl, sym, ◌∙◌, ap, arith}
 use Rattle.law_tp4_history.specs.Ends.{Times, IsFit, Cr, Cc, Tpdu, Offer, Origin, Sent, Answer}
 use Rattle.law_tp4_history.specs.History.{History, IsReading}
-use Rattle.law_tp4_history.specs.Laws.{Reached}
+use Rattle.law_tp4_history.specs.Reached.{Reached}
 use Rattle.law_tp4_history.proofs.Sound.{Sound}
 use Rattle.law_tp4_history.proofs.Steps.{all_sound}
 use Rattle.law_tp4_moves.specs.Moves.{HasSource}

@@ -13,7 +13,7 @@ ghost use Rattle.tp4_conn.specs.Proper.{IsProper, IsProperEvent};
 ghost use Rattle.tp4_conn.specs.Table.{Event, due, stepped};
 ghost use Rattle.law_tp4_history.specs.Ends.{Times, IsFit as AreFit, frozen, Cr, Tpdu, Offer, Sent, End};
 ghost use Rattle.law_tp4_history.specs.History.{History, IsFree, IsFresh, IsNotSilent, IsReading, Connect, Indicate, May};
-ghost use Rattle.law_tp4_history.specs.Laws.{Reached};
+ghost use Rattle.law_tp4_history.specs.Reached.{Reached};
 ghost use Rattle.law_tp4_moves.specs.Begins.{HasNoEnd, begun, indicated_by};
 ghost use Rattle.law_tp4_moves.specs.Moves.{HasSource, IsSourced, Moves, Sees, cause_of, times_of};
 ghost use Rattle.law_tp4_moves.specs.Seen.{AreOffersOf, seen};

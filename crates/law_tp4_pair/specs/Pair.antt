@@ -1,6 +1,6 @@
 -- Two ends of one connection and all that waits between them, where nothing is lost and all is handed over in order before a user or the
 -- clock acts (X.224, class 4 state tables; X.214, queue model).
-use Rattle.std.specs.Prelude.{◌≡◌, ℕ, ◌+◌, ◌<◌, ◌≤◌, Bool, List, [], ◌∷◌, ◌++◌, None, if◌then◌else◌}
+use Rattle.std.specs.Prelude.{◌≡◌, ℕ, ◌+◌, ◌≤◌, Bool, List, [], ◌∷◌, ◌++◌, None, if◌then◌else◌}
 use Rattle.osi_journal.specs.Lawful.{Marked}
 use Rattle.tp4_flow.specs.declared.step.EndEvent.{EndEvent}
 use Rattle.tp4_flow.specs.declared.step.Sent.{Sent}

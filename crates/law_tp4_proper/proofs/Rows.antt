@@ -1,6 +1,6 @@
 -- One end of an entity through a step: where it is not due, a call or a TPDU leaves it proper and due later than now, and so does a tick
 -- that is not past that at which it is due.
-use Rattle.std.proofs.Common.{◌≡◌, ℕ, ◌+◌, ◌≤◌, Bool, ◌&&◌, not, List, Option, Some, None, refl, sym, ◌∙◌, subst, arith}
+use Rattle.std.proofs.Common.{◌≡◌, ℕ, ◌+◌, ◌≤◌, Bool, ◌&&◌, not, List, Option, Some, None, refl, ◌∙◌, subst, arith}
 use Rattle.std.proofs.lemmas.Option.{none-some, same_Some}
 use Rattle.tpdu.specs.Writing.{IsAllowed}
 use Rattle.tpdu.specs.declared.tpdu.Format.TheVariants.{Normal as Plain}

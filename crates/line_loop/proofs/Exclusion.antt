@@ -9,8 +9,9 @@ use Rattle.osi_base.specs.declared.status.Status.TheVariants.{Done, RefusedLine,
 use Rattle.line_loop.specs.Lines.{whole_lines, open_line, last_line, without_return}
 use Rattle.line_loop.specs.Meaning.{Meaning, Laws}
 use Rattle.line_loop.specs.Course.{Runs, IsRead, IsWhole, IsFull, IsWithin, IsOver, IsTooMuch, IsTooMuchAtEnd, IsRefusal, IsRefusedAt, IsRefusedAtEnd}
-use Rattle.line_loop.specs.Outcome.{Asks, AsksFor, Outcome}
-use Rattle.line_loop.specs.Exact.{OneCourse, IsAccepted, IsFailure, AsksOne}
+use Rattle.line_loop.specs.Outcome.{Asks, AsksFor, Outcome, IsAccepted}
+use Rattle.line_loop.specs.Laws.{OneCourse, AsksOne}
+use Rattle.octet_loop.specs.ByStatus.{IsFailure}
 use Rattle.line_loop.proofs.Lines.{feed_or_other, whole_feed, whole_part, open_part}
 use Rattle.osi_base.specs.Ends.{Took, Put, IsAtEnd}
 use Rattle.line_loop.proofs.Driving.{Ran}

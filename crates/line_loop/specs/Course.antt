@@ -80,3 +80,8 @@ module _ {M E R : Type 0} (meaning : Meaning M E R) where
     pub begun : open_line read ≢ []
     pub refused : meaning.refuses last (open_line read) said
     pub number : line ≡ length (whole_lines read) + 1
+
+  -- in a state a line runs, or it is refused, or it fills the journal
+  abbrev pub HasCourse : M → List ℕ → Type 0
+  HasCourse state line = ((events : List E) × (new : M) × meaning.step state line events new)
+      ⊎ (((said : R) × meaning.refuses state line said) ⊎ ((events : List E) × (new : M) × meaning.fills state line events new))

@@ -1,9 +1,8 @@
 pub mod Course
-pub mod Exact
+pub mod Laws
 pub mod Limits
 pub mod Lines
 pub mod Meaning
 pub mod Outcome
-pub mod Total
 pub mod Writing
 pub mod steps

@@ -60,3 +60,10 @@ module _ {M E R : Type 0} (meaning : Meaning M E R) where
 
   abbrev pub Outcome : Type 0 → M → List ℕ → List ℕ → Status → Type 0
   Outcome end first = by_status.Outcome (λ end. Asks end first) end
+
+-- no line of an input is refused, and none of its octets passes a limit or ends a line that fills the journal
+pub record IsAccepted {M E R : Type 0} (meaning : Meaning M E R) (first : M) (all : List ℕ) : Type 0 where
+  pub read : (line : ℕ) (said : R) (journal : List E) (last : M) → IsRefusedAt meaning first all line said journal last → ⊥
+  pub ended : (line : ℕ) (said : R) (journal : List E) (last : M) → IsRefusedAtEnd meaning first all line said journal last → ⊥
+  pub within : (journal : List E) (last : M) → IsTooMuch meaning first all journal last → ⊥
+  pub within_at_end : (journal : List E) (last : M) → IsTooMuchAtEnd meaning first all journal last → ⊥

@@ -4,7 +4,7 @@ ghost use Rattle.std.specs.Prelude.{◌≡◌, ◌≢◌, ◌⊎◌, ◌++◌, �
 ghost use Rattle.osi_base.specs.Ends.{HasRisen, Took, Put, IsAtEnd};
 ghost use Rattle.line_loop.specs.Limits.{most_octets, most_read};
 ghost use Rattle.line_loop.specs.Outcome.{AsksFor, Outcome};
-ghost use Rattle.line_loop.specs.Exact.{IsFailure};
+ghost use Rattle.octet_loop.specs.ByStatus.{IsFailure};
 
 use crate::feed::Feed;
 use crate::machine::Machine;

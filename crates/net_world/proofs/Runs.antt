@@ -10,7 +10,7 @@ use Rattle.osi_journal.specs.RawLawful.{raw_address}
 use Rattle.osi_journal.specs.declared.event.Event.{Event}
 use Rattle.osi_journal.specs.declared.event.Event.TheVariants as events
 use Rattle.osi_journal.specs.declared.cause.Refused.TheVariants.{EmptyUnit}
-use Rattle.net_world.specs.Laws.{IsFirst}
+use Rattle.net_world.specs.First.{IsFirst}
 use Rattle.net_world.specs.Told.{told, sent_event}
 use Rattle.net_world.specs.Run.{raw_unit, SendsUnit, Starts}
 use Rattle.net_world.proofs.Standing.{Standing, Gathered, offered, refused, started}

@@ -17,7 +17,7 @@ use Rattle.osi_base.specs.Link.{Link, IsNote, IsLawful}
 use Rattle.osi_journal.specs.declared.event.Event.{Event}
 use Rattle.osi_journal.specs.declared.event.Event.TheVariants as events
 use Rattle.osi_journal.specs.RawLawful.{clock_after, clock_from, tick_after, WasSent}
-use Rattle.net_world.specs.Laws.{IsAtHome}
+use Rattle.net_world.specs.First.{IsAtHome}
 use Rattle.net_world.specs.Told.{note_event, shown_at, told, sent_event, picked_event}
 use Rattle.net_world.proofs.Journals.{clock_from-append, IsOther}
 use Rattle.net_world.proofs.Units.{AllSent, entry_later, was_sent, NewSent, none_new, one_new, both_new}

@@ -14,7 +14,7 @@ use Rattle.osi_base.proofs.Chains.{same_on}
 use Rattle.osi_journal.specs.declared.event.Event.{Event}
 use Rattle.osi_journal.specs.declared.event.Event.TheVariants as events
 use Rattle.osi_journal.specs.RawLawful.{raw_address, clock_from, tick_after, RawLawful}
-use Rattle.net_world.specs.Laws.{IsAtHome, IsFirst}
+use Rattle.net_world.specs.First.{IsAtHome, IsFirst}
 use Rattle.net_world.specs.Run.{raw_unit}
 use Rattle.net_world.specs.Told.{told, sent_event, picked_event}
 use Rattle.net_world.proofs.Journals.{clock_from-append, IsOther, no_unit}

@@ -1,5 +1,5 @@
 pub mod Fifo
-pub mod Laws
+pub mod First
 pub mod Run
 pub mod Told
 pub mod steps

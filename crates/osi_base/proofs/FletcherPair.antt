@@ -3,7 +3,8 @@
 use Rattle.std.proofs.Common.{ℕ, ◌+◌, ◌*◌, ◌-◌, ◌%◌, ◌/◌, ◌≡◌, ◌<◌, ◌≤◌, List, ◌∷◌, ◌++◌, sum, reverse, take, drop, length, arith, refl, ◌∙◌, length-append, length-take, length-drop}
 use Rattle.std.proofs.Math.Seq.{drop-append-add}
 use Rattle.std.proofs.lemmas.List.{take-append-le, take_all}
-use Rattle.osi_base.specs.Fletcher.{place_sum, Sealed, Seals, OneSeal}
+use Rattle.osi_base.specs.Fletcher.{place_sum, Sealed, Seals}
+use Rattle.osi_base.specs.Laws.{OneSeal}
 use Rattle.osi_base.proofs.FletcherSums.{sum-append, sum-cons, place_sum-append, both_place_sums}
 use Rattle.osi_base.proofs.FletcherSealed.{sealed_by, sum_of_sealed, place_sum_of_sealed}
 use Rattle.osi_base.proofs.FletcherModulo.{sealed_sum, sealed_place_sum, same_pair, quotients}

@@ -22,9 +22,3 @@ pub record Seals (old : List ℕ) (at : ℕ) (new : List ℕ) : Type 0 where
   pub second_used : (0 < second) × (second < 256)
   pub written : new ≡ take at old ++ first ∷ second ∷ drop (at + 2) old
   pub sealed : Sealed new
-
--- two used checksums over the same other octets are the same
-abbrev pub OneSeal : Type 0
-OneSeal =
-    (before after : List ℕ) (x y u v : ℕ) → 0 < x → x < 256 → 0 < y → y < 256 → 0 < u → u < 256 → 0 < v → v < 256
-    → Sealed (before ++ x ∷ y ∷ after) → Sealed (before ++ u ∷ v ∷ after) → (x ≡ u) × (y ≡ v)

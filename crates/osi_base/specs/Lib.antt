@@ -3,6 +3,7 @@ pub mod Ends
 pub mod Fletcher
 pub mod Floated
 pub mod Gathering
+pub mod Laws
 pub mod Link
 pub mod Memory
 pub mod Numbers

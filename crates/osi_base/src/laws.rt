@@ -2,7 +2,7 @@
 
 ghost use Rattle.std.specs.Prelude.{◌≡◌, ◌≤◌, ℕ, true};
 ghost use Rattle.osi_base.specs.Calls.{GivesPicks, IsSameLink, OnChains};
-ghost use Rattle.osi_base.specs.Fletcher.{OneSeal};
+ghost use Rattle.osi_base.specs.Laws.{OneSeal};
 ghost use Rattle.osi_base.specs.Link.{IsSpent};
 
 use crate::Carrier;

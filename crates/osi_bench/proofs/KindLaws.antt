@@ -16,7 +16,7 @@ use Rattle.script_world.specs.InactiveNets.{InactiveDoes, MakesInactive, link_of
 use Rattle.script_world.specs.Transports.{frozen_of, titles_of}
 use Rattle.script_world.specs.steps.MadeInactive.{inactive_laws, subset_law}
 use Rattle.script_world.proofs.Headline.{front_lawful, script_lawful, script_unstrayed}
-use Rattle.law_tp4_lawful.specs.Headline.{ReceivesWhatWasSubmitted}
+use Rattle.law_tp4_lawful.specs.Laws.{ReceivesWhatWasSubmitted}
 use Rattle.osi_bench.specs.Kinds.{IsLawfulRun, inactive_acts, kind_named, kind_of}
 use Rattle.osi_bench.specs.Top.{IsStorm, is_decode, is_frames, is_run}
 use Rattle.osi_bench.specs.declared.kinds.Kind.{Kind}

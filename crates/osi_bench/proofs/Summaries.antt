@@ -1,6 +1,6 @@
 -- A generated script asks for one status and one text, and that comes, or a failure in its place.
 use Rattle.std.proofs.Common.{◌≡◌, ◌⊎◌, ℕ, List, [], ◌∷◌, ◌++◌, Option, None, Some, inl, inr, refl, sym, ◌∙◌, ap, subst}
-use Rattle.line_loop.specs.Exact.{IsFailure}
+use Rattle.octet_loop.specs.ByStatus.{IsFailure}
 use Rattle.osi_base.specs.Ends.{HasRisen, Put}
 use Rattle.osi_base.specs.declared.status.Status.{Status}
 use Rattle.osi_base.specs.declared.status.Status.TheVariants.{Done, RefusedLine, RefusedWords, ReadFault, WriteFault, NoMemory, RefusedCapture, TooMuch}
@@ -9,7 +9,8 @@ use Rattle.osi_storm.specs.Counted.{counts_of}
 use Rattle.osi_storm.specs.declared.request.Storm.{Storm}
 use Rattle.osi_storm.specs.Summary.{summary_line}
 use Rattle.law_run.specs.Bench.{Bench, first_bench}
-use Rattle.osi_bench.specs.Storm.{AsksOneSummary, AsksSummary, StormFills, StormRuns, SummaryOutcome, storm_lines}
+use Rattle.osi_bench.specs.Laws.{AsksOneSummary}
+use Rattle.osi_bench.specs.Storm.{AsksSummary, StormFills, StormRuns, SummaryOutcome, storm_lines}
 use Rattle.osi_bench.specs.Text.{done_line}
 use Rattle.law_run.specs.steps.WorldLaws.{bench_laws}
 

@@ -2,9 +2,8 @@
 use Rattle.std.specs.Prelude.{ℕ, if◌then◌else◌, List, [], ◌∷◌, Option, None, Some, codes}
 use Rattle.std.specs.Str.{bytes_eq}
 use Rattle.osi_base.specs.declared.status.Status.{Status}
-use Rattle.line_loop.specs.Exact.{AsksOne, IsAccepted}
-use Rattle.line_loop.specs.Outcome.{AsksFor}
-use Rattle.line_loop.specs.Total.{AsksSomething}
+use Rattle.line_loop.specs.Laws.{AsksOne, AsksSomething}
+use Rattle.line_loop.specs.Outcome.{IsAccepted, AsksFor}
 use Rattle.lan_bag.specs.Bag.{Bag}
 use Rattle.inactive_step.specs.Network.{Inactive}
 use Rattle.osi_journal.specs.declared.event.Event.{Event}

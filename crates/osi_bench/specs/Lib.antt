@@ -1,4 +1,5 @@
 pub mod Kinds
+pub mod Laws
 pub mod Storm
 pub mod Text
 pub mod Top

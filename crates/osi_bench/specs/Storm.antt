@@ -4,7 +4,6 @@ use Rattle.octet_loop.specs.ByStatus as by_status
 use Rattle.osi_base.specs.declared.status.Status.{Status}
 use Rattle.osi_base.specs.declared.status.Status.TheVariants.{Done, RefusedLine, RefusedWords, ReadFault, WriteFault, NoMemory, RefusedCapture, TooMuch}
 use Rattle.osi_journal.specs.declared.event.Event.{Event}
-use Rattle.osi_script.specs.Injecting.{HasNoInject}
 use Rattle.osi_storm.specs.declared.request.Storm.{Storm}
 use Rattle.osi_storm.specs.Counted.{counts_of}
 use Rattle.osi_storm.specs.Line.{set_up_lines, line_text}
@@ -12,7 +11,6 @@ use Rattle.osi_storm.specs.Summary.{summary_line}
 use Rattle.osi_storm.specs.Words.{words}
 use Rattle.law_run.specs.Bench.{Bench, RunsText, FillsJournal, first_bench}
 use Rattle.osi_bench.specs.Text.{done_line, toomuch_line}
-use Rattle.law_run.specs.Transcript.{IsScriptRun}
 use Rattle.law_run.specs.World.{frozen_of, life_of, titles_of}
 use Rattle.osi_journal.specs.Lawful.{Lawful}
 use Rattle.osi_journal.specs.RawLawful.{RawLawful}
@@ -60,9 +58,6 @@ pub record AsksSomeSummary (storm : Storm) : Type 0 where
   pub status : Status
   pub asks : AsksSummary storm text status
 
-abbrev pub AsksOneSummary : Type 0
-AsksOneSummary = (storm : Storm) (text other : List ℕ) (status next : Status) → AsksSummary storm text status → AsksSummary storm other next → (status ≡ next) × (text ≡ other)
-
 -- what was written, by the status: the definitions that every command has, for a generated script, of which nothing is read
 abbrev pub IsCutSummary : Storm → List ℕ → Type 0
 IsCutSummary storm = by_status.IsCut (λ end read. AsksSummary storm) (Unit {0}) []
@@ -86,8 +81,3 @@ pub record IsLawfulStorm (storm : Storm) : Type 0 where
 pub record IsStormRun (storm : Storm) (written : List ℕ) (status : Status) : Type 0 where
   pub outcome : SummaryOutcome storm written status
   pub lawful : IsLawfulStorm storm
-
--- the lines of a generated script are a script in which nothing is injected, and its journal is that of the run of the network for them
-abbrev pub RunsGenerated : Type 0
-RunsGenerated = (storm : Storm) (journal : List Event) (last : Bench) → StormRuns first_bench [] (storm_lines storm) journal last
-    → (texts : List (List ℕ)) × (run : IsScriptRun texts journal last) × HasNoInject run.script

@@ -1,7 +1,7 @@
 //! The commands that read a script, beside `run`.
 
 ghost use Rattle.std.specs.Prelude.{◌≡◌, ◌≢◌, ◌≤◌, ◌+◌, ◌⊎◌, true, List, ℕ, Some, is_some, map, max, string_bytes};
-ghost use Rattle.line_loop.specs.Exact.{IsFailure};
+ghost use Rattle.octet_loop.specs.ByStatus.{IsFailure};
 ghost use Rattle.line_loop.specs.Limits.{most_read};
 ghost use Rattle.osi_base.specs.Ends.{HasRisen, IsAtEnd, Put, Took};
 ghost use Rattle.osi_bench.specs.Kinds.{AsksOf, AsksOneOf, AsksSomethingOf, IsAcceptedBy, IsToldBy, kind_named, kind_of};

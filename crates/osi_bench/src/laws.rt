@@ -2,7 +2,8 @@
 
 ghost use Rattle.std.specs.Prelude.{◌≤◌};
 ghost use Rattle.osi_storm.specs.declared.request.Storm.{Storm};
-ghost use Rattle.osi_bench.specs.Storm.{AsksOneSummary, AsksSomeSummary, IsLawfulStorm, RunsGenerated};
+ghost use Rattle.osi_bench.specs.Laws.{AsksOneSummary, RunsGenerated};
+ghost use Rattle.osi_bench.specs.Storm.{AsksSomeSummary, IsLawfulStorm};
 
 use law_run::ends_are_lawful;
 

@@ -3,9 +3,9 @@
 ghost use Rattle.std.specs.Prelude.{◌≡◌, ◌≢◌, ◌⊎◌, ◌+◌, ◌≤◌, ◌++◌, true, false, List, ℕ, [], None, Some, length, map, max, string_bytes, IfOk, IfSome};
 ghost use Rattle.osi_base.specs.Ends.{HasRisen, Took, Put, IsAtEnd};
 ghost use Rattle.law_run.specs.Bench.{first_bench, bench_meaning};
-ghost use Rattle.line_loop.specs.Exact.{IsAccepted, IsFailure};
+ghost use Rattle.line_loop.specs.Outcome.{IsAccepted, AsksFor};
+ghost use Rattle.octet_loop.specs.ByStatus.{IsFailure};
 ghost use Rattle.line_loop.specs.Limits.{most_octets, most_read};
-ghost use Rattle.line_loop.specs.Outcome.{AsksFor};
 ghost use Rattle.octet_loop.specs.Outcome.{AsksFor as CaptureAsksFor, IsOver, Outcome};
 ghost use Rattle.osi_capture.specs.declared.cause.Cause.{Cause};
 ghost use Rattle.osi_capture.specs.Course.{capture_course, Finishes, Refuses, IsAccepted as IsCaptureAccepted, IsRefused, IsPast};

@@ -4,7 +4,8 @@ use Rattle.std.specs.Prelude.{nat_le, nat_lt, ◌==◌, ◌||◌}
 use Rattle.std.proofs.lemmas.Bool.{leb-true, le-leb}
 use Rattle.std.proofs.lemmas.List.{take-append-drop, length-append, length-drop, length-take, take_at, drop_at}
 use Rattle.std.proofs.lemmas.Option.{same_Some}
-use Rattle.pdu_parts.specs.Field.{field, field_at, address_at, address_or_none, IsAddress, ReadsAddress}
+use Rattle.pdu_parts.specs.Field.{field, field_at, address_at, address_or_none, IsAddress}
+use Rattle.pdu_parts.specs.Laws.{ReadsAddress}
 
 -- what is found at the front stands there behind its length
 pub record StandsBehind (octets part rest : List ℕ) : Type 0 where

@@ -4,7 +4,8 @@ use Rattle.std.specs.Prelude.{nat_le}
 use Rattle.std.proofs.lemmas.Bool.{leb-true, le-leb}
 use Rattle.std.proofs.lemmas.List.{take-append-drop, length-append, length-drop, length-take, take_at, drop_at}
 use Rattle.std.proofs.lemmas.Option.{same_Some}
-use Rattle.pdu_parts.specs.Parameter.{Parameter, spelled_one, spelled, front_parameter, parameters_after, parameters_in, left_after, left_in, ReadsParameters}
+use Rattle.pdu_parts.specs.Parameter.{Parameter, spelled_one, spelled, front_parameter, parameters_after, parameters_in, left_after, left_in}
+use Rattle.pdu_parts.specs.Laws.{ReadsParameters}
 
 -- skipping is dropping
 pub parameters_after_drop : (count : ℕ) (octets : List ℕ) → parameters_after count octets ≡ parameters_in (drop count octets)

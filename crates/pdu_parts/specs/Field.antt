@@ -1,5 +1,5 @@
 -- Parts behind their length, and addresses (X.233 and ISO 9542, address parts).
-use Rattle.std.specs.Prelude.{◌≡◌, ℕ, ◌<◌, ◌≤◌, ◌==◌, ◌||◌, nat_lt, nat_le, if◌then◌else◌, List, [], ◌∷◌, ◌++◌, length, take, drop, Option, Some, None}
+use Rattle.std.specs.Prelude.{ℕ, ◌<◌, ◌≤◌, ◌==◌, ◌||◌, nat_lt, nat_le, if◌then◌else◌, List, [], ◌∷◌, length, take, drop, Option, Some, None}
 
 -- a length, and that many octets
 abbrev pub field : List ℕ → List ℕ
@@ -23,8 +23,3 @@ address_or_none (Some found) = if (length found.0 == 0) || nat_lt 20 (length fou
 -- the address behind its length at the front, and the octets after it
 unfoldable pub address_at : List ℕ → Option (List ℕ × List ℕ)
 address_at octets = address_or_none (field_at octets)
-
--- an address is found exactly where it stands behind its length
-pub record ReadsAddress : Type 0 where
-  pub found : (octets address rest : List ℕ) → address_at octets ≡ Some (address, rest) → IsAddress address × (octets ≡ field address ++ rest)
-  pub there : (address rest : List ℕ) → IsAddress address → address_at (field address ++ rest) ≡ Some (address, rest)

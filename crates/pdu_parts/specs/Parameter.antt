@@ -1,5 +1,5 @@
 -- Parameters: code, length and value of each, one after another (X.233, options part; X.224, variable part; ISO 9542, options).
-use Rattle.std.specs.Prelude.{◌≡◌, ℕ, zero, suc, List, [], ◌∷◌, ◌++◌, length, take, drop, if◌then◌else◌, nat_le, Option, Some, None}
+use Rattle.std.specs.Prelude.{ℕ, zero, suc, List, [], ◌∷◌, length, take, drop, if◌then◌else◌, nat_le, Option, Some, None}
 use Rattle.std.specs.List.{flat_map}
 
 -- a parameter: its code and its value
@@ -46,10 +46,3 @@ parameters_in octets = parameters_after 0 octets
 
 abbrev pub left_in : List ℕ → List ℕ
 left_in octets = left_after 0 octets
-
--- octets are parameters and a rest at whose front none stands whole, in one way
-pub record ReadsParameters : Type 0 where
-  pub parts : (octets : List ℕ) → octets ≡ spelled (parameters_in octets) ++ left_in octets
-  pub ends : (octets : List ℕ) → front_parameter (left_in octets) ≡ None
-  pub again : (parameters : List Parameter) (rest : List ℕ) → front_parameter rest ≡ None
-      → (parameters_in (spelled parameters ++ rest) ≡ parameters) × (left_in (spelled parameters ++ rest) ≡ rest)

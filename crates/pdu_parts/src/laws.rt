@@ -1,7 +1,6 @@
 //! What holds of the readers' definitions, for all lists of octets.
 
-ghost use Rattle.pdu_parts.specs.Field.{ReadsAddress};
-ghost use Rattle.pdu_parts.specs.Parameter.{ReadsParameters};
+ghost use Rattle.pdu_parts.specs.Laws.{ReadsAddress, ReadsParameters};
 
 /// An address is found exactly where it stands behind its length.
 pub fn reads_address()

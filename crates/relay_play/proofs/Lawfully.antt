@@ -1,17 +1,16 @@
 -- Whatever script with relays was run: its journal is lawful, and the two connections of a pair are two queues together.
-use Rattle.std.proofs.Common.{◌≡◌, ◌⊎◌, inl, inr, true, ℕ, ◌≤◌, List, [], ◌∷◌, ◌++◌, refl, sym, ◌∙◌, ap, subst, append_assoc}
+use Rattle.std.proofs.Common.{◌≡◌, inl, inr, true, ℕ, List, [], ◌∷◌, ◌++◌, refl, sym, ◌∙◌, ap, subst, append_assoc}
 use Rattle.std.specs.List.{AllByRecursion}
 use Rattle.osi_base.specs.Link.{Link}
 use Rattle.osi_base.specs.Calls.{Call, Keeps}
 use Rattle.osi_journal.specs.Lawful.{Lawful}
 use Rattle.osi_journal.specs.declared.event.Event.{Event}
-use Rattle.osi_journal.specs.declared.event.Event.TheVariants as events
 use Rattle.osi_script.proofs.CommandLines.{line_has, line_stays}
 use Rattle.osi_script.specs.Commands.{HasLine}
 use Rattle.osi_script.specs.declared.words.Dialect.{Dialect}
 use Rattle.osi_script.specs.declared.words.Dialect.TheVariants as dialects
 use Rattle.osi_script.specs.declared.line.Line.{Line}
-use Rattle.osi_script.specs.Known.{Declared, nothing_declared}
+use Rattle.osi_script.specs.Known.{Declared}
 use Rattle.osi_script.specs.Script.{Says}
 use Rattle.osi_setup.specs.SetUp.{SetUp, entities_of, timers_of, titles_of as titles_said}
 use Rattle.osi_setup.proofs.Entities.{are_timed}
@@ -19,23 +18,21 @@ use Rattle.law_setup.proofs.Proper.{script_proper}
 use Rattle.law_relay.proofs.Chained.{goes_through}
 use Rattle.law_relay.proofs.Noting.{noted, plain_more}
 use Rattle.law_relay.specs.Notes.{plain}
-use Rattle.net_world.specs.Told.{told}
-use Rattle.script_bench.specs.Acts.{RunsScript}
 use Rattle.script_bench.specs.Claims.{IsLaw}
 use Rattle.script_world.specs.Networks.{NetworkLaws}
 use Rattle.script_world.specs.Plays.{world_acts}
 use Rattle.script_world.specs.declared.play.World.{World as ScriptWorld}
-use Rattle.script_world.specs.declared.play.World.TheVariants.{Running, SettingUp}
 use Rattle.script_world.specs.steps.Peopled.{entities_new}
 use Rattle.script_world.proofs.Headline.{distinct, front_lawful, none_lawful, untouched}
-use Rattle.script_world.proofs.Went.{HasStarted, IsSettingUp, PlayRuns, Went, went}
+use Rattle.script_world.proofs.Went.{HasStarted, PlayRuns, Went, went}
 use Rattle.tp4_conn.specs.End.{frozen_for}
 use Rattle.tp4_conn.specs.declared.timers.Timers.{Timers}
-use Rattle.law_tp4_lawful.specs.Headline.{IsProperLine, ReceivesWhatWasSubmitted}
+use Rattle.law_tp4_lawful.specs.Limits.{IsProperLine}
+use Rattle.law_tp4_lawful.specs.Laws.{ReceivesWhatWasSubmitted}
 use Rattle.tp4_number.specs.Number.{wire}
 use Rattle.tp4_relay.specs.Kept.{Kept, nothing_kept}
 use Rattle.tp4_relay.proofs.Telling.{rules_stay}
-use Rattle.tp4_world.specs.Laws.{IsFirst}
+use Rattle.tp4_world.specs.First.{IsFirst}
 use Rattle.tp4_world.specs.Run.{Starts}
 use Rattle.tp4_world.specs.World.{World}
 use Rattle.tp4_world.proofs.Lined.{lines_alike}

@@ -33,7 +33,7 @@ use Rattle.tp4_conn.specs.declared.states.StateData.{StateData}
 use Rattle.tp4_conn.specs.declared.states.StateData.TheVariants as stages
 use Rattle.tp4_conn.specs.declared.timers.Timers.{Timers}
 use Rattle.tp4_conn.specs.End.{IsSized}
-use Rattle.law_tp4_lawful.specs.Headline.{IsProperLine}
+use Rattle.law_tp4_lawful.specs.Limits.{IsProperLine}
 use Rattle.tp4_relay.specs.declared.pair.Heading.{Heading}
 use Rattle.tp4_relay.specs.declared.pair.Heading.TheVariants.{On, Back}
 use Rattle.tp4_relay.specs.declared.pair.Pair.{Pair}

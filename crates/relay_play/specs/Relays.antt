@@ -1,6 +1,6 @@
 -- A network with transport entities and relays, which a script runs once it is set up. After each event line a pump of the relays follows; a `settle`
 -- line has turns, in each of which the network settles and a pump follows.
-use Rattle.std.specs.Prelude.{◌≡◌, ℕ, ◌+◌, ◌&&◌, Bool, true, false, not, nat_lt, List, [], ◌∷◌, ◌++◌, Option, None}
+use Rattle.std.specs.Prelude.{◌≡◌, ℕ, ◌+◌, ◌&&◌, Bool, true, false, not, nat_lt, List, [], ◌∷◌, ◌++◌, None}
 use Rattle.osi_base.specs.Link.{Link}
 use Rattle.osi_base.specs.Calls.{Call}
 use Rattle.osi_journal.specs.declared.cause.Refused.TheVariants as refused

@@ -2,7 +2,8 @@
 use Rattle.std.proofs.Common.{◌≡◌, ℕ, ◌+◌, ◌-◌, ◌<◌, List, length, take, Result, Ok, Err, inl, inr, refl, sym, subst}
 use Rattle.std.proofs.lemmas.Bool.{cases_lt}
 use Rattle.line_loop.specs.Lines.{most_lines}
-use Rattle.line_loop.specs.Total.{HasCourse, AsksSomething}
+use Rattle.line_loop.specs.Course.{HasCourse}
+use Rattle.line_loop.specs.Laws.{AsksSomething}
 use Rattle.line_loop.proofs.Totality.{asks_something}
 use Rattle.osi_journal.specs.declared.event.Event.{Event}
 use Rattle.osi_script.specs.declared.cause.LineFault.{LineFault}

@@ -6,10 +6,10 @@ use Rattle.osi_base.specs.declared.status.Status.{Status}
 use Rattle.osi_base.specs.declared.status.Status.TheVariants.{Done, RefusedLine, RefusedWords, ReadFault, WriteFault, NoMemory, RefusedCapture, TooMuch}
 use Rattle.osi_base.specs.Ends.{HasRisen, Took, Put, IsAtEnd}
 use Rattle.line_loop.specs.Course.{Runs, IsOver, IsTooMuch, IsTooMuchAtEnd, IsRefusedAt, IsRefusedAtEnd}
-use Rattle.line_loop.specs.Exact.{IsAccepted, IsFailure}
+use Rattle.line_loop.specs.Outcome.{IsAccepted, Asks, AsksFor, Outcome}
+use Rattle.octet_loop.specs.ByStatus.{IsFailure}
 use Rattle.line_loop.specs.Limits.{most_octets, most_read}
 use Rattle.line_loop.specs.Lines.{open_line, last_line, without_return}
-use Rattle.line_loop.specs.Outcome.{Asks, AsksFor, Outcome}
 use Rattle.line_loop.proofs.Driving.{cut_of, Ran as RanOver}
 use Rattle.line_loop.proofs.Exclusion.{ran_exact, ran_accepted, complete}
 use Rattle.osi_journal.specs.declared.event.Event.{Event}

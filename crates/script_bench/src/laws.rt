@@ -1,8 +1,7 @@
 //! What holds of every script, whatever it sets up and runs.
 
 ghost use Rattle.std.specs.Prelude.{List, ℕ};
-ghost use Rattle.line_loop.specs.Exact.{AsksOne, OneCourse};
-ghost use Rattle.line_loop.specs.Total.{AsksSomething};
+ghost use Rattle.line_loop.specs.Laws.{AsksOne, OneCourse, AsksSomething};
 ghost use Rattle.script_bench.specs.Bench.{bench_meaning, first_bench};
 
 use crate::stage::Stage;

@@ -1,9 +1,9 @@
 //! A script run from its source to its sink.
 
 ghost use Rattle.std.specs.Prelude.{◌≡◌, ◌≢◌, ◌≤◌, ◌+◌, ◌⊎◌, List, ℕ, Some, length, max};
-ghost use Rattle.line_loop.specs.Exact.{IsAccepted, IsFailure};
+ghost use Rattle.line_loop.specs.Outcome.{IsAccepted, AsksFor, Outcome};
+ghost use Rattle.octet_loop.specs.ByStatus.{IsFailure};
 ghost use Rattle.line_loop.specs.Limits.{most_octets, most_read};
-ghost use Rattle.line_loop.specs.Outcome.{AsksFor, Outcome};
 ghost use Rattle.osi_base.specs.Ends.{HasRisen, IsAtEnd, Put, Took};
 ghost use Rattle.script_bench.specs.Bench.{bench_meaning, first_bench};
 

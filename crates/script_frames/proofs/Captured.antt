@@ -16,7 +16,8 @@ use Rattle.tp4_world.proofs.Addressees.{all_append}
 use Rattle.law_run.specs.Bench.{Bench, FillsJournal, bench_meaning, first_bench, most_events}
 use Rattle.law_run.specs.World.{World}
 use Rattle.script_world.specs.declared.play.World.TheVariants.{SettingUp, Running}
-use Rattle.script_frames.specs.Frames.{AreTold, CapturesTooMuch, FillsWithFrames, IsCaptureOf, IsFramesOf, MakesFrames, ToldFrame, frames_meaning, new_slots, ports_of, sent_in, slots_of, told_by, told_from}
+use Rattle.script_frames.specs.Frames.{AreTold, FillsWithFrames, IsCaptureOf, IsFramesOf, MakesFrames, ToldFrame, frames_meaning, new_slots, ports_of, sent_in, slots_of, told_by, told_from}
+use Rattle.script_frames.specs.Laws.{CapturesTooMuch}
 use Rattle.script_frames.proofs.ToldFrames.{told_append, told_from-append}
 use Rattle.script_frames.proofs.ToldLines.{HasPorts, IsQuietWorld, WorldTells, clock_in, world_tells}
 

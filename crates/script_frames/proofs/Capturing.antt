@@ -5,15 +5,16 @@ use Rattle.osi_base.specs.declared.status.Status.{Status}
 use Rattle.osi_base.specs.declared.status.Status.TheVariants.{Done, RefusedLine, RefusedWords, ReadFault, WriteFault, NoMemory, RefusedCapture, TooMuch}
 use Rattle.osi_base.specs.Ends.{Took, Put, IsAtEnd}
 use Rattle.octet_loop.proofs.Written.{put_on, took_none}
-use Rattle.line_loop.specs.Exact.{IsAccepted, IsFailure}
-use Rattle.line_loop.specs.Outcome.{Asks, IsCut, Outcome}
+use Rattle.line_loop.specs.Outcome.{IsAccepted, Asks, IsCut, Outcome}
+use Rattle.octet_loop.specs.ByStatus.{IsFailure}
 use Rattle.line_loop.specs.Writing.{IsPrefix, IsBroken, IsWritten}
 use Rattle.line_loop.proofs.Driving.{Ran}
 use Rattle.line_loop.proofs.Exclusion.{asks_once, ran_accepted, ran_exact}
 use Rattle.line_loop.proofs.Reading.{read_none}
 use Rattle.frame_capture.specs.Written.{SentFrame, header_octets}
 use Rattle.law_run.specs.Bench.{Bench, first_bench}
-use Rattle.script_frames.specs.Frames.{AsksCapture, AsksForCapture, AsksOneCapture, CaptureOutcome, IsCutCapture, IsFramesRun, frames_meaning}
+use Rattle.script_frames.specs.Frames.{AsksCapture, AsksForCapture, CaptureOutcome, IsCutCapture, IsFramesRun, frames_meaning}
+use Rattle.script_frames.specs.Laws.{AsksOneCapture}
 use Rattle.script_frames.specs.steps.FrameLaws.{frames_laws}
 use Rattle.law_run.specs.Transcript.{ShowsSilence, ShowsWhatWasSubmitted}
 use Rattle.law_run.proofs.ScriptRuns.{shows_sent}

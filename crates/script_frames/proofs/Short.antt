@@ -35,7 +35,8 @@ use Rattle.law_clnp_answers.specs.Serving.{StandsInOctets}
 use Rattle.law_clnp_answers.specs.Standing.{FitsKept, is_nsap}
 use Rattle.law_clnp_answers.proofs.Always.{begins_serving, serves}
 use Rattle.line_loop.specs.Lines.{most_lines}
-use Rattle.line_loop.specs.Total.{AsksSomething, HasCourse}
+use Rattle.line_loop.specs.Laws.{AsksSomething}
+use Rattle.line_loop.specs.Course.{HasCourse}
 use Rattle.line_loop.proofs.Totality.{asks_something}
 use Rattle.osi_journal.specs.declared.event.Event.{Event}
 use Rattle.osi_storm.specs.Counted.{is_frame}

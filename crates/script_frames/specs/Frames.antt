@@ -8,7 +8,7 @@ use Rattle.lan_bag.specs.Frames.{Frame}
 use Rattle.lan_bag.specs.Rows.{sender_of}
 use Rattle.lan_bag.specs.declared.setup.PortRow.{PortRow}
 use Rattle.frame_capture.specs.Written.{IsWritable, SentFrame, capture_of, header_octets, record_of, records_octets}
-use Rattle.line_loop.specs.Course.{Runs, IsTooMuch, IsTooMuchAtEnd}
+use Rattle.line_loop.specs.Course.{Runs}
 use Rattle.line_loop.specs.Limits.{most_octets, most_read}
 use Rattle.line_loop.specs.Meaning.{Meaning}
 use Rattle.line_loop.specs.Outcome.{Asks}
@@ -101,9 +101,6 @@ CaptureOutcome = by_status.Outcome AsksCapture
 abbrev pub AsksSomeCapture : List ℕ → Type 0
 AsksSomeCapture = by_status.AsksSomething AsksCapture
 
-abbrev pub AsksOneCapture : Type 0
-AsksOneCapture = by_status.AsksOne AsksCapture
-
 -- of the octets read, what was written is told as the status says; whatever part of them was run, each raw unit that is shown was sent, and
 -- each end shows what its partner submitted, unless a frame was injected; a system that began again is silent; and no more was read than an input may have, and one read more
 pub record IsFramesRun (end : Type 0) (read written : List ℕ) (status : Status) : Type 0 where
@@ -167,13 +164,3 @@ pub record IsFramesOf (texts : List (List ℕ)) (frames : List SentFrame) (last 
   pub journal : List Event
   pub runs : Runs bench_meaning first_bench texts journal last
   pub is_capture : IsCaptureOf journal frames last
-
-abbrev pub MakesCaptures : Type 0
-MakesCaptures = (texts : List (List ℕ)) (frames : List SentFrame) (last : Bench) → Runs frames_meaning first_bench texts frames last → IsFramesOf texts frames last
-
--- where octets pass a limit, or a line of theirs fills the journal, the frames are those of the events that stand in the journal then
-pub record CapturesTooMuch : Type 0 where
-  pub here : (read : List ℕ) (frames : List SentFrame) (last : Bench) → IsTooMuch frames_meaning first_bench read frames last
-      → (journal : List Event) × IsTooMuch bench_meaning first_bench read journal last × IsCaptureOf journal frames last
-  pub at_end : (read : List ℕ) (frames : List SentFrame) (last : Bench) → IsTooMuchAtEnd frames_meaning first_bench read frames last
-      → (journal : List Event) × IsTooMuchAtEnd bench_meaning first_bench read journal last × IsCaptureOf journal frames last

@@ -3,7 +3,8 @@
 ghost use Rattle.std.specs.Prelude.{◌≡◌, ◌≢◌, ◌⊎◌, ◌+◌, ◌<◌, ◌≤◌, ◌++◌, ℕ, List, Some, length, drop, max, take, option_copied, OnErr, OnOk, IsErrOf};
 ghost use Rattle.std.specs.List.{AllByRecursion, count_by};
 ghost use Rattle.frame_capture.specs.Written.{IsWritable, SentFrame, header_octets, records_octets};
-ghost use Rattle.line_loop.specs.Exact.{IsAccepted, IsFailure};
+ghost use Rattle.line_loop.specs.Outcome.{IsAccepted};
+ghost use Rattle.octet_loop.specs.ByStatus.{IsFailure};
 ghost use Rattle.line_loop.specs.Limits.{most_read};
 ghost use Rattle.line_loop.specs.Writing.{IsWritten};
 ghost use Rattle.osi_base.specs.Ends.{HasRisen, IsAtEnd, Put, Took};

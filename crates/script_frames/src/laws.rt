@@ -1,8 +1,9 @@
 //! What holds of every capture of a script.
 
 ghost use Rattle.std.specs.Prelude.{List, ℕ};
-ghost use Rattle.line_loop.specs.Exact.{OneCourse};
-ghost use Rattle.script_frames.specs.Frames.{AsksOneCapture, AsksSomeCapture, CapturesTooMuch, MakesCaptures, frames_meaning};
+ghost use Rattle.line_loop.specs.Laws.{OneCourse};
+ghost use Rattle.script_frames.specs.Laws.{AsksOneCapture, CapturesTooMuch, MakesCaptures};
+ghost use Rattle.script_frames.specs.Frames.{AsksSomeCapture, frames_meaning};
 
 /// The frames of the lines of a script are those of its journal, and what is written of them is a capture, whose records they are.
 pub fn frames_make_captures()

@@ -10,7 +10,7 @@ use Rattle.osi_base.specs.Calls.{Call, Keeps}
 use Rattle.tp4_conn.specs.End.{frozen_for}
 use Rattle.tp4_conn.specs.declared.timers.Timers.{Timers}
 use Rattle.tp4_number.specs.Number.{wire}
-use Rattle.tp4_world.specs.Laws.{IsFirst}
+use Rattle.tp4_world.specs.First.{IsFirst}
 use Rattle.tp4_world.proofs.Lined.{lines_alike}
 use Rattle.tp4_world.proofs.Shown.{first_honest}
 use Rattle.osi_journal.specs.declared.event.Event.{Event}
@@ -21,7 +21,8 @@ use Rattle.osi_script.specs.Injecting.{HasNoInject, IsNoInjection}
 use Rattle.osi_script.specs.Known.{Declared, nothing_declared}
 use Rattle.osi_script.specs.Script.{Says}
 use Rattle.osi_script.specs.declared.words.Dialect.{Dialect}
-use Rattle.law_tp4_lawful.specs.Headline.{AreDistinct, IsUntouched, ReceivesWhatWasSubmitted, StaysSilent}
+use Rattle.law_tp4_lawful.specs.First.{AreDistinct, IsUntouched}
+use Rattle.law_tp4_lawful.specs.Laws.{ReceivesWhatWasSubmitted, StaysSilent}
 use Rattle.osi_setup.specs.Fitting.{AreTitlesApart, IsWell}
 use Rattle.osi_setup.specs.SetUp.{SetUp, entities_of, timers_of, titles_of as titles_said}
 use Rattle.osi_setup.proofs.Entities.{are_timed}

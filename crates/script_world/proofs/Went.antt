@@ -1,5 +1,5 @@
 -- A script that was run is still set up and told nothing; or it was set up, what was set up started, and its other lines ran.
-use Rattle.std.proofs.Common.{◌≡◌, ◌⊎◌, ℕ, Bool, true, false, List, [], ◌∷◌, ◌++◌, inl, inr, refl, sym, ◌∙◌, ap, subst, append_assoc}
+use Rattle.std.proofs.Common.{◌≡◌, ◌⊎◌, ℕ, Bool, true, false, List, [], ◌∷◌, ◌++◌, inl, inr, refl, sym, ◌∙◌, ap, subst}
 use Rattle.osi_journal.specs.declared.event.Event.{Event}
 use Rattle.osi_script.proofs.CommandLines.{line_stays}
 use Rattle.osi_script.specs.declared.line.Line.{Line}

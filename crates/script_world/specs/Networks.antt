@@ -4,7 +4,7 @@ use Rattle.osi_base.specs.Link.{Link}
 use Rattle.osi_base.specs.Calls.{Call}
 use Rattle.law_carrier_answers.specs.Answers.{OneStep}
 use Rattle.law_clnp_answers.specs.Standing.{is_nsap}
-use Rattle.net_world.specs.Laws.{IsFirst}
+use Rattle.net_world.specs.First.{IsFirst}
 use Rattle.tp4_world.specs.Total.{ServesOn}
 use Rattle.osi_script.specs.Commands.{HasLine}
 use Rattle.osi_script.specs.declared.words.Dialect.{Dialect}

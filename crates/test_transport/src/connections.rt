@@ -227,7 +227,6 @@ fn call(alloc: Global, options: Options, octets: Bytes) -> Result<ConnectCall, F
     };
     Ok(ConnectCall {
         own: 1,
-        from: system(0x0a)?,
         request,
         rules: TIMERS,
     })

@@ -7,9 +7,9 @@ ghost use Rattle.osi_journal.specs.Lawful.{Lawful};
 ghost use Rattle.tp4_conn.specs.End.{IsSized, IsTimed, frozen_for};
 ghost use Rattle.tp4_conn.specs.declared.timers.Timers.{Timers as Times};
 ghost use Rattle.tp4_entity.specs.Dues.{AreLater};
-ghost use Rattle.tp4_world.specs.Laws.{IsFirst};
+ghost use Rattle.tp4_world.specs.First.{IsFirst};
 ghost use Rattle.tp4_world.specs.steps.Parts.{AreBehind, AreLaterAll};
-ghost use Rattle.law_tp4_lawful.specs.Headline.{AreDistinct, IsUntouched};
+ghost use Rattle.law_tp4_lawful.specs.First.{AreDistinct, IsUntouched};
 
 use inactive_net::{InactiveNet, InactiveRow};
 use lan_bag::{Lan, LanBag, PortRow};
@@ -21,7 +21,7 @@ use std::alloc::Global;
 use std::process::Abort;
 use std::test::Fail;
 use tp4_conn::{ConnectRequest, Options, Timers, UserCall};
-use tp4_entity::TpEntity;
+use tp4_entity::{TpEntity, TsapRefusal};
 use tp4_world::{Placed, TpWorld, calls_stay_honest};
 use tpdu::Format;
 
@@ -187,7 +187,8 @@ fn placed(alloc: Global, system: u8, own: Nsap, selector: &[u8]) -> Result<Place
     let mut entity = TpEntity::new(alloc, own, 2, TIMERS)?;
     match entity.register(selector) {
         Ok(()) => Ok(Placed { system, entity }),
-        Err(_) => Err(NoMemory),
+        Err(TsapRefusal::NoMemory) => Err(NoMemory),
+        Err(TsapRefusal::TsapTaken) => unreachable!(),
     }
 }
 

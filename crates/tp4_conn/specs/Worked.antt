@@ -61,7 +61,6 @@ wide = record { format = Extended; size = 8192; expedited = false; sum = false; 
 abbrev pub call : Options → ConnectCall
 call options = record {
   own = 1;
-  from = 0x49 ∷ 0x0A ∷ 1 ∷ [];
   request = record { from_selector = 0xAA ∷ []; to = 0x49 ∷ 0x0B ∷ 1 ∷ []; to_selector = 0xBB ∷ []; options = options; octets = [] };
   rules = timers;
 }

@@ -58,9 +58,8 @@ pub struct ConnectRequest {
 pub struct ConnectCall {
     /// The reference of the new end.
     pub own: u16,
-    /// The address of the user's own system.
-    pub from: Nsap,
     /// What the user asks for.
     pub request: ConnectRequest,
+    /// Its timers.
     pub rules: Timers,
 }

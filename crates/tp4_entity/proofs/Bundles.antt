@@ -1,5 +1,5 @@
 -- What is separated with no rest is a bundle, and the other way round: both are TPDUs at the front, one after another.
-use Rattle.std.proofs.Common.{◌≡◌, ℕ, List, [], ◌∷◌, ◌++◌, map, refl, sym, ap, append-nil}
+use Rattle.std.proofs.Common.{◌≡◌, ℕ, List, [], ◌∷◌, map, refl, sym, ap, append-nil}
 use Rattle.tpdu.specs.Grammar.{IsBundle}
 use Rattle.tpdu.specs.Values.{TpduAndSum}
 use Rattle.tpdu.specs.declared.tpdu.Tpdu.{Tpdu}

@@ -1,9 +1,9 @@
 -- An entity that began again has no end. No other step changes when it did.
-use Rattle.std.proofs.Common.{◌≡◌, ℕ, zero, suc, ◌+◌, ◌-◌, ◌==◌, Bool, true, false, not, if◌then◌else◌, List, [], ◌∷◌, length, position, replicate, slice_get, Option, Some, None, refl, ap, ◌∙◌}
+use Rattle.std.proofs.Common.{◌≡◌, ℕ, zero, suc, ◌-◌, ◌==◌, Bool, true, false, not, if◌then◌else◌, List, [], ◌∷◌, length, replicate, slice_get, Option, Some, None, refl, ap, ◌∙◌}
 use Rattle.std.specs.List.{list_any}
 use Rattle.std.specs.Prelude.{is_none, option_map}
 use Rattle.tp4_conn.specs.Calls.{state_of}
-use Rattle.tpdu.specs.Values.{TpduAndSum, destination_of}
+use Rattle.tpdu.specs.Values.{TpduAndSum}
 use Rattle.tpdu.specs.declared.tpdu.Tpdu.{Tpdu}
 use Rattle.tpdu.specs.declared.tpdu.Tpdu.TheVariants as wires
 use Rattle.tp4_conn.specs.End.{End, Moved}

@@ -33,9 +33,9 @@ connect_refusal now e octets =
     else if is_none (least_free now e) then Some connects.RefsSpent
     else None
 
--- what the new end is made by: what is asked for, a reference, and the address and the timers of the entity
+-- what the new end is made by: a reference, what is asked for, and the timers of the entity
 abbrev pub call_of : Entity → ℕ → ConnectRequest → ConnectCall
-call_of e reference request = record { own = reference; from = e.own; request = request; rules = e.timers }
+call_of e reference request = record { own = reference; request = request; rules = e.timers }
 
 abbrev pub connecting : ℕ → Entity → ℕ → ConnectRequest → Acted
 connecting now e reference request = moved (at now e) reference (connected now (call_of e reference request))

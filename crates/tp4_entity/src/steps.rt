@@ -10,7 +10,6 @@ ghost use Rattle.tp4_entity.specs.steps.Places.{IsOwn, Lasts};
 
 use crate::TpEntity;
 use crate::references::{due_of, keep};
-use nsap::Nsap;
 use osi_base::{Bytes, NoMemory, Tick};
 use tp4_conn::{ConnectCall, ConnectRequest, Connection};
 use tp4_flow::Step;
@@ -81,13 +80,12 @@ impl TpEntity {
         ensures lasts { OnOk result (Lasts now self.old.ends self.new.ends) }
         ensures clock { self.new.clock ≤ now }
     {
-        let from: Nsap = self.own;
+        let rules = self.timers;
         let own = place as u16 + 1;
         let call = ConnectCall {
             own,
-            from,
             request,
-            rules: self.timers,
+            rules,
         };
         let end = Connection::connect(self.alloc, now, call, out)?;
         self.set_clock(now);

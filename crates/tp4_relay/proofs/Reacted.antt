@@ -1,6 +1,5 @@
 -- One event more of a line: what was noted of it, and what is to be done about it, as they were answered.
-use Rattle.std.proofs.Common.{◌≡◌, ℕ, ◌+◌, ◌<◌, ◌≤◌, Bool, ◌||◌, List, ◌++◌, length, get_or, refl, sym, ap, subst, arith, length-append}
-use Rattle.std.specs.List.{AllByRecursion}
+use Rattle.std.proofs.Common.{◌≡◌, ℕ, ◌+◌, ◌<◌, ◌≤◌, Bool, ◌||◌, List, length, get_or, sym, ap, subst, arith, length-append}
 use Rattle.osi_journal.specs.declared.event.Event.{Event}
 use Rattle.tp4_conn.specs.declared.call.ConnectRequest.{ConnectRequest}
 use Rattle.tp4_conn.specs.declared.call.UserCall.{UserCall}

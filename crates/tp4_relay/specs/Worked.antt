@@ -1,19 +1,17 @@
 -- A connection through a relay, worked out: from 490a01 (selector aa) at the row cc of 490c01, on to bb of 490b01.
-use Rattle.std.specs.Prelude.{◌≡◌, ℕ, true, false, List, [], ◌∷◌, ◌++◌, map}
+use Rattle.std.specs.Prelude.{◌≡◌, true, false, [], ◌∷◌}
 use Rattle.osi_script.specs.declared.line.Options.{Options as ScriptOptions}
 use Rattle.osi_journal.specs.declared.cause.GoneCause.TheVariants as gone
-use Rattle.osi_journal.specs.declared.event.Event.{Event}
 use Rattle.osi_journal.specs.declared.event.Event.TheVariants as events
 use Rattle.osi_journal.specs.declared.event.Indication.{Indication}
 use Rattle.osi_journal.specs.declared.event.Request.{Request}
 use Rattle.tpdu.specs.declared.tpdu.Format.TheVariants.{Normal as NormalFormat}
 use Rattle.tp4_conn.specs.declared.call.UserCall.TheVariants as asks
 use Rattle.tp4_conn.specs.declared.timers.Timers.{Timers}
-use Rattle.tp4_relay.specs.declared.pair.Phase.TheVariants.{Begun, Open, Closed}
-use Rattle.tp4_relay.specs.declared.pair.Pair.{Pair}
+use Rattle.tp4_relay.specs.declared.pair.Phase.TheVariants.{Open, Closed}
 use Rattle.tp4_relay.specs.declared.reaction.Reaction.TheVariants.{Nothing, Begin, Ask}
 use Rattle.tp4_relay.specs.declared.row.RelayRow.{RelayRow}
-use Rattle.tp4_relay.specs.declared.unit.MarkedUnit.TheVariants.{Normal, Expedited}
+use Rattle.tp4_relay.specs.declared.unit.MarkedUnit.TheVariants.{Normal}
 use Rattle.tp4_relay.specs.Kept.{Kept, kept_after, nothing_kept, owns}
 use Rattle.tp4_relay.specs.Pairs.{new_way, open_places}
 use Rattle.tp4_relay.specs.Reaction.{reaction}

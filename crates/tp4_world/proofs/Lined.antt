@@ -42,7 +42,8 @@ use Rattle.tp4_entity.specs.declared.refusal.EntityRefusal.{EntityRefusal}
 use Rattle.tp4_entity.specs.Entity.{Acted, Entity}
 use Rattle.tp4_entity.specs.References.{least_free}
 use Rattle.tp4_entity.specs.Step.{connect_refusal, user_refusal}
-use Rattle.tp4_world.specs.Asked.{AsksOne, IsAsked, TellsAsked, asked_in, is_asked}
+use Rattle.tp4_world.specs.Asked.{AsksOne, IsAsked, asked_in, is_asked}
+use Rattle.tp4_world.specs.Laws.{TellsAsked}
 use Rattle.tp4_world.specs.Called.{Did, DidAll, InjectsNothing, WorldCall}
 use Rattle.tp4_world.specs.Called as requests
 use Rattle.tp4_world.specs.Run.{Acts, Arrives, BeginsAt, Calls, CallsAt, CallsBy, CallsEnd, Connects, ConnectsBy, HearsAll, HearsIf, IsRefused, NoneDue, NoneLeft, OneDue, OneMore, RunsLine, RunsLines, SendsTpdu, SendsTpdus, Settles, Ticks, TicksAll, TicksEntity, TooMany, clock_of, has_ended, is_for, transport_wish}

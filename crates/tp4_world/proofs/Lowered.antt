@@ -25,7 +25,8 @@ use Rattle.tp4_entity.specs.Step.{calling, connect_refusal, connecting, ticking,
 use Rattle.tp4_entity.specs.Wire.{acted_on_wire, entity_on_wire}
 use Rattle.tp4_world.proofs.OnWire.{connect_refusal_on, ended_on, first_due_on, found_on, least_on, lower_there, user_refusal_on, with_on, restarted_on}
 use Rattle.tp4_world.proofs.Whole.{OverWires}
-use Rattle.tp4_world.specs.Laws.{WireLine, placed_on_wire, world_on_wire}
+use Rattle.tp4_world.specs.Laws.{WireLine}
+use Rattle.tp4_world.specs.Wire.{placed_on_wire, world_on_wire}
 use Rattle.tp4_world.specs.Run.{Acts, Arrives, BeginsAt, Calls, CallsAt, CallsBy, CallsEnd, Connects, ConnectsBy, Hears, HearsAll, HearsIf, IsRefused, NoneDue, NoneLeft, OneDue, OneMore, RunsLine, Settles, Ticks, TicksAll, TicksEntity, TooMany, clock_of, has_ended, is_for}
 use Rattle.tp4_world.specs.Telling.{ends_after, inject_event}
 use Rattle.tp4_world.specs.World.{World, end_numbered, entity_at, with_entity}

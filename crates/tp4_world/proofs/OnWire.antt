@@ -17,7 +17,7 @@ use Rattle.tp4_entity.specs.Step.{connect_refusal, end_refusal, first_due, is_du
 use Rattle.tp4_entity.specs.Unit.{extended_from, extended_of, listed_if}
 use Rattle.tp4_entity.specs.Wire.{entity_on_wire}
 use Rattle.tp4_world.proofs.Places.{some_same}
-use Rattle.tp4_world.specs.Laws.{placed_on_wire}
+use Rattle.tp4_world.specs.Wire.{placed_on_wire}
 use Rattle.tp4_world.specs.Run.{has_ended}
 use Rattle.tp4_world.specs.World.{entity_at, is_of, latest, with_entity}
 use Rattle.tp4_world.specs.declared.place.EndAt.{EndAt}

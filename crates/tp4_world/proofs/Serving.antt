@@ -3,7 +3,8 @@ use Rattle.std.proofs.Common.{ℕ, Bool, List, [], ◌∷◌, refl, sym, subst}
 use Rattle.osi_base.specs.Link.{Link}
 use Rattle.osi_base.specs.Calls.{Call, Keeps}
 use Rattle.law_carrier_answers.specs.Answers.{GoesThrough}
-use Rattle.tp4_world.specs.Total.{Serves, ServesOn, SomeRun, SomeStart}
+use Rattle.tp4_world.specs.Total.{Serves, ServesOn}
+use Rattle.tp4_world.specs.Laws.{SomeRun, SomeStart}
 use Rattle.tp4_world.proofs.SomeLines.{some_begin, some_line}
 
 pub serves_on : {C : Type 0} (is_address : List ℕ → Bool) (link : C → Link (List ℕ)) (steps : C → Call (List ℕ) → C → Type 0) → Serves is_address link steps (ServesOn is_address link steps)

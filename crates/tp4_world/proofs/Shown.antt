@@ -38,7 +38,8 @@ use Rattle.tp4_entity.specs.Step.{calling, connect_refusal, connecting, ticking,
 use Rattle.tp4_world.proofs.Destinations.{EndFine, EndsFine, calling_fine, connecting_fine, taking_fine, ticking_fine}
 use Rattle.tp4_world.proofs.Lined.{injected, lines_alike, lines_back, not_taken}
 use Rattle.tp4_world.proofs.Standing.{AreApart, AreFine, AreStill, IsApart, IsFine, IsFromApart, Stands, act_stands, apart_on, changed_stands, delivery_carries, entity_fine, injection_carries, raw_carries, tick_carries, told_stands, with_fine}
-use Rattle.tp4_world.specs.Laws.{IsFirst, IsNew, ShowsSent, ShowsSentWhereHonest}
+use Rattle.tp4_world.specs.First.{IsFirst, IsNew}
+use Rattle.tp4_world.specs.Laws.{ShowsSent, ShowsSentWhereHonest}
 use Rattle.tp4_world.specs.Run.{BeginsAt, Calls, CallsAt, CallsBy, CallsEnd, Connects, ConnectsBy, Delivers, HearsAll, HearsIf, Injects, IsRefused, NoneDue, NoneLeft, OneDue, OneMore, RunsLine, RunsLines, Settles, Starts, Ticks, TicksAll, TicksEntity, TooMany, clock_of, has_ended, is_for, transport_address}
 use Rattle.tp4_world.specs.Telling.{call_events, connect_event, inject_event}
 use Rattle.tp4_world.specs.World.{World, end_numbered, entity_at}

@@ -30,9 +30,11 @@ use Rattle.tp4_entity.specs.Unit.{EndsWith, HearsUnit, Separates, all_met, ignor
 use Rattle.tp4_entity.specs.Wire.{acted_on_wire, entity_on_wire}
 use Rattle.tp4_world.proofs.OneRun.{OneHearing}
 use Rattle.tp4_world.proofs.OnWire.{connect_refusal_on, ended_on, first_due_on, formats_on, found_on, least_on, upper, user_refusal_on, with_on, restarted_on}
-use Rattle.tp4_world.specs.Called.{WholeCalls, WorldCall, Did, DidAll}
+use Rattle.tp4_world.specs.Laws.{WholeCalls, WholeLine, WholeRun}
+use Rattle.tp4_world.specs.Called.{WorldCall, Did, DidAll}
 use Rattle.tp4_world.specs.Called as asked
-use Rattle.tp4_world.specs.Laws.{HasNoEnd, WholeLine, WholeRun, placed_on_wire, world_on_wire}
+use Rattle.tp4_world.specs.First.{HasNoEnd}
+use Rattle.tp4_world.specs.Wire.{placed_on_wire, world_on_wire}
 use Rattle.tp4_world.specs.Run.{Acts, Arrives, BeginsAt, Calls, CallsAt, CallsBy, CallsEnd, Connects, ConnectsBy, Delivers, Hears, HearsAll, HearsIf, IsRefused, NoneDue, NoneLeft, OneDue, OneMore, Restarts, RunsLine, RunsLines, Settles, Ticks, TicksAll, TicksEntity, TooMany, clock_of, has_ended, is_for}
 use Rattle.tp4_world.specs.Telling.{ends_after, inject_event}
 use Rattle.tp4_world.specs.World.{World, end_numbered, entity_at, with_entity}

@@ -1,16 +1,13 @@
 -- What users ask stands in the journal as they asked it: the events by which a connection is asked for, or a unit is handed over, are those of the
 -- lines that ask for it, in order (X.214, T-CONNECT request, T-DATA request, T-EXPEDITED-DATA request).
 use Rattle.std.specs.Prelude.{◌≡◌, ◌⊎◌, ℕ, Bool, true, false, if◌then◌else◌, List, [], ◌∷◌, ◌++◌, slice_get, Some}
-use Rattle.osi_base.specs.Link.{Link}
-use Rattle.osi_base.specs.Calls.{Call}
 use Rattle.osi_journal.specs.declared.cause.Refused.{Refused}
 use Rattle.osi_journal.specs.declared.event.Event.{Event}
 use Rattle.osi_journal.specs.declared.event.Event.TheVariants as events
 use Rattle.osi_journal.specs.declared.event.Request.{Request}
 use Rattle.osi_script.specs.declared.line.Line.{Line}
 use Rattle.osi_script.specs.declared.line.Line.TheVariants as lines
-use Rattle.tp4_world.specs.Run.{RunsLines, transport_address}
-use Rattle.tp4_world.specs.World.{World}
+use Rattle.tp4_world.specs.Run.{transport_address}
 
 -- a user asks for a connection, or hands over a unit
 abbrev pub is_asked : Event → Bool
@@ -50,7 +47,3 @@ IsAsked titles line made = asked_in made ≡ []
 abbrev pub AreAsked : List (List ℕ) → List Line → List Event → Type 0
 AreAsked titles [] journal = journal ≡ []
 AreAsked titles (line ∷ script) journal = (made rest : List Event) × (journal ≡ made ++ rest) × IsAsked titles line made × AreAsked titles script rest
-
-abbrev pub TellsAsked : {C : Type 0} → (C → Link (List ℕ)) → (C → Call (List ℕ) → C → Type 0) → Type 0
-TellsAsked {C} link steps = (wrap : ℕ → ℕ → ℕ) (titles : List (List ℕ)) (first : World C) (script : List Line) (journal : List Event) (last : World C)
-    → RunsLines link steps wrap titles first script journal last → AreAsked titles script journal

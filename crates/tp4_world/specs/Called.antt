@@ -1,18 +1,15 @@
 -- The calls of a network with transport entities, one after another, and the events that they give (X.214, service primitives).
-use Rattle.std.specs.Prelude.{◌≡◌, ◌≤◌, ℕ, true, List, [], ◌∷◌, ◌++◌, length}
-use Rattle.std.specs.List.{AllByRecursion}
+use Rattle.std.specs.Prelude.{◌≡◌, ◌≤◌, ℕ, List, [], ◌∷◌, ◌++◌, length}
 use Rattle.osi_base.specs.declared.unit.Wish.{Wish}
 use Rattle.osi_base.specs.declared.unit.Picked.{Picked}
 use Rattle.osi_base.specs.declared.unit.Injected.{Injected}
 use Rattle.osi_base.specs.Link.{Link}
 use Rattle.osi_base.specs.Calls.{Call}
 use Rattle.osi_journal.specs.declared.event.Event.{Event}
-use Rattle.tp4_number.specs.Number.{whole, wire}
 use Rattle.tp4_conn.specs.Calls.{IsCall}
 use Rattle.tp4_conn.specs.End.{IsSized}
 use Rattle.tp4_conn.specs.declared.call.ConnectRequest.{ConnectRequest}
 use Rattle.tp4_conn.specs.declared.call.UserCall.{UserCall}
-use Rattle.tp4_world.specs.Laws.{HasNoEnd, world_on_wire}
 use Rattle.tp4_world.specs.Run.{Calls, Connects, Delivers, Injects, Restarts, SendsRaw, Settles, Ticks}
 use Rattle.tp4_world.specs.World.{World}
 
@@ -63,16 +60,3 @@ module _ {C : Type 0} (link : C → Link (List ℕ)) (steps : C → Call (List �
 abbrev pub InjectsNothing : WorldCall → Type 0
 InjectsNothing (Inject lan system octets answer) = ⊥
 InjectsNothing call = Prim.Unit {0}
-
--- a carrier that is honest after calls was so before them; and where nothing is injected it is as honest as it was
-pub record CallsStayHonest {C : Type 0} (link : C → Link (List ℕ)) (steps : C → Call (List ℕ) → C → Type 0) : Type 0 where
-  pub before : (wrap : ℕ → ℕ → ℕ) (calls : List WorldCall) (first last : World C) (journal : List Event) → DidAll link steps wrap first calls journal last
-      → (link last.carrier).honest ≡ true → (link first.carrier).honest ≡ true
-  pub alike : (wrap : ℕ → ℕ → ℕ) (calls : List WorldCall) (first last : World C) (journal : List Event) → AllByRecursion InjectsNothing calls
-      → DidAll link steps wrap first calls journal last → (link last.carrier).honest ≡ (link first.carrier).honest
-
--- calls over wire numbers that begin without an end are calls over whole numbers, with the same events
-abbrev pub WholeCalls : {C : Type 0} → (C → Link (List ℕ)) → (C → Call (List ℕ) → C → Type 0) → Type 0
-WholeCalls {C} link steps = (first : World C) (calls : List WorldCall) (journal : List Event) (last : World C)
-    → AllByRecursion (λ one. HasNoEnd one.entity) first.entities → DidAll link steps wire first calls journal last
-    → (true_last : World C) × DidAll link steps whole first calls journal true_last × (last ≡ world_on_wire true_last)

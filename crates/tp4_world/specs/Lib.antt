@@ -1,8 +1,10 @@
 pub mod Asked
 pub mod Called
+pub mod First
 pub mod Laws
 pub mod Run
 pub mod Telling
 pub mod Total
+pub mod Wire
 pub mod World
 pub mod steps

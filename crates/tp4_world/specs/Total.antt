@@ -113,13 +113,3 @@ pub record HasStart {C : Type 0} (is_address : List ℕ → Bool) (link : C → 
   pub new : World C
   pub starts : Starts link steps first placed made new
   pub ready : IsReady is_address link Stands new
-
--- where the carrier serves from then on, each line that may be asked has a run, after which it still does
-abbrev pub SomeRun : {C : Type 0} → (C → Link (List ℕ)) → (C → Call (List ℕ) → C → Type 0) → Type 0
-SomeRun {C} link steps = (is_address : List ℕ → Bool) (wrap : ℕ → ℕ → ℕ) (titles : List (List ℕ)) (old : World C) (line : Line)
-    → IsReady is_address link (ServesOn is_address link steps) old → CanRun is_address titles link old line
-    → HasRun is_address link steps (ServesOn is_address link steps) wrap titles old line
-
-abbrev pub SomeStart : {C : Type 0} → (C → Link (List ℕ)) → (C → Call (List ℕ) → C → Type 0) → Type 0
-SomeStart {C} link steps = (is_address : List ℕ → Bool) (first : C) (placed : List Placed) → ServesOn is_address link steps first → AreReady is_address (link first).clock placed
-    → HasStart is_address link steps (ServesOn is_address link steps) first placed

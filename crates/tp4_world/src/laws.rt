@@ -1,10 +1,7 @@
 //! What holds of every run of a network with its transport entities.
 
 ghost use Rattle.std.specs.Prelude.{List, ℕ};
-ghost use Rattle.tp4_world.specs.Asked.{TellsAsked};
-ghost use Rattle.tp4_world.specs.Called.{CallsStayHonest, WholeCalls};
-ghost use Rattle.tp4_world.specs.Laws.{OneRun, OneStart, ShowsSent, ShowsSentWhereHonest, StaysHonest, WholeLine, WholeRun, WireLine};
-ghost use Rattle.tp4_world.specs.Total.{SomeRun, SomeStart};
+ghost use Rattle.tp4_world.specs.Laws.{TellsAsked, CallsStayHonest, WholeCalls, OneRun, OneStart, ShowsSent, ShowsSentWhereHonest, StaysHonest, WholeLine, WholeRun, WireLine, SomeRun, SomeStart};
 
 use nsap::Nsap;
 use osi_base::Carrier;

@@ -104,7 +104,7 @@ impl<C: Carrier<Addr = Nsap> + Drop> TpWorld<C> {
         self.transport.ends.count()
     }
 
-    /// A user of a system asks for a connection. The own reference, the address and the timers of the call are set here.
+    /// A user of a system asks for a connection.
     ///
     /// At NoMemory, and where the system has no transport entity, the run ends.
     // Not inlined: it is none of the lines that come most (above).

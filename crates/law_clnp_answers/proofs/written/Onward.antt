@@ -18,7 +18,6 @@ use Rattle.clnp_header.specs.declared.pdu.Pdu.{Pdu}
 use Rattle.clnp_header.specs.Values.{parameter, parameters}
 use Rattle.clnp_system.specs.Forwarding.{AreOptionsOnward, IsOnward, IsOptionOnward, Passes, Records}
 use Rattle.clnp_system.specs.Forwarding as onward
-use Rattle.clnp_system.specs.Forwarding.{past_own}
 use Rattle.clnp_system.specs.Setting.{Setting, is_own_title}
 use Rattle.clnp_system.specs.Written.{HasPdu, MayBeWritten}
 use Rattle.clnp_system.proofs.Lengths.{recorded_length}

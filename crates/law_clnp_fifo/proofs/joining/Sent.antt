@@ -29,7 +29,8 @@ use Rattle.clnp_system.specs.Written.{AreFrames, CutFrames, IsPduFrame}
 use Rattle.clnp_system.proofs.Initial.{first_length_is}
 use Rattle.clnp_system.proofs.Outgoing.{IsPiece, cuts_are}
 use Rattle.law_clnp_answers.proofs.once.Receivings.{one_receiving}
-use Rattle.law_clnp_fifo.specs.Cutting.{Bring, CutBrings, CutGoes, CutKeeps, Faces, IsEmptyStore, IsFrameTo, IsWhole, KeepsAll}
+use Rattle.law_clnp_fifo.specs.Cutting.{Bring, Faces, IsEmptyStore, IsFrameTo, IsWhole, KeepsAll}
+use Rattle.law_clnp_fifo.specs.Laws.{CutBrings, CutGoes, CutKeeps}
 use Rattle.law_clnp_fifo.proofs.joining.Arrivals.{IsHere, comes_alone, has_pdu, whole_length}
 use Rattle.law_clnp_fifo.proofs.joining.Left.{IsInitial, IsReceiver, initial_part, read_there, runs_bring, unit_is}
 

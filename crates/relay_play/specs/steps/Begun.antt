@@ -1,12 +1,12 @@
 -- What a network with relays and its relays have in common as it starts: no end stands, nothing waits to be taken up, and the systems of the rows are there.
-use Rattle.std.proofs.Common.{◌≡◌, ℕ, ◌≤◌, List, [], ◌∷◌, map, Some, None, refl, sym, ◌∙◌, ap, subst, arith}
+use Rattle.std.proofs.Common.{◌≡◌, ℕ, List, [], ◌∷◌, map, Some, sym, ◌∙◌, ap, subst, arith}
 use Rattle.std.specs.Prelude.{IsSome}
 use Rattle.std.specs.List.{AllByRecursion}
 use Rattle.osi_base.specs.Link.{Link}
 use Rattle.osi_base.specs.Calls.{Call}
 use Rattle.osi_journal.specs.declared.event.Event.{Event}
 use Rattle.osi_setup.specs.Fitting.{IsRelay, IsWell}
-use Rattle.osi_setup.specs.SetUp.{SetUp, System, entities_of, timers_of, titles_of}
+use Rattle.osi_setup.specs.SetUp.{SetUp, entities_of, timers_of, titles_of}
 use Rattle.osi_setup.specs.declared.relay.RelayLine.{RelayLine}
 use Rattle.osi_setup.proofs.Entities.{are_timed}
 use Rattle.script_world.specs.steps.Peopled.{entities_new}
@@ -17,7 +17,7 @@ use Rattle.law_tp4_lawful.proofs.WorldPlaces.{none_some}
 use Rattle.law_tp4_lawful.proofs.WorldStarts.{found, no_end_at}
 use Rattle.tp4_relay.specs.Kept.{nothing_kept}
 use Rattle.tp4_relay.specs.declared.row.RelayRow.{RelayRow}
-use Rattle.tp4_world.specs.Laws.{IsNew}
+use Rattle.tp4_world.specs.First.{IsNew}
 use Rattle.tp4_world.specs.Run.{Starts}
 use Rattle.tp4_world.specs.World.{World, entity_at}
 use Rattle.tp4_world.specs.declared.place.Placed.{Placed}

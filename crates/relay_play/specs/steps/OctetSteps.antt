@@ -1,17 +1,15 @@
 -- Where a network serves, what comes up of it stands in octets: each line that may be asked goes by calls that hand up octets alone, and what ends tell of it stands in
 -- octets too (X.233, connectionless-mode network service).
-use Rattle.std.proofs.Common.{◌≡◌, ℕ, ◌+◌, ◌<◌, ◌==◌, ◌&&◌, Bool, true, false, nat_eq, List, [], ◌∷◌, ◌++◌, length, Option, Some, None, refl, sym, ◌∙◌, ap, subst}
+use Rattle.std.proofs.Common.{◌≡◌, ℕ, ◌+◌, Bool, true, false, List, [], ◌∷◌, ◌++◌, Option, Some, None, refl, subst}
 use Rattle.std.specs.List.{AllByRecursion}
-use Rattle.std.specs.Cmp.Lexicographic.{pointwise}
-use Rattle.nsap.specs.Address.{selector_of}
 use Rattle.osi_base.specs.declared.unit.Arrival.{Arrival}
 use Rattle.osi_base.specs.declared.unit.Up.{Up}
 use Rattle.osi_base.specs.declared.unit.Up.TheVariants.{Unit as Came, Note as Noted}
 use Rattle.osi_base.specs.declared.unit.Wish.{Wish}
 use Rattle.osi_base.specs.Link.{Link}
 use Rattle.osi_base.specs.Calls.{Call, Chain, Choose, Inject, Keeps, NextUp, Offer, Tick}
-use Rattle.osi_base.specs.Gathering.{Gathers, takings}
-use Rattle.law_carrier_answers.specs.Answers.{AreOctets, Asked, CanBeAsked, IsAnswered, MayBeOffered, asked_of}
+use Rattle.osi_base.specs.Gathering.{takings}
+use Rattle.law_carrier_answers.specs.Answers.{AreOctets}
 use Rattle.osi_journal.specs.declared.cause.Refused.{Refused}
 use Rattle.osi_journal.specs.declared.event.Event.{Event}
 use Rattle.osi_script.specs.declared.line.Line.{Line}
@@ -33,7 +31,7 @@ use Rattle.tp4_entity.specs.Step.{connect_refusal, user_refusal}
 use Rattle.law_tp4_proper.specs.Octets.{HasOctets}
 use Rattle.law_tp4_proper.proofs.Octets.{octets_both}
 use Rattle.law_tp4_proper.proofs.Readings.{first_octets}
-use Rattle.tp4_world.specs.Run.{Acts, Arrives, BeginsAt, Calls, CallsAt, CallsBy, CallsEnd, Connects, ConnectsBy, Hears, HearsAll, HearsIf, IsRefused, NoneDue, NoneLeft, OneDue, OneMore, RunsLine, SendsTpdu, SendsTpdus, Settles, Ticks, TicksAll, TicksEntity, TooMany, clock_of, has_ended, is_for}
+use Rattle.tp4_world.specs.Run.{Acts, Arrives, BeginsAt, Calls, CallsAt, CallsBy, CallsEnd, ConnectsBy, Hears, HearsAll, HearsIf, IsRefused, NoneDue, NoneLeft, OneDue, OneMore, RunsLine, SendsTpdu, SendsTpdus, Settles, Ticks, TicksAll, TicksEntity, TooMany, clock_of, has_ended, is_for}
 use Rattle.tp4_world.specs.Total.{CanRun, ComesInOctets, HasRun, IsReady, Serves}
 use Rattle.tp4_world.specs.World.{World, end_numbered, entity_at}
 use Rattle.tp4_world.specs.declared.place.EndAt.{EndAt}
@@ -41,7 +39,7 @@ use Rattle.tp4_world.specs.declared.place.Placed.{Placed}
 use Rattle.tp4_world.proofs.SomeLines.{some_line}
 use Rattle.law_relay.specs.Notes.{is_note}
 use Rattle.relay_play.specs.steps.TextRows.{HasText}
-use Rattle.relay_play.specs.steps.TextWalks.{EventIs, RanIs, UpIs, WorldIs, line_is}
+use Rattle.relay_play.specs.steps.TextWalks.{EventIs, UpIs, WorldIs, line_is}
 
 -- ---- a line by other steps of its carrier
 

@@ -1,17 +1,12 @@
 -- A line of a network with relays has one run, where its network answers in one way: each call of a pump has one outcome, and so has a turn.
-use Rattle.std.proofs.Common.{◌≡◌, ℕ, ◌+◌, ◌&&◌, Bool, true, false, if◌then◌else◌, List, [], ◌∷◌, ◌++◌, Option, Some, None, refl, sym, ◌∙◌, ap, subst}
+use Rattle.std.proofs.Common.{◌≡◌, ℕ, ◌+◌, ◌&&◌, Bool, true, false, if◌then◌else◌, List, [], ◌++◌, refl, sym, ◌∙◌, ap, subst}
 use Rattle.std.specs.Prelude.{nat_lt}
 use Rattle.std.proofs.lemmas.Bool.{false≢true}
 use Rattle.osi_base.specs.Link.{Link}
-use Rattle.osi_base.specs.Calls.{Call, Offer}
-use Rattle.law_carrier_answers.specs.Answers.{OneStep, Offering}
+use Rattle.osi_base.specs.Calls.{Call}
+use Rattle.law_carrier_answers.specs.Answers.{OneStep}
 use Rattle.law_carrier_answers.proofs.Gatherings.{one_gathering}
-use Rattle.net_world.specs.Told.{told}
-use Rattle.net_world.proofs.OneRun.{Same, one_pass}
-use Rattle.osi_journal.specs.declared.cause.Refused.{Refused}
-use Rattle.osi_journal.specs.declared.cause.Refused.TheVariants as refused
 use Rattle.osi_journal.specs.declared.event.Event.{Event}
-use Rattle.osi_journal.specs.declared.event.Event.TheVariants as events
 use Rattle.osi_script.specs.declared.line.Line.{Line}
 use Rattle.osi_script.specs.declared.line.Line.TheVariants as lines
 use Rattle.tpdu.specs.Writing.{is_summed}
@@ -19,27 +14,20 @@ use Rattle.tpdu.specs.declared.tpdu.Format.{Format}
 use Rattle.tpdu.specs.declared.tpdu.Format.TheVariants.{Normal, Extended}
 use Rattle.tpdu.proofs.Spellings.{one_spelling}
 use Rattle.tp4_flow.specs.declared.rules.Options.{Options}
-use Rattle.tp4_flow.specs.declared.step.Sent.{Sent}
 use Rattle.tp4_number.specs.Number.{wire}
-use Rattle.tp4_conn.specs.declared.call.ConnectRequest.{ConnectRequest}
 use Rattle.tp4_conn.specs.declared.call.UserCall.{UserCall}
 use Rattle.tp4_conn.specs.declared.call.UserCall.TheVariants as asks
-use Rattle.tp4_entity.specs.declared.refusal.ConnectRefusal.{ConnectRefusal}
-use Rattle.tp4_entity.specs.Entity.{Acted, Entity}
-use Rattle.tp4_entity.specs.References.{least_free}
-use Rattle.tp4_entity.specs.Step.{connect_refusal}
 use Rattle.tp4_relay.specs.Kept.{Kept}
 use Rattle.tp4_relay.specs.Pump.{PumpStep}
 use Rattle.tp4_world.proofs.OneRun.{OneWriting, one_connect}
-use Rattle.tp4_world.proofs.Places.{some_same}
-use Rattle.tp4_world.specs.Run.{Acts, BeginsAt, Calls, Connects, ConnectsBy, IsRefused, RunsLine, SendsTpdu, SendsTpdus, Settles, clock_of, transport_wish}
-use Rattle.tp4_world.specs.Telling.{asked_options, drop_events, ends_after, events_after, is_extended, told_options}
-use Rattle.tp4_world.specs.World.{World, with_entity}
+use Rattle.tp4_world.specs.Run.{Calls, RunsLine, Settles}
+use Rattle.tp4_world.specs.Telling.{asked_options, is_extended, told_options}
+use Rattle.tp4_world.specs.World.{World}
 use Rattle.script_world.specs.steps.OneLine.{one_line}
 use Rattle.relay_play.specs.Asked.{is_relayed}
 use Rattle.relay_play.specs.Relays.{Answers, Asking, Idle, LastTurn, OneTurn, Part, PumpsAfter, RelayRun, RunsPart, RunsRelays, Settling, Turns, is_more, part_of}
 use Rattle.relay_play.specs.Services.{AsksEnd, AsksFor, is_done}
-use Rattle.relay_play.specs.steps.OnePump.{OneAnswer, Same as SameDone, one_pump}
+use Rattle.relay_play.specs.steps.OnePump.{OneAnswer, one_pump}
 
 -- ---- a call on an end, as a line
 

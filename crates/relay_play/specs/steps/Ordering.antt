@@ -1,5 +1,5 @@
 -- What a network does leaves it in order: nothing waits to be taken up, and each end is of its reference.
-use Rattle.std.proofs.Common.{◌≡◌, ℕ, ◌≤◌, false, List, [], refl, arith}
+use Rattle.std.proofs.Common.{◌≡◌, ℕ, false, List, [], refl, arith}
 use Rattle.std.proofs.lemmas.Bool.{false≢true}
 use Rattle.osi_base.specs.Link.{Link}
 use Rattle.osi_base.specs.Calls.{Call}

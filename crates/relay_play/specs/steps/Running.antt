@@ -1,5 +1,5 @@
 -- What a line of a script does, and the pump that follows, keep what a network and its relays have in common.
-use Rattle.std.proofs.Common.{◌≡◌, ℕ, ◌+◌, ◌≤◌, ◌&&◌, Bool, true, false, nat_lt, List, [], ◌∷◌, ◌++◌, length, refl, sym, ◌∙◌, ap, subst, arith}
+use Rattle.std.proofs.Common.{◌≡◌, ℕ, ◌+◌, ◌≤◌, Bool, true, false, List, [], ◌∷◌, length, refl, sym, ◌∙◌, ap, subst, arith}
 use Rattle.std.specs.List.{AllByRecursion}
 use Rattle.osi_base.specs.Link.{Link}
 use Rattle.osi_base.specs.Calls.{Call, Keeps}
@@ -31,7 +31,7 @@ use Rattle.relay_play.specs.steps.Playing.{Plays}
 use Rattle.relay_play.specs.steps.Pumping.{pump_plays}
 use Rattle.relay_play.specs.steps.Quieting.{line_quiet}
 use Rattle.relay_play.specs.steps.Serving.{world_serves}
-use Rattle.relay_play.specs.steps.Walks.{Goes, after_append}
+use Rattle.relay_play.specs.steps.Walks.{after_append}
 
 line_tidy : (count : ℕ) (kept : Kept) (line : List Event) → IsTidy kept → AreLine count kept line → IsTidy (kept_after kept line)
 line_tidy count kept [] tidy all = tidy

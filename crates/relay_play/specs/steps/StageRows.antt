@@ -12,7 +12,7 @@ use Rattle.tp4_number.specs.declared.got.Got.{Got}
 use Rattle.tp4_number.specs.declared.got.Got.TheVariants.{Kept, Old, Outside, TooLarge}
 use Rattle.tp4_number.specs.declared.piece.Piece.{Piece}
 use Rattle.tp4_number.proofs.Past.{if_kept}
-use Rattle.tp4_flow.specs.Half.{dt_arrival, is_next, taken_dt, taken_ed}
+use Rattle.tp4_flow.specs.Half.{dt_arrival, is_next, taken_dt}
 use Rattle.tp4_flow.specs.Told.{gots}
 use Rattle.tp4_flow.specs.declared.rules.Life.{Life}
 use Rattle.tp4_flow.specs.declared.rules.Life.TheVariants.{Goes, Exhausted}
@@ -36,10 +36,10 @@ use Rattle.tp4_conn.specs.Agreeing.{halves_of, is_within, options_in}
 use Rattle.tp4_conn.specs.AkWait.{ak_wait_tick, ak_wait_tpdu, opening}
 use Rattle.tp4_conn.specs.Closing.{closing_tick, closing_tpdu}
 use Rattle.tp4_conn.specs.CrWait.{cr_wait_tick, cr_wait_tpdu}
-use Rattle.tp4_conn.specs.End.{End, IsSized, Moved, agreed_format, span}
+use Rattle.tp4_conn.specs.End.{End, IsSized, Moved, span}
 use Rattle.tp4_conn.specs.Matching.{wants_sum}
-use Rattle.tp4_conn.specs.Opened.{dt_as, hearing, is_expedited, opened_as, opened_goes, opened_tick, opened_tpdu, receiving, sending}
-use Rattle.tp4_conn.specs.Table.{Event, Ticked, Took, at as at_tick, on_tick, on_tpdu, stepped}
+use Rattle.tp4_conn.specs.Opened.{dt_as, hearing, is_expedited, opened_as, opened_goes, opened_tick, opened_tpdu, sending}
+use Rattle.tp4_conn.specs.Table.{Ticked, Took, at as at_tick, on_tick, on_tpdu, stepped}
 use Rattle.tp4_conn.specs.UserWait.{user_wait_tick}
 use Rattle.tp4_conn.specs.WaitBeforeClose.{wait_before_close_tick, wait_before_close_tpdu}
 use Rattle.tp4_conn.proofs.Sizes.{read_sized}

@@ -1,12 +1,12 @@
 -- What an end shows, and what it tells of a connection, is made of the texts that came to it (X.224, class 4 state tables; segmentation and reassembling): of what
 -- holds of no octets, and of two texts one after another.
-use Rattle.std.proofs.Common.{◌≡◌, ℕ, zero, suc, ◌+◌, ◌==◌, ◌&&◌, ◌||◌, not, nat_lt, nat_le, replicate, drop, slice_set, Bool, true, false, List, [], ◌∷◌, ◌++◌, Option, Some, None}
+use Rattle.std.proofs.Common.{ℕ, zero, suc, ◌+◌, ◌==◌, ◌&&◌, not, nat_lt, nat_le, replicate, drop, slice_set, true, List, [], ◌∷◌, ◌++◌, Option, Some, None}
 use Rattle.std.specs.List.{AllByRecursion}
 use Rattle.tpdu.specs.declared.tpdu.Tpdu.{Tpdu}
 use Rattle.tpdu.specs.declared.tpdu.Tpdu.TheVariants as wires
 use Rattle.tp4_number.specs.Number.{ahead, wire}
-use Rattle.tp4_number.specs.Receiver.{Arrived, Inbox, arrived_as, granted, in_order, judged, kept}
-use Rattle.tp4_number.specs.Window.{Held, Joined, begun_by, is_larger, joined, joined_by, placed, slid}
+use Rattle.tp4_number.specs.Receiver.{Arrived, Inbox, arrived_as, in_order, judged, kept}
+use Rattle.tp4_number.specs.Window.{Held, Joined, begun_by, is_larger, joined, joined_by, placed}
 use Rattle.tp4_number.specs.Formats.{most_of}
 use Rattle.tp4_number.specs.declared.got.Got.{Got}
 use Rattle.tp4_number.specs.declared.got.Got.TheVariants.{Kept, Old, Outside, TooLarge}

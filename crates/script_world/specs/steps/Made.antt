@@ -22,14 +22,14 @@ use Rattle.law_clnp_step.specs.Step.{Begins}
 use Rattle.law_clnp_step.proofs.Kept.{net_given as given_of, net_keeps}
 use Rattle.law_clnp_step.proofs.Passed.{all_ticked}
 use Rattle.law_clnp_step.proofs.Seen.{belongs_same}
-use Rattle.law_clnp_answers.specs.Laws.{BeginsAs, MayBegin}
+use Rattle.law_clnp_answers.specs.Beginning.{BeginsAs, MayBegin}
 use Rattle.law_clnp_answers.specs.Serving.{StandsInOctets, ComesInOctets as NetComes}
 use Rattle.law_clnp_answers.specs.Standing.{is_nsap}
 use Rattle.law_clnp_answers.proofs.Always.{begins_serving, begins_standing, serves}
 use Rattle.law_clnp_answers.proofs.Bags.{one_bag_answer}
 use Rattle.law_clnp_answers.proofs.Steps.{one_answer, one_beginning}
 use Rattle.esis_tables.specs.Rows.{Rows}
-use Rattle.net_world.specs.Laws.{IsFirst}
+use Rattle.net_world.specs.First.{IsFirst}
 use Rattle.tp4_world.specs.Total.{ComesInOctets, Serves, ServesOn}
 use Rattle.tp4_world.proofs.Serving.{serves_within}
 use Rattle.osi_script.specs.declared.words.Dialect.TheVariants as dialects

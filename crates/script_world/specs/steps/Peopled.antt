@@ -6,7 +6,7 @@ use Rattle.std.specs.List.{AllByRecursion}
 use Rattle.tp4_conn.specs.End.{End}
 use Rattle.tp4_entity.specs.Dues.{AreLater}
 use Rattle.tp4_entity.proofs.Dues.{later_none}
-use Rattle.tp4_world.specs.Laws.{IsNew}
+use Rattle.tp4_world.specs.First.{IsNew}
 use Rattle.tp4_world.specs.declared.place.Placed.{Placed}
 use Rattle.tp4_world.specs.steps.Parts.{AreLaterAll}
 use Rattle.tp4_world.proofs.Later.{each_later}

@@ -1,4 +1,4 @@
-use Rattle.clnp_net.proofs.Waiting.{none_waits, some_wait}
+use Rattle.clnp_net.proofs.Waiting.{some_wait}
 use Rattle.clnp_net.proofs.net.handle_waiting.Goals as goal
 
 pub returns : goal.returns

@@ -12,14 +12,15 @@ use Rattle.tp4_conn.specs.End.{IsTimed, frozen_for}
 use Rattle.tp4_conn.specs.declared.call.UserCall.TheVariants as asks
 use Rattle.tp4_conn.specs.declared.timers.Timers.{Timers}
 use Rattle.tp4_world.specs.Called as requests
-use Rattle.tp4_world.specs.Called.{CallsStayHonest, DidAll, InjectsNothing, KeepsLimits, WorldCall}
-use Rattle.tp4_world.specs.Laws.{IsFirst}
+use Rattle.tp4_world.specs.Laws.{CallsStayHonest}
+use Rattle.tp4_world.specs.Called.{DidAll, InjectsNothing, KeepsLimits, WorldCall}
+use Rattle.tp4_world.specs.First.{IsFirst}
 use Rattle.tp4_world.specs.Run.{Starts}
 use Rattle.tp4_world.specs.World.{World}
 use Rattle.tp4_world.specs.declared.place.Placed.{Placed}
 use Rattle.tp4_world.proofs.Shown.{first_honest}
-use Rattle.law_tp4_lawful.specs.Called.{CallsAreLawful}
-use Rattle.law_tp4_lawful.specs.Headline.{AreDistinct, IsUntouched}
+use Rattle.law_tp4_lawful.specs.Laws.{CallsAreLawful}
+use Rattle.law_tp4_lawful.specs.First.{AreDistinct, IsUntouched}
 use Rattle.test_transport.proofs.worlds.talk.Goals as goal
 
 -- what calls tell is lawful, where none of them injects

@@ -1,4 +1,4 @@
-use Rattle.std.proofs.Common.{false, sym}
+use Rattle.std.proofs.Common.{false}
 use Rattle.tp4_relay.specs.declared.claim.Claim.{Claim}
 use Rattle.tp4_relay.proofs.Placed.{missed_lost, set_lost}
 use Rattle.tp4_relay.proofs.claim.lose_at.Goals as goal

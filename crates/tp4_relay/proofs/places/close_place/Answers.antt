@@ -1,6 +1,5 @@
-use Rattle.std.proofs.Common.{◌≡◌, ◌<◌, ℕ, List, length, set, sym, ◌∙◌, ap, subst}
+use Rattle.std.proofs.Common.{◌<◌, ℕ, List, length, set, sym, ◌∙◌, ap, subst}
 use Rattle.std.specs.List.{remove}
-use Rattle.std.specs.Vec.{vec_len}
 use Rattle.tp4_relay.specs.declared.pair.Pair.{Pair}
 use Rattle.tp4_relay.specs.Pairs.{Closes, changed}
 use Rattle.tp4_relay.specs.steps.Rising.{IsGap}

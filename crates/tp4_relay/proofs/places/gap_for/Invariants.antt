@@ -1,4 +1,4 @@
-use Rattle.std.proofs.Common.{◌≡◌, ℕ, ◌≤◌, ◌<◌, length, get_or}
+use Rattle.std.proofs.Common.{ℕ, ◌≤◌, ◌<◌, length, get_or}
 use Rattle.tp4_relay.proofs.places.gap_for.Given as goal
 
 abbrev pub invariant-loop-at : goal.invariant-loop-at

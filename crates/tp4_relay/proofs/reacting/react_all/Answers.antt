@@ -1,4 +1,4 @@
-use Rattle.std.proofs.Common.{◌≡◌, ◌<◌, ◌≤◌, ◌||◌, length, ◌∙◌, arith, rules}
+use Rattle.std.proofs.Common.{◌≡◌, ◌<◌, ◌≤◌, ◌||◌, length, ◌∙◌, arith}
 use Rattle.tp4_relay.specs.steps.Tables.{kept_of}
 use Rattle.tp4_relay.proofs.Carried.{now_notable, reacted_all, reacting_allowed, reacting_none}
 use Rattle.tp4_relay.proofs.Placed.{on_err}

@@ -1,5 +1,4 @@
 use Rattle.std.proofs.Common.{◌∙◌, ℕ, List, subst, sym}
-use Rattle.esis_tables.specs.Rows.{Rows}
 use Rattle.osi_base.specs.Calls.{Inject}
 use Rattle.osi_base.specs.Floated.{Floated}
 use Rattle.clnp_system.specs.Tables.{rows_tables}

@@ -1,7 +1,5 @@
-use Rattle.std.proofs.Common.{◌+◌, ◌∙◌, ap}
-use Rattle.tp4_entity.specs.Entity.{Entity, with_end}
-use Rattle.tp4_entity.specs.steps.Places.{Lasts}
-use Rattle.tp4_entity.proofs.Dues.{lasts_put, lasts_woken}
+use Rattle.std.proofs.Common.{◌+◌}
+use Rattle.tp4_entity.proofs.Dues.{lasts_woken}
 use Rattle.tp4_entity.proofs.entity.TpEntity.call_from.Goals as goal
 
 pub returns-clause-lasts : goal.returns-clause-lasts

@@ -1,4 +1,4 @@
-use Rattle.std.proofs.Common.{List, Option, ap, ◌∙◌}
+use Rattle.std.proofs.Common.{ap, ◌∙◌}
 use Rattle.std.specs.List.{list_any}
 use Rattle.tp4_entity.specs.Entity.{Entity}
 use Rattle.tp4_entity.specs.Step.{is_due}

@@ -1,4 +1,4 @@
-use Rattle.std.proofs.Common.{◌≤◌, ap, subst, sym, arith}
+use Rattle.std.proofs.Common.{◌≤◌, ap, arith}
 use Rattle.tp4_entity.specs.Entity.{Entity}
 use Rattle.tp4_entity.proofs.PlaceLaws.{entity_later}
 use Rattle.tp4_entity.proofs.entity.TpEntity.set_clock.Goals as goal

@@ -1,6 +1,4 @@
-use Rattle.std.proofs.Common.{◌≡◌, ◌∙◌, ap, is_some, subst, sym}
-use Rattle.tp4_entity.specs.Dues.{AreLater}
-use Rattle.tp4_entity.specs.Entity.{Entity}
+use Rattle.std.proofs.Common.{◌∙◌, ap, is_some, sym}
 use Rattle.tp4_entity.proofs.Dues.{popped_id, popped_later, popped_none}
 use Rattle.tp4_entity.proofs.Ticks.{none_first, takes_behind, takes_due, takes_dues, takes_entity, takes_fewer, takes_from, takes_later, takes_on, takes_step, takes_there, ticks_none}
 use Rattle.tp4_entity.proofs.entity.TpEntity.tick_next.Goals as goal

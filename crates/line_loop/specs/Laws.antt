@@ -1,7 +1,5 @@
--- Octets come to one thing at most: they were read, or one line is refused, or a limit is passed. What all octets of a
--- source ask for comes, or a failure in its place.
+-- What the laws of runs say of a meaning of lines: octets come to one thing at most, and always to one.
 use Rattle.std.specs.Prelude.{◌≡◌, ℕ, List}
-pub use Rattle.octet_loop.specs.ByStatus.{IsFailure}
 use Rattle.octet_loop.specs.ByStatus as by_status
 use Rattle.line_loop.specs.Meaning.{Meaning}
 use Rattle.line_loop.specs.Course.{IsRead, IsWhole, IsTooMuch, IsTooMuchAtEnd, IsRefusedAt, IsRefusedAtEnd}
@@ -44,9 +42,6 @@ pub record OneCourse {M E R : Type 0} (meaning : Meaning M E R) : Type 0 where
 abbrev pub AsksOne : {M E R : Type 0} → Meaning M E R → Type 0
 AsksOne {M} meaning = (first : M) → by_status.AsksOne (λ end. Asks meaning end first)
 
--- no line of an input is refused, and none of its octets passes a limit or ends a line that fills the journal
-pub record IsAccepted {M E R : Type 0} (meaning : Meaning M E R) (first : M) (all : List ℕ) : Type 0 where
-  pub read : (line : ℕ) (said : R) (journal : List E) (last : M) → IsRefusedAt meaning first all line said journal last → ⊥
-  pub ended : (line : ℕ) (said : R) (journal : List E) (last : M) → IsRefusedAtEnd meaning first all line said journal last → ⊥
-  pub within : (journal : List E) (last : M) → IsTooMuch meaning first all journal last → ⊥
-  pub within_at_end : (journal : List E) (last : M) → IsTooMuchAtEnd meaning first all journal last → ⊥
+-- all octets of an input ask for a transcript and a status
+abbrev pub AsksSomething : {M E R : Type 0} → Meaning M E R → M → List ℕ → Type 0
+AsksSomething meaning first = by_status.AsksSomething (λ end. Asks meaning end first)

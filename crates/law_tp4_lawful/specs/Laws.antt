@@ -1,38 +1,24 @@
 -- What a receiver of a connection may see, whatever the network loses, repeats, delays and reorders (X.214, model of the transport service:
 -- two queues for each connection).
-use Rattle.std.specs.Prelude.{◌≡◌, ◌≤◌, ℕ, true, List, ◌++◌, length, slice_get, Some}
+use Rattle.std.specs.Prelude.{◌≡◌, ℕ, true, List, ◌++◌, ◌≤◌}
 use Rattle.std.specs.List.{AllByRecursion}
-use Rattle.nsap.specs.Address.{system_part}
 use Rattle.osi_base.specs.Link.{Link}
 use Rattle.osi_base.specs.Calls.{Call}
-use Rattle.osi_journal.specs.Lawful.{Lawful, KeepsSilence}
+use Rattle.osi_journal.specs.Lawful.{KeepsSilence, Lawful}
 use Rattle.osi_journal.specs.declared.event.Event.{Event}
-use Rattle.osi_script.specs.declared.line.Line.{Line}
-use Rattle.osi_script.specs.declared.line.Line.TheVariants as lines
 use Rattle.tp4_number.specs.Number.{wire}
-use Rattle.tp4_conn.specs.End.{IsSized, IsTimed, frozen_for}
+use Rattle.tp4_conn.specs.End.{IsTimed, frozen_for}
 use Rattle.tp4_conn.specs.declared.timers.Timers.{Timers}
-use Rattle.tp4_world.specs.Laws.{IsFirst}
-use Rattle.tp4_world.specs.Run.{RunsLines, Starts}
-use Rattle.tp4_world.specs.Telling.{asked_options}
+use Rattle.tp4_world.specs.First.{IsFirst}
+use Rattle.tp4_world.specs.Run.{Starts, RunsLines}
 use Rattle.tp4_world.specs.World.{World}
 use Rattle.tp4_world.specs.declared.place.Placed.{Placed}
+use Rattle.law_tp4_lawful.specs.First.{AreDistinct, IsUntouched}
+use Rattle.law_tp4_lawful.specs.Called.{AreCalls, AreHonestCalls}
+use Rattle.law_tp4_lawful.specs.Limits.{IsProperLine}
+use Rattle.osi_script.specs.declared.line.Line.{Line}
 
--- two systems have two titles, and not by their selectors alone
-abbrev pub AreDistinct : List (List ℕ) → Type 0
-AreDistinct titles = (one other : ℕ) (title next : List ℕ) → slice_get titles one ≡ Some title → slice_get titles other ≡ Some next → system_part title ≡ system_part next → one ≡ other
-
--- an entity with these timers, before its first call
-pub record IsUntouched (timers : Timers) (one : Placed) : Type 0 where
-  pub timers_are : one.entity.timers ≡ timers
-  pub clock : one.entity.clock ≡ 0
-
--- the line keeps the limits of the script: the size of a TPDU is one of the seven, a selector has 32 octets at most, and a credit is at most 255
-abbrev pub IsProperLine : Line → Type 0
-IsProperLine (lines.Connect system selector to called options octets) = IsSized (asked_options options) × (length selector ≤ 32) × (length called ≤ 32)
-IsProperLine (lines.Accept end options octets) = IsSized (asked_options options)
-IsProperLine (lines.Window end credit) = credit ≤ 255
-IsProperLine line = Unit {0}
+-- ---- over lines
 
 -- over any carrier: while it is honest, since no injection was taken, each front of the journal is lawful. So no connect request has two indications, and
 -- each indication has a request, which says the same. Of what an end was asked to send its partner shows a front, in order, of normal and of expedited
@@ -53,3 +39,16 @@ StaysSilent {C} link steps =
     (titles : List (List ℕ)) (timers : Timers) (made : C) (placed : List Placed) (begun journal : List Event) (script : List Line) (first last : World C)
     → IsFirst timers.life titles (link made) placed → AllByRecursion (IsUntouched timers) placed → Starts link steps made placed begun first
     → RunsLines link steps wire titles first script journal last → KeepsSilence (frozen_for timers) (begun ++ journal)
+
+-- ---- over calls
+
+-- over any carrier, while it is honest: each front of the events is lawful
+abbrev pub CallsAreLawful : {C : Type 0} → (C → Link (List ℕ)) → (C → Call (List ℕ) → C → Type 0) → Type 0
+CallsAreLawful {C} link steps = (titles : List (List ℕ)) (timers : Timers) (journal : List Event) (last : World C)
+    → AreHonestCalls link steps wire titles timers journal last → Lawful (frozen_for timers) titles journal
+
+-- over any carrier, and also where octets were injected: after a system began again nothing is told of the ends that it had, and it makes none for as
+-- long as references are frozen
+abbrev pub CallsAreSilent : {C : Type 0} → (C → Link (List ℕ)) → (C → Call (List ℕ) → C → Type 0) → Type 0
+CallsAreSilent {C} link steps = (titles : List (List ℕ)) (timers : Timers) (journal : List Event) (last : World C)
+    → AreCalls link steps wire titles timers journal last → KeepsSilence (frozen_for timers) journal

@@ -1,4 +1,4 @@
--- What holds of every history (X.224, frozen references; class 4 procedures).
+-- The histories that steps lead to, and what is claimed of them (X.224, frozen references; class 4 procedures).
 use Rattle.std.specs.Prelude.{◌≡◌, ◌≢◌, ◌⊎◌, ℕ, ◌+◌, ◌<◌, ◌≤◌, false, List, Some, None, Contains}
 use Rattle.law_tp4_history.specs.Ends.{Times, frozen, Cr, Dr, Dc, Flow, Terms, Offer, Sent, Answer, End}
 use Rattle.law_tp4_history.specs.History.{History, nothing, Step, Leads, IsFresh, IsPartner, IsCaller}

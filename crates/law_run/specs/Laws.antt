@@ -1,20 +1,35 @@
--- What a reader of a transcript may conclude from its text, with the names of the script: the events that he reads are those of the run, and each line that
--- asks something has its own.
+-- What holds of every run of the network; and what a reader of a transcript may conclude from its text, with the names of the script: the events that he
+-- reads are those of the run, and each line that asks something has its own.
 use Rattle.std.specs.Prelude.{◌≡◌, ℕ, List, None}
-use Rattle.osi_journal.specs.Injective.{EachTold}
+use Rattle.osi_journal.specs.declared.event.Event.{Event}
+use Rattle.osi_script.specs.declared.line.Line.{Line}
+use Rattle.line_loop.specs.Course.{Runs}
+use Rattle.osi_script.specs.Known.{nothing_declared, Declared}
+use Rattle.osi_script.specs.Script.{Says}
+use Rattle.osi_script.specs.declared.words.Dialect.TheVariants as dialects
+use Rattle.law_run.specs.Bench.{Bench, first_bench, bench_meaning}
+use Rattle.law_run.specs.Calm.{ServesUsers, RunsCalmly}
+use Rattle.law_run.specs.World.{TransportNet, frozen_of, strays_of, titles_of, WorldRun, World}
 use Rattle.osi_journal.specs.Lawful.{Lawful}
+use Rattle.law_run.specs.Transcript.{IsScriptRun, IsRun}
+use Rattle.osi_journal.specs.Injective.{EachTold}
 use Rattle.osi_journal.specs.Showing.{EachTellsRightly}
 use Rattle.osi_journal.specs.Told.{journal_text}
-use Rattle.osi_journal.specs.declared.event.Event.{Event}
-use Rattle.osi_script.specs.declared.words.Dialect.TheVariants as dialects
-use Rattle.osi_script.specs.declared.line.Line.{Line}
-use Rattle.osi_script.specs.Known.{Declared, nothing_declared}
-use Rattle.osi_script.specs.Script.{Says}
 use Rattle.osi_script.specs.Tags.{HaveNames, tags_of}
 use Rattle.tp4_world.specs.Asked.{AreAsked}
-use Rattle.law_run.specs.Bench.{Bench}
-use Rattle.law_run.specs.Transcript.{IsRun}
-use Rattle.law_run.specs.World.{World, WorldRun, frozen_of, strays_of, titles_of}
+
+-- ---- scripts
+
+-- what runs on the bench is a script, line by line, and the run of the network for its lines
+abbrev pub RunsScripts : Type 0
+RunsScripts = (texts : List (List ℕ)) (journal : List Event) (last : Bench) → Runs bench_meaning first_bench texts journal last → IsScriptRun texts journal last
+
+-- after each calm script the network serves its users
+abbrev pub ServesCalmScripts : Type 0
+ServesCalmScripts = (texts : List (List ℕ)) (script : List Line) (names : Declared) (journal : List Event) (titles : List (List ℕ)) (last : TransportNet) → RunsCalmly texts script names journal titles last
+    → ServesUsers names journal titles last
+
+-- ---- what a reader may conclude
 
 -- however far octets were run: the names declared are names, no two alike, and with them each event is told by its line
 abbrev pub TellsItsEvents : Type 0

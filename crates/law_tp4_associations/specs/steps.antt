@@ -1,0 +1,2 @@
+-- What only carries the proofs: all laws of associations together.
+pub mod Together
