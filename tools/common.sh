@@ -49,15 +49,29 @@ is_transcript() {
         wrong "the input is no transcript, which ./osi run < SCRIPT writes"
 }
 
-# The word that runs $work/script: that of its first line `# osi WORD: ..`, else `run`.
+# The word that runs $work/script: that of its first comment `# osi WORD: ..`, else `run`.
 command_of() {
-    command=$(sed -n -e '1s/^# osi \(datagrams\):.*/\1/p' -e '1s/^# osi \(inactive\):.*/\1/p' -e '1s/^# osi \(relay\):.*/\1/p' "$work/script")
+    command=$(awk -f "$tools/word.awk" "$work/script")
     command=${command:-run}
+}
+
+# OSI_BUILT is `yes` where a program answers at once; the launcher may have built one that is kept.
+look_again() {
+    if "$OSI" help | grep -q '^An unproved program is kept'; then
+        OSI_BUILT=yes
+    fi
+}
+
+# Says once that an unproved program answers.
+tell_kept() {
+    [ -z "${OSI_SAYS-}" ] || echo "osi: $OSI_SAYS" >&2
+    OSI_SAYS=
 }
 
 # Runs the program by its word on $work/script, into $work/WORD; in the place of `run` by the word of the script. Without a transcript
 # the tool ends. What the launcher says of a build is shown, what it says of a refused line is not: the tool tells it.
 program() {
+    tell_kept
     command_of
     word=$1
     [ "$1" != run ] || word=$command
@@ -76,9 +90,22 @@ program() {
         exit "$status"
         ;;
     esac
+    [ "$OSI_BUILT" = yes ] || look_again
 }
 
+# Writes what a tool made, in $work/out: a write that fails has the status 4 of the program, and silence where the reader has gone.
+hand_over() {
+    cat "$work/out" 2>"$work/failure"
+    wrote=$?
+    [ "$wrote" != 0 ] || return 0
+    [ "$wrote" -gt 128 ] || say "a write failed: the device of the output is full"
+    exit 4
+}
+
+# (where nothing can be kept in the checkout, the launcher keeps an unproved program here)
 work=$(mktemp -d) || exit 125
+OSI_KEEP=${OSI_KEEP:-$work/kept}
+export OSI_KEEP
 trap 'rm -rf "$work"' EXIT
 trap 'exit 129' HUP
 trap 'exit 130' INT

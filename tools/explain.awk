@@ -15,7 +15,8 @@ BEGIN {
 }
 function line(number, text) {
     split(text, word, " ")
-    if (word[1] == "es" || word[1] == "is") kind[word[2]] = toupper(word[1])
+    if (word[1] == "es" || word[1] == "is") { kind[word[2]] = toupper(word[1]); set_up_title(word[2], word[3]) }
+    if (word[1] == "set" && word[2] in limit) limit[word[2]] = word[3]
     if (word[1] == "route") routed[word[2]]
     remember(number, text)
 }
@@ -26,12 +27,14 @@ function is_as(text, wanted,   have, want, i, n) {
     for (i = 1; i <= n; i++) if (want[i] != "*" && want[i] != have[i] && !(want[i] ~ /^(ES|IS)$/ && kind[have[i]] == want[i])) return 0
     return 1
 }
-function found(topic, number, text) {
+function found(topic, number, text, here) {
     if (!(topic in times)) order[++topics] = topic
-    if (++times[topic] <= 3) at[topic] = at[topic] sprintf("%s:%d%s: %s\n", ENVIRON["name"], number, clock == "" ? "" : " (tick " clock ")", text)
+    if (++times[topic] <= 3) at[topic] = at[topic] sprintf("%s:%d%s: %s\n%s", ENVIRON["name"], number, clock == "" ? "" : " (tick " clock ")", text,
+        here == "" ? "" : "    here: " here "\n")
 }
 function told(number, text,   i, w) {
     split(text, w, " ")
+    remember_event(number, w)
     if (w[1] == "frame") {
         frames++
         sender[w[2]] = w[4]
@@ -44,8 +47,15 @@ function told(number, text,   i, w) {
     if (w[1] == "window" && $1 == "window" && w[3] != $3) {
         found("normal formats carry a credit of 15 at most, so " w[3] " is in force\n    do: `extended` formats in `connect` and `accept` carry 255", number, text)
     }
+    if (by_relay && w[1] == "no") {
+        if (text == "no queuefull") found("64 units wait in an end of the relay, so the next one waits in the relay, which tries again after each line\n" \
+            "    do: let the user behind it give credit by `window`", number, text)
+        else found("a call of the relay is refused, and the relay ends the other connection of the pair: of the end that was called, or of none\n" \
+            "    do: for `refsspent` raise `refs`, or wait; see the table of `no` in docs/script.md", number, text)
+        return
+    }
     for (i = 1; i <= patterns_of[w[1]]; i++) if (is_as(text, pattern[w[1], i])) {
-        found(tells[pattern[w[1], i]] "\n    do: " mends[pattern[w[1], i]], number, text)
+        found(tells[pattern[w[1], i]] "\n    do: " mends[pattern[w[1], i]], number, text, before(text, w))
         return
     }
 }

@@ -33,6 +33,12 @@ function refusal(number, text, column, cause,   from, has, want, names, count, a
         print "    form: " has[1] (names ? " " form[has[1]] : "")
     }
     at = split(substr(text, 1, column - 1) "x", part, " ") - 1
+    here = ""
+    if (cause == "word" && has[1] == "restart" && command == "run") here = "`restart` is a line of version 2: put `version 2` at the top of the script"
+    if (cause == "word" && has[1] == "send") here = "`send` is a line of `osi datagrams`: a first comment `# osi datagrams: ..` names it"
+    if (cause == "word" && has[1] == "relay") here = "`relay` is a line of `osi relay`: a first comment `# osi relay: ..` names it"
+    if (cause == "repeat" && has[1] == "port" && want[at] == "LAN" && kind[has[2]] == "ES") \
+        here = "an end system has one port, also on another LAN: leave the line out, or declare " has[2] " by `is`"
     key = want[at] == "VALUE" ? "VALUE " has[2] : want[at]
     if (cause == "ascii") note("write it with plain letters, digits and signs, and single blanks between fields; save the file as ASCII or UTF-8 without a mark")
     else if (text ~ /^ /) note("no blank stands before the first field")
@@ -71,4 +77,5 @@ function refusal(number, text, column, cause,   from, has, want, names, count, a
         if (cause == "unknown" && want[at] == "PATH") print "    paths above:" declared("path")
         if (cause == "unknown") print "    end systems above:" declared("es") "; intermediate ones:" declared("is") "; with a port:" declared("port")
     }
+    if (here != "") print "    here: " here
 }

@@ -2,13 +2,12 @@
 -- them is in their stead.
 use Rattle.std.proofs.Common.{◌≡◌, ◌⊎◌, ℕ, zero, suc, ◌+◌, ◌-◌, ◌<◌, ◌≤◌, max, min, Bool, nat_lt, cond, count_by, is_none, is_some, List, [], ◌∷◌, ◌++◌, drop, get_or, length, replicate, slice_get, slice_set, take, Option, Some, None, inl, inr, refl, sym, ap, subst, ◌∙◌, arith, append_assoc, drop-cons, length-append}
 use Rattle.std.specs.Prelude.{slice_range}
-use Rattle.std.specs.List.{remove}
 use Rattle.std.proofs.lemmas.Bool.{cases_lt, lt-ltb, le-ltb}
 use Rattle.std.proofs.lemmas.Option.{get_or_from_slice_get, slice_get-get_or, slice_get_within}
 use Rattle.std.proofs.lemmas.List.Sums.{count_by-le-length}
-use Rattle.std.proofs.lemmas.List.{append-nil, drop-set, drop_all, length-replicate, take-append-drop, take-set, take_all, take_more, take_more_set, length-drop, length-take}
+use Rattle.std.proofs.lemmas.List.{append-nil, drop-set, drop_all, get_or-set_other, get_or-set_same, get_or_default, length-replicate, set-get_or, set-set, take-append-drop, take-set, take_all, take_more, take_more_set, length-drop, length-take}
 use Rattle.clnp_segment.specs.declared.runs.Run.{Run}
-use Rattle.clnp_segment.specs.steps.Spans.{AreRuns, IsFirst, IsMeeting, Meets, Rise, end_of, gathered, joined, merged, size, slots_from}
+use Rattle.clnp_segment.specs.steps.Spans.{AreRuns, IsFirst, IsMeeting, Meets, Rise, end_of, gathered, joined, merged, size, slots_from, spanned}
 use Rattle.clnp_segment.proofs.Fills.{counted_whole, gathered_push, joined_within, joined_written, merged_end, size_both, slots_long}
 use Rattle.clnp_segment.proofs.Slots.{count_written}
 use Rattle.clnp_segment.proofs.Spans.{joins_rise}
@@ -93,6 +92,82 @@ slice_empty xs first = let none : first - first ≡ 0 = omega arith in ap (λ (n
 drop_head : (xs : List Run) (i : ℕ) (d : Run) → i < length xs → drop i xs ≡ get_or xs i d ∷ drop (i + 1) xs
 drop_head xs i d low = let next : suc i ≡ i + 1 = omega arith in drop-cons xs i d low ∙ ap (λ (n : ℕ). get_or xs i d ∷ drop n xs) next
 
+-- ---- the front of the first and the back of the last
+spanned_end : (x y r : Run) → r.start ≤ end_of x → y.start ≤ end_of r → end_of (spanned x y r) ≡ max (end_of y) (end_of r)
+spanned_end x y r near close =
+    let front = take (r.start - x.start) x.octets in
+    let back = drop (end_of r - y.start) y.octets in
+    omega (arith, length-append front (r.octets ++ back), length-append r.octets back, length-take (r.start - x.start) x.octets, length-drop (end_of r - y.start) y.octets, near, close)
+
+spanned_next : (x z y r : Run) → r.start ≤ end_of x → z.start ≤ end_of r → end_of z ≤ end_of r → x.start ≤ y.start → merged y (spanned x z r) ≡ spanned x y r
+spanned_next x z y r near close inside later =
+    ap (λ (start : ℕ). record (merged y (spanned x z r)) { start = start }) first ∙ ap (λ (all : List ℕ). record (spanned x y r) { octets = all }) octets
+  where
+    front : List ℕ
+    front = take (r.start - x.start) x.octets
+
+    back : List ℕ
+    back = drop (end_of r - y.start) y.octets
+
+    first : min y.start (min x.start r.start) ≡ min x.start r.start
+    first = omega (arith, later)
+
+    none : take (min x.start r.start - y.start) y.octets ≡ []
+    none = let zero_is : min x.start r.start - y.start ≡ 0 = omega (arith, later) in ap (λ (n : ℕ). take n y.octets) zero_is
+
+    ending : end_of (spanned x z r) ≡ end_of r
+    ending = omega (arith, spanned_end x z r near close, inside)
+
+    whole : (spanned x z r).octets ≡ take (r.start - x.start) x.octets ++ r.octets
+    whole =
+        ap (λ (all : List ℕ). front ++ (r.octets ++ all)) (drop_all (end_of r - z.start) z.octets (omega (arith, inside)))
+        ∙ ap (λ (all : List ℕ). front ++ all) (append-nil r.octets)
+
+    octets : take (min x.start r.start - y.start) y.octets ++ ((spanned x z r).octets ++ drop (end_of (spanned x z r) - y.start) y.octets)
+        ≡ take (r.start - x.start) x.octets ++ (r.octets ++ drop (end_of r - y.start) y.octets)
+    octets =
+        ap (λ (all : List ℕ). all ++ ((spanned x z r).octets ++ drop (end_of (spanned x z r) - y.start) y.octets)) none
+        ∙ ap (λ (n : ℕ). (spanned x z r).octets ++ drop (n - y.start) y.octets) ending
+        ∙ ap (λ (all : List ℕ). all ++ back) whole ∙ append_assoc front r.octets back
+
+record IsReached (runs : List Run) (r : Run) (first last : ℕ) : Type 0 where
+  reaches : (get_or runs last r).start ≤ end_of r
+  spanned_is : gathered (slice_range runs first (last + 1)) r ≡ spanned (get_or runs first r) (get_or runs last r) r
+
+reached : (runs : List Run) (r : Run) (first last start end held : ℕ) → Rise 0 runs → IsFirst runs r.start first → IsMeeting runs r first last start end held
+    → last < length runs → (get_or runs last r).start ≤ end → IsReached runs r first last
+reached runs r first last start end held rise f h low close = by (cases_lt first last)
+  where
+    y : Run
+    y = get_or runs last r
+
+    next : gathered (slice_range runs first (last + 1)) r ≡ merged (get_or runs last r) (gathered (slice_range runs first last) r)
+    next = ap (λ (xs : List Run). gathered xs r) (slice_push runs first last r h.order low) ∙ gathered_push (slice_range runs first last) (get_or runs last r) r
+
+    by : (first < last) ⊎ (last ≤ first) → IsReached runs r first last
+    by (inr same) =
+        let e : last ≡ first = omega (arith, h.order, same) in
+        let none : gathered (slice_range runs first last) r ≡ r =
+        ap (λ (n : ℕ). gathered (slice_range runs first n) r) e ∙ ap (λ (xs : List Run). gathered xs r) (slice_empty runs first) in
+        record {
+          reaches = omega (arith, close, h.end_is, ap end_of none);
+          spanned_is = next ∙ ap (merged (get_or runs last r)) none ∙ ap (λ (n : ℕ). spanned (get_or runs n r) (get_or runs last r) r) e;
+        }
+    by (inl more) =
+        let x : Run = get_or runs first r in
+        let z : Run = get_or runs (last - 1) r in
+        let near : r.start ≤ end_of x = f.met first r (omega arith) (omega (arith, more, low)) in
+        let apart : end_of z < (get_or runs last r).start = rise_next 0 runs (last - 1) last r rise (omega (arith, more)) low in
+        let later : end_of x < (get_or runs last r).start = rise_next 0 runs first last r rise more low in
+        let so_far : gathered (slice_range runs first last) r ≡ spanned x z r = h.spanned_is more in
+        let ending : end_of (spanned x z r) ≡ max (end_of z) (end_of r) = spanned_end x z r near (h.reaches more) in
+        let reach : (get_or runs last r).start ≤ end_of r = omega (arith, close, h.end_is, ap end_of so_far, ending, apart) in
+        record {
+          reaches = reach;
+          spanned_is = next ∙ ap (merged (get_or runs last r)) so_far
+              ∙ spanned_next x z (get_or runs last r) r near (h.reaches more) (omega (arith, reach, apart)) (omega (arith, later));
+        }
+
 pub meeting_none : (runs : List Run) (r : Run) (first start end : ℕ) → IsFirst runs r.start first → start ≡ r.start → end ≡ end_of r
     → IsMeeting runs r first first start end 0
 meeting_none runs r first start end h start_is end_is =
@@ -106,6 +181,8 @@ meeting_none runs r first start end h start_is end_is =
       low = omega (arith, start_is);
       high = omega (arith, end_is);
       held_is = ap size (sym (slice_empty runs first));
+      reaches = λ more. absurd (omega (arith, more));
+      spanned_is = λ more. absurd (omega (arith, more));
     }
 
 joined_met : (x g : Run) (rest : List Run) → g.start ≤ end_of x → x.start ≤ end_of g → joined (x ∷ rest) g ≡ joined rest (merged x g)
@@ -127,10 +204,10 @@ joined_skip (x ∷ xs) (suc first) r low before =
     (lt-ltb (end_of x) r.start (before zero x (omega arith)))
     ∙ ap (λ (ys : List Run). x ∷ ys) (joined_skip xs first r (omega (arith, low)) (λ k d under. before (suc k) d (omega (arith, under))))
 
-pub meeting_more : (runs : List Run) (r : Run) (first last start end held : ℕ) (d : Run) → IsFirst runs r.start first → IsMeeting runs r first last start end held
+pub meeting_more : (runs : List Run) (r : Run) (first last start end held : ℕ) (d : Run) → Rise 0 runs → IsFirst runs r.start first → IsMeeting runs r first last start end held
     → last < length runs → (get_or runs last d).start ≤ end
     → IsMeeting runs r first (last + 1) (min start (get_or runs last d).start) (max end (end_of (get_or runs last d))) (held + length (get_or runs last d).octets)
-meeting_more runs r first last start end held d f h low close =
+meeting_more runs r first last start end held d rise f h low close =
     let x = get_or runs last d in
     let g = gathered (slice_range runs first last) r in
     let reaches : r.start ≤ end_of x = f.met last d h.order low in
@@ -139,6 +216,9 @@ meeting_more runs r first last start end held d f h low close =
     let push : slice_range runs first (last + 1) ≡ slice_range runs first last ++ x ∷ [] = slice_push runs first last d h.order low in
     let whole : gathered (slice_range runs first (last + 1)) r ≡ merged x g = ap (λ (xs : List Run). gathered xs r) push ∙ gathered_push (slice_range runs first last) x r in
     let length_is = merged_end x g near here in
+    let back : last + 1 - 1 ≡ last = omega arith in
+    let reach = reached runs r first last start end held rise f h low
+    (subst (λ (y : Run). y.start ≤ end) (get_or_default runs last d r low) close) in
     record {
       order = omega (arith, h.order);
       within = omega (arith, low);
@@ -149,6 +229,8 @@ meeting_more runs r first last start end held d f h low close =
       low = omega (arith, h.low);
       high = omega (arith, h.high);
       held_is = sym (ap size push ∙ size_both (slice_range runs first last) (x ∷ []) ∙ omega (arith, h.held_is));
+      reaches = λ _. subst (λ (n : ℕ). (get_or runs n r).start ≤ end_of r) (sym back) reach.reaches;
+      spanned_is = λ _. reach.spanned_is ∙ ap (λ (n : ℕ). spanned (get_or runs first r) (get_or runs n r) r) (sym back);
     }
 
 pub meets : (runs : List Run) (r : Run) (first last start end held : ℕ) → Rise 0 runs → IsFirst runs r.start first → IsMeeting runs r first last start end held
@@ -267,14 +349,14 @@ held_fits runs at count first last start end held x rise met got =
     subst (λ (k : ℕ). size (slice_range runs first last) ≤ size (take k runs)) there (size_slice runs first (last - first)) in
     omega (arith, h.held_is, upto, here, part)
 
-pub meeting_next : (runs : List Run) (r : Run) (first last start end held begin behind more : ℕ) (x : Run) → IsFirst runs r.start first
+pub meeting_next : (runs : List Run) (r : Run) (first last start end held begin behind more : ℕ) (x : Run) → Rise 0 runs → IsFirst runs r.start first
     → IsMeeting runs r first last start end held → slice_get runs last ≡ Some x → x.start ≤ end → begin ≡ min start x.start → behind ≡ max end (end_of x)
     → more ≡ held + length x.octets → IsMeeting runs r first (last + 1) begin behind more
-meeting_next runs r first last start end held begin behind more x f h got close begin_is behind_is more_is =
+meeting_next runs r first last start end held begin behind more x rise f h got close begin_is behind_is more_is =
     let same : get_or runs last x ≡ x = get_or_from_slice_get runs last x x got in
     let next : IsMeeting runs r first (last + 1) (min start x.start) (max end (end_of x)) (held + length x.octets) =
     subst (λ (y : Run). IsMeeting runs r first (last + 1) (min start y.start) (max end (end_of y)) (held + length y.octets)) same
-    (meeting_more runs r first last start end held x f h (slice_get_within runs last x got)
+    (meeting_more runs r first last start end held x rise f h (slice_get_within runs last x got)
     (subst (λ (y : Run). y.start ≤ end) (sym same) close)) in
     subst (λ (n : ℕ). IsMeeting runs r first (last + 1) n behind more) (sym begin_is)
     (subst (λ (n : ℕ). IsMeeting runs r first (last + 1) (min start x.start) n more) (sym behind_is)
@@ -297,39 +379,13 @@ meets_all runs r first last start end held rise f h none =
         clash : (x : Run) → Some x ≡ None → ⊥
         clash x e = cc e
 
-pub gather_more : (met : List Run) (i : ℕ) (other run new r : Run) → i < length met → other ≡ get_or met i other → new ≡ merged other run
-    → run ≡ gathered (take i met) r → new ≡ gathered (take (i + 1) met) r
-gather_more met i other run new r low is new_is run_is =
-    new_is ∙ ap (merged other) run_is ∙ sym (gathered_push (take i met) other r)
-    ∙ ap (λ (xs : List Run). gathered xs r) (ap (λ (x : Run). take i met ++ x ∷ []) is ∙ sym (take_more met i other low))
-
--- ---- those that are met go, one after another
-remove_at : (before : List Run) (x : Run) (rest : List Run) → remove (before ++ x ∷ rest) (length before) ≡ before ++ rest
-remove_at [] x rest = refl
-remove_at (y ∷ before) x rest = ap (λ (xs : List Run). y ∷ xs) (remove_at before x rest)
-
-pub going_long : (base items : List Run) (n s : ℕ) → n ≤ s → s < length base → items ≡ take n base ++ drop s base → n < length items
-going_long base items n s order low is =
-    omega (arith, ap length is, length-append (take n base) (drop s base), length-take n base, length-drop s base, order, low)
-
-pub going_more : (base items new : List Run) (n s : ℕ) → n ≤ s → s < length base → items ≡ take n base ++ drop s base → new ≡ remove items n
-    → new ≡ take n base ++ drop (s + 1) base
-going_more base items new n s order low is new_is =
-    let d : Run = record { start = 0; octets = [] } in
-    let whole : items ≡ take n base ++ get_or base s d ∷ drop (s + 1) base = is ∙ ap (λ (xs : List Run). take n base ++ xs) (drop_head base s d low) in
-    let count : n ≡ length (take n base) = omega (arith, length-take n base, order, low) in
-    new_is ∙ ap (λ (xs : List Run). remove xs n) whole ∙ ap (remove (take n base ++ get_or base s d ∷ drop (s + 1) base)) count
-    ∙ remove_at (take n base) (get_or base s d) (drop (s + 1) base)
-
+-- ---- those that are met go, and one is in their stead
 drop_set : (xs : List Run) (i n : ℕ) (x : Run) → i < n → drop n (slice_set xs i x) ≡ drop n xs
 drop_set [] i n x low = refl
 drop_set (y ∷ xs) zero zero x low = absurd (omega (arith, low))
 drop_set (y ∷ xs) zero (suc n) x low = refl
 drop_set (y ∷ xs) (suc i) zero x low = absurd (omega (arith, low))
 drop_set (y ∷ xs) (suc i) (suc n) x low = drop_set xs i n x (omega (arith, low))
-
-pub going_start : (xs : List Run) (i : ℕ) → xs ≡ take i xs ++ drop i xs
-going_start xs i = sym (take-append-drop i xs)
 
 pub going_done : (old items : List Run) (first last : ℕ) (run : Run) → first < last → last ≤ length old
     → items ≡ take (first + 1) (slice_set old first run) ++ drop last (slice_set old first run) → items ≡ take first old ++ run ∷ drop last old
@@ -340,6 +396,53 @@ going_done old items first last run order low is =
 
 pub few : (xs : List Run) (total count : ℕ) → AreRuns xs total count → count ≤ total
 few xs total count h = omega (arith, h.counted, counted_whole xs total count h, count_by-le-length is_some (slots_from xs 0 total), slots_long xs 0 total)
+
+-- ---- the first is taken up, and goes on with the others' back
+pub lengthened : (runs : List Run) (first last : ℕ) (x y nothing r : Run) (all : List ℕ) → first < last → last ≤ length runs → x ≡ get_or runs first x
+    → nothing.octets ≡ [] → y ≡ get_or (slice_set runs first nothing) (last - 1) y → x.start ≤ r.start → (last - first ≡ 1 → end_of x ≤ end_of r)
+    → all ≡ take (r.start - x.start) x.octets ++ (r.octets ++ drop (end_of r - y.start) y.octets)
+    → slice_set (slice_set runs first nothing) first (record x { octets = all }) ≡ slice_set runs first (spanned (get_or runs first r) (get_or runs (last - 1) r) r)
+lengthened runs first last x y nothing r all order within there none after before reach is =
+    set-set runs first nothing (record x { octets = all }) ∙ ap (slice_set runs first) whole
+  where
+    low : first < length runs
+    low = omega (arith, order, within)
+
+    z : Run
+    z = get_or runs (last - 1) r
+
+    held : get_or runs first r ≡ x
+    held = get_or_default runs first r x low ∙ sym there
+
+    back : (first < last - 1) ⊎ (last - 1 ≤ first) → drop (end_of r - y.start) y.octets ≡ drop (end_of r - (get_or runs (last - 1) r).start) (get_or runs (last - 1) r).octets
+    back (inl apart) =
+        let same : y ≡ get_or runs (last - 1) r =
+        after ∙ get_or-set_other runs first (last - 1) nothing y (λ e. omega (arith, apart, e)) ∙ get_or_default runs (last - 1) y r (omega (arith, order, within)) in
+        ap (λ (run : Run). drop (end_of r - run.start) run.octets) same
+    back (inr one) =
+        let e : last - 1 ≡ first = omega (arith, order, one) in
+        let empty : y ≡ nothing = after ∙ ap (λ (n : ℕ). get_or (slice_set runs first nothing) n y) e ∙ get_or-set_same runs first nothing y low in
+        let self : get_or runs (last - 1) r ≡ x = ap (λ (n : ℕ). get_or runs n r) e ∙ held in
+        let gone : drop (end_of r - x.start) x.octets ≡ [] = drop_all (end_of r - x.start) x.octets (omega (arith, reach (omega (arith, order, e)))) in
+        ap (λ (run : Run). drop (end_of r - run.start) run.octets) empty ∙ drop_all (end_of r - nothing.start) nothing.octets (omega (arith, ap (λ (xs : List ℕ). length xs) none))
+        ∙ sym (ap (λ (run : Run). drop (end_of r - run.start) run.octets) self ∙ gone)
+
+    start : x.start ≡ min x.start r.start
+    start = omega (arith, before)
+
+    octets : all ≡ take (r.start - x.start) x.octets ++ (r.octets ++ drop (end_of r - (get_or runs (last - 1) r).start) (get_or runs (last - 1) r).octets)
+    octets = is ∙ ap (λ (xs : List ℕ). take (r.start - x.start) x.octets ++ (r.octets ++ xs)) (back (cases_lt first (last - 1)))
+
+    whole : record x { octets = all } ≡ spanned (get_or runs first r) (get_or runs (last - 1) r) r
+    whole =
+        ap (λ (n : ℕ). record x { start = n; octets = all }) start ∙ ap (λ (xs : List ℕ). record (spanned x (get_or runs (last - 1) r) r) { octets = xs }) octets
+        ∙ ap (λ (run : Run). spanned run (get_or runs (last - 1) r) r) (sym held)
+
+pub put_back : (runs : List Run) (first : ℕ) (x nothing : Run) (all : List ℕ) → first < length runs → x ≡ get_or runs first x → all ≡ x.octets
+    → slice_set (slice_set runs first nothing) first (record x { octets = all }) ≡ runs
+put_back runs first x nothing all low there is =
+    set-set runs first nothing (record x { octets = all }) ∙ ap (λ (xs : List ℕ). slice_set runs first (record x { octets = xs })) is
+    ∙ ap (slice_set runs first) there ∙ set-get_or runs first x
 
 -- ---- a run that begins where the one run that it meets ends
 set_whole : (xs : List Run) (at : ℕ) (y : Run) → at < length xs → slice_set xs at y ≡ take at xs ++ y ∷ drop (at + 1) xs

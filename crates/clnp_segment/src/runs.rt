@@ -1,10 +1,10 @@
 //! The octets of a unit that came, in runs (X.233, reassembly).
 
-ghost use Rattle.std.specs.Prelude.{◌≡◌, ◌≢◌, ◌<◌, ◌≤◌, ◌+◌, ◌++◌, ◌∷◌, true, false, length, count_by, drop, ℕ, is_none, is_some, map, replicate, slice_range, take, IfOk, MatchBool, None, OnErr, OnOk, Some};
+ghost use Rattle.std.specs.Prelude.{◌≡◌, ◌≢◌, ◌<◌, ◌≤◌, ◌+◌, ◌-◌, ◌++◌, ◌∷◌, true, false, length, count_by, drop, ℕ, is_none, is_some, map, replicate, slice_index_or, slice_range, slice_set, take, IfOk, MatchBool, None, OnErr, OnOk, Some};
 ghost use Rattle.std.specs.List.{All};
 ghost use Rattle.clnp_segment.specs.steps.Places.{is_clash, written};
 ghost use Rattle.clnp_segment.specs.declared.runs.Run.{Run};
-ghost use Rattle.clnp_segment.specs.steps.Spans.{Agree, IsFirst, Meets, Rise, end_of, gathered, merged};
+ghost use Rattle.clnp_segment.specs.steps.Spans.{Agree, IsFirst, IsSpanned, Meets, Rise, end_of, gathered, spanned};
 
 use osi_base::{Bytes, NoMemory};
 use std::alloc::Global;
@@ -24,6 +24,15 @@ impl Run {
         ensures { result ≡ end_of self.now }
     {
         usize::from(self.start) + self.octets.as_slice().len()
+    }
+
+    /// Its octets from that position on.
+    fn behind(&self, at: usize) -> &[u8]
+        ensures { result.now ≡ drop (at - self.now.start) self.now.octets }
+    {
+        let octets = self.octets.as_slice();
+        let from = at.saturating_sub(usize::from(self.start)).min(octets.len());
+        &octets[from..]
     }
 }
 
@@ -220,18 +229,28 @@ fn join(
 ) -> Result<(), NoMemory>
     requires order { first ≤ last }
     requires within { last ≤ length runs.old.items }
+    requires spanned { (r : Run) → r.start ≡ at → r.octets ≡ octets.now → IsSpanned runs.old.items r first last }
     ensures ok { (r : Run) → r.start ≡ at → r.octets ≡ octets.now → OnOk result (runs.new.items ≡ take first runs.old.items ++ gathered (slice_range runs.old.items first last) r ∷ drop last runs.old.items) }
     ensures err { OnErr result (runs.new.items ≡ runs.old.items) }
 {
     if last - first == 1 && runs[first].end() == usize::from(at) {
-        return extend(alloc, &mut runs[first], octets);
+        return append(alloc, &mut runs[first], octets);
     }
-    let run = gather(alloc, &runs[first..last], at, octets)?;
-    exchange(runs, first, last, run)
+    if first == last {
+        let run = Run {
+            start: at,
+            octets: Bytes::copy(alloc, octets)?,
+        };
+        runs.insert(first, run)?;
+        return Ok(());
+    }
+    span(alloc, runs, first, last, at, octets)?;
+    take_out(runs, first + 1, last);
+    Ok(())
 }
 
 /// The octets stand behind those of the run. At NoMemory it is unchanged.
-fn extend(alloc: Global, run: &mut Run, octets: &[u8]) -> Result<(), NoMemory>
+fn append(alloc: Global, run: &mut Run, octets: &[u8]) -> Result<(), NoMemory>
     ensures ok { OnOk result (run.new ≡ record run.old { octets = run.old.octets ++ octets.now }) }
     ensures err { OnErr result (run.new ≡ run.old) }
 {
@@ -242,52 +261,126 @@ fn extend(alloc: Global, run: &mut Run, octets: &[u8]) -> Result<(), NoMemory>
     Ok(())
 }
 
-/// The octets from that position on, with the runs that they meet.
-fn gather(alloc: Global, met: &[Run], at: u16, octets: &[u8]) -> Result<Run, NoMemory>
-    ensures { IfOk result (λ run. (r : Run) → r.start ≡ at → r.octets ≡ octets.now → run ≡ gathered met.now r) }
+/// The run at `first` becomes its front, the octets from that position on, and the back of the run before `last`. The others stay.
+/// At NoMemory the runs are unchanged.
+fn span(
+    alloc: Global,
+    runs: &mut Vec<Run>,
+    first: usize,
+    last: usize,
+    at: u16,
+    octets: &[u8],
+) -> Result<(), NoMemory>
+    requires order { first < last }
+    requires within { last ≤ length runs.old.items }
+    ensures ok { (r : Run) → r.start ≡ at → r.octets ≡ octets.now → OnOk result (runs.new.items ≡ slice_set runs.old.items first (spanned (slice_index_or runs.old.items first r) (slice_index_or runs.old.items (last - 1) r) r)) }
+    ensures err { OnErr result (runs.new.items ≡ runs.old.items) }
 {
-    let mut run = Run {
-        start: at,
-        octets: Bytes::copy(alloc, octets)?,
-    };
-    for other in met {
-        run = merged(alloc, other, &run)?;
+    if runs[first].start > at {
+        let run = in_front(alloc, &runs[last - 1], at, octets)?;
+        runs[first] = run;
+        return Ok(());
     }
-    Ok(run)
+    let end = usize::from(at) + octets.len();
+    if last - first == 1 && end <= runs[first].end() {
+        overwrite(alloc, &mut runs[first], at, octets);
+        return Ok(());
+    }
+    lengthen(alloc, runs, first, last, at, octets)
 }
 
-/// The two runs as one, with the octets of the second where both have one.
-fn merged(alloc: Global, other: &Run, run: &Run) -> Result<Run, NoMemory>
-    ensures { IfOk result (λ whole. whole ≡ merged other.now run.now) }
+/// The octets from that position on, and behind them those of the run.
+fn in_front(alloc: Global, run: &Run, at: u16, octets: &[u8]) -> Result<Run, NoMemory>
+    ensures { IfOk result (λ whole. whole ≡ record { start = at; octets = octets.now ++ drop (at + length octets.now - run.now.start) run.now.octets }) }
 {
-    let held = other.octets.as_slice();
-    let octets = run.octets.as_slice();
-    let start = usize::from(other.start);
-    let front = usize::from(run.start).saturating_sub(start).min(held.len());
-    let back = run.end().saturating_sub(start).min(held.len());
-    let mut whole = Vec::from_slice(alloc, &held[..front])?;
+    let back = run.behind(usize::from(at) + octets.len());
+    let mut whole = Vec::with_capacity(alloc, octets.len() + back.len())?;
     whole.extend_from_slice(octets)?;
-    whole.extend_from_slice(&held[back..])?;
+    whole.extend_from_slice(back)?;
     Ok(Run {
-        start: other.start.min(run.start),
+        start: at,
         octets: Bytes::of(whole),
     })
 }
 
-/// The run is in place of those from `first` up to `last`. At NoMemory they are unchanged.
-fn exchange(runs: &mut Vec<Run>, first: usize, last: usize, run: Run) -> Result<(), NoMemory>
-    requires order { first ≤ last }
+/// The octets are written into the run, which has their places.
+fn overwrite(alloc: Global, run: &mut Run, at: u16, octets: &[u8])
+    requires start { run.old.start ≤ at }
+    requires end { at + length octets.now ≤ end_of run.old }
+    ensures { run.new ≡ record run.old { octets = take (at - run.old.start) run.old.octets ++ (octets.now ++ drop (at + length octets.now - run.old.start) run.old.octets) } }
+{
+    let from = usize::from(at - run.start);
+    let mut whole = mem::replace(&mut run.octets, Bytes::of(Vec::new(alloc))).into_vec();
+    put(whole.as_mut_slice(), from, octets);
+    run.octets = Bytes::of(whole);
+}
+
+/// The octets are written from that place on.
+fn put(all: &mut [u8], from: usize, octets: &[u8])
+    requires { from + length octets.now ≤ length all.old }
+    ensures { all.new ≡ take from all.old ++ (octets.now ++ drop (from + length octets.now) all.old) }
+{
+    let to = from + octets.len();
+    all[from..to].copy_from_slice(octets);
+}
+
+/// The same, in the buffer of the run at `first`, which begins no later than the octets; where it is the only one, it ends no later.
+/// At NoMemory the runs are unchanged.
+fn lengthen(
+    alloc: Global,
+    runs: &mut Vec<Run>,
+    first: usize,
+    last: usize,
+    at: u16,
+    octets: &[u8],
+) -> Result<(), NoMemory>
+    requires order { first < last }
     requires within { last ≤ length runs.old.items }
-    ensures ok { OnOk result (runs.new.items ≡ take first runs.old.items ++ run ∷ drop last runs.old.items) }
+    requires start { (d : Run) → (slice_index_or runs.old.items first d).start ≤ at }
+    requires end { (d : Run) → last - first ≡ 1 → end_of (slice_index_or runs.old.items first d) ≤ at + length octets.now }
+    ensures ok { (r : Run) → r.start ≡ at → r.octets ≡ octets.now → OnOk result (runs.new.items ≡ slice_set runs.old.items first (spanned (slice_index_or runs.old.items first r) (slice_index_or runs.old.items (last - 1) r) r)) }
     ensures err { OnErr result (runs.new.items ≡ runs.old.items) }
 {
-    if first == last {
-        runs.insert(first, run)?;
-        return Ok(());
-    }
-    runs[first] = run;
-    for _ in first + 1..last {
-        drop(runs.remove(first + 1));
-    }
+    let nothing = Run {
+        start: 0,
+        octets: Bytes::of(Vec::new(alloc)),
+    };
+    let Run {
+        start,
+        octets: held,
+    } = mem::replace(&mut runs[first], nothing);
+    let mut whole = held.into_vec();
+    // Where the last is the first, no octet of it is behind these.
+    let back = runs[last - 1].behind(usize::from(at) + octets.len());
+    let outcome = extend(&mut whole, usize::from(at - start), octets, back);
+    runs[first] = Run {
+        start,
+        octets: Bytes::of(whole),
+    };
+    outcome
+}
+
+/// A front of that length is kept, and the octets and the back follow it. At NoMemory all is unchanged.
+fn extend(whole: &mut Vec<u8>, front: usize, octets: &[u8], back: &[u8]) -> Result<(), NoMemory>
+    ensures ok { OnOk result (whole.new.items ≡ take front whole.old.items ++ (octets.now ++ back.now)) }
+    ensures err { OnErr result (whole.new.items ≡ whole.old.items) }
+{
+    whole.reserve(octets.len() + back.len())?;
+    whole.truncate(front);
+    whole.extend_from_slice(octets)?;
+    whole.extend_from_slice(back)?;
     Ok(())
+}
+
+/// The runs from `first` up to `last` go, and those behind them move once.
+fn take_out(runs: &mut Vec<Run>, first: usize, last: usize)
+    requires order { first ≤ last }
+    requires within { last ≤ length runs.old.items }
+    ensures { runs.new.items ≡ take first runs.old.items ++ drop last runs.old.items }
+{
+    match last - first {
+        0 => {}
+        1 => drop(runs.remove(first)),
+        _ => drop(runs.drain(first..last)),
+    }
 }

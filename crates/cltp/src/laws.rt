@@ -49,7 +49,7 @@ pub fn one_run<C: Carrier<Addr = Nsap>>()
     law_carrier_answers::one_gathering::<C>();
 }
 
-/// So has the start.
+/// The start has one list of events, and leads to one state, where the carrier answers in one way.
 pub fn one_start<C: Carrier<Addr = Nsap>>()
     ensures { OneStart C.link C.steps }
 {
@@ -62,7 +62,7 @@ pub fn some_run<C: Carrier<Addr = Nsap>>()
     ensures { SomeRun C.link C.steps }
 {}
 
-/// So has the start.
+/// The start has a list of events, where the carrier answers all that it may be asked, and leads to a network that has a run of the next call.
 pub fn some_start<C: Carrier<Addr = Nsap>>()
     ensures { SomeStart C.link C.steps }
 {}

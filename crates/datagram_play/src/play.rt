@@ -16,11 +16,21 @@ use std::alloc::Global;
 use std::marker::Model;
 
 /// The titles of the systems, the lifetime of their PDUs in ticks, and the network with its users.
-#[derive(Drop)]
 pub struct ClPlay<N: Network + Drop> {
     titles: Items<Nsap>,
     life: u8,
     world: ClWorld<N>,
+}
+
+// By hand, so that it is proved here alone: what is derived is proved again in each crate that lets a network go.
+impl<N: Network + Drop> Drop for ClPlay<N> {
+    fn drop(self) {
+        let ClPlay {
+            titles: _,
+            life: _,
+            world: _,
+        } = self;
+    }
 }
 
 impl<N: Network + Drop> Model for ClPlay<N> {

@@ -1,4 +1,5 @@
 pub mod Headers
+pub mod Indices
 pub mod LanLists
 pub mod Offers
 pub mod Openings

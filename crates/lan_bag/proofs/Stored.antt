@@ -1,20 +1,13 @@
 -- The frames are the late ones that are gone from the front, and the slots behind them: what is done to the slots is done
 -- to the frames.
 use Rattle.std.proofs.Common.{◌≡◌, ℕ, zero, suc, ◌+◌, ◌-◌, ◌<◌, ◌≤◌, is_some, cond, List, [], ◌∷◌, ◌++◌, length, set, get_or, replicate, refl, sym, ◌∙◌, ap, arith, Option, Some, None, slice_get, zero-add}
-use Rattle.std.specs.List.{list_any}
 use Rattle.std.proofs.lemmas.List.{length-set}
 use Rattle.std.proofs.lemmas.List.Sums.{sum_by-cons}
 use Rattle.std.proofs.lemmas.Option.{slice_get-get_or}
-use Rattle.osi_base.specs.declared.unit.Unit.{Unit as CarriedUnit}
-use Rattle.nsap.specs.declared.port.Port.{Port}
 use Rattle.lan_bag.specs.declared.setup.Lan.{Lan}
-use Rattle.lan_bag.specs.Frames.{Frame, kept, kept_at, live_count, marked, marked_frame, marked_slot, marked_at, carries_live}
+use Rattle.lan_bag.specs.Frames.{Frame, kept, kept_at, live_count, marked, marked_frame, marked_slot, marked_at}
 use Rattle.lan_bag.specs.steps.Store.{marked_in, IsStored}
 use Rattle.lan_bag.specs.steps.Wheel.{given_up_at}
-
-pub any_behind : (clock : ℕ) (lans : List Lan) (unit : CarriedUnit Port) (gone : ℕ) (slots : List (Option Frame)) → list_any (carries_live clock lans unit) slots ≡ list_any (carries_live clock lans unit) (replicate gone None ++ slots)
-any_behind clock lans unit zero slots = refl
-any_behind clock lans unit (suc gone) slots = any_behind clock lans unit gone slots
 
 count_cons : (slot : Option Frame) (slots : List (Option Frame)) → live_count (slot ∷ slots) ≡ cond (is_some slot) 1 0 + live_count slots
 count_cons slot slots = sum_by-cons (λ (x : Option Frame). cond (is_some x) 1 0) slot slots

@@ -38,7 +38,7 @@ live_now : (clock ticks last : ℕ) → clock + suc ticks ≡ last → nat_le (c
 live_now clock ticks last e = grind (arith, nat_tests)
 
 -- what is kept is live
-kept_live : (clock : ℕ) (lans : List Lan) (slot : Option Frame) (frame : Frame) → kept_at clock lans slot ≡ Some frame → is_live clock lans frame ≡ true
+pub kept_live : (clock : ℕ) (lans : List Lan) (slot : Option Frame) (frame : Frame) → kept_at clock lans slot ≡ Some frame → is_live clock lans frame ≡ true
 kept_live clock lans None frame h = cc
 kept_live clock lans (Some other) frame h = if_live (is_live clock lans other) refl h
   where
@@ -83,7 +83,7 @@ turned_still (first ∷ wheel) k place h = behind wheel k place h
 
 -- each change
 
-past_last : {X : Type 0} (xs : List X) (y : X) (k : ℕ) → slice_get xs k ≡ None → slice_get (xs ++ y ∷ []) k ≡ Some y → k ≡ length xs
+pub past_last : {X : Type 0} (xs : List X) (y : X) (k : ℕ) → slice_get xs k ≡ None → slice_get (xs ++ y ∷ []) k ≡ Some y → k ≡ length xs
 past_last [] y zero n h = refl
 past_last [] y (suc k) n h = cc
 past_last (x ∷ xs) y zero n h = cc

@@ -1,4 +1,5 @@
 pub mod Choosing
+pub mod Index
 pub mod Injecting
 pub mod Keeping
 pub mod Offering

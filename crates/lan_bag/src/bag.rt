@@ -1,14 +1,18 @@
 //! The LANs with their frames (IEEE 802.3; X.233, underlying subnetworks).
 
 ghost use Rattle.std.specs.Prelude.{◌≡◌, ◌<◌, ◌≤◌, ◌+◌, ◌++◌, IfOk, OnOk, length, option_copied, if◌then◌else◌};
+ghost use Rattle.std.specs.BTreeSet.{contains};
+ghost use Rattle.std.specs.Ordering.{nat_cmp};
 ghost use Rattle.osi_base.specs.declared.unit.Offered.TheVariants.{Taken as WasTaken};
 ghost use Rattle.osi_base.specs.declared.unit.Picked.TheVariants.{Taken as WasPicked};
 ghost use Rattle.lan_bag.specs.Rows.{IsSetUp, sender_of};
 ghost use Rattle.lan_bag.specs.Bag.{frame_note};
 ghost use Rattle.lan_bag.specs.Frames.{live_frame, octets_of, offered, frame_of, strays_of};
+ghost use Rattle.lan_bag.specs.steps.Index.{AreIndexed};
 
 use crate::delivery::{LeastPair, answer_to, fresh_after, fresh_while_live, judge, open_with};
 use crate::frame::{Sent, up_of};
+use crate::frame_index::FrameIndex;
 use crate::frame_store::FrameStore;
 use crate::setup::{Lan, PortRow, Setup};
 use crate::waiting::Waiting;
@@ -28,6 +32,8 @@ pub struct LanBag {
     frames: FrameStore,
     /// The places of the frames by the tick at which they are late, so that a tick gives up those alone and goes over no others.
     wheel: Wheel,
+    /// The frames by what they carry, from the first injection on, so that an injection is compared with few of them.
+    index: FrameIndex,
     /// The answer of `fresh`, kept so that a `settle` goes over each frame once and not once for each delivery.
     fresh: LeastPair,
     waiting: Waiting,
@@ -35,8 +41,11 @@ pub struct LanBag {
     strays: u32,
 }
 
-// The first frame that a system may take and has not taken is that of `fresh`, and the place of each frame is in the wheel.
+// The first frame that a system may take and has not taken is that of `fresh`, and the place of each frame is in the wheel, and in the
+// index where that is wanted.
 impl Model for LanBag {
+    ghost use Rattle.std.specs.BTreeSet.{contains};
+    ghost use Rattle.std.specs.Ordering.{nat_cmp};
     ghost use Rattle.lan_bag.specs.Bag.{Bag};
     ghost use Rattle.lan_bag.specs.steps.Standing.{IsStanding};
 
@@ -52,7 +61,7 @@ impl Model for LanBag {
       strays = a.strays;
     } };
 
-    ghost invariant = { λ a. IsStanding a.clock a.setup a.frames a.fresh.place a.fresh.pair a.wheel a.honest a.strays };
+    ghost invariant = { λ a. IsStanding a.clock a.setup a.frames a.fresh.place a.fresh.pair a.wheel a.honest a.strays a.index.wanted (contains nat_cmp a.index.codes) };
 }
 
 impl LanBag {
@@ -71,6 +80,7 @@ impl LanBag {
             setup: Setup::new(alloc, lans, ports)?,
             frames: FrameStore::new(alloc),
             wheel: Wheel::new(alloc)?,
+            index: FrameIndex::new(alloc),
             fresh: LeastPair {
                 place: 0,
                 pair: None,
@@ -130,6 +140,7 @@ impl LanBag {
         self.wheel.list(self.setup.bound(unit.to.lan), place)?;
         let to = unit.to;
         let sent = Sent::new(self.alloc, self.clock, unit)?;
+        self.index.enlist(&sent, place)?;
         self.frames.push(sent)?;
         let fresh = self.fresh;
         self.fresh = open_with(self.clock, &self.setup, &self.frames, fresh, place + 1, &to);
@@ -181,7 +192,8 @@ impl LanBag {
             return Ok(Injected::NotThere);
         }
         let up = up_of(self.alloc, lan, system, octets)?;
-        let strays = strays_in(self.clock, &self.setup, &self.frames, &up);
+        self.index.index_all(&self.frames)?;
+        let strays = strays_in(self.clock, &self.setup, &self.frames, &self.index, &up);
         self.waiting.push(up)?;
         self.honest = false;
         self.strays = self.strays.saturating_add(strays);
@@ -195,6 +207,8 @@ impl LanBag {
     {
         let due = self.wheel.turn();
         self.clock += 1;
+        self.index
+            .delist(self.clock, &self.setup, &self.frames, &due);
         self.frames.give_up(self.clock, &self.setup, &due);
         let fresh = self.fresh;
         self.fresh = fresh_while_live(self.clock, &self.setup, &self.frames, fresh);
@@ -234,11 +248,18 @@ fn tell(
 }
 
 /// How many arrivals there are in what came that equal no live frame.
-fn strays_in(clock: Tick, setup: &Setup, frames: &FrameStore, up: &Up<Port>) -> u32
+fn strays_in(
+    clock: Tick,
+    setup: &Setup,
+    frames: &FrameStore,
+    index: &FrameIndex,
+    up: &Up<Port>,
+) -> u32
+    requires { AreIndexed (contains nat_cmp index.now.codes) frames.now }
     ensures { result ≡ strays_of clock setup.now.lans frames.now up.now }
 {
     match up {
-        Up::Unit(arrival) => u32::from(!frames.carries(clock, setup, &arrival.unit)),
+        Up::Unit(arrival) => u32::from(!index.carries(clock, setup, frames, &arrival.unit)),
         Up::Note(_) => 0,
     }
 }

@@ -97,6 +97,13 @@ impl Sent {
         &self.whole
     }
 
+    /// What it carries.
+    pub fn octets(&self) -> &[u8]
+        ensures { result.now ≡ self.now.unit.octets }
+    {
+        &self.whole[HEADER..]
+    }
+
     /// Whether it carries that unit.
     pub fn carries(&self, unit: &Unit<Port>) -> bool
         ensures { result ≡ is_of unit.now self.now }

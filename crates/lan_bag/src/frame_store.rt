@@ -1,15 +1,13 @@
 //! The frames by their numbers (IEEE 802.3).
 
 ghost use Rattle.std.specs.Prelude.{◌≡◌, ◌<◌, ◌≤◌, ◌+◌, ◌++◌, ◌∷◌, [], Some, None, if◌then◌else◌, not, ◌&&◌, ◌||◌, nat_le, length, map, is_some, option_copied, replicate, slice_get, OnOk, OnErr};
-ghost use Rattle.std.specs.List.{list_any};
-ghost use Rattle.lan_bag.specs.Frames.{kept, frame_of, kept_at, live_count, marked_at, marked_slot, carries_live};
+ghost use Rattle.lan_bag.specs.Frames.{kept, frame_of, kept_at, live_count, marked_at, marked_slot};
 ghost use Rattle.lan_bag.specs.steps.Store.{marked_in};
 ghost use Rattle.lan_bag.specs.steps.Wheel.{AreLateAmong, given_up_at};
 
 use crate::frame::Sent;
 use crate::setup::Setup;
-use nsap::Port;
-use osi_base::{NoMemory, Tick, Unit};
+use osi_base::{NoMemory, Tick};
 use std::alloc::Global;
 use std::collections::VecDeque;
 use std::marker::Model;
@@ -82,13 +80,6 @@ impl FrameStore {
         self.at(number.checked_sub(1)?)
     }
 
-    /// Whether a live frame carries that unit.
-    pub fn carries(&self, clock: Tick, setup: &Setup, unit: &Unit<Port>) -> bool
-        ensures { result ≡ list_any (carries_live clock setup.now.lans unit.now) self.now }
-    {
-        has_unit(&self.slots, clock, setup, unit)
-    }
-
     /// One frame more, with the next number.
     ///
     /// At NoMemory nothing has changed.
@@ -153,16 +144,6 @@ impl FrameStore {
             self.gone += 1;
         }
     }
-}
-
-/// Whether a live frame in a slot carries that unit.
-fn has_unit(slots: &VecDeque<Option<Sent>>, clock: Tick, setup: &Setup, unit: &Unit<Port>) -> bool
-    ensures { result ≡ list_any (carries_live clock setup.now.lans unit.now) slots.now.items }
-{
-    slots.iter().any(|slot| match slot {
-        Some(sent) => sent.is_live(clock, setup) && sent.carries(unit),
-        None => false,
-    })
 }
 
 /// A system took the frame in a slot.

@@ -4,6 +4,7 @@
 mod bag;
 mod delivery;
 mod frame;
+mod frame_index;
 mod frame_store;
 mod lan_ports;
 mod setup;

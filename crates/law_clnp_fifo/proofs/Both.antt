@@ -13,9 +13,9 @@ use Rattle.clnp_system.specs.Tables.{rows_tables}
 use Rattle.law_clnp_step.specs.Handling.{OffersFrames, TicksAll}
 use Rattle.net_world.specs.Fifo.{NoneDropped}
 use Rattle.law_clnp_fifo.specs.Calm.{IsCalmNet, end_row}
-use Rattle.law_clnp_fifo.specs.Cutting.{IsEmptyStore}
+use Rattle.law_clnp_fifo.proofs.Ticked.{IsEmptyStore}
 use Rattle.law_clnp_fifo.specs.Frames.{GoesNowhere, HasWaiting}
-use Rattle.law_clnp_fifo.specs.Waiting.{IsCalmNode}
+use Rattle.law_clnp_fifo.proofs.Nodes.{IsCalmNode}
 use Rattle.law_clnp_fifo.proofs.Offered.{AreOffered, both_parts, offered_nowhere}
 use Rattle.law_clnp_fifo.proofs.Ports.{goes_nowhere}
 use Rattle.law_clnp_fifo.proofs.Ticked.{IsToGroup, ticks_calmly}
@@ -23,7 +23,7 @@ use Rattle.law_clnp_fifo.proofs.Told.{none_before, none_behind}
 
 module _ (rows : List PortRow) (first second : Setting) (here there : Port) (calm : IsCalmNet rows first second here there) where
   -- a frame to all intermediate systems goes to neither
-  group_goes_nowhere : (frame : Frame) → IsToGroup frame → GoesNowhere rows frame
+  pub group_goes_nowhere : (frame : Frame) → IsToGroup frame → GoesNowhere rows frame
   group_goes_nowhere frame group = by calm.ports
     where
       by : (rows ≡ end_row 0 here ∷ end_row 1 there ∷ []) ⊎ (rows ≡ end_row 1 there ∷ end_row 0 here ∷ []) → GoesNowhere rows frame
@@ -34,7 +34,7 @@ module _ (rows : List PortRow) (first second : Setting) (here there : Port) (cal
           subst (λ (rs : List PortRow). GoesNowhere rs frame) (sym is)
           (goes_nowhere (end_row 1 there) (end_row 0 here) (refl, refl) calm.second_at.single calm.first_at.single frame group)
 
-  groups_go_nowhere : (frames : List Frame) → AllByRecursion IsToGroup frames → AllByRecursion (GoesNowhere rows) frames
+  pub groups_go_nowhere : (frames : List Frame) → AllByRecursion IsToGroup frames → AllByRecursion (GoesNowhere rows) frames
   groups_go_nowhere [] group = tt
   groups_go_nowhere (frame ∷ frames) group = (group_goes_nowhere frame group.0, groups_go_nowhere frames group.1)
 

@@ -2,17 +2,20 @@
 use Rattle.std.proofs.Common.{◌≡◌, ℕ, Bool, true, false, ◌||◌, List, [], ◌∷◌, ◌++◌, refl, sym, ◌∙◌, ap, subst}
 use Rattle.std.specs.List.{list_any}
 use Rattle.osi_base.specs.declared.unit.Arrival.{Arrival}
-use Rattle.osi_base.specs.declared.unit.Up.{Up}
-use Rattle.osi_base.specs.declared.unit.Up.TheVariants.{Unit as Came}
 use Rattle.nsap.specs.declared.port.Port.{Port}
-use Rattle.lan_bag.specs.Bag.{Bag, BagStep, link_of}
 use Rattle.esis_tables.specs.Rows.{Rows}
-use Rattle.std.proofs.lemmas.List.{append-nil}
+use Rattle.clnp_system.specs.Setting.{Setting}
 use Rattle.clnp_system.specs.Node.{Frame, Node, Reaction}
 use Rattle.clnp_system.specs.Receiving.{Receives}
 use Rattle.clnp_system.specs.Tables.{rows_tables}
-use Rattle.law_clnp_step.specs.Handling.{Changes, Handles, IsReceived, Nobody, OffersFrames, Somebody, is_system}
+use Rattle.law_clnp_step.specs.Handling.{Changes, IsReceived, Nobody, Somebody, is_system}
 use Rattle.clnp_segment.proofs.Lists.{one_place}
+
+-- a system with that setting, which knows of no other
+pub record IsCalmNode (setting : Setting) (node : Node Rows) : Type 0 where
+  pub setup : node.setup ≡ setting
+  pub neighbours : node.neighbours.rows ≡ []
+  pub redirects : node.redirects.rows ≡ []
 
 module _ {N : Type 0} (test : Node N → Bool) (one two node after : Node N) (changed : List (Node N)) (changes : Changes test (one ∷ two ∷ []) node after changed) where
   -- the first, where it passes
@@ -62,22 +65,3 @@ module _ (now : ℕ) (one two : Node Rows) (arrival : Arrival Port) (reaction : 
         receives = subst (λ (n : Node Rows). Receives rows_tables n now arrival.unit reaction after) same.0 receives;
         changed_is = same.1;
       }
-
--- what comes of one arrival, where its system answers by no frame
-pub record IsHandled (now : ℕ) (risen : Bag) (nodes : List (Node Rows)) (arrival : Arrival Port) (below : Bag) (after : List (Node Rows)) (told : List (Up (List ℕ))) : Type 0 where
-  pub reaction : Reaction
-  pub received : IsReceived rows_tables now nodes arrival reaction after
-  pub silent : reaction.frames ≡ [] → (below ≡ risen) × (told ≡ reaction.ups)
-
-pub handled : (now : ℕ) (risen : Bag) (nodes : List (Node Rows)) (arrival : Arrival Port) (below : Bag) (after : List (Node Rows)) (told : List (Up (List ℕ)))
-    → Handles link_of BagStep rows_tables now risen nodes (Came arrival ∷ []) below after told → IsHandled now risen nodes arrival below after told
-handled now risen nodes arrival below after told h = record {
-  reaction = h.0;
-  received = subst (IsReceived rows_tables now nodes arrival h.0) (sym h.7.1) h.5;
-  silent = λ none.
-      let offers : OffersFrames link_of BagStep risen arrival.system [] h.1 h.3 =
-      subst (λ (frames : List Frame). OffersFrames link_of BagStep risen arrival.system frames h.1 h.3) none h.6 in (
-        h.7.0 ∙ offers.0,
-        h.8 ∙ ((λ i. h.0.ups ++ (offers.1 i ++ h.7.2 i)) ∙ append-nil h.0.ups),
-      );
-}

@@ -151,7 +151,7 @@ module _ (x y : PortRow) (ends : (x.end ≡ true) × (y.end ≡ true)) (single_x
   abbrev all_intermediates : List ℕ
   all_intermediates = 9 ∷ 0 ∷ 43 ∷ 0 ∷ 0 ∷ 5 ∷ []
 
-  not_one_of : (row : PortRow) (to : Port) → row.end ≡ true → (slice_index row.port.snpa 0 % 2 == 1) ≡ false → to.snpa ≡ all_intermediates → is_one_of to row ≡ false
+  pub not_one_of : (row : PortRow) (to : Port) → row.end ≡ true → (slice_index row.port.snpa 0 % 2 == 1) ≡ false → to.snpa ≡ all_intermediates → is_one_of to row ≡ false
   not_one_of row to is_end single group =
       (λ i. row.port.lan == to.lan && (same_snpa row.port.snpa (group i) || same_snpa (group_of_kind (is_end i)) (group i)))
       ∙ ((λ i. row.port.lan == to.lan && ((turned row.port.snpa all_intermediates ∙ no_group row.port.snpa (0 ∷ 43 ∷ 0 ∷ 0 ∷ 5 ∷ []) single) i || false))

@@ -15,7 +15,7 @@ use Rattle.clnp_system.specs.Setting.{Setting, bound_of, is_own_system, port_on}
 use Rattle.clnp_system.specs.Tables.{rows_tables}
 use Rattle.law_clnp_fifo.specs.Calm.{IsEndAt, LeadsTo}
 use Rattle.law_clnp_fifo.specs.Cutting.{Faces, SendsTo}
-use Rattle.law_clnp_fifo.specs.Waiting.{IsCalmNode}
+use Rattle.law_clnp_fifo.proofs.Nodes.{IsCalmNode}
 use Rattle.law_clnp_fifo.proofs.Addresses.{made_of, own_title, selector_of_made}
 use Rattle.law_clnp_fifo.proofs.Ports.{its_own}
 
@@ -28,7 +28,7 @@ port_is setting system port at =
 module _ (setting other : Setting) (system : ℕ) (here there : Port) (at : IsEndAt setting system here) (leads : LeadsTo setting other there) (other_system : ℕ)
     (other_at : IsEndAt other other_system there) (apart : is_same_system other.title setting.title ≡ false) (node : Node Rows) (is : IsCalmNode setting node) where
   module _ (now : ℕ) (unit : CarriedUnit (List ℕ)) (selector : ℕ) (known : (selector ≡ 1) ⊎ (selector ≡ 2)) (to : unit.to ≡ system_part other.title ++ selector ∷ []) where
-    abbrev hop : Hop
+    abbrev pub hop : Hop
     hop = (leads.routed selector).0
 
     not_own : is_own_system node.setup unit.to ≡ false
@@ -50,7 +50,7 @@ module _ (setting other : Setting) (system : ℕ) (here there : Port) (at : IsEn
         then or_else (find_row (is.redirects i) now unit.to) (or_else (find_row (is.neighbours i) now unit.to) (or_else (next_is i) (router_in node.neighbours.rows now)))
         else or_else (find_row (is.neighbours i) now unit.to) (next_is i)
 
-    finds : hop_of rows_tables node now unit.to ≡ Some hop
+    pub finds : hop_of rows_tables node now unit.to ≡ Some hop
     finds =
         λ i.
         if length (ports_are i) == 0 || not_own i then None

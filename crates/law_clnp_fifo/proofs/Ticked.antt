@@ -11,20 +11,25 @@ use Rattle.clnp_system.specs.Node.{Frame, Node, Reaction}
 use Rattle.clnp_system.specs.Setting.{Setting, all_intermediates}
 use Rattle.clnp_system.specs.Tables.{rows_tables}
 use Rattle.clnp_system.specs.Ticking.{ExpiresAll, NodeTicks, ReportsEach, expiry_note}
-use Rattle.law_clnp_fifo.specs.Cutting.{IsEmptyStore}
-use Rattle.law_clnp_fifo.specs.Waiting.{IsCalmNode}
+use Rattle.law_clnp_fifo.proofs.Nodes.{IsCalmNode}
+
+-- nothing is held, of at most 32 units and 262,144 octets
+pub record IsEmptyStore (store : Holding) : Type 0 where
+  pub held : store.held ≡ []
+  pub units : store.units ≡ 32
+  pub octets : store.octets ≡ 262144
 
 -- the frame goes to all intermediate systems
 abbrev pub IsToGroup : Frame → Type 0
 IsToGroup frame = frame.to.snpa ≡ all_intermediates
 
-hellos_go : (setting : Setting) (ports : List Port) (frames : List Frame) → setting.end ≡ true → AreHellos setting ports frames → AllByRecursion IsToGroup frames
+pub hellos_go : (setting : Setting) (ports : List Port) (frames : List Frame) → setting.end ≡ true → AreHellos setting ports frames → AllByRecursion IsToGroup frames
 hellos_go setting [] frames end none = subst (AllByRecursion IsToGroup) (sym none) tt
 hellos_go setting (port ∷ ports) frames end hellos =
     let to : hellos.0.to.snpa ≡ all_intermediates = ap (λ (p : Port). p.snpa) hellos.2.goes.to_is ∙ ap hearers end in
     subst (AllByRecursion IsToGroup) (sym hellos.4) (to, hellos_go setting ports hellos.1 end hellos.3)
 
-due_hellos_go : (due : Bool) (setting : Setting) (frames : List Frame) → setting.end ≡ true → HellosIf due setting frames → AllByRecursion IsToGroup frames
+pub due_hellos_go : (due : Bool) (setting : Setting) (frames : List Frame) → setting.end ≡ true → HellosIf due setting frames → AllByRecursion IsToGroup frames
 due_hellos_go false setting frames end none = subst (AllByRecursion IsToGroup) (sym none) tt
 due_hellos_go true setting frames end hellos = hellos_go setting setting.ports frames end hellos
 

@@ -38,3 +38,7 @@ pub record IsCalmNet (rows : List PortRow) (first second : Setting) (here there 
   pub ports : AreBoth (end_row 0 here) (end_row 1 there) rows
   pub leads : LeadsTo first second there
   pub back : LeadsTo second first here
+
+-- the titles of the two systems, by their numbers
+abbrev pub titles_of : Setting → Setting → List (List ℕ)
+titles_of first second = first.title ∷ second.title ∷ []

@@ -1,17 +1,14 @@
--- A unit that is cut for one LAN and joined at its far end, segment after segment (X.233, segmentation, reassembly).
-use Rattle.std.specs.Prelude.{◌≡◌, ◌⊎◌, ℕ, ◌≤◌, true, false, List, [], ◌∷◌, length, Some, Ok}
+-- A unit that is cut for one LAN, for the system at its far end (X.233, segmentation function).
+use Rattle.std.specs.Prelude.{◌≡◌, ◌⊎◌, ℕ, ◌≤◌, true, false, List, length, Some, Ok}
 use Rattle.nsap.specs.Address.{selector_of}
 use Rattle.nsap.specs.declared.port.Hop.{Hop}
 use Rattle.nsap.specs.declared.port.Port.{Port}
 use Rattle.osi_base.specs.declared.unit.Unit.{Unit as CarriedUnit}
-use Rattle.osi_base.specs.declared.unit.Up.TheVariants.{Unit as Came}
 use Rattle.osi_base.specs.declared.unit.Wish.{Wish}
 use Rattle.clnp_options.specs.declared.reason.PduKind.TheVariants.{Dt}
 use Rattle.clnp_header.specs.declared.pdu.Pdu.{Pdu}
-use Rattle.clnp_segment.specs.Store.{Holding}
 use Rattle.clnp_system.specs.Hops.{hop_of}
-use Rattle.clnp_system.specs.Node.{Frame, Node, Reaction}
-use Rattle.clnp_system.specs.Receiving.{Receives}
+use Rattle.clnp_system.specs.Node.{Frame, Node}
 use Rattle.clnp_system.specs.Sending.{Sends}
 use Rattle.clnp_system.specs.Setting.{Setting, bound_of, is_group, is_own_system, port_on, room_of}
 use Rattle.clnp_system.specs.Tables.{Tables}
@@ -28,8 +25,6 @@ pub record Faces {N : Type 0} (tables : Tables N) (node : Node N) (now : ℕ) (o
   pub end : other.end ≡ true
   pub own : is_own_system other unit.to ≡ true
   pub selector : (selector_of unit.to ≡ 1) ⊎ (selector_of unit.to ≡ 2)
-
--- ---- at the sender
 
 -- the unit is sent there in these frames, by no source route
 pub record SendsTo {N : Type 0} (tables : Tables N) (node : Node N) (now : ℕ) (other : Setting) (unit : CarriedUnit (List ℕ)) (port : Port) (frames : List Frame) (after : Node N) : Type 0 where
@@ -57,37 +52,3 @@ pub record KeepsAll {N : Type 0} (old : Node N) (now : ℕ) (new : Node N) : Typ
   pub store : new.store ≡ old.store
   pub neighbours : new.neighbours ≡ old.neighbours
   pub redirects : new.redirects ≡ old.redirects
-
--- ---- at the receiver
-
--- nothing is held, of at most 32 units and 262,144 octets
-pub record IsEmptyStore (store : Holding) : Type 0 where
-  pub held : store.held ≡ []
-  pub units : store.units ≡ 32
-  pub octets : store.octets ≡ 262144
-
--- nothing comes of a frame but what is then held, and the next frames bring the unit
-pub record OnlyHolds {N : Type 0} (old : Node N) (now : ℕ) (reaction : Reaction) (new : Node N) (Next : Holding → Type 0) : Type 0 where
-  pub store : Holding
-  pub quiet : reaction ≡ record { ups = []; frames = [] }
-  pub after : new ≡ record old { clock = now; store = store }
-  pub next : Next store
-
--- the unit comes up, and nothing is held
-pub record IsWhole {N : Type 0} (unit : CarriedUnit (List ℕ)) (old : Node N) (now : ℕ) (reaction : Reaction) (new : Node N) : Type 0 where
-  pub store : Holding
-  pub comes : reaction ≡ record { ups = Came (record { system = old.setup.system; unit = unit }) ∷ []; frames = [] }
-  pub after : new ≡ record old { clock = now; store = store }
-  pub empty : IsEmptyStore store
-
--- what comes of a frame: the unit with the last one, and before that nothing, while the next ones bring it
-abbrev pub BringsBy : {N : Type 0} → (Holding → Type 0) → CarriedUnit (List ℕ) → List Frame → Node N → ℕ → Reaction → Node N → Type 0
-BringsBy Next unit [] old now reaction new = IsWhole unit old now reaction new
-BringsBy Next unit (frame ∷ frames) old now reaction new = OnlyHolds old now reaction new Next
-
--- handed one after another to a system with that setting and that store, these frames bring the unit
-abbrev pub Bring : {N : Type 0} → Tables N → Setting → CarriedUnit (List ℕ) → List Frame → Holding → Type 0
-Bring tables setting unit [] store = ⊥
-Bring {N} tables setting unit (frame ∷ frames) store =
-    (old : Node N) (now : ℕ) (reaction : Reaction) (new : Node N) → old.setup ≡ setting → old.store ≡ store → Receives tables old now frame reaction new
-    → BringsBy (Bring tables setting unit frames) unit frames old now reaction new

@@ -2,8 +2,8 @@
 
 ghost use Rattle.law_clnp_fifo.specs.Laws.{CutBrings, CutGoes, CutKeeps};
 
-/// The frames of a unit, handed in order to the other end system, bring it: with the last one the unit comes up and nothing is held; before
-/// that nothing comes up, and no frame goes out.
+/// The frames of a unit, handed in order to the other end system, bring it: with the last one the unit comes up, and all else that is held stays;
+/// before that nothing comes up, and no frame goes out, unless a segment is refused for want of room, which none is where nothing else is held.
 pub fn cut_brings<N>()
     ensures { CutBrings N }
 {}

@@ -43,7 +43,8 @@ use Rattle.law_tp4_pair.proofs.ShownIn.{claims}
 use Rattle.law_calm_service.proofs.Wired.{indicated_on_wire}
 use Rattle.law_calm_service.proofs.WiredEnds.{confirmed_on_wire, shown_on_wire}
 use Rattle.osi_setup.specs.Fitting.{IsWell}
-use Rattle.osi_setup.specs.SetUp.{SetUp, entities_of, timers_of, titles_of as titles_said}
+use Rattle.osi_setup.specs.SetUp.{SetUp, timers_of, titles_of as titles_said}
+use Rattle.script_world.specs.Entities.{entities_of}
 use Rattle.osi_setup.proofs.Entities.{are_timed}
 use Rattle.law_run.specs.Calm.{AcceptsAreConfirmed, ActsCalmly, ConnectsAreIndicated, RunsCalmly}
 use Rattle.law_run.specs.Laws.{ServesCalmScripts}

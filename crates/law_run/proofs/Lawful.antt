@@ -11,7 +11,8 @@ use Rattle.osi_script.specs.declared.line.Line.{Line}
 use Rattle.osi_script.specs.Injecting.{HasNoInject}
 use Rattle.osi_script.specs.Known.{Declared, nothing_declared}
 use Rattle.osi_script.specs.Script.{Says}
-use Rattle.osi_setup.specs.SetUp.{SetUp, entities_of, nothing_said, set_up, timers_of, titles_of as titles_said}
+use Rattle.osi_setup.specs.SetUp.{SetUp, nothing_said, set_up, timers_of, titles_of as titles_said}
+use Rattle.script_world.specs.Entities.{entities_of}
 use Rattle.law_run.specs.World.{TransportNet, NetDoes, SetsUp, StartsUp, World, WorldRun, WorldRuns, is_start, life_of, link_of_net, running, strays_of, titles_of}
 use Rattle.script_world.specs.ClnpNets.{MakesNet}
 use Rattle.script_world.proofs.Headline.{script_unstrayed, still_honest}

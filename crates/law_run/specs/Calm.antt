@@ -40,7 +40,7 @@ pub record ActsCalmly (titles : List (List ℕ)) (before : List Event) (old : Tr
   pub settles : WorldRuns (running titles timers between) (idle ++ lines.Settle ∷ []) settled last
   pub undropped : AllByRecursion IsUndropped (before ++ own ∷ (later ++ settled))
 
--- a `connect` that was taken has its `incoming` in the `settle` behind it, word for word, where the called system has its selector registered and a reference free, and
+-- a `connect` that was taken has its `incoming` in the `settle` behind it, with its addresses, selectors and octets, where the called system has its selector registered and a reference free, and
 -- no end for that calling address and reference, a frozen one included
 abbrev pub ConnectsAreIndicated : Declared → List Event → List (List ℕ) → TransportNet → Type 0
 ConnectsAreIndicated names before titles old = (new : Declared) (between : TransportNet) (text : List ℕ) (system to : ℕ) (selector called octets : List ℕ) (options : Options)

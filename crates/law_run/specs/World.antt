@@ -8,7 +8,8 @@ use Rattle.tp4_world.specs.World.{World as TransportWorld}
 use Rattle.osi_journal.specs.declared.event.Event.{Event}
 use Rattle.osi_script.specs.declared.words.Dialect.TheVariants as dialects
 use Rattle.osi_script.specs.declared.line.Line.{Line}
-use Rattle.osi_setup.specs.SetUp.{SetUp, entities_of, timers_of, titles_of as titles_said}
+use Rattle.osi_setup.specs.SetUp.{SetUp, timers_of, titles_of as titles_said}
+use Rattle.script_world.specs.Entities.{entities_of}
 use Rattle.script_bench.specs.Acts.{Acts, RunsScript}
 pub use Rattle.script_bench.specs.Script.{is_start}
 use Rattle.script_world.specs.ClnpNets.{MakesNet}

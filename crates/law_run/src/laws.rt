@@ -80,7 +80,7 @@ pub fn one_outcome()
 
 /// After a calm script nothing is missing, as long as nothing was dropped: each two partner ends that are both Opened have shown all that the
 /// other was asked to send, but for want of credit or by the number rule; a connect request has its indication by the `settle` behind it,
-/// word for word, where its selector is registered and a reference free, and no end of that caller is there; and an accept has its confirm.
+/// with its addresses, selectors and octets, where its selector is registered and a reference free, and no end of that caller is there; and an accept has its confirm.
 pub fn calm_scripts_are_served()
     ensures { ServesCalmScripts }
 {

@@ -1,4 +1,4 @@
--- A line that was read keeps the limits of the script: its size of a TPDU is one of the seven, its selectors have 32 octets at most, and its
+-- A line that was read keeps the limits of the script: its size of a TPDU is one that a script may name, its selectors have 32 octets at most, and its
 -- credit is at most 255.
 use Rattle.std.proofs.Common.{◌≡◌, ℕ, ◌≤◌, Bool, true, false, List, [], ◌∷◌, length, Result, Ok, Err, refl, sym, ◌∙◌, subst, arith}
 use Rattle.std.specs.Prelude.{◌&&◌, if◌then◌else◌, nat_le}

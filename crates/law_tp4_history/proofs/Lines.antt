@@ -374,11 +374,11 @@ module _ (rules : Rules) (fit : IsFit rules) (size : ℕ) (some : 0 < size) (tic
   fine_next l (Flows event) may f = flows l f event may.0 may.1
   fine_next l (Expedites event) may f = expedites_by l f event may.0 may.1
 
-  fine_runs : (old new : Line) (happenings : List Happening) → Runs rules size old happenings new → Fine rules size tick credit places room old → Fine rules size tick credit places room new
+  pub fine_runs : (old new : Line) (happenings : List Happening) → Runs rules size old happenings new → Fine rules size tick credit places room old → Fine rules size tick credit places room new
   fine_runs old new [] r f = subst (Fine rules size tick credit places room) (sym r) f
   fine_runs old new (happening ∷ happenings) r f = fine_runs (next rules old happening) new happenings r.1 (fine_next old happening r.0 f)
 
-  fine_empty : Fine rules size tick credit places room (empty tick credit places room)
+  pub fine_empty : Fine rules size tick credit places room (empty tick credit places room)
   fine_empty = record {
     events = [];
     leads = refl;

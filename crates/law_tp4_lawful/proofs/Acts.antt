@@ -40,7 +40,8 @@ use Rattle.tp4_world.specs.World.{entity_at, latest, with_entity}
 use Rattle.tp4_world.specs.declared.place.EndAt.{EndAt}
 use Rattle.tp4_world.specs.declared.place.Placed.{Placed}
 use Rattle.law_tp4_lawful.specs.steps.Acting.{Acts, Comes, IsLike, first_of}
-use Rattle.law_tp4_lawful.specs.steps.Known.{AreOffered, AreTerms, Follows, HaveBegun, IsKnown, Known}
+use Rattle.law_tp4_lawful.specs.steps.Known.{AreTerms, HaveBegun, IsKnown, Known}
+use Rattle.law_tp4_lawful.specs.steps.Worlds.{AreOffered, Follows}
 use Rattle.law_tp4_lawful.proofs.ActsLines.{Did, Flowing, Says, acted, did}
 use Rattle.law_tp4_lawful.proofs.ActsSame.{step_leaves}
 use Rattle.law_tp4_lawful.proofs.ActsRows.{AreTold, row_of}
@@ -140,7 +141,7 @@ same_frames h = record {
 }
 
 -- the halves are of the reference of the end
-stage_of : (birth : Birth) (took last : ℕ) (b : EndRecord) (stage : StateData) → IsSeenIn birth took last b stage → IsStageOf b.own stage
+pub stage_of : (birth : Birth) (took last : ℕ) (b : EndRecord) (stage : StateData) → IsSeenIn birth took last b stage → IsStageOf b.own stage
 stage_of birth took last b (stages.AkWait w) at = (ap (λ (r : FlowRules). r.own) at.halves.sending, ap (λ (r : FlowRules). r.own) at.halves.receiving)
 stage_of birth took last b (stages.Opened o) at = (ap (λ (r : FlowRules). r.own) at.halves.sending, ap (λ (r : FlowRules). r.own) at.halves.receiving)
 stage_of birth took last b (stages.CrWait w) at = tt

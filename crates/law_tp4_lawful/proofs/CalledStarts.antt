@@ -16,6 +16,7 @@ use Rattle.tp4_world.specs.First.{HasNoEnd}
 use Rattle.tp4_world.specs.Wire.{world_on_wire}
 use Rattle.tp4_world.specs.World.{World}
 use Rattle.tp4_world.specs.declared.place.Placed.{Placed}
+use Rattle.law_tp4_lawful.specs.steps.Known.{IsOffered, Known}
 use Rattle.law_tp4_lawful.specs.steps.Worlds.{Explains, Followed, Rests}
 use Rattle.law_tp4_proper.specs.Rest.{AreInTime, AreProper}
 use Rattle.law_tp4_lawful.proofs.Acts.{acts}
@@ -33,6 +34,7 @@ use Rattle.tp4_number.specs.Number.{whole, wire}
 use Rattle.law_tp4_lawful.specs.Called.{AreHonestCalls, OfWhole, OnCalls}
 use Rattle.law_tp4_lawful.specs.Laws.{CallsAreLawful, CallsAreSilent}
 use Rattle.law_tp4_lawful.proofs.WorldRestarts.{after_restart}
+use Rattle.law_tp4_lawful.proofs.WorldKnown.{plain_kept}
 
 -- the history follows each step of an entity
 pub followed_by : Flowing → KnowsTaken → (titles : List (List ℕ)) (timers : Timers) → Followed titles timers
@@ -58,7 +60,7 @@ module _ {C : Type 0} (link : C → Link (List ℕ)) (steps : C → Call (List �
       let rests : Rests link AreProper titles timers r.begun r.first =
       started titles timers a.timed a.timed.inactive_least a.distinct r.placed r.is_first.entities r.untouched begins link steps law (followed_by flowing knows titles timers) AreProper AreInTime outcomes r.made r.begun
       r.first r.is_first r.starts in
-      let all = calls_hold titles timers a.timed link steps law (followed_by flowing knows titles timers) one_unit AreProper AreInTime outcomes r.calls r.first last r.begun r.later a.honest a.limits rests r.did in
+      let all = calls_hold titles timers (Known titles timers) IsOffered (plain_kept titles timers) a.timed link steps law (followed_by flowing knows titles timers) one_unit AreProper AreInTime outcomes r.calls r.first last r.begun r.later a.honest a.limits rests r.did in
       record { w = all.w; explains = subst (λ (xs : List Event). Explains link titles timers all.w xs last) (sym r.journal_is) all.explains }
 
   -- what holds wherever a history explains the network holds after any calls, over whole numbers

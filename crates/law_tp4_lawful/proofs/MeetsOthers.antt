@@ -49,7 +49,8 @@ use Rattle.tp4_world.specs.World.{entity_at}
 use Rattle.tp4_world.specs.declared.place.EndAt.{EndAt}
 use Rattle.tp4_world.specs.declared.place.Placed.{Placed}
 use Rattle.law_tp4_lawful.specs.steps.Acting.{Acts}
-use Rattle.law_tp4_lawful.specs.steps.Known.{AreTerms, Follows, IsKnown, IsOffered, IsReadAs, IsThere, Known}
+use Rattle.law_tp4_lawful.specs.steps.Known.{AreTerms, IsKnown, IsOffered, IsReadAs, IsThere, Known}
+use Rattle.law_tp4_lawful.specs.steps.Worlds.{Follows}
 use Rattle.law_tp4_lawful.proofs.MeetsAside.{noted, replied}
 
 -- what an end has to know of an offer that it takes
@@ -202,10 +203,10 @@ module _ (titles : List (List ℕ)) (timers : Timers) (w : Whole) (journal : Lis
     as_sent : t ≡ sent.tpdu
     as_sent = by_kind (has_number (kind_for sent.tpdu)) refl
 
-    is : o.tpdu ≡ seen io.n t
+    pub is : o.tpdu ≡ seen io.n t
     is = io.seen_as ∙ ap (seen io.n) (sym as_sent)
 
-    taken : IsTaken (times_of timers) w.base own.k o (seen io.n t)
+    pub taken : IsTaken (times_of timers) w.base own.k o (seen io.n t)
     taken = record {
       y_low = own.at.low;
       offered = io.offered;
@@ -217,7 +218,7 @@ module _ (titles : List (List ℕ)) (timers : Timers) (w : Whole) (journal : Lis
       is_held = own.at.held;
     }
 
-    number : o.tpdu.kind ≡ Flow → IsNumbered (block_of (agreed_format e.base.agreed)) io.n t
+    pub number : o.tpdu.kind ≡ Flow → IsNumbered (block_of (agreed_format e.base.agreed)) io.n t
     number flow =
         subst (λ (x : WireTpdu). IsNumbered (block_of (agreed_format e.base.agreed)) io.n x) (sym as_sent)
         (subst (λ (x : Format). IsNumbered (block_of x) io.n sent.tpdu) (format_same flow) io.numbered)

@@ -24,12 +24,12 @@ use Rattle.law_tp4_lawful.specs.steps.Known.{AreTerms, IsKnown, IsThere}
 use Rattle.law_tp4_lawful.specs.steps.Worlds.{Explains}
 use Rattle.law_tp4_lawful.proofs.FramesKnown.{keeps, number_at}
 
-own_in : (birth : Birth) (took latest : ℕ) (b : EndRecord) (stage : StateData) (h : Halves) → halves_at stage ≡ Some h → IsSeenIn birth took latest b stage → AreOwn b h × (b.partner ≢ 0)
+pub own_in : (birth : Birth) (took latest : ℕ) (b : EndRecord) (stage : StateData) (h : Halves) → halves_at stage ≡ Some h → IsSeenIn birth took latest b stage → AreOwn b h × (b.partner ≢ 0)
 own_in birth took latest b (stages.AkWait w) h is at = (subst (AreOwn b) (same_Some _ _ is) at.halves, at.known)
 own_in birth took latest b (stages.Opened o) h is at = (subst (AreOwn b) (same_Some _ _ is) at.halves, at.known)
 own_in birth took latest b other h is at = absurd (none-some _ is)
 
-stand_in : (terms : Terms) (b : EndRecord) (stage : StateData) (h : Halves) (own theirs : Track) → halves_at stage ≡ Some h → Stands terms b stage own theirs → AreHalvesAt (agreed_format b.agreed) h own theirs
+pub stand_in : (terms : Terms) (b : EndRecord) (stage : StateData) (h : Halves) (own theirs : Track) → halves_at stage ≡ Some h → Stands terms b stage own theirs → AreHalvesAt (agreed_format b.agreed) h own theirs
 stand_in terms b (stages.AkWait w) h own theirs is at = subst (λ (x : Halves). AreHalvesAt (agreed_format b.agreed) x own theirs) (same_Some _ _ is) at
 stand_in terms b (stages.Opened o) h own theirs is at = subst (λ (x : Halves). AreHalvesAt (agreed_format b.agreed) x own theirs) (same_Some _ _ is) at
 stand_in terms b other h own theirs is at = absurd (none-some _ is)

@@ -32,6 +32,7 @@ use Rattle.tp4_world.specs.Called.{Did, DidAll, KeepsLimits, WorldCall}
 use Rattle.tp4_world.specs.World.{World}
 use Rattle.law_tp4_lawful.specs.Called.{OnCalls}
 use Rattle.law_tp4_lawful.specs.References.{ComesTo, IsMadeBy, IsNotBefore}
+use Rattle.law_tp4_lawful.specs.steps.Known.{IsOffered as WasOffered, Known}
 use Rattle.law_tp4_lawful.specs.steps.Worlds.{Explains, Followed, IsBacked, OneInUnit, Outcomes, Rests}
 use Rattle.law_tp4_proper.specs.Rest.{AreInTime, AreProper}
 use Rattle.law_tp4_lawful.proofs.ActsLines.{Flowing}
@@ -45,6 +46,7 @@ use Rattle.law_tp4_lawful.proofs.ReferencesStays.{did_stays}
 use Rattle.law_tp4_lawful.proofs.WorldCalls.{calls_hold, did_holds}
 use Rattle.law_tp4_lawful.proofs.WorldStarts.{started}
 use Rattle.law_tp4_lawful.proofs.WorldOutcomes.{one_unit, outcomes}
+use Rattle.law_tp4_lawful.proofs.WorldKnown.{plain_kept}
 
 -- ---- lists
 
@@ -103,7 +105,7 @@ ends_on journal made calling called e =
       called_is = e.called_is;
     }
 
-partners_on : (journal made : List Event) (x y : ℕ) → ArePartners journal x y → ArePartners (journal ++ made) x y
+pub partners_on : (journal made : List Event) (x y : ℕ) → ArePartners journal x y → ArePartners (journal ++ made) x y
 partners_on journal made x y (inl e) = inl (ends_on journal made x y e)
 partners_on journal made x y (inr e) = inr (ends_on journal made y x e)
 
@@ -280,7 +282,7 @@ module _ (titles : List (List ℕ)) (timers : Timers) (timed : IsTimed timers) {
             in_call call calls first run.0 journal made run.2 honest_then limits.0 h up run.3 run.5 front split.0 event split.1 past makes own reference)
         | inr beyond ↦
             later_in calls run.0 (journal ++ made) run.2 honest limits.1
-            (did_holds titles timers timed link steps law followed one Sound InTime outcomes call first run.0 journal made limits.0 honest_then h run.3)
+            (did_holds titles timers (Known titles timers) WasOffered (plain_kept titles timers) timed link steps law followed one Sound InTime outcomes call first run.0 journal made limits.0 honest_then h run.3)
             (up_after first run.0 journal made up (did_goes link steps law whole call first run.0 made run.3)) run.5 front back event all beyond makes own reference
       ]
 
@@ -326,7 +328,7 @@ not_before {C} link steps law flowing knows begins titles timers journal last a 
     let rests : Rests link AreProper titles timers r.begun r.first =
     started titles timers a.timed a.timed.inactive_least a.distinct r.placed r.is_first.entities r.untouched begins link steps law followed AreProper AreInTime outcomes r.made r.begun r.first r.is_first r.starts in
     let all : Rests link AreProper titles timers (r.begun ++ r.later) last =
-    calls_hold titles timers a.timed link steps law followed one_unit AreProper AreInTime outcomes r.calls r.first last r.begun r.later a.honest a.limits rests r.did in
+    calls_hold titles timers (Known titles timers) WasOffered (plain_kept titles timers) a.timed link steps law followed one_unit AreProper AreInTime outcomes r.calls r.first last r.begun r.later a.honest a.limits rests r.did in
     let live : (link last.carrier).clock ≤ c.tick + timers.life = omega (arith, c.live, all.explains.carries.bounds c.unit.to) in
     let up : AreUpTo (link r.first.carrier).clock r.begun =
     subst (AreUpTo (link r.first.carrier).clock) (sym r.starts.made_is) (λ now low. omega arith, told_up (link r.first.carrier).clock r.starts.ups) in

@@ -58,7 +58,7 @@ is_flow (wires.Ak destination number credit subsequence confirmation) n h = refl
 is_flow (wires.Ea destination number) n h = refl
 is_flow other n h = absurd cc
 
-same_format : (one other : Format) → is_extended one ≡ is_extended other → one ≡ other
+pub same_format : (one other : Format) → is_extended one ≡ is_extended other → one ≡ other
 same_format formats.Normal formats.Normal h = refl
 same_format formats.Normal formats.Extended h = absurd (cc h)
 same_format formats.Extended formats.Normal h = absurd (cc h)

@@ -31,7 +31,8 @@ use Rattle.tp4_world.specs.Run.{Acts, BeginsAt, Calls, CallsAt, CallsBy, CallsEn
 use Rattle.tp4_world.specs.Telling.{call_events, connect_event}
 use Rattle.tp4_world.specs.World.{World, end_numbered, entity_at}
 use Rattle.tp4_world.specs.declared.place.EndAt.{EndAt}
-use Rattle.law_tp4_lawful.specs.steps.Worlds.{AreAtRest, Followed, OneInUnit, Outcomes, Rests}
+use Rattle.law_tp4_lawful.specs.steps.Along.{AreAtRest, Followed, IsKept, Knowing, Offering, Rests}
+use Rattle.law_tp4_lawful.specs.steps.Worlds.{OneInUnit, Outcomes}
 use Rattle.law_tp4_lawful.proofs.WorldActs.{Went, went_aside}
 use Rattle.law_tp4_lawful.proofs.WorldAsides.{AreQuiet}
 use Rattle.law_tp4_lawful.proofs.WorldFloats.{raw_goes}
@@ -45,32 +46,32 @@ pub record IsAsked (request : ConnectRequest) : Type 0 where
   pub calling : length request.from_selector ≤ 32
   pub called : length request.to_selector ≤ 32
 
-module _ (titles : List (List ℕ)) (timers : Timers) (timed : IsTimed timers) {C : Type 0} (link : C → Link (List ℕ)) (steps : C → Call (List ℕ) → C → Type 0)
+module _ (titles : List (List ℕ)) (timers : Timers) (Knows : Knowing) (Offered : Offering) (kept : IsKept titles timers Knows Offered) (timed : IsTimed timers) {C : Type 0} (link : C → Link (List ℕ)) (steps : C → Call (List ℕ) → C → Type 0)
     (law : (old : C) (call : Call (List ℕ)) (new : C) → steps old call new → Keeps (link old) call (link new))
-    (followed : Followed titles timers) (one : OneInUnit) (Sound : Entity → Type 0) (InTime : ℕ → Entity → Type 0) (outcomes : Outcomes Sound InTime) where
+    (followed : Followed timers Knows Offered) (one : OneInUnit) (Sound : Entity → Type 0) (InTime : ℕ → Entity → Type 0) (outcomes : Outcomes Sound InTime) where
   abbrev Holds : World C → List Event → Type 0
-  Holds world journal = Rests link Sound titles timers journal world
+  Holds world journal = Rests timers Knows Offered link Sound journal world
 
   abbrev Runs : Whole → List Event → World C → Type 0
-  Runs w journal new = Ran titles timers timed link steps law followed.aside followed.meets one Sound InTime outcomes w journal new
+  Runs w journal new = Ran titles timers Knows Offered kept timed link steps law followed.aside followed.meets one Sound InTime outcomes w journal new
 
   holds : (w : Whole) (journal : List Event) (new : World C) → Runs w journal new → Holds new journal
   holds w journal new r = record {
     w = r.went.next;
     explains = r.went.explains;
-    rest = rest_then titles timers timed link steps law followed.aside followed.meets one Sound InTime outcomes w r.went.next new.entities r.went.goes_on r.rest;
+    rest = rest_then titles timers Knows Offered kept timed link steps law followed.aside followed.meets one Sound InTime outcomes w r.went.next new.entities r.went.goes_on r.rest;
   }
 
   -- nothing happens
   same_holds : (old new : World C) (journal made : List Event) → Holds old journal → made ≡ [] → new ≡ old → Holds new (journal ++ made)
   same_holds old new journal made h none same =
-      holds h.w (journal ++ made) new (ran_nowhere titles timers timed link steps law followed.aside followed.meets one Sound InTime outcomes h.w journal made old new h.explains h.rest none same)
+      holds h.w (journal ++ made) new (ran_nowhere titles timers Knows Offered kept timed link steps law followed.aside followed.meets one Sound InTime outcomes h.w journal made old new h.explains h.rest none same)
 
   -- events that are aside
   told_holds : (old new : World C) (journal made told : List Event) → Holds old journal → AreQuiet told → made ≡ told → new ≡ old → Holds new (journal ++ made)
   told_holds old new journal made told h quiet is same =
-      let went : Went titles timers link steps law followed.aside h.w (journal ++ told) old =
-      went_aside titles timers link steps law followed.aside h.w journal told old old h.explains.known h.explains.carries quiet refl in
+      let went : Went titles timers Knows Offered kept link steps law followed.aside h.w (journal ++ told) old =
+      went_aside titles timers Knows Offered kept link steps law followed.aside h.w journal told old old h.explains.known h.explains.carries quiet refl in
       let there : Holds old (journal ++ told) = holds h.w (journal ++ told) old (record { went = went; rest = h.rest }) in
       subst (λ (x : World C). Holds x (journal ++ made)) (sym same) (subst (λ (xs : List Event). Holds old (journal ++ xs)) (sym is) there)
 
@@ -95,7 +96,7 @@ module _ (titles : List (List ℕ)) (timers : Timers) (timed : IsTimed timers) {
       let event : Event = connect_event (length old.ends + 1) system reference entity.own request in
       let with_end : World C = record old { ends = old.ends ++ record { system = system; reference = reference } ∷ [] } in
       let proper : IsProperCall (call_of entity reference request) = record {
-        timers = subst IsTimed (sym (h.explains.known.holds system entity there).timers_are) timed;
+        timers = subst IsTimed (sym ((kept.known w journal old.entities old.ends h.explains.known).holds system entity there).timers_are) timed;
         size = asked.size;
         calling = asked.calling;
         called = asked.called;
@@ -105,7 +106,7 @@ module _ (titles : List (List ℕ)) (timers : Timers) (timed : IsTimed timers) {
       let acts : Acts link steps with_end system entity.own (connecting w.base.clock entity reference request) step.0 new =
       subst (λ (n : ℕ). Acts link steps with_end system entity.own (connecting n entity reference request) step.0 new) now step.1 in
       let ran : Runs w ((journal ++ event ∷ []) ++ step.0) new =
-      ran_on titles timers timed link steps law followed.aside followed.meets one Sound InTime outcomes w journal (event ∷ []) step.0 with_end new system entity.own (connecting w.base.clock entity reference request)
+      ran_on titles timers Knows Offered kept timed link steps law followed.aside followed.meets one Sound InTime outcomes w journal (event ∷ []) step.0 with_end new system entity.own (connecting w.base.clock entity reference request)
       h.explains.carries h.rest (followed.connects w journal old.entities old.ends system entity request reference h.explains.known there quiet proper free)
       (outcomes.connecting w.base.clock reference entity request rest.0 rest.1 free proper) acts in
       behind new journal made (event ∷ []) step.0 (holds w ((journal ++ event ∷ []) ++ step.0) new ran) step.2
@@ -133,7 +134,7 @@ module _ (titles : List (List ℕ)) (timers : Timers) (timed : IsTimed timers) {
       let acts : Acts link steps old end.system entity.own (calling whole w.base.clock entity end.reference call) step.0 new =
       subst (λ (n : ℕ). Acts link steps old end.system entity.own (calling whole n entity end.reference call) step.0 new) now step.1 in
       let ran : Runs w ((journal ++ call_events number call) ++ step.0) new =
-      ran_on titles timers timed link steps law followed.aside followed.meets one Sound InTime outcomes w journal (call_events number call) step.0 old new end.system entity.own
+      ran_on titles timers Knows Offered kept timed link steps law followed.aside followed.meets one Sound InTime outcomes w journal (call_events number call) step.0 old new end.system entity.own
       (calling whole w.base.clock entity end.reference call) h.explains.carries h.rest
       (followed.calls w journal old.entities old.ends number end entity call h.explains.known numbered there goes is proper)
       (outcomes.calling w.base.clock end.reference entity call rest.0 rest.1 is proper) acts in
@@ -156,7 +157,7 @@ module _ (titles : List (List ℕ)) (timers : Timers) (timed : IsTimed timers) {
   called old new journal made number call h proper step = call_at old new journal made number call (end_numbered old.ends number) h refl proper step
 
   -- a raw unit
-  raw : (old new : World C) (journal made : List Event) (below : C) → Holds old journal → (w : Whole) → Went titles timers link steps law followed.aside w (journal ++ made) (record old { carrier = below })
+  raw : (old new : World C) (journal made : List Event) (below : C) → Holds old journal → (w : Whole) → Went titles timers Knows Offered kept link steps law followed.aside w (journal ++ made) (record old { carrier = below })
       → AreAtRest Sound w.base.clock old.entities → new ≡ record old { carrier = below } → Holds new (journal ++ made)
   raw old new journal made below h w went rest same =
       subst (λ (x : World C). Holds x (journal ++ made)) (sym same) (holds w (journal ++ made) (record old { carrier = below }) (record { went = went; rest = rest }))
@@ -170,7 +171,7 @@ module _ (titles : List (List ℕ)) (timers : Timers) (timed : IsTimed timers) {
       told_holds old new journal made (events.Settle (Stopped count) ∷ []) h (record { submits = λ end. refl; shows = λ end. refl; makes = refl }, tt) made_is same
   settled count old made new (OneMore n o m l pair mid here rest fresh low delivers settles made_is) journal h =
       let first : Holds mid (journal ++ here) =
-      holds h.w (journal ++ here) mid (delivered titles timers timed link steps law followed.aside followed.meets one Sound InTime outcomes h.w old mid journal here pair.0 pair.1 WasPicked h.explains h.rest delivers) in
+      holds h.w (journal ++ here) mid (delivered titles timers Knows Offered kept timed link steps law followed.aside followed.meets one Sound InTime outcomes h.w old mid journal here pair.0 pair.1 WasPicked h.explains h.rest delivers) in
       behind new journal made here rest (settled (count + 1) mid rest new settles (journal ++ here) first) made_is
 
   pub did_holds : (call : WorldCall) (old new : World C) (journal made : List Event) → KeepsLimits call → (link new.carrier).honest ≡ true → Holds old journal → Did link steps whole old call made new
@@ -179,26 +180,26 @@ module _ (titles : List (List ℕ)) (timers : Timers) (timed : IsTimed timers) {
       connected old new journal made system request h (record { size = limits.0; calling = limits.1; called = limits.2 }) step
   did_holds (requests.Ask end call) old new journal made limits honest h step = called old new journal made end call h limits step
   did_holds (requests.Raw system sender receiver wish octets) old new journal made limits honest h step =
-      let goes = raw_goes timers.life link steps law h.w.base old.carrier step.0 system sender receiver wish octets made h.explains.carries step.1 in
+      let goes = raw_goes Offered kept.grows timers.life link steps law h.w.base old.carrier step.0 system sender receiver wish octets made h.explains.carries step.1 in
       raw old new journal made step.0 h h.w
-      (went_aside titles timers link steps law followed.aside h.w journal made old (record old { carrier = step.0 }) h.explains.known goes.0 goes.1 refl) h.rest step.2
+      (went_aside titles timers Knows Offered kept link steps law followed.aside h.w journal made old (record old { carrier = step.0 }) h.explains.known goes.0 goes.1 refl) h.rest step.2
   did_holds (requests.Deliver number system answer) old new journal made limits honest h step =
-      holds h.w (journal ++ made) new (delivered titles timers timed link steps law followed.aside followed.meets one Sound InTime outcomes h.w old new journal made number system answer h.explains h.rest step)
+      holds h.w (journal ++ made) new (delivered titles timers Knows Offered kept timed link steps law followed.aside followed.meets one Sound InTime outcomes h.w old new journal made number system answer h.explains h.rest step)
   did_holds (requests.Inject lan system octets answer) old new journal made limits honest h step =
       holds h.w (journal ++ made) new
-      (given_away titles timers timed link steps law followed.aside followed.meets one Sound InTime outcomes h.w old new journal made lan system octets answer
+      (given_away titles timers Knows Offered kept timed link steps law followed.aside followed.meets one Sound InTime outcomes h.w old new journal made lan system octets answer
       (not_taken link steps law old new answer made (injected link steps law whole old new lan system octets answer made step) honest) h.explains h.rest step)
   did_holds (requests.Restart system) old new journal made limits honest h step =
       holds h.w (journal ++ made) new (record {
-        went = restart_goes titles timers link steps law followed.aside followed.restarts h.w old new journal made system h.explains step;
+        went = restart_goes titles timers Knows Offered kept link steps law followed.aside followed.restarts h.w old new journal made system h.explains step;
         rest = restart_rests link steps Sound h.w.base.clock old new made system h.explains.carries.clock h.rest (λ e sound. outcomes.restarting h.w.base.clock e sound) step;
       })
   did_holds requests.Pass old new journal made limits honest h step =
-      ticked titles timers link steps law followed.aside followed.ticks followed.clock Sound InTime outcomes h.w old new journal made h.explains h.rest step
+      ticked titles timers Knows Offered kept link steps law followed.aside followed.ticks followed.clock Sound InTime outcomes h.w old new journal made h.explains h.rest step
   did_holds requests.Settle old new journal made limits honest h step = settled 0 old made new step journal h
 
-  pub calls_hold : (calls : List WorldCall) (first last : World C) (journal rest : List Event) → (link last.carrier).honest ≡ true → AllByRecursion KeepsLimits calls → Rests link Sound titles timers journal first
-      → DidAll link steps whole first calls rest last → Rests link Sound titles timers (journal ++ rest) last
+  pub calls_hold : (calls : List WorldCall) (first last : World C) (journal rest : List Event) → (link last.carrier).honest ≡ true → AllByRecursion KeepsLimits calls → Rests timers Knows Offered link Sound journal first
+      → DidAll link steps whole first calls rest last → Rests timers Knows Offered link Sound (journal ++ rest) last
   calls_hold [] first last journal rest honest limits h run = same_holds first last journal rest h run.0 run.1
   calls_hold (call ∷ calls) first last journal rest honest limits h run =
       let here : Holds run.0 (journal ++ run.1) = did_holds call first run.0 journal run.1 limits.0 (all_did_back link steps law whole calls run.0 last run.2 run.5 honest) h run.3 in

@@ -1,4 +1,4 @@
--- A history explains an entity whose clock moves on as it did before.
+-- A history explains an entity whose clock moves on as it did before; so it is what is kept along the calls.
 use Rattle.std.proofs.Common.{◌≡◌, ℕ, ◌==◌, Bool, true, false, List, Some, None, refl, sym, ◌∙◌, ap, subst, inl, inr, arith}
 use Rattle.nsap.specs.Address.{is_same_system}
 use Rattle.osi_journal.specs.declared.event.Event.{Event}
@@ -9,8 +9,8 @@ use Rattle.law_tp4_history.specs.Tracks.{Whole}
 use Rattle.tp4_world.specs.World.{entity_at, with_entity}
 use Rattle.tp4_world.specs.declared.place.EndAt.{EndAt}
 use Rattle.tp4_world.specs.declared.place.Placed.{Placed}
-use Rattle.law_tp4_lawful.specs.steps.Known.{Holds, IsListed, Known, AreBegan}
-use Rattle.law_tp4_lawful.specs.steps.Worlds.{AreAtRest}
+use Rattle.law_tp4_lawful.specs.steps.Known.{AreBegan, Holds, IsListed, IsOffered, Known}
+use Rattle.law_tp4_lawful.specs.steps.Along.{AreAtRest, Grows, IsKept}
 use Rattle.law_tp4_lawful.proofs.WorldPlaces.{some_same}
 use Rattle.tp4_world.proofs.Having.{with_any, with_first, with_other}
 use Rattle.law_tp4_lawful.proofs.Restarts.{same_began}
@@ -83,3 +83,27 @@ module _ (titles : List (List ℕ)) (timers : Timers) (w : Whole) (journal : Lis
   known_at system entity is =
       let holds = known.holds system entity is in
       known_with system entity (at w.base.clock entity) is refl refl (record { timers_are = holds.timers_are; clock = omega arith; there = holds.there; theirs = holds.theirs })
+
+-- what was offered stays so, where no offer is taken away
+pub plain_grows : Grows IsOffered
+plain_grows old new tick own sent keeps o = record {
+  offer = o.offer;
+  n = o.n;
+  offered = keeps o.offer o.offered;
+  tick_is = o.tick_is;
+  from_is = o.from_is;
+  to_is = o.to_is;
+  seen_as = o.seen_as;
+  numbered = o.numbered;
+  format = o.format;
+  sendable = o.sendable;
+}
+
+-- a history that explains the ends, and no more
+pub plain_kept : (titles : List (List ℕ)) (timers : Timers) → IsKept titles timers (Known titles timers) IsOffered
+plain_kept titles timers = record {
+  known = λ w journal entities ends known. known;
+  clock = λ w journal entities ends known system entity is. known_at titles timers w journal entities ends known system entity is;
+  offered = λ h tick own sent o. o;
+  grows = plain_grows;
+}

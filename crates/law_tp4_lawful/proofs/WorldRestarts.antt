@@ -24,8 +24,10 @@ use Rattle.tp4_world.specs.World.{World, entity_at, with_entity}
 use Rattle.tp4_world.specs.declared.place.EndAt.{EndAt}
 use Rattle.tp4_world.specs.declared.place.Placed.{Placed}
 use Rattle.nsap.specs.Address.{is_same_system}
-use Rattle.law_tp4_lawful.specs.steps.Known.{AfterAside, AfterRestart, AreBegan, AreTerms, Holds, IsListed, IsThere, Known}
-use Rattle.law_tp4_lawful.specs.steps.Worlds.{AreAtRest, Explains}
+use Rattle.law_tp4_lawful.specs.steps.Known.{AreBegan, AreTerms, Holds, IsListed, IsThere, Known}
+use Rattle.law_tp4_lawful.specs.steps.Along as along
+use Rattle.law_tp4_lawful.specs.steps.Along.{AreAtRest, IsKept, Knowing, Offering}
+use Rattle.law_tp4_lawful.specs.steps.Worlds.{AfterRestart}
 use Rattle.law_tp4_lawful.proofs.Frames.{entity_other, entity_set}
 use Rattle.law_tp4_lawful.proofs.MakesFree.{kept_known}
 use Rattle.law_tp4_lawful.proofs.Restarts.{again_began, other_began}
@@ -203,22 +205,22 @@ after_restart titles timers w journal entities ends system entity known at = beg
 
 -- ---- the network
 
-module _ (titles : List (List ℕ)) (timers : Timers) {C : Type 0} (link : C → Link (List ℕ)) (steps : C → Call (List ℕ) → C → Type 0)
-    (law : (old : C) (call : Call (List ℕ)) (new : C) → steps old call new → Keeps (link old) call (link new)) (aside : AfterAside titles timers) (restarts : AfterRestart titles timers) where
-  pub restart_goes : (w : Whole) (old new : World C) (journal made : List Event) (system : ℕ) → Explains link titles timers w journal old → Restarts link steps old system made new
-      → Went titles timers link steps law aside w (journal ++ made) new
+module _ (titles : List (List ℕ)) (timers : Timers) (Knows : Knowing) (Offered : Offering) (kept : IsKept titles timers Knows Offered) {C : Type 0} (link : C → Link (List ℕ)) (steps : C → Call (List ℕ) → C → Type 0)
+    (law : (old : C) (call : Call (List ℕ)) (new : C) → steps old call new → Keeps (link old) call (link new)) (aside : along.AfterAside timers Knows Offered) (restarts : along.AfterRestart timers Knows Offered) where
+  pub restart_goes : (w : Whole) (old new : World C) (journal made : List Event) (system : ℕ) → along.Explains timers Knows Offered link w journal old → Restarts link steps old system made new
+      → Went titles timers Knows Offered kept link steps law aside w (journal ++ made) new
   restart_goes w old new journal made system e step =
       let next : Whole = onward (times_of timers) w (record { step = Restart step.0.own; doing = Nothing }) in
       let on : World C = record old { entities = with_entity old.entities system (restarted w.base.clock step.0) } in
       let is : new ≡ on = step.3 ∙ ap (λ (n : ℕ). record old { entities = with_entity old.entities system (restarted n step.0) }) e.carries.clock in
-      subst (λ (x : World C). Went titles timers link steps law aside w (journal ++ made) x) (sym is)
-      (subst (λ (xs : List Event). Went titles timers link steps law aside w (journal ++ xs) on) (sym step.2)
+      subst (λ (x : World C). Went titles timers Knows Offered kept link steps law aside w (journal ++ made) x) (sym is)
+      (subst (λ (xs : List Event). Went titles timers Knows Offered kept link steps law aside w (journal ++ xs) on) (sym step.2)
       (record {
         next = next;
         goes_on = record { clock = refl; offers = λ offer there. there };
         explains = record {
           known = restarts w journal old.entities old.ends system step.0 e.known step.1;
-          carries = carries_on timers.life w.base next.base (link old.carrier) (record { clock = refl; offers = λ offer there. there }) e.carries;
+          carries = carries_on Offered kept.grows timers.life w.base next.base (link old.carrier) (record { clock = refl; offers = λ offer there. there }) e.carries;
         };
       }))
 

@@ -24,12 +24,14 @@ use Rattle.tp4_world.specs.Run.{Starts, transport_address}
 use Rattle.tp4_world.specs.World.{World, entity_at, is_of}
 use Rattle.tp4_world.specs.declared.place.Placed.{Placed}
 use Rattle.law_tp4_lawful.specs.First.{AreDistinct, IsUntouched}
-use Rattle.law_tp4_lawful.specs.steps.Known.{Holds, IsThere, Known}
-use Rattle.law_tp4_lawful.specs.steps.Worlds.{AreAtRest, Followed, Outcomes, Rests}
+use Rattle.law_tp4_lawful.specs.steps.Known.{Holds, IsOffered, IsThere, Known}
+use Rattle.law_tp4_lawful.specs.steps.Along.{AreAtRest}
+use Rattle.law_tp4_lawful.specs.steps.Worlds.{Followed, Outcomes, Rests}
 use Rattle.law_tp4_lawful.proofs.WorldActs.{Went, went_aside}
 use Rattle.law_tp4_lawful.proofs.WorldAsides.{told_quiet}
 use Rattle.law_tp4_lawful.proofs.WorldFloats.{start_goes}
 use Rattle.law_tp4_lawful.proofs.WorldPlaces.{none_some, some_same}
+use Rattle.law_tp4_lawful.proofs.WorldKnown.{plain_kept, plain_grows}
 
 -- ---- nothing
 
@@ -165,9 +167,9 @@ module _ (titles : List (List ℕ)) (timers : Timers) (timed : IsTimed timers) (
   started {C} link steps law followed Sound InTime outcomes made begun first is start =
       let front : List Event = events.Tick 0 ∷ told start.ups in
       let new : World C = record { carrier = start.below; entities = placed; ends = [] } in
-      let carries = start_goes timers.life link steps law no_history.base titles made start.below start.ups is.carrier_is refl start.gathers in
-      let went : Went titles timers link steps law followed.aside no_history front new =
-      went_aside titles timers link steps law followed.aside no_history [] front new new first_known carries
+      let carries = start_goes IsOffered plain_grows timers.life link steps law no_history.base titles made start.below start.ups is.carrier_is refl start.gathers in
+      let went : Went titles timers (Known titles timers) IsOffered (plain_kept titles timers) link steps law followed.aside no_history front new =
+      went_aside titles timers (Known titles timers) IsOffered (plain_kept titles timers) link steps law followed.aside no_history [] front new new first_known carries
       (record { submits = λ end. refl; shows = λ end. refl; makes = refl }, told_quiet start.ups) refl in
       subst (λ (x : World C). Rests link Sound titles timers begun x) (sym start.becomes)
       (subst (λ (xs : List Event). Rests link Sound titles timers xs new) (sym start.made_is)

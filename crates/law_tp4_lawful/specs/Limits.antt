@@ -5,7 +5,7 @@ use Rattle.osi_script.specs.declared.line.Line.TheVariants as lines
 use Rattle.tp4_conn.specs.End.{IsSized}
 use Rattle.tp4_world.specs.Telling.{asked_options}
 
--- the line keeps the limits of the script: the size of a TPDU is one of the seven, a selector has 32 octets at most, and a credit is at most 255
+-- the line keeps the limits of the script: the size of a TPDU is one that a script may name, a selector has 32 octets at most, and a credit is at most 255
 abbrev pub IsProperLine : Line → Type 0
 IsProperLine (lines.Connect system selector to called options octets) = IsSized (asked_options options) × (length selector ≤ 32) × (length called ≤ 32)
 IsProperLine (lines.Accept end options octets) = IsSized (asked_options options)

@@ -1,4 +1,4 @@
--- What may come to an end: a TPDU that is afloat and matches an end was offered after that end was made, by its partner, or as an entity's answer; and
+-- What may come to an end: a TPDU that is afloat and matches an end was offered after that end was made, by its partner, or by the partner's entity where it had no end; and
 -- a DT or an ED carries the piece or the unit of its number (X.224, class 4: association of TPDUs with connections; frozen references; sequencing).
 use Rattle.std.specs.Prelude.{◌≡◌, ◌⊎◌, ◌<◌, ◌≤◌, ℕ, ◌+◌, ◌-◌, ◌==◌, Bool, true, List, ◌∷◌, ◌++◌, slice_get, Option, Some, None}
 use Rattle.std.specs.List.{AllByRecursion, Contains}

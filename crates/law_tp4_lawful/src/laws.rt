@@ -11,7 +11,7 @@ use osi_base::Carrier;
 
 /// After any calls of a network after which its carrier is still honest, whatever that loses, repeats, delays and reorders: what an end
 /// shows of a connection is a front of what its one partner was asked to send, in order, of normal units and of expedited ones; what is
-/// afloat and matches an end was not offered before that end was made, and is of its partner, or an entity's answer to it; a DT or an ED
+/// afloat and matches an end was not offered before that end was made, and is of its partner, or was sent by the partner's entity where it had no end; a DT or an ED
 /// carries the piece or the unit of its number; and an end that is open reads what comes to it as the number that it was sent with, or
 /// ignores it. A system that began again is silent also where octets were injected. A user of `TpWorld` has the calls from the clauses
 /// of its calls.
@@ -47,7 +47,7 @@ pub fn lawful<C: Carrier<Addr = Nsap>>()
     over_calls::<C>();
 }
 
-/// What is afloat and matches an end was not offered before that end was made, and is of its partner, or an entity's answer to it; a DT
+/// What is afloat and matches an end was not offered before that end was made, and is of its partner, or was sent by the partner's entity where it had no end; a DT
 /// or an ED carries the piece or the unit of its number.
 pub fn references<C: Carrier<Addr = Nsap>>()
     ensures later { OnRuns C.link C.steps wire (IsNotBefore C.link) }

@@ -43,11 +43,11 @@ some_units n = by (suc n == 0) refl
     by false e = e
 
 -- with no ED outstanding each expedited unit was sent, or the next one is held back
-expedited_left : (s : FlowSender) (units : List (List ℕ)) → (not (is_some s.urgent.out || length units == 0) ≡ true → HoldsEd s) → s.urgent.out ≡ None → (units ≡ []) ⊎ HoldsEd s
+pub expedited_left : (s : FlowSender) (units : List (List ℕ)) → (not (is_some s.urgent.out || length units == 0) ≡ true → HoldsEd s) → s.urgent.out ≡ None → (units ≡ []) ⊎ HoldsEd s
 expedited_left s [] h e = inl refl
 expedited_left s (unit ∷ units) h e = inr (h (ap (λ (o : Option Tries). not (is_some o || length (unit ∷ units) == 0)) e ∙ ap not (some_units (length units))))
 
-normal_left : (s : FlowSender) (h : Half) → s.is_open ≡ true → IsSettled s → s.urgent.units ≡ [] → s.numbers.base + s.numbers.credit ≡ h.receiver.expected + h.receiver.inbox.credit → s.numbers.next ≡ h.receiver.expected
+pub normal_left : (s : FlowSender) (h : Half) → s.is_open ≡ true → IsSettled s → s.urgent.units ≡ [] → s.numbers.base + s.numbers.credit ≡ h.receiver.expected + h.receiver.inbox.credit → s.numbers.next ≡ h.receiver.expected
     → HasTaken s h
 normal_left s h is_open settled none edge at = by (nat_lt s.numbers.next (s.numbers.base + s.numbers.credit)) (nat_lt s.numbers.next (end_of s.rules.piece s.queue)) refl refl
   where

@@ -32,7 +32,7 @@ use Rattle.law_tp4_pair.proofs.ToldRows.{told_after, told_first, told_on}
 -- ---- what the number rule holds back
 
 -- a half that is not due at this tick
-abbrev IsQuiet : ℕ → FlowSender → Type 0
+abbrev pub IsQuiet : ℕ → FlowSender → Type 0
 IsQuiet now s = IsDue (due_of s) now → ⊥
 
 -- before the tick at which the rule lets a number go it does not
@@ -88,7 +88,7 @@ not_due : (o : Option ℕ) (now : ℕ) → IsInTime o (now + 1) → IsDue o now 
 not_due None now later d = d
 not_due (Some tick) now later d = absurd (omega (arith, later, d))
 
-end_quiet : (now : ℕ) (x : End) (o : InOpened) → x.stage ≡ Opened o → IsInTime (due x.base x.stage) (now + 1) → IsQuiet now o.halves.sending
+pub end_quiet : (now : ℕ) (x : End) (o : InOpened) → x.stage ≡ Opened o → IsInTime (due x.base x.stage) (now + 1) → IsQuiet now o.halves.sending
 end_quiet now x o is later d =
     let inactive : Option ℕ = sooner (Some (o.took + x.base.timers.inactive)) (Some (o.acked + x.base.timers.window)) in
     not_due (due x.base (Opened o)) now (subst (λ (stage : StateData). IsInTime (due x.base stage) (now + 1)) is later) (second_due inactive (due_of o.halves.sending) now d)
@@ -96,7 +96,7 @@ end_quiet now x o is later d =
 -- ---- what is shown
 
 -- one direction
-shows_in : (now : ℕ) (journal : List Event) (from to : ℕ) (s : FlowSender) (h : Half) (u : Account) (told : List EndEvent) → IsQuiet now s → IsShown s h u → HasTold s told → IsToldIn journal from told
+pub shows_in : (now : ℕ) (journal : List Event) (from to : ℕ) (s : FlowSender) (h : Half) (u : Account) (told : List EndEvent) → IsQuiet now s → IsShown s h u → HasTold s told → IsToldIn journal from told
     → u.gave ≡ submitted from journal → u.showed ≡ shown to journal → HasShown now journal from to s h
 shows_in now journal from to s h u told quiet i t j gave showed = record { expedited = expedited i.expedited; normal = normal i.normal }
   where

@@ -11,7 +11,7 @@ pub struct Options {
     pub extended: bool,
     /// The most octets of a TPDU.
     pub size: u16,
-    /// Whether the size is a preferred one, in units of 128 octets.
+    /// Whether the size is a preferred one: a multiple of 128 octets.
     pub preferred: bool,
     /// Expedited data.
     pub expedited: bool,

@@ -2,10 +2,10 @@
 -- addresses).
 use Rattle.std.specs.Prelude.{ℕ, ◌+◌, ◌==◌, if◌then◌else◌, List, [], ◌∷◌, ◌++◌, find, Option, Some, None}
 use Rattle.inactive_step.specs.declared.row.InactiveRow.{InactiveRow}
+use Rattle.nsap.specs.Address.{system_part}
 use Rattle.lan_bag.specs.declared.setup.Lan.{Lan}
 use Rattle.lan_bag.specs.declared.setup.PortRow.{PortRow}
 use Rattle.lan_bag.specs.Rows.{bound_on, room_on}
-use Rattle.tp4_world.specs.Run.{transport_address}
 use Rattle.osi_setup.specs.SetUp.{System, SetUp}
 
 -- the port of a system; an end system has one at most
@@ -16,7 +16,7 @@ port_of ports number = find (λ row. row.system == number) ports
 abbrev pub row_of : List Lan → ℕ → System → PortRow → InactiveRow
 row_of lans number system row = record {
   system = number;
-  address = transport_address system.title;
+  address = system_part system.title ++ 1 ∷ [];
   port = row.port;
   bound = bound_on lans row.port.lan;
   room = room_on lans row.port.lan;

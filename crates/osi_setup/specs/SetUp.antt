@@ -2,6 +2,7 @@
 -- the relays, the times and the limits; and what is made of it (X.233, network entity title, route PDU; ISO 9542, configuration information;
 -- X.224, class 4: timers, frozen references).
 use Rattle.std.specs.Prelude.{ℕ, ◌+◌, ◌==◌, Bool, true, false, if◌then◌else◌, List, [], ◌∷◌, ◌++◌, find, map, slice_get, slice_set, Option, Some, None, option_map}
+use Rattle.nsap.specs.Address.{system_part}
 use Rattle.nsap.specs.declared.port.Hop.{Hop}
 use Rattle.nsap.specs.declared.port.Port.{Port}
 use Rattle.esis_tables.specs.Rows.{Rows, no_rows}
@@ -21,8 +22,6 @@ use Rattle.osi_script.specs.Settings.{default_of}
 use Rattle.tp4_conn.specs.declared.timers.Timers.{Timers}
 use Rattle.tp4_entity.specs.Entity.{Entity}
 use Rattle.tp4_entity.specs.Step.{new_entity}
-use Rattle.tp4_world.specs.Run.{transport_address}
-use Rattle.tp4_world.specs.declared.place.Placed.{Placed}
 use Rattle.osi_setup.specs.declared.relay.RelayLine.{RelayLine}
 use Rattle.osi_setup.specs.declared.transport.Limits.{Limits}
 
@@ -219,17 +218,4 @@ timers_of life limits = record {
 -- the entity of a system, with so many references and these times, which did nothing yet: its users have the address of the system's
 -- title with the selector of transport, and it takes connections at the system's selectors
 abbrev pub entity_with : ℕ → Timers → System → Entity
-entity_with references timers system = record (new_entity (transport_address system.title) references timers) { selectors = system.selectors }
-
--- an end system has a transport entity, and another system has none
-abbrev pub placed_at : ℕ → Limits → ℕ → System → List Placed
-placed_at life limits number system =
-    if system.end then record { system = number; entity = entity_with limits.references (timers_of life limits) system } ∷ [] else []
-
--- the entities of the systems from that number on
-abbrev pub entities_from : ℕ → Limits → ℕ → List System → List Placed
-entities_from life limits number [] = []
-entities_from life limits number (system ∷ systems) = placed_at life limits number system ++ entities_from life limits (number + 1) systems
-
-abbrev pub entities_of : SetUp → List Placed
-entities_of setup = entities_from setup.life setup.limits 0 setup.systems
+entity_with references timers system = record (new_entity (system_part system.title ++ 1 ∷ []) references timers) { selectors = system.selectors }

@@ -1,5 +1,5 @@
 //! What the set-up lines of a script say of LANs, systems, routes and transport, and what they make of it: the network, and the
-//! transport entities of its end systems (X.233, network entity title, route PDU; ISO 9542, configuration information; X.224, class 4:
+//! transport entity of a system (X.233, network entity title, route PDU; ISO 9542, configuration information; X.224, class 4:
 //! timers, frozen references).
 #![tactic(auto)]
 

@@ -6,15 +6,15 @@ ghost use Rattle.std.specs.List.{AllByRecursion};
 ghost use Rattle.clnp_system.specs.Setting.{IsSetting};
 ghost use Rattle.lan_bag.specs.Bag.{new_bag};
 ghost use Rattle.lan_bag.specs.Rows.{IsLan};
-ghost use Rattle.osi_setup.specs.Fitting.{IsWell};
-ghost use Rattle.osi_setup.specs.SetUp.{is_complete, nodes_from};
+ghost use Rattle.osi_setup.specs.Fitting.{AreLimits, AreSelectorsApart, IsWell};
+ghost use Rattle.osi_setup.specs.SetUp.{System as SystemSaid, is_complete, nodes_from};
 ghost use Rattle.osi_setup.specs.declared.relay.RelayLine.{RelayLine as Said};
 
 use crate::inactive::inactive_rows;
 use crate::relay::RelayLine;
 use crate::shared::{Shared, port_on};
 use crate::system::System;
-use crate::transport::entities;
+use crate::transport::Limits;
 use clnp_entity::{NetEntity, Path};
 use clnp_net::ClnpNet;
 use inactive_net::InactiveNet;
@@ -26,10 +26,8 @@ use std::alloc::Global;
 use std::collections::VecDeque;
 use std::marker::Model;
 use tp4_conn::Timers;
-use tp4_world::Placed;
 
 /// What the set-up lines so far say.
-#[derive(Drop)]
 pub struct SetUp {
     alloc: Global,
     systems: Vec<System>,
@@ -48,6 +46,17 @@ impl Model for SetUp {
     ghost invariant = { λ s. IsWell (record s.shared { systems = s.systems.items }) };
 }
 
+// By hand, so that it is proved here alone: what is derived is proved again in each crate that lets a set-up go.
+impl Drop for SetUp {
+    fn drop(self) {
+        let SetUp {
+            alloc: _,
+            systems: _,
+            shared: _,
+        } = self;
+    }
+}
+
 impl SetUp {
     ghost use Rattle.esis_tables.specs.Rows.{no_rows};
     ghost use Rattle.lan_bag.specs.Bag.{BagStep, link_of};
@@ -55,7 +64,7 @@ impl SetUp {
     ghost use Rattle.inactive_step.specs.Network.{new_inactive};
     ghost use Rattle.osi_setup.specs.Inactive.{inactive_rows};
     ghost use Rattle.clnp_system.specs.Tables.{rows_tables};
-    ghost use Rattle.osi_setup.specs.SetUp.{end_at, entities_of, hop_to, nodes_of, nothing_said, set_up, timers_of, title_at, titles_of, with_route, with_selector, with_time};
+    ghost use Rattle.osi_setup.specs.SetUp.{end_at, hop_to, nodes_of, nothing_said, set_up, timers_of, title_at, titles_of, with_route, with_selector, with_time};
     ghost use Rattle.osi_setup.specs.Fitting.{Fits, IsNewPath, IsNewPort, IsNewRelay, IsNewRoute, IsNewSelector, IsNewTitle};
     ghost use Rattle.osi_script.specs.Settings.{least_of, most_of};
 
@@ -161,6 +170,7 @@ impl SetUp {
     pub fn systems(&self) -> &[System]
         ensures systems { result.now ≡ self.now.systems }
         ensures few { length result.now ≤ 16 }
+        ensures apart { AllByRecursion (λ (system : SystemSaid). AreSelectorsApart [] system.selectors) result.now }
     {
         &self.systems
     }
@@ -176,16 +186,12 @@ impl SetUp {
         Ok(Items::of(titles))
     }
 
-    /// The transport entities of the end systems, in the order of their lines; they did nothing yet.
-    pub fn entities(&self) -> Result<Vec<Placed>, NoMemory>
-        ensures { IfOk result (λ placed. placed.items ≡ entities_of self.now) }
+    /// The limits of transport.
+    pub fn limits(&self) -> Limits
+        ensures limits { result ≡ self.now.limits }
+        ensures fit { AreLimits result }
     {
-        entities(
-            self.alloc,
-            self.shared.limits(),
-            self.shared.life(),
-            &self.systems,
-        )
+        self.shared.limits()
     }
 
     /// The times of the transport entities.

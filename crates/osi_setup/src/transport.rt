@@ -1,17 +1,10 @@
-//! The transport entities of the end systems of a script (X.224, class 4: timers, frozen references).
+//! The times and limits of the transport entities of a script (X.224, class 4: timers, frozen references).
 
-ghost use Rattle.std.specs.Prelude.{◌≡◌, ◌≤◌, ◌++◌, [], length, IfOk, OnOk};
-ghost use Rattle.std.specs.List.{AllByRecursion};
-ghost use Rattle.osi_setup.specs.Fitting.{AreLimits, AreSelectorsApart};
-ghost use Rattle.osi_setup.specs.SetUp.{entities_from, placed_at, timers_of, usual_limits};
-ghost use Rattle.tp4_conn.specs.End.{IsTimed};
+ghost use Rattle.std.specs.Prelude.{◌≡◌};
+ghost use Rattle.osi_setup.specs.SetUp.{timers_of, usual_limits};
 
-use crate::system::System;
-use osi_base::NoMemory;
 use osi_script::{Key, default_of};
-use std::alloc::Global;
 use tp4_conn::Timers;
-use tp4_world::Placed;
 
 /// The times and limits of transport. The times are in ticks.
 #[derive(Clone, Copy)]
@@ -58,48 +51,4 @@ impl Limits {
             credit: u16::from(self.credit),
         }
     }
-}
-
-/// The transport entities of the end systems, in the order of their lines.
-pub fn entities(
-    alloc: Global,
-    limits: Limits,
-    life: u8,
-    systems: &[System],
-) -> Result<Vec<Placed>, NoMemory>
-    requires limits { AreLimits limits }
-    requires few { length systems.now ≤ 16 }
-    requires apart { AllByRecursion (λ system. AreSelectorsApart [] system.selectors) systems.now }
-    ensures { IfOk result (λ placed. placed.items ≡ entities_from life limits 0 systems.now) }
-{
-    let mut placed = Vec::new(alloc);
-    for (number, system) in systems.iter().enumerate() {
-        place(alloc, limits, life, number as u8, system, &mut placed)?;
-    }
-    Ok(placed)
-}
-
-/// Adds the transport entity of a system, where it is an end system.
-fn place(
-    alloc: Global,
-    limits: Limits,
-    life: u8,
-    number: u8,
-    system: &System,
-    placed: &mut Vec<Placed>,
-) -> Result<(), NoMemory>
-    requires limits { AreLimits limits }
-    requires apart { AreSelectorsApart [] system.now.selectors }
-    ensures { OnOk result (placed.new.items ≡ placed.old.items ++ placed_at life limits number system.now) }
-{
-    if !system.end {
-        return Ok(());
-    }
-    let references = u16::from(limits.references);
-    let entity = system.entity(alloc, references, limits.timers(life))?;
-    placed.push(Placed {
-        system: number,
-        entity,
-    })?;
-    Ok(())
 }

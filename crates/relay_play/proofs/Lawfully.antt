@@ -12,7 +12,8 @@ use Rattle.osi_script.specs.declared.words.Dialect.TheVariants as dialects
 use Rattle.osi_script.specs.declared.line.Line.{Line}
 use Rattle.osi_script.specs.Known.{Declared}
 use Rattle.osi_script.specs.Script.{Says}
-use Rattle.osi_setup.specs.SetUp.{SetUp, entities_of, timers_of, titles_of as titles_said}
+use Rattle.osi_setup.specs.SetUp.{SetUp, timers_of, titles_of as titles_said}
+use Rattle.script_world.specs.Entities.{entities_of}
 use Rattle.osi_setup.proofs.Entities.{are_timed}
 use Rattle.law_setup.proofs.Proper.{script_proper}
 use Rattle.law_relay.proofs.Chained.{goes_through}

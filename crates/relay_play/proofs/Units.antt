@@ -14,7 +14,8 @@ use Rattle.osi_script.specs.declared.line.Line.{Line}
 use Rattle.osi_script.specs.Known.{Declared, nothing_declared}
 use Rattle.osi_script.specs.Script.{Says}
 use Rattle.osi_setup.specs.Fitting.{IsWell}
-use Rattle.osi_setup.specs.SetUp.{SetUp, entities_of, nothing_said, set_up, timers_of, titles_of}
+use Rattle.osi_setup.specs.SetUp.{SetUp, nothing_said, set_up, timers_of, titles_of}
+use Rattle.script_world.specs.Entities.{entities_of}
 use Rattle.osi_setup.proofs.Wellness.{nothing_well, well_after}
 use Rattle.law_setup.specs.Agreeing.{AreOne}
 use Rattle.law_setup.specs.Lines.{Kept as IsKept}

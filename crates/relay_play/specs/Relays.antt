@@ -10,7 +10,8 @@ use Rattle.osi_journal.specs.declared.event.Event.TheVariants as events
 use Rattle.osi_script.specs.declared.words.Dialect.TheVariants as dialects
 use Rattle.osi_script.specs.declared.line.Line.{Line}
 use Rattle.osi_script.specs.declared.line.Line.TheVariants as lines
-use Rattle.osi_setup.specs.SetUp.{SetUp, entities_of, timers_of, titles_of}
+use Rattle.osi_setup.specs.SetUp.{SetUp, timers_of, titles_of}
+use Rattle.script_world.specs.Entities.{entities_of}
 use Rattle.script_world.specs.Plays.{Playing}
 use Rattle.tp4_number.specs.Number.{wire}
 use Rattle.tp4_relay.specs.Kept.{Kept, nothing_kept}

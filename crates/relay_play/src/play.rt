@@ -20,7 +20,7 @@ use osi_base::{Items, NoMemory};
 use osi_journal::{Event, Refused, Settled};
 use osi_script::{Line, Names};
 use osi_setup::SetUp;
-use script_world::{Network, Play};
+use script_world::{Network, Play, entities};
 use std::alloc::Global;
 use std::marker::Model;
 use tp4_relay::Relay;
@@ -30,12 +30,23 @@ use tp4_world::TpWorld;
 const MOST_TURNS: u32 = 64;
 
 /// The titles of the systems, the transport entities, and the relays.
-#[derive(Drop)]
 pub struct RelayPlay<N: Network + Drop> {
     alloc: Global,
     titles: Items<Nsap>,
     service: WorldService<N>,
     relay: Relay,
+}
+
+// By hand, so that it is proved here alone: what is derived is proved again in each crate that lets a network go.
+impl<N: Network + Drop> Drop for RelayPlay<N> {
+    fn drop(self) {
+        let RelayPlay {
+            alloc: _,
+            titles: _,
+            service: _,
+            relay: _,
+        } = self;
+    }
 }
 
 impl<N: Network + Drop> Model for RelayPlay<N> {
@@ -66,7 +77,7 @@ impl<N: Network + Drop> Play for RelayPlay<N> {
         let titles = setup.titles()?;
         let rows = rows(alloc, titles.as_slice(), setup.relays())?;
         let relay = Relay::new(alloc, rows, setup.timers());
-        let entities = setup.entities()?;
+        let entities = entities(alloc, &setup)?;
         let ends = TpWorld::start(alloc, N::make(setup)?, entities, events)?;
         Ok(RelayPlay {
             alloc,

@@ -45,7 +45,8 @@ use Rattle.osi_script.specs.declared.cause.LineFault.{LineFault}
 use Rattle.osi_script.specs.Grammar.{Reading, line_read}
 use Rattle.osi_script.specs.Known.{Declared}
 use Rattle.osi_setup.specs.Fitting.{IsWell}
-use Rattle.osi_setup.specs.SetUp.{SetUp, entities_of, nodes_of, set_up, titles_of as titles_said}
+use Rattle.osi_setup.specs.SetUp.{SetUp, nodes_of, set_up, titles_of as titles_said}
+use Rattle.script_world.specs.Entities.{entities_of}
 use Rattle.law_setup.specs.Lines.{IsInOctets}
 use Rattle.law_setup.proofs.Octets.{may_begin, nodes_are}
 use Rattle.tp4_number.specs.Number.{wire}

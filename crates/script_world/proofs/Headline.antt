@@ -24,7 +24,8 @@ use Rattle.osi_script.specs.declared.words.Dialect.{Dialect}
 use Rattle.law_tp4_lawful.specs.First.{AreDistinct, IsUntouched}
 use Rattle.law_tp4_lawful.specs.Laws.{ReceivesWhatWasSubmitted, StaysSilent}
 use Rattle.osi_setup.specs.Fitting.{AreTitlesApart, IsWell}
-use Rattle.osi_setup.specs.SetUp.{SetUp, entities_of, timers_of, titles_of as titles_said}
+use Rattle.osi_setup.specs.SetUp.{SetUp, timers_of, titles_of as titles_said}
+use Rattle.script_world.specs.Entities.{entities_of}
 use Rattle.osi_setup.proofs.Entities.{are_timed}
 use Rattle.law_setup.proofs.Proper.{script_proper}
 use Rattle.script_bench.specs.Acts.{RunsScript}

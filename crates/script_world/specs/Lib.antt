@@ -1,4 +1,5 @@
 pub mod ClnpNets
+pub mod Entities
 pub mod InactiveNets
 pub mod Networks
 pub mod Plays

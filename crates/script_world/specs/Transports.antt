@@ -10,7 +10,8 @@ use Rattle.tp4_world.specs.World.{World as TransportWorld}
 use Rattle.osi_journal.specs.declared.event.Event.{Event}
 use Rattle.osi_script.specs.declared.words.Dialect.{Dialect}
 use Rattle.osi_script.specs.declared.line.Line.{Line}
-use Rattle.osi_setup.specs.SetUp.{SetUp, entities_of, timers_of, titles_of as titles_said}
+use Rattle.osi_setup.specs.SetUp.{SetUp, timers_of, titles_of as titles_said}
+use Rattle.script_world.specs.Entities.{entities_of}
 use Rattle.script_world.specs.Plays.{Playing}
 use Rattle.script_world.specs.declared.play.World.{World}
 use Rattle.script_world.specs.declared.play.World.TheVariants.{Running, SettingUp}

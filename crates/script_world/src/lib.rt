@@ -1,18 +1,20 @@
 //! What a script sets up and then runs, as a stage of the machine of scripts.
 //!
-//! `play` is the set-up of a script and then anything that runs (`Play`); `network` is a carrier that a set-up makes; `transport` runs
-//! transport entities over every such carrier.
+//! `play` is the set-up of a script and then anything that runs (`Play`); `network` is a carrier that a set-up makes; `placed` makes
+//! its transport entities, and `transport` runs them over every such carrier.
 #![tactic(auto)]
 
 mod asking;
 mod inactive;
 mod network;
+mod placed;
 mod play;
 mod routed;
 mod transport;
 
 pub use inactive::SubsetNet;
 pub use network::Network;
+pub use placed::entities;
 pub use play::{Play, World};
 pub use routed::RoutedNet;
 pub use transport::{TpPlay, run_line};

@@ -10,6 +10,7 @@ ghost use Rattle.script_world.specs.Transports.{strays_in};
 
 use crate::asking::connect_request;
 use crate::network::Network;
+use crate::placed::entities;
 use crate::play::Play;
 use nsap::Nsap;
 use osi_base::{Items, NoMemory};
@@ -22,11 +23,21 @@ use tp4_conn::{Timers, UserCall};
 use tp4_world::{TpWorld, asked_options};
 
 /// A network with its transport entities, the titles of its systems, and the times of its entities.
-#[derive(Drop)]
 pub struct TpPlay<N: Network + Drop> {
     titles: Items<Nsap>,
     timers: Timers,
     ends: TpWorld<N>,
+}
+
+// By hand, so that it is proved here alone: what is derived is proved again in each crate that lets a network go.
+impl<N: Network + Drop> Drop for TpPlay<N> {
+    fn drop(self) {
+        let TpPlay {
+            titles: _,
+            timers: _,
+            ends: _,
+        } = self;
+    }
 }
 
 impl<N: Network + Drop> Model for TpPlay<N> {
@@ -60,7 +71,7 @@ impl<N: Network + Drop> Play for TpPlay<N> {
 
     fn start(alloc: Global, setup: SetUp, events: &mut Vec<Event>) -> Result<TpPlay<N>, NoMemory> {
         let titles = setup.titles()?;
-        let entities = setup.entities()?;
+        let entities = entities(alloc, &setup)?;
         let timers = setup.timers();
         let ends = TpWorld::start(alloc, N::make(setup)?, entities, events)?;
         Ok(TpPlay {

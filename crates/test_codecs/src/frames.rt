@@ -1,21 +1,8 @@
-ghost use Rattle.std.specs.Prelude.{◌≤◌};
+//! A frame that is written and read. What is no frame stands in `examples/rows/lan-frames.frames`.
 
 use lan_frame::{FrameRef, read_frame, write_frame};
 use nsap::Snpa;
 use std::test::Fail;
-
-/// DSAP, SSAP and control of the network layer.
-const NETWORK: [u8; 3] = [0xfe, 0xfe, 0x03];
-
-/// Whether so many octets with this length field and LLC are read as a frame.
-fn reads(count: usize, length: u16, llc: [u8; 3]) -> bool
-    requires { count ≤ 1515 }
-{
-    let mut octets = [0; 1515];
-    octets[12..14].copy_from_slice(&length.to_be_bytes());
-    octets[14..17].copy_from_slice(&llc);
-    read_frame(&octets[..count]).is_some()
-}
 
 /// A frame of less than 60 octets is padded on the wire, so what stands behind its length is not read.
 #[test]
@@ -31,19 +18,4 @@ fn a_frame_is_written_and_read_with_padding_behind_it(rt: HostRuntime) -> Result
     let pdu = pdu.as_slice();
     assert_eq!(rt; read_frame(&octets), Some(FrameRef { to, from, pdu }));
     Ok(())
-}
-
-/// Both bounds of the length field, and each octet of LLC off by one bit.
-#[test]
-fn octets_of_another_length_or_llc_are_no_frame(rt: HostRuntime) {
-    assert!(rt; reads(35, 21, NETWORK));
-    assert!(rt; !reads(16, 21, NETWORK));
-    assert!(rt; !reads(34, 21, NETWORK));
-    assert!(rt; !reads(35, 3, NETWORK));
-    assert!(rt; reads(35, 4, NETWORK));
-    assert!(rt; reads(1514, 1500, NETWORK));
-    assert!(rt; !reads(1515, 1501, NETWORK));
-    assert!(rt; !reads(35, 21, [0xaa, 0xfe, 0x03]));
-    assert!(rt; !reads(35, 21, [0xfe, 0xff, 0x03]));
-    assert!(rt; !reads(35, 21, [0xfe, 0xfe, 0x13]));
 }

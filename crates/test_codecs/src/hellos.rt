@@ -1,240 +1,128 @@
-//! PDUs counted by hand, with checksums from outside.
-mod faults;
+//! Hellos that are read and written again. What is read of them, and their faults, stand in `examples/rows` (`hellos.frames`, `hello-faults.frames`).
 
-use esis_pdu::{AddressesRef, Hello, HelloRef, read_esis, write_esis};
-use nsap::{Nsap, Snpa};
+use esis_pdu::{EsisFault, Hello, HelloRef, read_esis, write_esis};
+use nsap::Nsap;
 use osi_base::{HeaderRefusal, Items};
 use std::alloc::Global;
 use std::process::Abort;
 use std::test::Fail;
 
-/// The ESH of 490a00 with 20 seconds.
-const TWO_ADDRESSES: &[u8] =
-    b"\x82\x12\x01\x00\x02\x00\x14\xbd\xe4\x02\x03\x49\x0a\x01\x03\x49\x0a\x02";
+/// Octets with checksums from outside: an ESH of two addresses and of none; the shortest ISH and the longest, at both ends of the holding time;
+/// the shortest RD and the longest, without and with a title; an ESH of as many addresses as fit, and one of as many octets.
+const WRITTEN: &str = "82120100020014bde40203490a0103490a02
+820a010002000097d800
+820b01000400011a080149
+821e010004ffff2b48140102030405060708090a0b0c0d0e0f1011121314
+8213010006010056ae01490602000000000b00
+823a01000612343720140102030405060708090a0b0c0d0e0f10111213140609002b0000051415161718191a1b1c1d1e1f202122232425262728
+82fe0100020014d2b27a01490149014901490149014901490149014901490149014901490149014901490149014901490149014901490149014901490149014901490149014901490149014901490149014901490149014901490149014901490149014901490149014901490149014901490149014901490149014901490149014901490149014901490149014901490149014901490149014901490149014901490149014901490149014901490149014901490149014901490149014901490149014901490149014901490149014901490149014901490149014901490149014901490149014901490149014901490149014901490149014901490149
+82fe0100020014fa1a0c140102030405060708090a0b0c0d0e0f1011121314140102030405060708090a0b0c0d0e0f1011121314140102030405060708090a0b0c0d0e0f1011121314140102030405060708090a0b0c0d0e0f1011121314140102030405060708090a0b0c0d0e0f1011121314140102030405060708090a0b0c0d0e0f1011121314140102030405060708090a0b0c0d0e0f1011121314140102030405060708090a0b0c0d0e0f1011121314140102030405060708090a0b0c0d0e0f1011121314140102030405060708090a0b0c0d0e0f1011121314140102030405060708090a0b0c0d0e0f10111213140c0102030405060708090a0b0c
+";
 
-const NO_ADDRESS: &[u8] = b"\x82\x0a\x01\x00\x02\x00\x00\x97\xd8\x00";
+/// Octets that begin as no frame of a hello does, and their faults.
+const FAULTS: &str = "- short
+810a0100020000000000 version
+000b010004000000000149 version
+81090100020000000000 length
+";
 
-const LEAST_ISH: &[u8] = b"\x82\x0b\x01\x00\x04\x00\x01\x1a\x08\x01\x49";
-
-const FULL_ISH: &[u8] =
-    b"\x82\x1e\x01\x00\x04\xff\xff\x2b\x48\x14\x01\x02\x03\x04\x05\x06\x07\x08\x09\x0a\x0b\x0c\x0d\x0e\x0f\x10\x11\x12\x13\x14";
-
-const LEAST_RD: &[u8] =
-    b"\x82\x13\x01\x00\x06\x01\x00\x56\xae\x01\x49\x06\x02\x00\x00\x00\x00\x0b\x00";
-
-const FULL_RD: &[u8] =
-    b"\x82\x3a\x01\x00\x06\x12\x34\x37\x20\x14\x01\x02\x03\x04\x05\x06\x07\x08\x09\x0a\x0b\x0c\x0d\x0e\x0f\x10\x11\x12\x13\x14\x06\x09\x00\x2b\x00\x00\x05\x14\x15\x16\x17\x18\x19\x1a\x1b\x1c\x1d\x1e\x1f\x20\x21\x22\x23\x24\x25\x26\x27\x28";
-
-/// 20 octets, the most of an address.
-const LONG: &[u8] =
-    b"\x01\x02\x03\x04\x05\x06\x07\x08\x09\x0a\x0b\x0c\x0d\x0e\x0f\x10\x11\x12\x13\x14";
-
-const OTHER_LONG: &[u8] =
-    b"\x15\x16\x17\x18\x19\x1a\x1b\x1c\x1d\x1e\x1f\x20\x21\x22\x23\x24\x25\x26\x27\x28";
-
-/// Two addresses and none: octets from outside, both ways, so that reading and writing do not share a mistake.
-#[test]
-fn an_esh_is_read_and_written(rt: HostRuntime) -> Result<(), Fail> {
-    let alloc = rt.alloc();
-    let two = vec![in alloc; address(b"\x49\x0a\x01")?, address(b"\x49\x0a\x02")?]?;
-    both(&rt, alloc, TWO_ADDRESSES, &esh(20, two))?;
-    both(&rt, alloc, NO_ADDRESS, &esh(0, Vec::new(alloc)))
-}
-
-/// The shortest and the longest title, at both ends of the holding time.
-#[test]
-fn an_ish_is_read_and_written(rt: HostRuntime) -> Result<(), Fail> {
-    let least = Hello::Ish {
-        hold: 1,
-        title: address(b"\x49")?,
-    };
-    both(&rt, rt.alloc(), LEAST_ISH, &least)?;
-    let full = Hello::Ish {
-        hold: 65_535,
-        title: address(LONG)?,
-    };
-    both(&rt, rt.alloc(), FULL_ISH, &full)
-}
-
-/// The shortest and the longest RD, without and with a title.
-#[test]
-fn an_rd_is_read_and_written(rt: HostRuntime) -> Result<(), Fail> {
-    let least = Hello::Rd {
-        hold: 256,
-        address: address(b"\x49")?,
-        snpa: Snpa::of([2, 0, 0, 0, 0, 11]),
-        title: None,
-    };
-    both(&rt, rt.alloc(), LEAST_RD, &least)?;
-    let title = Some(address(OTHER_LONG)?);
-    let full = Hello::Rd {
-        hold: 4660,
-        address: address(LONG)?,
-        snpa: Snpa::of([9, 0, 43, 0, 0, 5]),
-        title,
-    };
-    both(&rt, rt.alloc(), FULL_RD, &full)
-}
-
-/// 122 addresses of one octet fill a length indicator of 254: the most that an ESH can count.
-#[test]
-fn as_many_addresses_as_fit(rt: HostRuntime) -> Result<(), Fail> {
-    let alloc = rt.alloc();
-    let mut octets = vec![in alloc; 0x82, 0xfe, 0x01, 0x00, 0x02, 0x00, 0x14, 0xd2, 0xb2, 0x7a]?;
-    let mut addresses = Vec::new(alloc);
-    for _ in 0..122 {
-        octets.extend_from_slice(b"\x01\x49")?;
-        addresses.push(address(b"\x49")?)?;
+fn octets_of(alloc: Global, digits: &str) -> Result<Vec<u8>, Fail> {
+    if digits == "-" {
+        return Ok(Vec::new(alloc));
     }
-    both(&rt, alloc, &octets, &esh(20, addresses))
+    Ok(hex::decode(alloc, digits)?)
 }
 
-/// Addresses up to the last octet of the header: one octet less than what is refused below.
-#[test]
-fn as_many_octets_as_fit(rt: HostRuntime) -> Result<(), Fail> {
-    let alloc = rt.alloc();
-    let mut octets = vec![in alloc; 0x82, 0xfe, 0x01, 0x00, 0x02, 0x00, 0x14, 0xfa, 0x1a, 0x0c]?;
-    let mut addresses = Vec::new(alloc);
-    for _ in 0..11 {
-        octets.push(20)?;
-        octets.extend_from_slice(LONG)?;
-        addresses.push(address(LONG)?)?;
-    }
-    octets.push(12)?;
-    octets.extend_from_slice(&LONG[..12])?;
-    addresses.push(address(&LONG[..12])?)?;
-    both(&rt, alloc, &octets, &esh(20, addresses))
-}
-
-/// The limit from the other side.
-#[test]
-fn one_octet_more_is_too_long(rt: HostRuntime) -> Result<(), Fail> {
-    let alloc = rt.alloc();
-    let mut addresses = vec![in alloc; address(&LONG[..13])?]?;
-    for _ in 0..11 {
-        addresses.push(address(LONG)?)?;
-    }
-    let refused = write_esis(alloc, &esh(20, addresses));
-    assert!(rt; matches!(refused, Err(HeaderRefusal::TooLong)));
-    Ok(())
-}
-
-/// Octets that the standard has ignored: the reserved one, the high bits of the type, and those behind the header.
-#[test]
-fn options_are_lent_and_what_follows_is_not_looked_at(rt: HostRuntime) -> Result<(), Fail> {
-    // the reserved octet and the high bits of the type are set, and the checksum is not used
-    let octets = b"\x82\x10\x01\xff\xe4\x00\x1e\x00\x00\x01\x49\xc3\x01\x80\xcc\x00\xff\xff";
-    let title = address(b"\x49")?;
-    let options = b"\xc3\x01\x80\xcc\x00".as_slice();
-    let Ok(read) = read_esis(octets) else {
-        return Err("no PDU")?;
-    };
-    let ish = HelloRef::Ish {
-        hold: 30,
-        title,
-        options,
-    };
-    assert_eq!(rt; read, ish);
-    Ok(())
-}
-
-/// An option that fills the header: its length is added to a place, and must not pass an octet.
-#[test]
-fn options_up_to_the_greatest_length(rt: HostRuntime) -> Result<(), Fail> {
-    let mut octets = [0x01; 254];
-    octets[..10].copy_from_slice(b"\x82\xfe\x01\x00\x02\x00\x00\x00\x00\x00");
-    octets[10..12].copy_from_slice(b"\xcc\xf2");
-    let Ok(
-        HelloRef::Esh {
-            addresses,
-            options,
-            ..
-        },
-    ) = read_esis(&octets)
-    else {
-        return Err("no ESH")?;
-    };
-    assert_eq!(rt; addresses.nth(0), None);
-    assert_eq!(rt; options, &octets[10..]);
-    Ok(())
-}
-
-fn both(rt: &impl Abort, alloc: Global, octets: &[u8], hello: &Hello) -> Result<(), Fail> {
-    let Ok(read) = read_esis(octets) else {
-        return Err("no PDU")?;
-    };
-    assert!(rt; is_same(&read, hello));
-    assert_eq!(rt; write_esis(alloc, hello)?.as_slice(), octets);
-    Ok(())
-}
-
-fn is_same(read: &HelloRef<'_>, hello: &Hello) -> bool {
-    match read {
+/// The same as a value that owns what it holds.
+fn owned(alloc: Global, read: &HelloRef<'_>) -> Result<Hello, Fail> {
+    match *read {
         HelloRef::Esh {
             hold,
             addresses,
             ..
-        } => is_esh(hello, *hold, addresses),
-        HelloRef::Ish { hold, title, .. } => is_ish(hello, *hold, title),
+        } => {
+            let mut list = Vec::new(alloc);
+            for index in 0..256 {
+                let Some(address) = addresses.nth(index) else {
+                    break;
+                };
+                list.push(address)?;
+            }
+            let addresses = Items::of(list);
+            Ok(Hello::Esh { hold, addresses })
+        }
+        HelloRef::Ish { hold, title, .. } => Ok(Hello::Ish { hold, title }),
         HelloRef::Rd {
             hold,
             address,
             snpa,
             title,
             ..
-        } => is_rd(hello, *hold, address, snpa, title),
+        } => Ok(Hello::Rd {
+            hold,
+            address,
+            snpa,
+            title,
+        }),
     }
 }
 
-fn is_esh(hello: &Hello, hold: u16, addresses: &AddressesRef<'_>) -> bool {
-    match hello {
-        Hello::Esh {
-            hold: other,
-            addresses: list,
-        } => hold == *other && are_same(addresses, list.as_slice()),
-        Hello::Ish { .. } | Hello::Rd { .. } => false,
+fn read(octets: &[u8]) -> Result<HelloRef<'_>, EsisFault> {
+    read_esis(octets)
+}
+
+/// The octets of the value in hexadecimal digits.
+fn written(alloc: Global, hello: &Hello) -> Result<String, Fail> {
+    Ok(hex::encode(alloc, &write_esis(alloc, hello)?)?)
+}
+
+/// What is written for the hello of these octets, or their fault.
+fn told(alloc: Global, octets: &[u8]) -> Result<String, Fail> {
+    match read(octets) {
+        Ok(read) => written(alloc, &owned(alloc, &read)?),
+        Err(fault) => Ok(fault.to_string(alloc)?),
     }
 }
 
-fn is_ish(hello: &Hello, hold: u16, title: &Nsap) -> bool {
-    match hello {
-        Hello::Ish {
-            hold: other,
-            title: name,
-        } => hold == *other && title == name,
-        Hello::Esh { .. } | Hello::Rd { .. } => false,
+fn check_row(rt: &impl Abort, alloc: Global, digits: &str, wanted: &str) -> Result<(), Fail> {
+    let octets = octets_of(alloc, digits)?;
+    assert_eq!(*rt; told(alloc, &octets)?.as_str(), wanted, "{digits}");
+    Ok(())
+}
+
+/// Reading and writing do not share a mistake: the octets come from outside.
+#[test]
+fn each_hello_is_written_as_it_is_read(rt: HostRuntime) -> Result<(), Fail> {
+    assert_eq!(rt; WRITTEN.lines().count(), 8);
+    for row in WRITTEN.lines() {
+        check_row(&rt, rt.alloc(), row, row)?;
     }
+    Ok(())
 }
 
-fn is_rd(hello: &Hello, hold: u16, address: &Nsap, snpa: &Snpa, title: &Option<Nsap>) -> bool {
-    match hello {
-        Hello::Rd {
-            hold: other,
-            address: subject,
-            snpa: place,
-            title: name,
-        } => hold == *other && address == subject && snpa == place && title == name,
-        Hello::Esh { .. } | Hello::Ish { .. } => false,
+/// Which fault is first is an order; each prints as its word.
+#[test]
+fn each_first_fault_is_told(rt: HostRuntime) -> Result<(), Fail> {
+    for row in FAULTS.lines() {
+        let (digits, wanted) = row.split_once(' ').ok_or("no fault")?;
+        check_row(&rt, rt.alloc(), digits, wanted)?;
     }
+    assert_eq!(rt; EsisFault::Option.to_string(rt.alloc())?.as_str(), "option");
+    Ok(())
 }
 
-fn are_same(addresses: &AddressesRef<'_>, list: &[Nsap]) -> bool {
-    for (i, address) in list.iter().enumerate() {
-        if addresses.nth(i) != Some(*address) {
-            return false;
-        }
+/// Eleven addresses of 20 octets and one of 13 are one octet more than what is written above.
+#[test]
+fn one_octet_more_is_too_long(rt: HostRuntime) -> Result<(), Fail> {
+    let alloc = rt.alloc();
+    let mut addresses = Vec::new(alloc);
+    for length in [20, 20, 20, 20, 20, 20, 20, 20, 20, 20, 20, 13] {
+        addresses.push(Nsap::of(&[1; 20][..length]).ok_or("no address")?)?;
     }
-    addresses.nth(list.len()).is_none()
-}
-
-fn address(octets: &[u8]) -> Result<Nsap, Fail> {
-    let address = Nsap::of(octets).ok_or("no address")?;
-    Ok(address)
-}
-
-fn esh(hold: u16, addresses: Vec<Nsap>) -> Hello {
-    Hello::Esh {
-        hold,
+    let hello = Hello::Esh {
+        hold: 20,
         addresses: Items::of(addresses),
-    }
+    };
+    assert!(rt; matches!(write_esis(alloc, &hello), Err(HeaderRefusal::TooLong)));
+    Ok(())
 }

@@ -1,4 +1,5 @@
-//! Options counted by hand: the first faults, what is written and read, and routes and recordings at the edges of offsets, of entries and of space.
+//! Options counted by hand: what is written and read, and routes and recordings at the edges of offsets, of entries and of space. Their faults stand in
+//! `examples/rows/option-faults.frames`.
 
 use clnp_options::{
     Opt, PADDING, PRIORITY, PduKind, QUALITY, RECORDING, SOURCE_ROUTING, TooSmall, advance_source,
@@ -6,40 +7,6 @@ use clnp_options::{
 };
 use nsap::Nsap;
 use std::test::Fail;
-
-/// The reason and the place of the fault of options whose first octet is octet 18 of a header.
-fn fault_of(octets: &[u8], kind: PduKind) -> Option<(u8, u8)> {
-    if octets.len() > 200 {
-        return None;
-    }
-    let fault = read_options(octets, kind, 18).err()?;
-    Some((fault.reason.code(), fault.place))
-}
-
-/// Which fault is first is an order of the standard: one row for each, and rows with two.
-#[test]
-fn the_first_fault_is_told(rt: HostRuntime) {
-    let rows: [(PduKind, &[u8], Option<(u8, u8)>); 15] = [
-        (PduKind::Dt, b"", None),
-        (PduKind::Dt, b"\xcd\x01\x05", None),
-        (PduKind::Dt, b"\xcc\x00\xcc\x00", None),
-        (PduKind::Dt, b"\xcd\x01\x05\xcd\x01\x06", Some((0x07, 21))),
-        (PduKind::Dt, b"\xc5\x01\x00", Some((0xb2, 18))),
-        (PduKind::Dt, b"\x99\x01\x00", Some((0xb0, 18))),
-        (PduKind::Dt, b"\xcd\x02", Some((0x04, 18))),
-        (PduKind::Dt, b"\xc8\x02\x00\x03", Some((0x91, 18))),
-        (PduKind::Dt, b"\xcc\x01\x00\xcb", Some((0x04, 21))),
-        (PduKind::Dt, b"\xcd\x01\x05\xcd\x05\x06", Some((0x04, 21))),
-        (PduKind::Dt, b"\xc1\x02\x04\x03", Some((0xb0, 18))),
-        (PduKind::Er, b"\xc1\x02\x04\x03", None),
-        (PduKind::Er, b"\xc1\x01\x04", Some((0x04, 18))),
-        (PduKind::Er, b"\xcd\x01\x05", Some((0x04, 0))),
-        (PduKind::Er, b"\xcd\x00", Some((0x04, 18))),
-    ];
-    for (kind, octets, wanted) in rows {
-        assert_eq!(rt; fault_of(octets, kind), wanted, "{octets:?}");
-    }
-}
 
 /// Two options behind one another, and one that does not fit and changes nothing: the octets by hand.
 #[test]
@@ -94,43 +61,29 @@ fn passed(octets: &[u8]) -> Option<Option<(Nsap, u8)>> {
     Some(Some((title, *moved.get(1)?)))
 }
 
-/// Offsets at the first entry, at a later one and past the last, and each way to be no route: where a count that is one off shows.
+/// Each row has a source route, the title at its offset and the offset behind it, `-` where it has expired.
+const ROUTES: &str = "c8050003026162 6162 6
+c806010301610162 61 5
+c806010501610162 62 7
+c806010701610162 - -
+c8050006026162 - -
+c8170003146162636465666768696a6b6c6d6e6f7071727374 6162636465666768696a6b6c6d6e6f7071727374 24
+";
+
+/// Offsets at the first entry, at a later one and past the last: where a count that is one off shows.
 #[test]
-fn a_source_route_is_read_at_its_offset(rt: HostRuntime) {
-    // The option, the title at the offset, which is none where the route has expired, and the offset behind it.
-    let rows: [(&[u8], &[u8], u8); 6] = [
-        (b"\xc8\x05\x00\x03\x02ab", b"ab", 6),
-        (b"\xc8\x06\x01\x03\x01a\x01b", b"a", 5),
-        (b"\xc8\x06\x01\x05\x01a\x01b", b"b", 7),
-        (b"\xc8\x06\x01\x07\x01a\x01b", b"", 0),
-        (b"\xc8\x05\x00\x06\x02ab", b"", 0),
-        (
-            b"\xc8\x17\x00\x03\x14abcdefghijklmnopqrst",
-            b"abcdefghijklmnopqrst",
-            24,
-        ),
-    ];
-    for (octets, title, behind) in rows {
-        let wanted = Nsap::of(title).map(|title| (title, behind));
-        assert_eq!(rt; passed(octets), Some(wanted), "{octets:?}");
+fn a_source_route_is_read_at_its_offset(rt: HostRuntime) -> Result<(), Fail> {
+    let alloc = rt.alloc();
+    for row in ROUTES.lines() {
+        let (digits, wanted) = row.split_once(' ').ok_or("a row")?;
+        let octets = hex::decode(alloc, digits)?;
+        let text = match passed(&octets).ok_or("a source route")? {
+            Some((title, behind)) => format!(in alloc; "{title} {behind}")?,
+            None => format!(in alloc; "- -")?,
+        };
+        assert_eq!(rt; text.as_str(), wanted, "{row}");
     }
-    let faults: [&[u8]; 8] = [
-        b"\xc8\x05\x00\x04\x02ab",
-        b"\xc8\x05\x00\x07\x02ab",
-        b"\xc8\x05\x00\x02\x02ab",
-        b"\xc8\x05\x02\x03\x02ab",
-        b"\xc8\x04\x00\x03\x02a",
-        b"\xc8\x03\x00\x03\x00",
-        b"\xc8\x02\x00\x03",
-        b"\xc8\x18\x00\x03\x15abcdefghijklmnopqrstu",
-    ];
-    for octets in faults {
-        assert_eq!(rt;
-            fault_of(octets, PduKind::Dt),
-            Some((0x91, 18)),
-            "{octets:?}"
-        );
-    }
+    Ok(())
 }
 
 /// The value of a recording after a title was recorded in it, or None where it is no recording.
@@ -154,45 +107,27 @@ fn recorded<'a>(octets: &[u8], title: &Nsap, held: &'a mut [u8]) -> Option<&'a [
     Some(after)
 }
 
-/// A title that just fits, one that does not, a recording that has ended, and each way to be no recording.
+/// Each row has a recording of route, and its value once the title 6162 was recorded in it.
+const RECORDINGS: &str = "cb050003000000 0006026162
+cb0400030000 00ff0000
+cb0701050163000000 01080163026162
+cb0401050163 01ff0163
+cb0300ff00 00ff00
+cb020003 00ff
+cb170018146162636465666768696a6b6c6d6e6f7071727374 00ff146162636465666768696a6b6c6d6e6f7071727374
+";
+
+/// A title that just fits, one that does not, and a recording that has ended.
 #[test]
 fn a_title_is_recorded_where_it_fits(rt: HostRuntime) -> Result<(), Fail> {
+    let alloc = rt.alloc();
     let title = Nsap::of(b"ab").ok_or("a title")?;
-    // The option, and its value once `ab` was recorded.
-    let rows: [(&[u8], &[u8]); 7] = [
-        (b"\xcb\x05\x00\x03\x00\x00\x00", b"\x00\x06\x02ab"),
-        (b"\xcb\x04\x00\x03\x00\x00", b"\x00\xff\x00\x00"),
-        (b"\xcb\x07\x01\x05\x01c\x00\x00\x00", b"\x01\x08\x01c\x02ab"),
-        (b"\xcb\x04\x01\x05\x01c", b"\x01\xff\x01c"),
-        (b"\xcb\x03\x00\xff\x00", b"\x00\xff\x00"),
-        (b"\xcb\x02\x00\x03", b"\x00\xff"),
-        (
-            b"\xcb\x17\x00\x18\x14abcdefghijklmnopqrst",
-            b"\x00\xff\x14abcdefghijklmnopqrst",
-        ),
-    ];
-    for (octets, wanted) in rows {
+    for row in RECORDINGS.lines() {
+        let (digits, wanted) = row.split_once(' ').ok_or("a row")?;
         let mut held = [0; 23];
-        let found = recorded(octets, &title, &mut held);
-        assert_eq!(rt; found, Some(wanted), "{octets:?}");
-    }
-    let faults: [&[u8]; 9] = [
-        b"\xcb\x04\x00\x04\x01c",
-        b"\xcb\x04\x00\x06\x01c",
-        b"\xcb\x04\x00\x04\x00\x00",
-        b"\xcb\x04\x00\x02\x00\x00",
-        b"\xcb\x04\x00\x01\x00\x00",
-        b"\xcb\x04\x00\x00\x00\x00",
-        b"\xcb\x03\x02\xff\x00",
-        b"\xcb\x01\x00",
-        b"\xcb\x18\x00\x19\x15abcdefghijklmnopqrstu",
-    ];
-    for octets in faults {
-        assert_eq!(rt;
-            fault_of(octets, PduKind::Dt),
-            Some((0x04, 18)),
-            "{octets:?}"
-        );
+        let octets = hex::decode(alloc, digits)?;
+        let value = recorded(&octets, &title, &mut held).ok_or("a recording")?;
+        assert_eq!(rt; hex::encode(alloc, value)?.as_str(), wanted, "{row}");
     }
     Ok(())
 }

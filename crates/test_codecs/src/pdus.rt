@@ -1,222 +1,93 @@
-use clnp_header::{OwnOpt, Pdu, PduKind, SegmentPart, lower_lifetime, read_pdu, write_pdu};
-use nsap::Nsap;
+//! PDUs that are read and written again. What is read of them, and their faults, stand in `examples/rows` (`pdus.frames`, `pdu-faults.rows`).
+
+use clnp_header::{Fault, OwnOpt, Pdu, PduRef, lower_lifetime, read_pdu, write_pdu};
 use osi_base::{Bytes, Items};
 use std::alloc::Global;
+use std::process::Abort;
 use std::test::Fail;
 
-/// A DT PDU from 490a02 to 490b02 with the data `hello`.
-const HELLO: [u8; 22] = [
-    0x81, 0x11, 0x01, 0x20, 0x1c, 0x00, 0x16, 0x15, 0x53, 0x03, 0x49, 0x0b, 0x02, 0x03, 0x49, 0x0a,
-    0x02, 0x68, 0x65, 0x6c, 0x6c, 0x6f,
-];
+/// Each row has the octets of a PDU, the length of its header, whether its checksum is used, whether a report is wanted, and what is written for it; or
+/// octets that begin as no frame of a PDU does, and the reason, the place and the reporting of their first fault.
+///
+/// A DT PDU with its checksum from outside, and without one; the last segment of one that wants a report, with a priority; an ER PDU, of whose flags
+/// those that mean nothing are not told and not written.
+const TABLE: &str =
+    "811101201c0016155303490b0203490a0268656c6c6f 17 true false 811101201c0016155303490b0203490a0268656c6c6f
+811101201c0016000003490b0203490a0268656c6c6f 17 false false 811101201c0016000003490b0203490a0268656c6c6f
+811a0120bc0022000003490b0203490a0200070008002acd01056162636465666768 26 false true 811a0120bc0022000003490b0203490a0200070008002acd01056162636465666768
+81150120010015000003490b0203490a02c102a004 21 false false 81150120010015000003490b0203490a02c102a004
+81150120210015000003490b0203490a02c102a004 21 false false 81150120010015000003490b0203490a02c102a004
+81150120410015000003490b0203490a02c102a004 21 false false 81150120010015000003490b0203490a02c102a004
+81150120610015000003490b0203490a02c102a004 21 false false 81150120010015000003490b0203490a02c102a004
+801a0120bc002200 06 0 false
+801a0120bc0022000003490b0203490a0200070008002acd01056162636465666768 04 1 false
+800c0120bc0022000003490b0203490a0200070008002acd01056162636465666768 04 1 false
+";
 
-/// The last segment of a DT PDU that wants a report, with a priority and eight octets from position 8 on.
-const SEGMENT: [u8; 34] = [
-    0x81, 0x1a, 0x01, 0x20, 0xbc, 0x00, 0x22, 0x00, 0x00, 0x03, 0x49, 0x0b, 0x02, 0x03, 0x49, 0x0a,
-    0x02, 0x00, 0x07, 0x00, 0x08, 0x00, 0x2a, 0xcd, 0x01, 0x05, 0x61, 0x62, 0x63, 0x64, 0x65, 0x66,
-    0x67, 0x68,
-];
-
-/// An ER PDU about a lifetime that ran out, without data.
-const REPORT: [u8; 21] = [
-    0x81, 0x15, 0x01, 0x20, 0x01, 0x00, 0x15, 0x00, 0x00, 0x03, 0x49, 0x0b, 0x02, 0x03, 0x49, 0x0a,
-    0x02, 0xc1, 0x02, 0xa0, 0x04,
-];
-
-/// A fault: the code of its reason, its place, and whether it is reportable.
-type Told = (u8, u8, bool);
-
-/// The fault of the octets, where they are no PDU.
-fn fault_of(octets: &[u8]) -> Option<Told> {
-    match read_pdu(octets) {
-        Ok(_) => None,
-        Err(fault) => Some((fault.reason.code(), fault.place, fault.reportable)),
-    }
-}
-
-/// The fault of the segment with some of its octets changed.
-fn fault_with(changes: &[(usize, u8)]) -> Option<Told> {
-    let mut octets = SEGMENT;
-    for (at, octet) in changes {
-        if let Some(place) = octets.get_mut(*at) {
-            *place = *octet;
-        }
-    }
-    fault_of(&octets)
-}
-
-/// The address of these octets.
-fn address(octets: &[u8]) -> Result<Nsap, Fail> {
-    match Nsap::of(octets) {
-        Some(address) => Ok(address),
-        None => Err(Fail::from("an address")),
-    }
-}
-
-/// A PDU from 490a02 to 490b02 without a checksum, with one option or none.
-fn pdu(alloc: Global, kind: PduKind, options: &[(u8, &[u8])], body: &[u8]) -> Result<Pdu, Fail> {
-    let mut list = Vec::new(alloc);
-    for (code, value) in options {
-        let value = Bytes::of(Vec::from_slice(alloc, value)?);
-        list.push(OwnOpt { code: *code, value })?;
+/// The same as a value that owns what it holds.
+fn owned(alloc: Global, read: &PduRef<'_>) -> Result<Pdu, Fail> {
+    let mut options = Vec::new(alloc);
+    for option in read.options.iter() {
+        let value = Bytes::of(option.value.to_vec(alloc)?);
+        options.push(OwnOpt {
+            code: option.code,
+            value,
+        })?;
     }
     Ok(Pdu {
-        kind,
-        destination: address(&[0x49, 0x0b, 0x02])?,
-        source: address(&[0x49, 0x0a, 0x02])?,
-        lifetime: 32,
-        checksum_used: false,
-        report: false,
-        segment: None,
-        options: Items::of(list),
-        body: Bytes::of(Vec::from_slice(alloc, body)?),
+        kind: read.kind,
+        destination: read.destination,
+        source: read.source,
+        lifetime: read.lifetime,
+        checksum_used: read.checksum_used,
+        report: read.report,
+        segment: read.segment,
+        options: Items::of(options),
+        body: Bytes::of(read.body.to_vec(alloc)?),
     })
 }
 
-/// A whole PDU with its checksum from outside, both ways.
-#[test]
-fn a_pdu_reads_and_is_written_again(rt: HostRuntime) -> Result<(), Fail> {
-    let Ok(read) = read_pdu(&HELLO) else {
-        return Err(Fail::from("the octets are a PDU"));
+fn read(octets: &[u8]) -> Result<PduRef<'_>, Fault> {
+    read_pdu(octets)
+}
+
+/// The octets of the value in hexadecimal digits.
+fn written(alloc: Global, pdu: &Pdu) -> Result<String, Fail> {
+    Ok(hex::encode(alloc, &write_pdu(alloc, pdu)?)?)
+}
+
+/// What is told of a PDU.
+fn told(alloc: Global, read: &PduRef<'_>) -> Result<String, Fail> {
+    let written = written(alloc, &owned(alloc, read)?)?;
+    let (length, used, report) = (read.header.len(), read.checksum_used, read.report);
+    Ok(format!(in alloc; "{length} {used} {report} {written}")?)
+}
+
+/// What is told of a fault.
+fn told_fault(alloc: Global, fault: Fault) -> Result<String, Fail> {
+    let (reason, place, reportable) = (fault.reason.code(), fault.place, fault.reportable);
+    Ok(format!(in alloc; "{reason:02x} {place} {reportable}")?)
+}
+
+fn check_row(rt: &impl Abort, alloc: Global, row: &str) -> Result<(), Fail> {
+    let (digits, wanted) = row.split_once(' ').ok_or("a row")?;
+    let octets = hex::decode(alloc, digits)?;
+    let text = match read(&octets) {
+        Ok(read) => told(alloc, &read)?,
+        Err(fault) => told_fault(alloc, fault)?,
     };
-    assert_eq!(rt; read.body, b"hello".as_slice());
-    assert_eq!(rt; read.destination.octets(), [0x49, 0x0b, 0x02].as_slice());
-    assert_eq!(rt; read.source.octets(), [0x49, 0x0a, 0x02].as_slice());
-    assert_eq!(rt; read.lifetime, 32);
-    assert!(rt; read.checksum_used);
-    assert!(rt; !read.report);
-    assert_eq!(rt; read.header.len(), 17);
-    let mut owned = pdu(rt.alloc(), PduKind::Dt, &[], b"hello")?;
-    owned.checksum_used = true;
-    let octets = write_pdu(rt.alloc(), &owned)?;
-    assert_eq!(rt; octets.as_slice(), HELLO.as_slice());
+    assert_eq!(*rt; text.as_str(), wanted, "{row}");
     Ok(())
 }
 
-/// Both parts that a header may have, in their order.
+/// Whole PDUs both ways, and faults of the first octet.
 #[test]
-fn a_segment_with_an_option_reads_and_is_written_again(rt: HostRuntime) -> Result<(), Fail> {
-    let part = SegmentPart {
-        id: 7,
-        offset: 8,
-        total: 42,
-        more: false,
-    };
-    let Ok(read) = read_pdu(&SEGMENT) else {
-        return Err(Fail::from("the octets are a PDU"));
-    };
-    assert_eq!(rt; read.segment, Some(part));
-    assert_eq!(rt;
-        clnp_options::get(&read.options, 0xcd),
-        Some([0x05].as_slice())
-    );
-    assert_eq!(rt; read.body, b"abcdefgh".as_slice());
-    assert!(rt; read.report);
-    let mut owned = pdu(rt.alloc(), PduKind::Dt, &[(0xcd, &[0x05])], b"abcdefgh")?;
-    owned.report = true;
-    owned.segment = Some(part);
-    let octets = write_pdu(rt.alloc(), &owned)?;
-    assert_eq!(rt; octets.as_slice(), SEGMENT.as_slice());
+fn each_pdu_is_written_as_it_is_read(rt: HostRuntime) -> Result<(), Fail> {
+    assert_eq!(rt; TABLE.lines().count(), 10);
+    for row in TABLE.lines() {
+        check_row(&rt, rt.alloc(), row)?;
+    }
     Ok(())
-}
-
-/// Of the flags of an ER those that mean nothing are not told and not written; one without its reason is none.
-#[test]
-fn a_report_reads_without_its_flags_and_is_written_without(rt: HostRuntime) -> Result<(), Fail> {
-    for flags in [0x01, 0x21, 0x41, 0x61] {
-        let mut octets = REPORT;
-        octets[4] = flags;
-        assert!(rt;
-            matches!(read_pdu(&octets), Ok(read) if read.kind == PduKind::Er && !read.report)
-        );
-    }
-    let owned = pdu(rt.alloc(), PduKind::Er, &[(0xc1, &[0xa0, 0x04])], b"")?;
-    let octets = write_pdu(rt.alloc(), &owned)?;
-    assert_eq!(rt; octets.as_slice(), REPORT.as_slice());
-    let mut bare = REPORT;
-    bare[1] = 17;
-    assert_eq!(rt; fault_of(&bare), Some((0x04, 0, false)));
-    Ok(())
-}
-
-/// Both octets 0 say that none is used; one of them alone is a fault.
-#[test]
-fn a_checksum_of_zeros_is_unused(rt: HostRuntime) {
-    let mut octets = HELLO;
-    octets[7] = 0;
-    assert_eq!(rt; fault_of(&octets), Some((0x02, 8, false)));
-    octets[8] = 0;
-    assert!(rt; matches!(read_pdu(&octets), Ok(read) if !read.checksum_used));
-}
-
-/// Each fault of the header alone, with its place and whether it may be reported.
-#[test]
-fn each_step_fails_where_no_earlier_one_does(rt: HostRuntime) {
-    assert_eq!(rt; fault_of(&SEGMENT[..8]), Some((0x06, 0, false)));
-    let changes: [(&[(usize, u8)], u8, u8, bool); 25] = [
-        (&[(0, 0x80)], 0x04, 1, false),
-        (&[(1, 12)], 0x04, 2, false),
-        (&[(1, 255)], 0x04, 2, false),
-        (&[(1, 35)], 0x06, 2, false),
-        (&[(2, 2)], 0xb1, 3, false),
-        (&[(7, 1)], 0x02, 8, false),
-        (&[(7, 1), (8, 1)], 0x02, 8, false),
-        (&[(4, 0xbd)], 0x04, 5, false),
-        (&[(4, 0x5c)], 0x04, 5, false),
-        (&[(4, 0x81)], 0x04, 5, false),
-        (&[(9, 0)], 0x04, 10, false),
-        (&[(9, 17)], 0x04, 10, false),
-        (&[(9, 16)], 0x04, 27, false),
-        (&[(13, 0)], 0x04, 14, false),
-        (&[(13, 13)], 0x04, 14, false),
-        (&[(1, 22)], 0x04, 18, true),
-        (&[(20, 9)], 0x04, 20, true),
-        (&[(23, 0x99)], 0xb0, 24, true),
-        (&[(24, 2)], 0x04, 24, true),
-        (&[(6, 25)], 0x04, 6, true),
-        (&[(6, 35)], 0x06, 6, true),
-        (&[(4, 0xfc), (6, 33), (22, 43)], 0x04, 6, true),
-        (&[(4, 0xfc), (6, 26), (22, 43)], 0x04, 6, true),
-        (&[(4, 0xfc)], 0x04, 22, true),
-        (&[(4, 0x9c), (22, 43)], 0x04, 22, false),
-    ];
-    for (change, reason, place, reportable) in changes {
-        assert_eq!(rt;
-            fault_with(change),
-            Some((reason, place, reportable)),
-            "{change:?}"
-        );
-    }
-}
-
-/// Neighbours in the order of the faults, two at a time.
-#[test]
-fn of_two_steps_that_fail_the_earlier_answers(rt: HostRuntime) {
-    let mut short = SEGMENT;
-    short[0] = 0x80;
-    assert_eq!(rt; fault_of(&short[..8]), Some((0x06, 0, false)));
-    let changes: [(&[(usize, u8)], u8, u8, bool); 13] = [
-        (&[(0, 0x80), (1, 12)], 0x04, 1, false),
-        (&[(1, 255)], 0x04, 2, false),
-        (&[(1, 35), (2, 2)], 0x06, 2, false),
-        (&[(2, 2), (7, 1)], 0xb1, 3, false),
-        (&[(7, 1), (4, 0xbd)], 0x02, 8, false),
-        (&[(4, 0xbd), (9, 0)], 0x04, 5, false),
-        (&[(9, 0), (13, 0)], 0x04, 10, false),
-        (&[(13, 0), (1, 22)], 0x04, 14, false),
-        (&[(1, 22), (20, 9)], 0x04, 18, true),
-        (&[(20, 9), (23, 0x99)], 0x04, 20, true),
-        (&[(23, 0x99), (6, 25)], 0xb0, 24, true),
-        (&[(4, 0xfc), (6, 35)], 0x06, 6, true),
-        (&[(4, 0xfc), (6, 33), (22, 1)], 0x04, 6, true),
-    ];
-    for (change, reason, place, reportable) in changes {
-        assert_eq!(rt;
-            fault_with(change),
-            Some((reason, place, reportable)),
-            "{change:?}"
-        );
-    }
 }
 
 /// Lowers the lifetime, where the octets are a PDU that has as much.
@@ -231,16 +102,22 @@ fn lower(octets: &mut [u8], by: u8) -> bool {
     true
 }
 
+/// Each row has a PDU, by how much its lifetime is lowered, and the PDU behind it: with a checksum from outside, and without one.
+const LOWERED: &str =
+    "811101201c0016155303490b0203490a0268656c6c6f 5 8111011b1c00162e3f03490b0203490a0268656c6c6f
+811a0120bc0022000003490b0203490a0200070008002acd01056162636465666768 32 811a0100bc0022000003490b0203490a0200070008002acd01056162636465666768
+";
+
 /// The checksum is adjusted and not counted anew, and has to hold afterwards.
 #[test]
-fn a_lowered_lifetime_keeps_the_pdu(rt: HostRuntime) {
-    let mut hello = HELLO;
-    assert!(rt; !lower(&mut hello, 33));
-    assert!(rt; lower(&mut hello, 5));
-    assert!(rt; matches!(read_pdu(&hello), Ok(read) if read.lifetime == 27 && read.checksum_used));
-    let mut segment = SEGMENT;
-    assert!(rt; lower(&mut segment, 32));
-    let mut wanted = SEGMENT;
-    wanted[3] = 0;
-    assert_eq!(rt; segment, wanted);
+fn a_lowered_lifetime_keeps_the_pdu(rt: HostRuntime) -> Result<(), Fail> {
+    for row in LOWERED.lines() {
+        let (before, row) = row.split_once(' ').ok_or("a row")?;
+        let (by, after) = row.split_once(' ').ok_or("a row")?;
+        let mut octets = hex::decode(rt.alloc(), before)?;
+        assert!(rt; !lower(&mut octets, 33));
+        assert!(rt; lower(&mut octets, by.parse()?));
+        assert_eq!(rt; hex::encode(rt.alloc(), &octets)?.as_str(), after);
+    }
+    Ok(())
 }

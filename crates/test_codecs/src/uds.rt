@@ -1,6 +1,6 @@
 //! UDs by their octets: the vector, and a table of octets from an encoder of its own.
 
-use cltp::{read_ud, write_ud};
+use cltp::{UdFault, UdRef, read_ud, write_ud};
 use std::alloc::Global;
 use std::process::Abort;
 use std::test::*;
@@ -12,22 +12,31 @@ fn octets_of(alloc: Global, digits: &str) -> Result<Vec<u8>, Fail> {
     Ok(hex::decode(alloc, digits)?)
 }
 
+fn read(octets: &[u8]) -> Result<UdRef<'_>, UdFault> {
+    read_ud(octets)
+}
+
+/// Both selectors and the data in hexadecimal digits, `-` for none.
+fn told(alloc: Global, ud: &UdRef<'_>) -> Result<String, Fail> {
+    let (from, to) = (
+        hex::encode(alloc, ud.from_selector)?,
+        hex::encode(alloc, ud.to_selector)?,
+    );
+    if ud.octets.is_empty() {
+        return Ok(format!(in alloc; "{from} {to} -")?);
+    }
+    let octets = hex::encode(alloc, ud.octets)?;
+    Ok(format!(in alloc; "{from} {to} {octets}")?)
+}
+
 fn check_row(rt: &impl Abort, alloc: Global, row: &str) -> Result<(), Fail> {
     let (digits, shown) = row.split_once(' ').ok_or("no octets")?;
     let octets = octets_of(alloc, digits)?;
-    match read_ud(&octets) {
-        Ok(ud) => {
-            let (from, shown) = shown.split_once(' ').ok_or("no source")?;
-            let (to, body) = shown.split_once(' ').ok_or("no destination")?;
-            assert_eq!(rt; ud.from_selector, octets_of(alloc, from)?.as_slice());
-            assert_eq!(rt; ud.to_selector, octets_of(alloc, to)?.as_slice());
-            assert_eq!(rt; ud.octets, octets_of(alloc, body)?.as_slice());
-        }
-        Err(fault) => {
-            let text = format!(in alloc; "{:?} {}", fault.cause, fault.place)?;
-            assert_eq!(rt; text.as_str(), shown);
-        }
-    }
+    let text = match read(&octets) {
+        Ok(ud) => told(alloc, &ud)?,
+        Err(fault) => format!(in alloc; "{:?} {}", fault.cause, fault.place)?,
+    };
+    assert_eq!(*rt; text.as_str(), shown, "{row}");
     Ok(())
 }
 

@@ -1,6 +1,8 @@
-//! Tests of the network: LANs, routes, what is known of neighbours, segments, systems.
+//! Tests of the network: LANs, the inactive subset, routes, what is known of neighbours.
 #![tactic(auto)]
 
+#[cfg(test)]
+mod carriers;
 #[cfg(test)]
 mod inactive;
 #[cfg(test)]
@@ -9,7 +11,3 @@ mod lans;
 mod neighbours;
 #[cfg(test)]
 mod routes;
-#[cfg(test)]
-mod segments;
-#[cfg(test)]
-mod systems;

@@ -1,4 +1,5 @@
-//! Hellos that are heard, and what is known by them, counted by hand.
+//! Hellos that are heard, and what is known by them, counted by hand. What a router shows of it stands in `examples/rows/neighbours.rows`, the limit of the
+//! table in `examples/hello-full.osi` and `examples/redirect-full.osi`.
 mod redirects;
 
 ghost use Rattle.std.specs.Prelude.{◌≡◌, ◌≤◌, true};
@@ -16,75 +17,12 @@ type Heard = Result<(), HearRefusal>;
 /// An ESH of 6300 alone, with 20 seconds.
 const ONE: &[u8] = b"\x82\x0d\x01\x00\x02\x00\x14\x00\x00\x01\x02\x63\x00";
 
-/// The same with 1 second, and with none.
-const SHORTER: &[u8] = b"\x82\x0d\x01\x00\x02\x00\x01\x00\x00\x01\x02\x63\x00";
-
-const NO_TIME: &[u8] = b"\x82\x0d\x01\x00\x02\x00\x00\x00\x00\x01\x02\x63\x00";
-
-/// An ESH of nine addresses with 20 seconds, of which 6301 stands twice.
-const NINE: &[u8] =
-    b"\x82\x25\x01\x00\x02\x00\x14\x00\x00\x09\x02\x63\x01\x02\x63\x00\x02\x63\x02\x02\x63\x03\x02\x63\x01\x02\x63\x04\x02\x63\x05\x02\x63\x06\x02\x63\x07";
-
-/// The first eight of them.
-const EIGHT: &[u8] =
-    b"\x82\x22\x01\x00\x02\x00\x14\x00\x00\x08\x02\x63\x01\x02\x63\x00\x02\x63\x02\x02\x63\x03\x02\x63\x01\x02\x63\x04\x02\x63\x05\x02\x63\x06";
-
 /// ISHs of 6302, 6301 and 63, with 20, 10 and 5 seconds.
 const GREATEST: &[u8] = b"\x82\x0c\x01\x00\x04\x00\x14\x00\x00\x02\x63\x02";
 
 const MIDDLE: &[u8] = b"\x82\x0c\x01\x00\x04\x00\x0a\x00\x00\x02\x63\x01";
 
 const LEAST: &[u8] = b"\x82\x0b\x01\x00\x04\x00\x05\x00\x00\x01\x63";
-
-/// The limit of the table: a new address is refused, one that is there is heard, and room comes as rows end.
-#[test]
-fn a_257th_address_is_refused(rt: HostRuntime) {
-    let mut table = Neighbours::new(rt.alloc());
-    assert_eq!(rt; fill(&mut table, 249), Ok(()));
-    assert_eq!(rt; hear(&mut table, 0, ONE, 1), Ok(()));
-    assert_eq!(rt; hear(&mut table, 1, NINE, 2), Err(HearRefusal::Full));
-    assert_eq!(rt; hear(&mut table, 1, EIGHT, 2), Ok(()));
-    table.tick(40);
-    assert_eq!(rt; hear(&mut table, 40, NINE, 2), Ok(()));
-}
-
-/// The last tick of a row, and the next one: seconds are two ticks.
-#[test]
-fn an_address_is_known_for_its_holding_time(rt: HostRuntime) {
-    let mut table = Neighbours::new(rt.alloc());
-    finds(&rt, &table, 3, None);
-    hears(&rt, &mut table, 3, ONE, 1);
-    finds(&rt, &table, 42, Some(hop(1, None)));
-    finds(&rt, &table, 43, None);
-}
-
-/// The latest hello counts, not the longest.
-#[test]
-fn a_shorter_holding_time_counts(rt: HostRuntime) {
-    let mut table = Neighbours::new(rt.alloc());
-    hears(&rt, &mut table, 0, ONE, 1);
-    hears(&rt, &mut table, 2, SHORTER, 1);
-    finds(&rt, &table, 3, Some(hop(1, None)));
-    finds(&rt, &table, 4, None);
-}
-
-/// A hello may take a row back.
-#[test]
-fn a_holding_time_of_0_makes_nothing_known(rt: HostRuntime) {
-    let mut table = Neighbours::new(rt.alloc());
-    hears(&rt, &mut table, 0, ONE, 1);
-    hears(&rt, &mut table, 0, NO_TIME, 1);
-    finds(&rt, &table, 0, None);
-}
-
-/// The latest hello counts for the port too.
-#[test]
-fn an_address_moves_to_another_port(rt: HostRuntime) {
-    let mut table = Neighbours::new(rt.alloc());
-    hears(&rt, &mut table, 0, ONE, 1);
-    hears(&rt, &mut table, 1, ONE, 2);
-    finds(&rt, &table, 1, Some(hop(2, None)));
-}
 
 /// Titles compare as lists of octets, a shorter one first; an ESH makes no router.
 #[test]
@@ -201,20 +139,4 @@ fn is_configuration(hello: &HelloRef<'_>) -> bool
         HelloRef::Esh { .. } | HelloRef::Ish { .. } => true,
         HelloRef::Rd { .. } => false,
     }
-}
-
-/// So many addresses, at tick 0.
-fn fill(table: &mut Neighbours, count: u8) -> Heard
-    requires { table.old.clock ≤ 0 }
-    ensures { table.new.clock ≤ 0 }
-{
-    for last in 0..count {
-        hear(
-            table,
-            0,
-            &[0x82, 13, 1, 0, 2, 0, 20, 0, 0, 1, 2, 0, last],
-            1,
-        )?;
-    }
-    Ok(())
 }

@@ -1,5 +1,7 @@
-//! Tests of whole scripts: what `osi` writes for them, and with what status it ends.
+//! Tests of what no script shows: input that comes in parts, reads and writes that fail, and the words of a call.
 #![tactic(auto)]
 
 #[cfg(test)]
-mod scripts;
+mod input;
+#[cfg(test)]
+mod words;

@@ -1,12 +1,8 @@
 //! A capture of one frame and a part of another, which was written by hand, and what is shown of it.
 
-use osi_base::{MemSink, MemSource, PlainSink, PlainSource, Status};
+use osi_base::{MemSink, MemSource, Status};
 use osi_capture::decode;
 use std::test::Fail;
-
-/// The header of a capture in big-endian order.
-const BIG: [u8; 24] =
-    *b"\xa1\xb2\xc3\xd4\x00\x02\x00\x04\0\0\0\0\0\0\0\0\x00\x00\xff\xff\x00\x00\x00\x01";
 
 /// A little-endian capture of one DT PDU with the data `hello`, and ten octets of another record.
 const HELLO: &[u8] =
@@ -30,16 +26,5 @@ fn a_capture_gives_its_lines_in_whatever_pieces_it_comes(rt: HostRuntime) -> Res
         assert_eq!(rt; status, Status::RefusedCapture);
         assert_eq!(rt; sink.written(), SHOWN);
     }
-    Ok(())
-}
-
-/// The shortest capture, in the order of octets that no other test has.
-#[test]
-fn a_header_alone_is_a_capture(rt: HostRuntime) -> Result<(), Fail> {
-    let mut source = PlainSource::new(rt.alloc(), &BIG)?;
-    let mut sink = PlainSink::new(rt.alloc());
-    let status = decode(rt.alloc(), &mut source, &mut sink);
-    assert_eq!(rt; status, Status::Done);
-    assert_eq!(rt; sink.written(), b"done\n".as_slice());
     Ok(())
 }

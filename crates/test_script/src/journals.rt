@@ -1,16 +1,34 @@
-//! The line of each event, as the format of the transcript states it.
+//! The lines of events that no script comes to, or none of a few lines, as the format of the transcript states them. All others stand in `examples/`, in
+//! `examples/rows` those that no example has (`connection-lines.rows`, `network-lines.rows`, `datagram-words.rows`).
 
-mod lines;
-
-use self::lines::{CALLS, DATAGRAMS, ENDS, NETWORK_CAUSES, NETWORKS, TPDUS};
-use osi_base::{Address, Bytes, DropCause, HelloCause, HelloKind};
+use osi_base::{Address, Bytes, DropCause};
 use osi_journal::{
-    Boxed, Event, GoneCause, Indication, Journal, Refused, Request, Settled, Standing, TpduCause,
-    TpduKind, UdCause, write_event,
+    Boxed, Event, Indication, Journal, Refused, Settled, TpduKind, UdCause, write_event,
 };
 use osi_script::{Names, Options};
 use std::alloc::Global;
+use std::process::Abort;
 use std::test::Fail;
+
+const LINES: &str = "drop frame b
+stopped 65536
+unknown a cr
+held 1 ed 4294967296
+no full
+no idsspent
+drop a full
+drop a idsspent
+badud b short 3
+badud b length 3
+badud b code 3
+badud b param 3
+badud b unknown 3
+badud b missing 3
+badud b checksum 3
+data 3 -
+sent b 490b01 -
+incoming 2 b 3 490a01 9 aa 490b01 - normal 1024 exp sum 00ff
+";
 
 const NORMAL: Options = Options {
     extended: false,
@@ -20,49 +38,99 @@ const NORMAL: Options = Options {
     sum: true,
 };
 
-const EXTENDED: Options = Options {
-    extended: true,
-    size: 8192,
-    preferred: false,
-    expedited: false,
-    sum: false,
-};
-
-const PREFERRED: Options = Options {
-    extended: false,
-    size: 1408,
-    preferred: true,
-    expedited: true,
-    sum: true,
-};
-
-const SNPA: [u8; 6] = [2, 0, 0, 0, 0, 0x0b];
-
-/// The lines of events, where `a` and `b` are systems and `x` is a LAN.
-fn told(alloc: Global, events: &[Event]) -> Result<Vec<u8>, Fail> {
-    let mut names = Names::new(alloc);
-    for line in ["es a 490a00", "es b 490b00", "lan x 1 1497"] {
-        let _line = names.read_line(line.as_bytes());
-    }
-    let mut out = Vec::new(alloc);
-    for event in events {
-        write_event(event, &names, &mut out)
-            .ok()
-            .ok_or("no memory")?;
-    }
-    Ok(out)
-}
-
 fn bytes(alloc: Global, octets: &[u8]) -> Result<Bytes, Fail> {
     Ok(Bytes::of(octets.to_vec(alloc)?))
 }
 
-fn boxed<T: Drop>(alloc: Global, value: T) -> Result<Boxed<T>, Fail> {
-    Ok(Boxed::new(alloc, value).ok().ok_or("no memory")?)
+/// The indication of a CR without the selector that is called.
+fn indication(alloc: Global) -> Result<Event, Fail> {
+    let indication = Indication {
+        end: 2,
+        system: 1,
+        reference: 3,
+        calling: Address::of(&[0x49, 0x0a, 1]),
+        partner: 9,
+        calling_selector: bytes(alloc, &[0xaa])?,
+        called: Address::of(&[0x49, 0x0b, 1]),
+        called_selector: bytes(alloc, &[])?,
+        options: NORMAL,
+        octets: bytes(alloc, &[0, 0xff])?,
+    };
+    let boxed = Boxed::new(alloc, indication).ok().ok_or("no memory")?;
+    Ok(Event::Incoming(boxed))
 }
 
-fn address(last: u8) -> Address {
-    Address::of(&[0x49, last, 1])
+/// The event of a line, where `a` and `b` are the systems 0 and 1.
+fn event_of(alloc: Global, line: &str) -> Result<Event, Fail> {
+    match line {
+        "drop frame b" => Ok(Event::DropFrame { system: 1 }),
+        "stopped 65536" => {
+            let answer = Settled::Stopped(65_536);
+            Ok(Event::Settle { answer })
+        }
+        "unknown a cr" => {
+            let kind = TpduKind::Cr;
+            Ok(Event::Unknown { system: 0, kind })
+        }
+        "held 1 ed 4294967296" => Ok(Event::Held {
+            end: 1,
+            expedited: true,
+            number: 4_294_967_296,
+        }),
+        "data 3 -" => Ok(Event::Data {
+            end: 3,
+            octets: Bytes::of(Vec::new(alloc)),
+        }),
+        "sent b 490b01 -" => Ok(Event::Sent {
+            system: 1,
+            to: Address::of(&[0x49, 0x0b, 1]),
+            octets: Bytes::of(Vec::new(alloc)),
+        }),
+        _ => cause_of(alloc, line),
+    }
+}
+
+/// The same of a line that ends by a cause.
+fn cause_of(alloc: Global, line: &str) -> Result<Event, Fail> {
+    match line {
+        "no full" => Ok(Event::No {
+            cause: Refused::Full,
+        }),
+        "no idsspent" => Ok(Event::No {
+            cause: Refused::IdsSpent,
+        }),
+        "drop a full" => Ok(Event::Dropped {
+            system: 0,
+            cause: DropCause::Full,
+        }),
+        "drop a idsspent" => Ok(Event::Dropped {
+            system: 0,
+            cause: DropCause::IdsSpent,
+        }),
+        "badud b short 3" => Ok(bad_ud(UdCause::Short)),
+        "badud b length 3" => Ok(bad_ud(UdCause::Length)),
+        "badud b code 3" => Ok(bad_ud(UdCause::Code)),
+        "badud b param 3" => Ok(bad_ud(UdCause::Param)),
+        "badud b unknown 3" => Ok(bad_ud(UdCause::Unknown)),
+        "badud b missing 3" => Ok(bad_ud(UdCause::Missing)),
+        "badud b checksum 3" => Ok(bad_ud(UdCause::Checksum)),
+        _ => indication(alloc),
+    }
+}
+
+fn bad_ud(cause: UdCause) -> Event {
+    Event::BadUd {
+        system: 1,
+        cause,
+        place: 3,
+    }
+}
+
+/// The line of an event.
+fn told(alloc: Global, names: &Names, event: &Event) -> Result<Vec<u8>, Fail> {
+    let mut out = Vec::new(alloc);
+    write_event(event, names, &mut out).ok().ok_or("no memory")?;
+    Ok(out)
 }
 
 /// A journal with ample memory: what is added stands there.
@@ -79,298 +147,23 @@ fn a_journal_has_its_events_in_order(rt: HostRuntime) {
     );
 }
 
-/// The fields of each line, in their order and form, by hand.
-#[test]
-fn an_event_of_a_network_has_its_line(rt: HostRuntime) -> Result<(), Fail> {
-    let (number, system, lan, snpa) = (2, 1, 0, SNPA);
-    let (reason, place) = (0xa0, 4);
-    let events = [
-        Event::Tick { now: 0 },
-        Event::Frame {
-            number,
-            lan,
-            system,
-            snpa,
-            length: 63,
-        },
-        Event::DropFrame { system },
-        Event::Deliver { number, system },
-        Event::NoSuch { number, system },
-        Event::Late { number, system },
-        Event::NotThere { number, system },
-        Event::NotOurs { number, system },
-        Event::Settle {
-            answer: Settled::Settled(2),
-        },
-        Event::Settle {
-            answer: Settled::Stopped(65_536),
-        },
-        Event::Inject { system },
-        Event::InjectNotThere { system },
-        Event::Discard {
-            system,
-            reason,
-            place,
-        },
-        Event::Report {
-            system,
-            reason,
-            place,
-        },
-        Event::Alien { system },
-        Event::HelloFull { system },
-        Event::Restart { system },
-        Event::Silent { system },
-        Event::Redirect {
-            system,
-            address: address(0x0a),
-            snpa,
-        },
-    ];
-    assert_eq!(rt; told(rt.alloc(), &events)?.as_slice(), NETWORKS.as_bytes());
+fn check_line(rt: &impl Abort, alloc: Global, names: &Names, line: &str) -> Result<(), Fail> {
+    let event = event_of(alloc, line)?;
+    let out = told(alloc, names, &event)?;
+    assert_eq!(*rt; out.strip_suffix(b"\n"), Some(line.as_bytes()), "{line}");
     Ok(())
 }
 
-/// The events of a connection that is made, with octets or without.
-fn connecting(alloc: Global) -> Result<Vec<Event>, Fail> {
-    let mut events = Vec::new(alloc);
-    let request = Request {
-        end: 1,
-        system: 0,
-        reference: 9,
-        calling: address(0x0a),
-        calling_selector: bytes(alloc, &[0xaa])?,
-        called: address(0x0b),
-        called_selector: bytes(alloc, &[0xbb])?,
-        octets: bytes(alloc, &[])?,
-    };
-    events.push(Event::Connect(boxed(alloc, request)?))?;
-    let indication = Indication {
-        end: 2,
-        system: 1,
-        reference: 3,
-        calling: address(0x0a),
-        partner: 9,
-        calling_selector: bytes(alloc, &[0xaa])?,
-        called: address(0x0b),
-        called_selector: bytes(alloc, &[])?,
-        options: NORMAL,
-        octets: bytes(alloc, &[0, 0xff])?,
-    };
-    events.push(Event::Incoming(boxed(alloc, indication)?))?;
-    for (options, first) in [(NORMAL, 5), (EXTENDED, 7), (PREFERRED, 9)] {
-        let (end, octets) = (2, bytes(alloc, &[first])?);
-        events.push(Event::Accept {
-            end,
-            options,
-            octets,
-        })?;
-        let (end, octets) = (1, bytes(alloc, &[])?);
-        events.push(Event::Confirm {
-            end,
-            options,
-            octets,
-        })?;
-    }
-    Ok(events)
-}
-
-/// Appends the events of an end that have octets, and those of a raw unit.
-fn carry(alloc: Global, events: &mut Vec<Event>) -> Result<(), Fail> {
-    let (end, system) = (3, 1);
-    let octets = bytes(alloc, &[])?;
-    events.push(Event::Data { end, octets })?;
-    let octets = bytes(alloc, &[4])?;
-    events.push(Event::Got { end, octets })?;
-    let octets = bytes(alloc, &[5, 0])?;
-    events.push(Event::Expedite { end, octets })?;
-    let octets = bytes(alloc, &[6])?;
-    events.push(Event::Urgent { end, octets })?;
-    let octets = bytes(alloc, &[7])?;
-    events.push(Event::Refuse { end, octets })?;
-    let octets = bytes(alloc, &[8])?;
-    events.push(Event::Disconnect { end, octets })?;
-    let (to, octets) = (address(0x0b), bytes(alloc, &[])?);
-    events.push(Event::Sent { system, to, octets })?;
-    let (from, octets) = (address(0x0a), bytes(alloc, &[0, 0xff])?);
-    events.push(Event::Unit {
-        system,
-        from,
-        octets,
-    })?;
-    Ok(())
-}
-
-/// The fields of each line, in their order and form, by hand.
+/// The fields of each line, in their order and form, and each word as it is printed.
 #[test]
-fn an_event_of_an_end_has_its_line(rt: HostRuntime) -> Result<(), Fail> {
-    let mut events = connecting(rt.alloc())?;
-    carry(rt.alloc(), &mut events)?;
-    let end = 1;
-    events.push(Event::Window { end, credit: 15 })?;
-    let (inbound, outbound) = (2, 3);
-    events.push(Event::Joined { inbound, outbound })?;
-    for (expedited, number) in [(false, 96), (true, 4_294_967_296)] {
-        events.push(Event::Held {
-            end,
-            expedited,
-            number,
-        })?;
+fn each_event_has_its_line(rt: HostRuntime) -> Result<(), Fail> {
+    let alloc = rt.alloc();
+    let mut names = Names::new(alloc);
+    for line in ["es a 490a00", "es b 490b00"] {
+        let _line = names.read_line(line.as_bytes());
     }
-    assert_eq!(rt; told(rt.alloc(), &events)?.as_slice(), ENDS.as_bytes());
-    Ok(())
-}
-
-/// Each word as it is printed: scripts of users read them.
-#[test]
-fn a_cause_has_its_word(rt: HostRuntime) -> Result<(), Fail> {
-    let mut events = Vec::new(rt.alloc());
-    for cause in [
-        GoneCause::Reason(128),
-        GoneCause::Exhausted,
-        GoneCause::Inactive,
-        GoneCause::Protocol,
-        GoneCause::AnswerTime,
-    ] {
-        let (end, octets) = (1, bytes(rt.alloc(), &[])?);
-        events.push(Event::Gone { end, cause, octets })?;
+    for line in LINES.lines() {
+        check_line(&rt, alloc, &names, line)?;
     }
-    for cause in [
-        Refused::NoSuchEnd,
-        Refused::WrongState(Standing::CrWait),
-        Refused::WrongState(Standing::WaitBeforeClose),
-        Refused::WrongState(Standing::UserWait),
-        Refused::WrongState(Standing::AkWait),
-        Refused::WrongState(Standing::Opened),
-        Refused::WrongState(Standing::Closing),
-        Refused::WrongState(Standing::Frozen),
-        Refused::WrongState(Standing::Ended),
-        Refused::EmptyUnit,
-        Refused::TooLong,
-        Refused::NoExpedited,
-        Refused::QueueFull,
-        Refused::RefsSpent,
-        Refused::Silent,
-        Refused::NoRoute,
-        Refused::Full,
-        Refused::IdsSpent,
-        Refused::Relayed,
-    ] {
-        events.push(Event::No { cause })?;
-    }
-    assert_eq!(rt; told(rt.alloc(), &events)?.as_slice(), CALLS.as_bytes());
-    Ok(())
-}
-
-/// Each word as it is printed: scripts of users read them.
-#[test]
-fn a_network_cause_has_its_word(rt: HostRuntime) -> Result<(), Fail> {
-    let (mut events, system, snpa) = (Vec::new(rt.alloc()), 0, SNPA);
-    for cause in [
-        DropCause::TooLong,
-        DropCause::NoRoute,
-        DropCause::Full,
-        DropCause::IdsSpent,
-    ] {
-        events.push(Event::Dropped { system, cause })?;
-    }
-    for kind in [HelloKind::Esh, HelloKind::Ish, HelloKind::Rd] {
-        events.push(Event::Hello { system, kind, snpa })?;
-    }
-    for cause in [
-        HelloCause::Short,
-        HelloCause::Length,
-        HelloCause::Version,
-        HelloCause::Checksum,
-        HelloCause::Kind,
-        HelloCause::Address,
-        HelloCause::Option,
-    ] {
-        events.push(Event::BadHello { system, cause })?;
-    }
-    assert_eq!(rt;
-        told(rt.alloc(), &events)?.as_slice(),
-        NETWORK_CAUSES.as_bytes()
-    );
-    Ok(())
-}
-
-/// Each word as it is printed: scripts of users read them.
-#[test]
-fn a_tpdu_has_its_words(rt: HostRuntime) -> Result<(), Fail> {
-    let (mut events, system, place) = (Vec::new(rt.alloc()), 0, 10);
-    for cause in [
-        TpduCause::Short,
-        TpduCause::Length,
-        TpduCause::Code,
-        TpduCause::Fixed,
-        TpduCause::Class,
-        TpduCause::Param,
-        TpduCause::Unknown,
-        TpduCause::Checksum,
-        TpduCause::Body,
-    ] {
-        events.push(Event::BadTpdu {
-            system,
-            cause,
-            place,
-        })?;
-    }
-    for kind in [
-        TpduKind::Cr,
-        TpduKind::Cc,
-        TpduKind::Dr,
-        TpduKind::Dc,
-        TpduKind::Dt,
-        TpduKind::Ed,
-        TpduKind::Ak,
-        TpduKind::Ea,
-        TpduKind::Er,
-    ] {
-        events.push(Event::Unknown { system, kind })?;
-    }
-    assert_eq!(rt; told(rt.alloc(), &events)?.as_slice(), TPDUS.as_bytes());
-    Ok(())
-}
-
-/// The fields of each line, in their order and form, by hand.
-#[test]
-fn an_event_of_datagrams_has_its_line(rt: HostRuntime) -> Result<(), Fail> {
-    let (alloc, system) = (rt.alloc(), 1);
-    let mut events = Vec::new(alloc);
-    for octets in [&b"hello"[..], &[]] {
-        events.push(Event::Send {
-            system: 0,
-            selector: boxed(alloc, bytes(alloc, &[0xaa])?)?,
-            to: address(0x0b),
-            called: boxed(alloc, bytes(alloc, &[0xbb, 0xcc])?)?,
-            octets: boxed(alloc, bytes(alloc, octets)?)?,
-        })?;
-        events.push(Event::Datagram {
-            system,
-            from: address(0x0a),
-            calling: boxed(alloc, bytes(alloc, &[0xaa])?)?,
-            called: boxed(alloc, bytes(alloc, &[0xbb, 0xcc])?)?,
-            octets: boxed(alloc, bytes(alloc, octets)?)?,
-        })?;
-    }
-    let place = 3;
-    for cause in [
-        UdCause::Short,
-        UdCause::Length,
-        UdCause::Code,
-        UdCause::Param,
-        UdCause::Unknown,
-        UdCause::Missing,
-        UdCause::Checksum,
-    ] {
-        events.push(Event::BadUd {
-            system,
-            cause,
-            place,
-        })?;
-    }
-    events.push(Event::NoUser { system })?;
-    assert_eq!(rt; told(alloc, &events)?.as_slice(), DATAGRAMS.as_bytes());
     Ok(())
 }

@@ -1,13 +1,10 @@
-//! What lines say, or their first fault, as the format of the script states them.
+//! What lines say, as the format of the script states them.
 
 mod commands;
 mod rows;
 
 use self::commands::{DATAGRAMS, INACTIVE, RELAY, RUN};
-use self::rows::{
-    AFTER_START, BEFORE_START, FAULTS, FULL, LATE, LIFE, LINES, ROUTES, SHORT_LIFE, VERSION_1,
-    VERSION_2, VERSIONS,
-};
+use self::rows::{CONTROLS, LINES, VERSION_1, VERSION_2};
 use osi_base::Wish;
 use osi_script::{Line, LineRefusal, Names, Options};
 use std::alloc::Global;
@@ -50,10 +47,13 @@ fn numbers_of(line: &Line) -> (&'static str, [u32; 6]) {
             options,
             ..
         } => (
-            "connect",
+            word_with("connect", "connect p", *options),
             agreed(u32::from(*system), u32::from(*to), *options),
         ),
-        Line::Accept { end, options, .. } => ("accept", agreed(*end, 0, *options)),
+        Line::Accept { end, options, .. } => (
+            word_with("accept", "accept p", *options),
+            agreed(*end, 0, *options),
+        ),
         Line::Refuse { end, .. } => ("refuse", [*end, 0, 0, 0, 0, 0]),
         Line::Disconnect { end, .. } => ("disconnect", [*end, 0, 0, 0, 0, 0]),
         Line::Data { end, .. } => ("data", [*end, 0, 0, 0, 0, 0]),
@@ -72,6 +72,11 @@ fn numbers_of(line: &Line) -> (&'static str, [u32; 6]) {
         Line::Restart { system } => ("restart", [u32::from(*system), 0, 0, 0, 0, 0]),
         Line::Send { system, to, .. } => ("send", pair(*system, *to)),
     }
+}
+
+/// The second word for a preferred size, else the first.
+fn word_with(listed: &'static str, preferred: &'static str, options: Options) -> &'static str {
+    if options.preferred { preferred } else { listed }
 }
 
 fn pair(first: u8, second: u8) -> [u32; 6] {
@@ -178,102 +183,14 @@ fn check(rt: &impl Abort, alloc: Global, names: &mut Names, rows: &str) -> Resul
     Ok(())
 }
 
-/// Each cause of a refusal with its column, and the order in which they are tested.
+/// What each line of each command says, and which words it has.
 #[test]
 fn a_line_has_its_answer(rt: HostRuntime) -> Result<(), Fail> {
-    for rows in [LINES, FULL, LIFE, SHORT_LIFE, LATE] {
-        let mut names = Names::new(rt.alloc());
-        check(&rt, rt.alloc(), &mut names, rows)?;
+    let alloc = rt.alloc();
+    for rows in [LINES, VERSION_1, VERSION_2, RUN, CONTROLS] {
+        check(&rt, alloc, &mut Names::new(alloc), rows)?;
     }
-    let mut names = Names::new(rt.alloc());
-    for rows in [FAULTS, BEFORE_START, "start", AFTER_START] {
-        check(&rt, rt.alloc(), &mut names, rows)?;
-    }
-    Ok(())
-}
-
-/// Where `version` may stand, and what version 2 adds.
-#[test]
-fn a_version_is_named_first(rt: HostRuntime) -> Result<(), Fail> {
-    for rows in [VERSION_1, VERSION_2] {
-        let mut names = Names::new(rt.alloc());
-        check(&rt, rt.alloc(), &mut names, rows)?;
-    }
-    for before in VERSIONS {
-        let mut names = Names::new(rt.alloc());
-        check(&rt, rt.alloc(), &mut names, before)?;
-        check(
-            &rt,
-            rt.alloc(),
-            &mut names,
-            "version 2 | 1 order\nversion 3 | 1 order",
-        )?;
-    }
-    Ok(())
-}
-
-/// The same word in each dialect: taken, or none of its words.
-#[test]
-fn a_command_has_its_lines(rt: HostRuntime) -> Result<(), Fail> {
-    let mut names = Names::datagrams(rt.alloc());
-    check(&rt, rt.alloc(), &mut names, DATAGRAMS)?;
-    let mut names = Names::inactive(rt.alloc());
-    check(&rt, rt.alloc(), &mut names, INACTIVE)?;
-    let mut names = Names::relay(rt.alloc());
-    check(&rt, rt.alloc(), &mut names, RELAY)?;
-    let mut names = Names::new(rt.alloc());
-    check(&rt, rt.alloc(), &mut names, RUN)
-}
-
-/// Whether the options of the answer to a connect line have a preferred size, and which size.
-#[test]
-fn a_preferred_size_is_told_apart(rt: HostRuntime) -> Result<(), Fail> {
-    let mut names = Names::new(rt.alloc());
-    for line in ["version 2", "es a 490a00", "start"] {
-        assert!(&rt; names.read_line(line.as_bytes()).is_ok(), "{line}");
-    }
-    for (size, wanted, preferred) in [
-        ("8192", 8192, false),
-        ("p64", 8192, true),
-        ("p1", 128, true),
-        ("p128", 16384, true),
-    ] {
-        let line = format!(in rt.alloc(); "accept 1 normal {size} exp sum -")?;
-        let Ok(Line::Accept { options, .. }) = names.read_line(line.as_bytes()) else {
-            panic!(rt; "no accept");
-        };
-        assert_eq!(rt; options.size, wanted);
-        assert_eq!(rt; options.preferred, preferred);
-    }
-    Ok(())
-}
-
-/// The limit of routes, and which refusal is first.
-#[test]
-fn a_system_has_256_routes(rt: HostRuntime) -> Result<(), Fail> {
-    let mut names = Names::new(rt.alloc());
-    check(&rt, rt.alloc(), &mut names, ROUTES)?;
-    for octet in 0..=255u8 {
-        let route = format!(in rt.alloc(); "route a {octet:02x} r x")?;
-        check(&rt, rt.alloc(), &mut names, &route)?;
-    }
-    let more = "route a ff r x | 9 repeat\nroute a 4900 r x | 1 many\nroute r 4900 a x";
-    check(&rt, rt.alloc(), &mut names, more)
-}
-
-/// The longest line that is read, and which octet of a longer one is told.
-#[test]
-fn a_line_has_at_most_40000_octets(rt: HostRuntime) -> Result<(), Fail> {
-    let mut names = Names::new(rt.alloc());
-    let mut line = "#".repeat(rt.alloc(), 40_000)?;
-    for (more, wanted) in [
-        ("", "nothing [0, 0, 0, 0, 0, 0]"),
-        ("\u{7f}", "40001 long"),
-        ("#", "40001 long"),
-    ] {
-        line.push_str(more)?;
-        let answer = answer(rt.alloc(), &mut names, line.as_bytes())?;
-        assert_eq!(rt; answer.trim_end(), wanted);
-    }
-    Ok(())
+    check(&rt, alloc, &mut Names::datagrams(alloc), DATAGRAMS)?;
+    check(&rt, alloc, &mut Names::inactive(alloc), INACTIVE)?;
+    check(&rt, alloc, &mut Names::relay(alloc), RELAY)
 }

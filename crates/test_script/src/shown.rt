@@ -1,39 +1,8 @@
-//! The lines of PDUs, as the format of captures states them.
+//! Which ends are kept. The lines of PDUs stand in `examples/rows` (`pdus.frames`, `tpdus.frames`, `hellos.frames` and others).
 
-mod table;
-
-use self::table::TABLE;
 use nsap::Nsap;
-use osi_show::{End, ExtendedEnds, show_frame, show_nsap};
-use std::alloc::Global;
-use std::test::*;
-
-/// The octets of a frame whose network PDU has these digits.
-fn frame_of(alloc: Global, digits: &str) -> Result<Vec<u8>, Fail> {
-    let length = digits.len() / 2 + 3;
-    let text = format!(in alloc; "02000000000b02000000000a{length:04x}fefe03{digits}")?;
-    Ok(hex::decode(alloc, text.as_str())?)
-}
-
-/// What is written for each kind of PDU, TPDU and fault, as the format of captures states it.
-#[test]
-fn each_frame_of_the_table_has_its_lines(rt: HostRuntime) -> Result<(), Fail> {
-    let mut ends = ExtendedEnds::new(rt.alloc());
-    let mut out = Vec::new(rt.alloc());
-    let mut wanted = Vec::new(rt.alloc());
-    for line in TABLE.lines() {
-        if let Some(digits) = line.strip_prefix("> ") {
-            show_frame(&frame_of(rt.alloc(), digits)?, &mut ends, &mut out)?;
-        } else if let Some(digits) = line.strip_prefix("= ") {
-            show_frame(&hex::decode(rt.alloc(), digits)?, &mut ends, &mut out)?;
-        } else {
-            wanted.extend_from_slice(line.as_bytes())?;
-            wanted.push(b'\n')?;
-        }
-    }
-    assert_eq!(rt; std::str::from_utf8(&out), std::str::from_utf8(&wanted));
-    Ok(())
-}
+use osi_show::{End, ExtendedEnds, show_nsap};
+use std::test::Fail;
 
 /// 1,024 ends, and which one goes: the oldest, where naming makes young again.
 #[test]

@@ -12,33 +12,32 @@ ghost use Rattle.tp4_conn.specs.Table.{due};
 
 mod rows;
 mod script;
-mod shown;
 mod table;
 mod tpdus;
 mod words;
 
 use crate::looks::{due_of, state_of, tick_end};
+use crate::words::{bytes, events_of, number, pair, plain, word};
 use nsap::Nsap;
 use osi_base::{Bytes, Tick};
 use script::SCRIPT;
-use shown::{show_event, show_tpdu};
 use std::alloc::Global;
 use std::process::Abort;
 use std::test::Fail;
-use tp4_conn::{ConnectCall, ConnectRequest, Connection, Options, State, Timers, UserCall};
-use tp4_flow::Step;
-use tpdu::TpduRef;
+use tp4_conn::{ConnectCall, ConnectRequest, Connection, Options, Timers, UserCall};
+use tp4_flow::{Sent, Step};
+use tpdu::{Format, TpduRef};
 use tpdus::tpdu;
-use words::{Sizes, bytes, number, options, pair, word};
+use words::{Sizes, options};
 
 /// An end, what its last line told and sent, and its clock.
 #[derive(Drop)]
 struct Play {
     alloc: Global,
-    end: Connection,
+    end: Box<Connection>,
     out: Step,
     clock: Tick,
-    ghost behind: { end.base.clock ≤ clock },
+    ghost behind: { end.value.base.clock ≤ clock },
     ghost low: { clock ≤ 4000000000 },
 }
 
@@ -46,7 +45,7 @@ struct Play {
 #[test]
 fn each_row_of_each_state(rt: HostRuntime) -> Result<(), Fail> {
     let alloc = rt.alloc();
-    let mut play = Play::begin(alloc)?;
+    let mut play = Box::new(alloc, Play::begin(alloc)?)?;
     for line in SCRIPT.lines() {
         if !line.is_empty() && !line.starts_with('#') {
             play_line(&rt, &mut play, line)?;
@@ -67,15 +66,11 @@ impl Play {
     fn begin(alloc: Global) -> Result<Play, Fail> {
         let mut out = Step::new(alloc);
         let options = options(&["", "normal", "1024", "exp", "sum"])?;
-        let end = Connection::connect(
-            alloc,
-            0,
-            call(alloc, options, Bytes::of(Vec::new(alloc)))?,
-            &mut out,
-        )?;
+        let call = call(alloc, options, Bytes::of(Vec::new(alloc)))?;
+        let end = Connection::connect(alloc, 0, call, &mut out)?;
         Ok(Play {
             alloc,
-            end,
+            end: Box::new(alloc, end)?,
             out,
             clock: 0,
         })
@@ -109,19 +104,21 @@ impl Play {
             options(words)?,
             bytes(self.alloc, word(words, 5))?,
         )?;
-        self.end = Connection::connect(self.alloc, 0, call, &mut self.out)?;
+        let end = Connection::connect(self.alloc, 0, call, &mut self.out)?;
+        self.end = Box::new(self.alloc, end)?;
         self.clock = 0;
         Ok(String::new(self.alloc))
     }
 
     fn incoming(&mut self, words: &[&str]) -> Result<String, Fail> {
         let octets = bytes(self.alloc, word(words, 5))?;
-        self.end = called(
+        let end = called(
             self.alloc,
             options(words)?,
             octets.as_slice(),
             &mut self.out,
         )?;
+        self.end = Box::new(self.alloc, end)?;
         self.clock = 0;
         Ok(String::new(self.alloc))
     }
@@ -143,7 +140,7 @@ impl Play {
 
     /// A tick at which the end was due may not be left out.
     fn in_time(&self) -> Result<(), Fail>
-        ensures { OnOk result (IsInTime (due self.now.end.base self.now.end.stage) self.now.clock) }
+        ensures { OnOk result (IsInTime (due self.now.end.value.base self.now.end.value.stage) self.now.clock) }
     {
         match due_of(&self.end) {
             Some(due) if due < self.clock => Err(Fail::from("a due tick was left out")),
@@ -153,7 +150,13 @@ impl Play {
 
     /// A TPDU from a system, where it matches.
     fn take(&mut self, words: &[&str], from: u8, sum: bool) -> Result<String, Fail> {
-        let octets = bytes(self.alloc, words.last().copied().unwrap_or("-"))?;
+        let place = match word(words, 1) {
+            "cc" => 7,
+            "dr" | "dt" => 4,
+            "ed" => 3,
+            _ => words.len(),
+        };
+        let octets = bytes(self.alloc, word(words, place))?;
         let tpdu = tpdu(words, self.end.format(), sum, octets.as_slice())?;
         if !self.end.matches(&system(from)?, &tpdu) {
             return Ok(format!(in self.alloc; "unknown ")?);
@@ -175,13 +178,11 @@ impl Play {
     /// The answer, the state, the due tick, the events and the TPDUs.
     fn shown(&self, answer: &str) -> Result<String, Fail> {
         let alloc = self.alloc;
-        let mut text = format!(in alloc; "{answer}{}", state_word(state_of(&self.end)))?;
+        let mut text = format!(in alloc; "{answer}{:?}", state_of(&self.end))?;
         if let Some(due) = due_of(&self.end) {
             text.push_str(format!(in alloc; " {due}")?.as_str())?;
         }
-        for event in self.out.events() {
-            text.push_str(show_event(alloc, event)?.as_str())?;
-        }
+        text.push_str(events_of(alloc, &self.out)?.as_str())?;
         for sent in self.out.tpdus() {
             text.push_str(show_tpdu(alloc, sent)?.as_str())?;
         }
@@ -189,16 +190,21 @@ impl Play {
     }
 }
 
-fn state_word(state: State) -> &'static str {
-    match state {
-        State::CrWait => "crwait",
-        State::WaitBeforeClose => "waitbeforeclose",
-        State::UserWait => "userwait",
-        State::AkWait => "akwait",
-        State::Opened => "opened",
-        State::Closing => "closing",
-        State::Frozen => "frozen",
-    }
+/// A TPDU; its format and checksum where these are not the normal ones, and its address where that is not the partner's.
+fn show_tpdu(alloc: Global, sent: &Sent) -> Result<String, Fail> {
+    let format = match sent.format {
+        Format::Normal => "",
+        Format::Extended => " extended",
+    };
+    let sum = if sent.sum { "" } else { " nosum" };
+    let astray = if sent.to.octets() == b"\x49\x0b\x01".as_slice() {
+        ""
+    } else {
+        " astray"
+    };
+    let debug = format!(in alloc; "{:?}", sent.tpdu)?;
+    let tpdu = plain(alloc, debug.as_str())?;
+    Ok(format!(in alloc; " /{tpdu}{format}{sum}{astray}")?)
 }
 
 /// A lifetime of 32 ticks, T1 of 8, 4 sendings, W of 20, I of 60 and a credit of 8: a reference is frozen for 156 ticks.

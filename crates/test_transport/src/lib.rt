@@ -17,4 +17,6 @@ mod receiving;
 #[cfg(test)]
 mod sending;
 #[cfg(test)]
+mod words;
+#[cfg(test)]
 mod worlds;

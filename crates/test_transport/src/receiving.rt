@@ -1,10 +1,12 @@
-//! What no clause says: that calls succeed with ample memory, and rows counted by hand.
+//! The receiving half, call by call. What no clause says: that calls succeed with ample memory, and rows counted by hand.
 
 ghost use Rattle.std.specs.Prelude.{◌≡◌, ◌<◌};
 ghost use Rattle.tpdu.specs.declared.tpdu.Format.TheVariants.{Normal};
 
+use crate::words::{bytes, number, pair, word};
 use nsap::Nsap;
 use std::alloc::Global;
+use std::process::Abort;
 use std::test::Fail;
 use tp4_flow::{FlowRules, Receiving, Step};
 use tp4_number::Got;
@@ -13,9 +15,10 @@ use tpdu::Format;
 /// A receiving half in normal formats with credit 8, and what it told and sent.
 #[derive(Drop)]
 struct Play {
-    half: Receiving,
+    alloc: Global,
+    half: Box<Receiving>,
     out: Step,
-    ghost format: { half.rules.format ≡ Normal },
+    ghost format: { half.value.rules.format ≡ Normal },
 }
 
 impl Play {
@@ -32,7 +35,8 @@ impl Play {
             limit: 89,
         };
         Ok(Play {
-            half: Receiving::new(alloc, rules, 8)?,
+            alloc,
+            half: Box::new(alloc, Receiving::new(alloc, rules, 8)?)?,
             out: Step::new(alloc),
         })
     }
@@ -49,67 +53,94 @@ impl Play {
         Ok(self.half.on_ed(wire, b"ee", &mut self.out)?)
     }
 
-    fn acknowledge(&mut self) -> Result<(), Fail> {
-        Ok(self.half.acknowledge(&mut self.out)?)
+    /// What comes of a call.
+    fn run(&mut self, call: &str) -> Result<String, Fail> {
+        let alloc = self.alloc;
+        let words: Vec<&str> = call.split(' ').collect(alloc)?;
+        match word(&words, 0) {
+            "open" => *self = Play::begin(alloc)?,
+            "ak" => self.half.acknowledge(&mut self.out)?,
+            "dts" => self.take(pair(&words, 1)?)?,
+            _ => return self.ask(&words),
+        }
+        Ok(String::new(alloc))
     }
 
-    /// How many events were told and how many TPDUs were sent.
-    fn counts(&self) -> (usize, usize) {
-        (self.out.events().len(), self.out.tpdus().len())
+    /// The last pieces of so many units without octets, from number 0 on.
+    fn take(&mut self, count: u16) -> Result<(), Fail> {
+        for number in 0..count {
+            self.dt(u32::from(number) % 128, true, b"")?;
+        }
+        Ok(())
+    }
+
+    /// The answer to a call; or how many events were told and TPDUs sent so far.
+    fn ask(&mut self, words: &[&str]) -> Result<String, Fail> {
+        let alloc = self.alloc;
+        match word(words, 0) {
+            "dt" => {
+                let octets = bytes(alloc, word(words, 3))?;
+                let wire = number(words, 1)? % 128;
+                let got = self.dt(wire, word(words, 2) == "eot", octets.as_slice())?;
+                Ok(format!(in alloc; "{got:?}")?)
+            }
+            "ed" => Ok(format!(in alloc; "{}", self.ed(number(words, 1)? % 128)?)?),
+            "grant" => Ok(format!(in alloc; "{}", self.half.grant(pair(words, 1)?.min(255)))?),
+            "credit" => Ok(format!(in alloc; "{}", self.half.credit())?),
+            _ => Ok(format!(in alloc; "{} {}", self.out.events().len(), self.out.tpdus().len())?),
+        }
     }
 }
 
-/// A later DT first: kept, old where it comes again, and shown behind the one before it.
+/// A call, and behind ` =` what comes of it. `open` begins a half, and `counts` asks how many events were told and TPDUs sent since.
+const SCRIPT: &str = "\
+# A later DT first: kept, old where it comes again, and shown behind the one before it.
+open =
+dt 1 eot 6364 = Kept
+counts = 0 1
+dt 1 eot 6364 = Old
+dt 0 - 6162 = Kept
+counts = 1 3
+# The last number within the window, the first outside, and those that are old around the wrap.
+open =
+dt 127 eot - = Old
+dt 8 eot - = Outside
+dt 31 eot - = Outside
+dt 32 eot - = Old
+dts 126 =
+dt 0 eot - = Kept
+# The limit of a unit, with a last piece and with one that is not.
+open =
+dt 0 - *16384 = Kept
+dt 1 - 37 = TooLarge
+open =
+dt 0 - *16384 = Kept
+dt 1 eot 37 = TooLarge
+# An ED that came before is answered again and not shown again. A credit in normal formats is 15 at most.
+open =
+ak =
+ed 0 = true
+ed 0 = false
+counts = 1 3
+grant 20 = 15
+credit = 15
+";
+
 #[test]
-fn units_are_shown_in_order(rt: HostRuntime) -> Result<(), Fail> {
-    let mut play = Play::begin(rt.alloc())?;
-    assert_eq!(rt; play.dt(1, true, b"cd")?, Got::Kept);
-    assert_eq!(rt; play.counts(), (0, 1));
-    assert_eq!(rt; play.dt(1, true, b"cd")?, Got::Old);
-    assert_eq!(rt; play.dt(0, false, b"ab")?, Got::Kept);
-    assert_eq!(rt; play.counts(), (1, 3));
+fn each_call_by_hand(rt: HostRuntime) -> Result<(), Fail> {
+    let alloc = rt.alloc();
+    let mut play = Box::new(alloc, Play::begin(alloc)?)?;
+    for line in SCRIPT.lines() {
+        if !line.starts_with('#') {
+            play_line(&rt, &mut play, line)?;
+        }
+    }
     Ok(())
 }
 
-/// The last number within the window, the first outside, and those that are old around the wrap.
-#[test]
-fn wire_numbers_are_read_from_the_one_expected(rt: HostRuntime) -> Result<(), Fail> {
-    let mut play = Play::begin(rt.alloc())?;
-    for (wire, got) in [
-        (127, Got::Old),
-        (8, Got::Outside),
-        (31, Got::Outside),
-        (32, Got::Old),
-    ] {
-        assert_eq!(rt; play.dt(wire, true, b"")?, got);
-    }
-    for wire in 0..126 {
-        play.dt(wire, true, b"")?;
-    }
-    assert_eq!(rt; play.dt(0, true, b"")?, Got::Kept);
-    Ok(())
-}
-
-/// The limit of a unit, with its last piece and with one that is not.
-#[test]
-fn a_unit_ends_at_16_384_octets(rt: HostRuntime) -> Result<(), Fail> {
-    let unit = vec![in rt.alloc(); 7; 16_384]?;
-    for last in [false, true] {
-        let mut play = Play::begin(rt.alloc())?;
-        assert_eq!(rt; play.dt(0, false, &unit)?, Got::Kept);
-        assert_eq!(rt; play.dt(1, last, b"7")?, Got::TooLarge);
-    }
-    Ok(())
-}
-
-/// An ED that came before is answered again and not shown again.
-#[test]
-fn eds_and_grants_are_answered(rt: HostRuntime) -> Result<(), Fail> {
-    let mut play = Play::begin(rt.alloc())?;
-    play.acknowledge()?;
-    assert!(rt; play.ed(0)?);
-    assert!(rt; !play.ed(0)?);
-    assert_eq!(rt; play.counts(), (1, 3));
-    assert_eq!(rt; (play.half.grant(20), play.half.credit()), (15, 15));
+fn play_line(rt: &impl Abort, play: &mut Play, line: &str) -> Result<(), Fail> {
+    let (call, want) = line.split_once(" =").ok_or("a line has what comes of it")?;
+    let got = play.run(call)?;
+    assert_eq!(rt; got.as_str(), want.trim(), "{line}");
     Ok(())
 }

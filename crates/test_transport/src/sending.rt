@@ -1,13 +1,15 @@
-//! What no clause says: that calls succeed with ample memory, and rows counted by hand.
+//! The sending half, call by call. What no clause says: that calls succeed with ample memory, and rows counted by hand.
 
 ghost use Rattle.std.specs.Prelude.{◌≡◌, ◌<◌, ◌≤◌, true, IfOk};
 ghost use Rattle.tpdu.specs.declared.tpdu.Format.TheVariants.{Normal};
 
+use crate::words::{number, pair, word};
 use nsap::Nsap;
 use osi_base::{Bytes, Tick};
 use std::alloc::Global;
+use std::process::Abort;
 use std::test::Fail;
-use tp4_flow::{FlowRules, Life, Step, SubmitRefusal};
+use tp4_flow::{FlowRules, Life, Step};
 use tp4_sending::Sending;
 use tpdu::{Format, Tpdu};
 
@@ -16,12 +18,12 @@ use tpdu::{Format, Tpdu};
 #[derive(Drop)]
 struct Play {
     alloc: Global,
-    half: Sending,
+    half: Box<Sending>,
     out: Step,
     now: Tick,
-    ghost is_open: { half.is_open ≡ true },
-    ghost format: { half.rules.format ≡ Normal },
-    ghost clock: { half.clock ≤ now },
+    ghost is_open: { half.value.is_open ≡ true },
+    ghost format: { half.value.rules.format ≡ Normal },
+    ghost clock: { half.value.clock ≤ now },
     ghost low: { now ≤ 4000000000 },
 }
 
@@ -45,7 +47,7 @@ impl Play {
         half.open(0, &mut out)?;
         Ok(Play {
             alloc,
-            half,
+            half: Box::new(alloc, half)?,
             out,
             now: 0,
         })
@@ -90,20 +92,79 @@ impl Play {
         Ok(self.half.tick(self.now, &mut self.out)?)
     }
 
-    /// How many events were told and how many TPDUs were sent.
-    fn counts(&self) -> (usize, usize) {
-        (self.out.events().len(), self.out.tpdus().len())
+    /// So many ticks, and each at which the half gives up.
+    fn ticks(&mut self, count: u16) -> Result<String, Fail> {
+        let mut answer = String::new(self.alloc);
+        for _ in 0..count {
+            if self.tick()? == Life::Exhausted {
+                answer.push_str("Exhausted ")?;
+            }
+        }
+        Ok(answer)
     }
-}
 
-impl Play {
-    /// The numbers 0 to 95 go at the first tick, each with its AK.
-    fn three_blocks(&mut self) -> Result<(), Fail> {
-        for n in 0..96 {
+    /// So many units of one octet, each with its AK.
+    fn acknowledged(&mut self, count: u16) -> Result<(), Fail> {
+        for number in 0..count {
             self.unit(1)?;
-            self.ak(n + 1, 15, 0)?;
+            self.ak((u32::from(number) + 1) % 128, 15, 0)?;
         }
         Ok(())
+    }
+
+    /// So many expedited units of one octet, each with its EA, from that number on.
+    fn answered(&mut self, first: u16, count: u16) -> Result<(), Fail> {
+        for number in 0..count {
+            self.urgent(1)?;
+            self.ea((u32::from(first) + u32::from(number)) % 128)?;
+        }
+        Ok(())
+    }
+
+    fn units(&mut self, count: u16, octets: u16) -> Result<(), Fail> {
+        for _ in 0..count {
+            self.unit(usize::from(octets))?;
+        }
+        Ok(())
+    }
+
+    /// What comes of a call: its answer, how many events were told and TPDUs sent so far, and the wire number of the last DT or ED.
+    fn run(&mut self, call: &str) -> Result<String, Fail> {
+        let words: Vec<&str> = call.split(' ').collect(self.alloc)?;
+        let answer = self.act(&words)?;
+        let (events, tpdus) = (self.out.events().len(), self.out.tpdus().len());
+        Ok(format!(in self.alloc; "{answer}{events} {tpdus} {:?}", self.last_number())?)
+    }
+
+    /// What a line does, and its answer.
+    fn act(&mut self, words: &[&str]) -> Result<String, Fail> {
+        let alloc = self.alloc;
+        match word(words, 0) {
+            "open" => *self = Play::begin(alloc, pair(words, 1)?.min(15))?,
+            "units" => self.units(pair(words, 1)?, pair(words, 2)?)?,
+            "urgent" => self.urgent(1)?,
+            "acknowledged" => self.acknowledged(pair(words, 1)?)?,
+            "answered" => self.answered(pair(words, 1)?, pair(words, 2)?)?,
+            "ticks" => return self.ticks(pair(words, 1)?),
+            _ => return self.ask(words),
+        }
+        Ok(String::new(alloc))
+    }
+
+    /// A TPDU of the partner, or a question.
+    fn ask(&mut self, words: &[&str]) -> Result<String, Fail> {
+        let alloc = self.alloc;
+        match word(words, 0) {
+            "ak" => {
+                let (credit, subsequence) = (pair(words, 2)?.min(15), pair(words, 3)?);
+                let is_taken = self.ak(number(words, 1)? % 128, credit, subsequence)?;
+                Ok(format!(in alloc; "{is_taken} ")?)
+            }
+            "ea" => Ok(format!(in alloc; "{} ", self.ea(number(words, 1)? % 128)?)?),
+            "due" => Ok(format!(in alloc; "{:?} ", self.half.next_due())?),
+            "may" => Ok(format!(in alloc; "{} ", self.half.may_send(number(words, 1)?))?),
+            _ => Ok(format!(in alloc; "{:?} ", self.half.refusal(usize::from(pair(words, 1)?)))?),
+        }
     }
 
     /// The wire number of the last DT or ED.
@@ -115,92 +176,65 @@ impl Play {
     }
 }
 
-/// The order of AKs is by subsequence: what goes out after an older one, counted by hand.
+/// A call, and behind ` = ` what comes of it: its answer, how many events were told and TPDUs sent so far, and the wire number of the last
+/// DT or ED. `open` begins a half with that credit.
+const SCRIPT: &str = "\
+# The order of AKs is by subsequence: an older one does not widen a reduced window. A newer one widens it by one, and number 2 goes again.
+open 5 = 0 0 None
+units 6 4 = 0 5 Some(4)
+ak 0 2 1 = true 0 5 Some(4)
+ak 0 5 0 = false 0 5 Some(4)
+ak 0 3 2 = true 0 6 Some(2)
+ak 1 5 0 = true 0 9 Some(5)
+# The number rule at its first border: number 96 waits for the first block, and goes a tick after the last at which that holds.
+open 15 = 0 0 None
+acknowledged 96 = 0 96 Some(95)
+units 2 1 = 1 96 Some(95)
+due = Some(89) 1 96 Some(95)
+ticks 88 = 1 96 Some(95)
+may 88 = false 1 96 Some(95)
+ticks 1 = 1 98 Some(97)
+# One ED is outstanding at most, a DT waits behind it, and EDs have the number rule too.
+open 15 = 0 0 None
+urgent = 0 1 Some(0)
+units 1 1 = 0 1 Some(0)
+ea 1 = false 0 1 Some(0)
+ea 0 = true 0 2 Some(0)
+ak 1 15 0 = true 0 2 Some(0)
+answered 1 95 = 0 97 Some(95)
+urgent = 1 97 Some(95)
+due = Some(89) 1 97 Some(95)
+ticks 89 = 1 98 Some(96)
+# A DT is sent four times, T1 apart, and then the half gives up.
+open 15 = 0 0 None
+units 1 4 = 0 1 Some(0)
+due = Some(8) 0 1 Some(0)
+ticks 31 = 0 4 Some(0)
+ticks 1 = Exhausted 0 4 Some(0)
+# Each limit of the queue, from both sides.
+open 0 = 0 0 None
+refusal 0 = Some(EmptyUnit) 0 0 None
+refusal 16385 = Some(TooLong) 0 0 None
+refusal 1 = None 0 0 None
+units 64 1 = 0 0 None
+refusal 1 = Some(QueueFull) 0 0 None
+";
+
 #[test]
-fn an_older_ak_does_not_widen_a_reduced_window(rt: HostRuntime) -> Result<(), Fail> {
-    let mut play = Play::begin(rt.alloc(), 5)?;
-    for _ in 0..6 {
-        play.unit(4)?;
+fn each_call_by_hand(rt: HostRuntime) -> Result<(), Fail> {
+    let alloc = rt.alloc();
+    let mut play = Box::new(alloc, Play::begin(alloc, 0)?)?;
+    for line in SCRIPT.lines() {
+        if !line.starts_with('#') {
+            play_line(&rt, &mut play, line)?;
+        }
     }
-    assert_eq!(rt; (play.counts(), play.last_number()), ((0, 5), Some(4)));
-    assert!(rt; play.ak(0, 2, 1)?);
-    assert!(rt; !play.ak(0, 5, 0)?);
-    assert_eq!(rt; play.counts(), (0, 5));
-    // A newer one widens it by one: number 2 goes as if for the first time.
-    assert!(rt; play.ak(0, 3, 2)?);
-    assert_eq!(rt; (play.counts(), play.last_number()), ((0, 6), Some(2)));
-    assert!(rt; play.ak(1, 5, 0)?);
-    assert_eq!(rt; (play.counts(), play.last_number()), ((0, 9), Some(5)));
     Ok(())
 }
 
-/// The number rule at its first border, at the tick before it opens and at the next one.
-#[test]
-fn number_96_waits_for_the_first_block(rt: HostRuntime) -> Result<(), Fail> {
-    let mut play = Play::begin(rt.alloc(), 15)?;
-    play.three_blocks()?;
-    assert_eq!(rt; (play.counts(), play.last_number()), ((0, 96), Some(95)));
-    play.unit(1)?;
-    play.unit(1)?;
-    assert_eq!(rt; (play.counts(), play.half.next_due()), ((1, 96), Some(89)));
-    for _ in 0..88 {
-        assert_eq!(rt; play.tick()?, Life::Goes);
-    }
-    assert_eq!(rt; (play.counts(), play.half.may_send(88)), ((1, 96), false));
-    play.tick()?;
-    assert_eq!(rt; (play.counts(), play.last_number()), ((1, 98), Some(97)));
-    Ok(())
-}
-
-/// One ED is outstanding at most, a DT waits behind it, and EDs have the number rule too.
-#[test]
-fn an_ed_goes_alone_and_is_held_like_a_dt(rt: HostRuntime) -> Result<(), Fail> {
-    let mut play = Play::begin(rt.alloc(), 15)?;
-    play.urgent(1)?;
-    play.unit(1)?;
-    assert_eq!(rt; (play.counts(), play.ea(1)?), ((0, 1), false));
-    assert!(rt; play.ea(0)?);
-    assert_eq!(rt; play.counts(), (0, 2));
-    assert!(rt; play.ak(1, 15, 0)?);
-    for n in 1..96 {
-        play.urgent(1)?;
-        play.ea(n)?;
-    }
-    assert_eq!(rt; (play.counts(), play.last_number()), ((0, 97), Some(95)));
-    play.urgent(1)?;
-    assert_eq!(rt; (play.counts(), play.half.next_due()), ((1, 97), Some(89)));
-    for _ in 0..89 {
-        play.tick()?;
-    }
-    assert_eq!(rt; (play.counts(), play.last_number()), ((1, 98), Some(96)));
-    Ok(())
-}
-
-/// N sendings T1 apart, and the tick at which the half gives up.
-#[test]
-fn a_dt_is_sent_four_times(rt: HostRuntime) -> Result<(), Fail> {
-    let mut play = Play::begin(rt.alloc(), 15)?;
-    play.unit(4)?;
-    assert_eq!(rt; (play.counts(), play.half.next_due()), ((0, 1), Some(8)));
-    for _ in 1..32 {
-        assert_eq!(rt; play.tick()?, Life::Goes);
-    }
-    assert_eq!(rt; play.counts(), (0, 4));
-    assert_eq!(rt; play.tick()?, Life::Exhausted);
-    assert_eq!(rt; play.counts(), (0, 4));
-    Ok(())
-}
-
-/// Each limit of the queue, from both sides.
-#[test]
-fn units_are_refused_beyond_the_queue(rt: HostRuntime) -> Result<(), Fail> {
-    let mut play = Play::begin(rt.alloc(), 0)?;
-    assert_eq!(rt; play.half.refusal(0), Some(SubmitRefusal::EmptyUnit));
-    assert_eq!(rt; play.half.refusal(16_385), Some(SubmitRefusal::TooLong));
-    for _ in 0..64 {
-        assert_eq!(rt; play.half.refusal(1), None);
-        play.unit(1)?;
-    }
-    assert_eq!(rt; play.half.refusal(1), Some(SubmitRefusal::QueueFull));
+fn play_line(rt: &impl Abort, play: &mut Play, line: &str) -> Result<(), Fail> {
+    let (call, want) = line.split_once(" = ").ok_or("a line has what comes of it")?;
+    let got = play.run(call)?;
+    assert_eq!(rt; got.as_str(), want, "{line}");
     Ok(())
 }

@@ -205,24 +205,40 @@ fn shows(events: &[Event], at: u32, unit: &[u8]) -> bool {
     false
 }
 
-#[test]
-fn a_unit_is_shown_at_the_partner(rt: HostRuntime) -> Result<(), Fail> {
-    let alloc = rt.alloc();
-    let carrier = net(alloc)?;
-    if carrier.now() != 0 {
-        return Err(Fail::from("the network is not new"));
-    }
+/// The transport entities of both end systems.
+fn both(alloc: Global) -> Result<Vec<Placed>, NoMemory>
+    ensures behind { IfOk result (λ systems. AreBehind 0 systems.items) }
+    ensures later { IfOk result (λ systems. AreLaterAll 0 systems.items) }
+{
     let first = placed(alloc, 1, address(FIRST), b"\xaa")?;
     let second = placed(alloc, 2, address(SECOND), b"\xbb")?;
     let systems = vec![in alloc; first, second]?;
-    let request = ConnectRequest {
+    Ok(systems)
+}
+
+/// A user of the first system asks for a connection to the user of the second.
+fn request(alloc: Global) -> Result<ConnectRequest, NoMemory>
+    ensures { IfOk result (λ request. IsSized request.options) }
+{
+    Ok(ConnectRequest {
         from_selector: Bytes::of(b"\xaa".to_vec(alloc)?),
         to: address(SECOND),
         to_selector: Bytes::of(b"\xbb".to_vec(alloc)?),
         options: OPTIONS,
         octets: Bytes::of(Vec::new(alloc)),
-    };
+    })
+}
+
+#[test]
+fn a_unit_is_shown_at_the_partner(rt: HostRuntime) -> Result<(), Fail> {
+    let alloc = rt.alloc();
+    let systems = both(alloc)?;
+    let request = request(alloc)?;
     let unit = Bytes::of(b"hi".to_vec(alloc)?);
+    let carrier = net(alloc)?;
+    if carrier.now() != 0 {
+        return Err(Fail::from("the network is not new"));
+    }
     let told = talk(alloc, carrier, systems, request, OPTIONS, unit)?;
     assert!(rt; shows(told.shown.as_slice(), 2, b"hi"));
     assert!(rt; !shows(told.confirmed.as_slice(), 2, b"hi"));

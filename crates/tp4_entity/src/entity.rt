@@ -45,7 +45,7 @@ pub struct TpEntity {
     pub(crate) clock: Tick,
     pub(crate) selectors: Vec<Bytes>,
     pub(crate) ends: Vec<Option<Connection>>,
-    /// When each place is due, so that a tick and a settle go over the due ends and over no others.
+    /// When each place is due, so that a tick goes over the due ends and over no others.
     pub(crate) due: Due,
     pub(crate) restarted: Option<Tick>,
 }
@@ -110,7 +110,8 @@ impl TpEntity {
         }
     }
 
-    /// Whether the reference is one of the entity's, and free: no end stands there, or one that entered Frozen more than F ticks ago.
+    /// Whether the reference is one of the entity's, and free: no end stands there, or one that entered Frozen more than F ticks ago. None is
+    /// while the entity is silent.
     pub fn is_free(&self, now: Tick, reference: u16) -> bool
         requires clock { self.now.clock ≤ now }
         ensures { result ≡ is_free now self.now reference }

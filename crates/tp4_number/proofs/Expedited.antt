@@ -19,12 +19,12 @@ same_wire block m n some low high e = sym (near_is block m m some (omega arith) 
 both : (a b c d : ℕ) → (nat_lt a b && c == d) ≡ true → (a < b) × (c ≡ d)
 both a b c d t = grind (arith, nat_tests)
 
-record IsAnswer (rules : Rules) (u : Urgent) (n tick : ℕ) : Type 0 where
+pub record IsAnswer (rules : Rules) (u : Urgent) (n tick : ℕ) : Type 0 where
   pub low : n < u.expected
   pub past : tick ≤ u.clock
   pub sent : (t : ℕ) × Contains u.sends (n, t) × (tick ≤ t + rules.life)
 
-record Calm (rules : Rules) (u : Urgent) : Type 0 where
+pub record Calm (rules : Rules) (u : Urgent) : Type 0 where
   pub account : Accounts rules u.clock u.blocks u.sends
   pub base_low : u.base ≤ u.expected
   pub expected_low : u.expected ≤ u.blocks.high
@@ -138,17 +138,17 @@ module _ (rules : Rules) (u : Urgent) (fit : IsFit rules) (s : Calm rules u) whe
       })
       (λ _. s)
 
-calm_event : (rules : Rules) (fit : IsFit rules) (u : Urgent) (event : UrgentEvent) → MayUrgent rules u event → Calm rules u → Calm rules (urgently rules u event)
+pub calm_event : (rules : Rules) (fit : IsFit rules) (u : Urgent) (event : UrgentEvent) → MayUrgent rules u event → Calm rules u → Calm rules (urgently rules u event)
 calm_event rules fit u Ticks may s = ticked rules u fit s
 calm_event rules fit u Sends_ed may s = sent_new rules u fit s may
 calm_event rules fit u Resends_ed may s = sent_again rules u fit s may
 calm_event rules fit u (Ed_comes n tick) may s = ed_came rules u fit s n tick may
 calm_event rules fit u (Ea_comes n tick) may s = ea_came rules u fit s n tick may
 
-calm_quiet : (rules : Rules) (tick : ℕ) → Calm rules (quiet tick)
+pub calm_quiet : (rules : Rules) (tick : ℕ) → Calm rules (quiet tick)
 calm_quiet rules tick = record { account = accounts_start rules tick; base_low = omega arith; expected_low = omega arith; next_to = omega arith; next_from = omega arith; one = omega arith; said = λ n tick h. absurd (none _ h) }
 
-calm_leads : (rules : Rules) (fit : IsFit rules) (old new : Urgent) (events : List UrgentEvent) → LeadsUrgently rules old events new → Calm rules old → Calm rules new
+pub calm_leads : (rules : Rules) (fit : IsFit rules) (old new : Urgent) (events : List UrgentEvent) → LeadsUrgently rules old events new → Calm rules old → Calm rules new
 calm_leads rules fit old new [] h s = subst (Calm rules) (sym h) s
 calm_leads rules fit old new (event ∷ events) h s = calm_leads rules fit (urgently rules old event) new events h.1 (calm_event rules fit old event h.0 s)
 

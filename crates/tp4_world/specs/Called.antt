@@ -32,7 +32,7 @@ pub data WorldCall : Type 0 where
   Pass : WorldCall
   Settle : WorldCall
 
--- the call keeps its limits: the size of a TPDU is one of the seven, a selector has 32 octets at most, and a credit is at most 255
+-- the call keeps its limits: the size of a TPDU is one that a script may name, a selector has 32 octets at most, and a credit is at most 255
 abbrev pub KeepsLimits : WorldCall → Type 0
 KeepsLimits (Connect system request) = IsSized request.options × (length request.from_selector ≤ 32) × (length request.to_selector ≤ 32)
 KeepsLimits (Ask end call) = IsCall call

@@ -49,6 +49,10 @@ abbrev pub gathered : List Run → Run → Run
 gathered [] r = r
 gathered (x ∷ xs) r = gathered xs (merged x r)
 
+-- the front of the one, a run, and the back of the other
+abbrev pub spanned : Run → Run → Run → Run
+spanned x y r = record { start = min x.start r.start; octets = take (r.start - x.start) x.octets ++ (r.octets ++ drop (end_of r - y.start) y.octets) }
+
 -- a run is joined with those that it meets
 abbrev pub joined : List Run → Run → List Run
 joined [] r = r ∷ []
@@ -63,6 +67,11 @@ pub record IsFirst (runs : List Run) (at first : ℕ) : Type 0 where
   pub before : (k : ℕ) (d : Run) → k < first → end_of (slice_index_or runs k d) < at
   pub met : (k : ℕ) (d : Run) → first ≤ k → k < length runs → at ≤ end_of (slice_index_or runs k d)
 
+-- the run has no octet of those between the two but at the front of the first and at the back of the last
+abbrev pub IsSpanned : List Run → Run → ℕ → ℕ → Type 0
+IsSpanned runs r first last =
+    first < last → gathered (slice_range runs first last) r ≡ spanned (slice_index_or runs first r) (slice_index_or runs (last - 1) r) r
+
 -- so far the run met those between the two: what it is with them begins and ends there, and they have so many octets
 pub record IsMeeting (runs : List Run) (r : Run) (first last start end held : ℕ) : Type 0 where
   pub order : first ≤ last
@@ -73,6 +82,8 @@ pub record IsMeeting (runs : List Run) (r : Run) (first last start end held : �
   pub low : start ≤ r.start
   pub high : end_of r ≤ end
   pub held_is : held ≡ size (slice_range runs first last)
+  pub reaches : first < last → (slice_index_or runs (last - 1) r).start ≤ end_of r
+  pub spanned_is : IsSpanned runs r first last
 
 -- the run meets exactly those between the two
 pub record Meets (runs : List Run) (r : Run) (first last start end held : ℕ) : Type 0 where

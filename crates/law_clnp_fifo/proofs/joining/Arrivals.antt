@@ -1,5 +1,5 @@
 -- A PDU for users of this end system, which comes in a frame to its own port with lifetime left and by no source route: the frame is read in one
--- way, so what is made of it here is what comes of it. A whole PDU comes up; a segment goes to the store, and its answer is carried out.
+-- way, so what is made of it here is what comes of it. A whole PDU comes up.
 use Rattle.std.proofs.Common.{◌≡◌, ◌⊎◌, ◌==◌, ◌||◌, ℕ, ◌≤◌, Bool, true, false, if◌then◌else◌, List, [], length, Option, Some, None, refl, sym, ◌∙◌, ap, subst, inl, inr, arith, length-append}
 use Rattle.std.specs.Prelude.{nat_le, nat_lt, not}
 use Rattle.std.proofs.lemmas.List.{append-nil, length-take-le}
@@ -16,14 +16,12 @@ use Rattle.clnp_header.specs.Grammar.{IsPdu}
 use Rattle.clnp_header.specs.Values.{parameters}
 use Rattle.clnp_header.specs.Writing.{header_length, pdu_length}
 use Rattle.clnp_header.proofs.Parts.{length-header}
-use Rattle.clnp_segment.specs.Store.{Holding, Takes as TakesSegment}
-use Rattle.clnp_segment.specs.declared.store.Joined.{Joined}
 use Rattle.clnp_segment.specs.declared.store.Joined.TheVariants as joined
 use Rattle.clnp_system.specs.declared.verdict.Verdict.{Verdict}
 use Rattle.clnp_system.specs.declared.verdict.Verdict.TheVariants.{Discard}
 use Rattle.clnp_system.specs.Hellos.{AnswersGroup, ToSenderIf, own_esh, sender}
 use Rattle.clnp_system.specs.Node.{Frame, Node, Reaction, at_tick}
-use Rattle.clnp_system.specs.Receiving.{Does, JoinGives, Receives, Reads, came, coming}
+use Rattle.clnp_system.specs.Receiving.{Does, Receives, Reads, came}
 use Rattle.clnp_system.specs.Setting.{Setting, bound_of, is_group, is_own_system, port_on}
 use Rattle.clnp_system.specs.Tables.{Tables}
 use Rattle.clnp_system.specs.Verdicts.{IsRoute, aim_of, by_aim, for_this, verdict, whole_or_part}
@@ -84,7 +82,7 @@ no_answer : (setting : Setting) (from at : Port) → is_group at.snpa ≡ false 
 no_answer setting from at single = subst (λ (group : Bool). ToSenderIf group setting (sender from at) (own_esh setting) []) (sym single) refl
 
 module _ {N : Type 0} (tables : Tables N) (old : Node N) (now : ℕ) (frame : Frame) (pdu : Pdu) (here : IsHere old.setup frame pdu) where
-  verdict_is : verdict tables old now (bound_of old.setup frame.to.lan) pdu None ≡ whole_or_part pdu.segment
+  pub verdict_is : verdict tables old now (bound_of old.setup frame.to.lan) pdu None ≡ whole_or_part pdu.segment
   verdict_is =
       let others : Verdict = if nat_le pdu.lifetime (bound_of old.setup frame.to.lan) then Discard LifetimeExpiredInTransit 4 else by_aim tables old now pdu.destination (aim_of old.setup None) in
       own_if _ _ old.setup.end (for_this old.setup pdu pdu.kind) others here.own (not_low pdu.lifetime (bound_of old.setup frame.to.lan) here.lives)
@@ -102,25 +100,3 @@ module _ {N : Type 0} (tables : Tables N) (old : Node N) (now : ℕ) (frame : Fr
       read reaction (at_tick now old)
       (subst (λ (part : Option SegmentPart). Does tables old now frame pdu (whole_or_part part) reaction (at_tick now old)) (sym alone)
       (refl, no_answer old.setup frame.from frame.to here.single, refl))
-
-  -- a segment goes to the store
-  joined_as : (part : SegmentPart) (answer : Joined) (store : Holding) (reaction : Reaction) → pdu.segment ≡ Some part
-      → TakesSegment old.store now (coming frame (bound_of old.setup frame.to.lan) pdu part) answer store → JoinGives tables old now frame pdu answer reaction
-      → Receives tables old now frame reaction (record old { clock = now; store = store })
-  joined_as part answer store reaction is takes gives =
-      let new : Node N = record old { clock = now; store = store } in
-      read reaction new
-      (subst (λ (part : Option SegmentPart). Does tables old now frame pdu (whole_or_part part) reaction new) (sym is)
-      (record { part = part; is = is; answer = answer; store = store; takes = takes; gives = gives; after = refl }))
-
-  -- a segment with which the unit is whole: it comes up
-  pub comes_whole : (part : SegmentPart) (octets : List ℕ) (store : Holding) → pdu.segment ≡ Some part
-      → TakesSegment old.store now (coming frame (bound_of old.setup frame.to.lan) pdu part) (joined.Whole octets) store
-      → Receives tables old now frame (record { ups = came old pdu octets; frames = [] }) (record old { clock = now; store = store })
-  comes_whole part octets store is takes = joined_as part (joined.Whole octets) store _ is takes (refl, no_answer old.setup frame.from frame.to here.single)
-
-  -- a segment that is held: nothing comes up
-  pub comes_held : (part : SegmentPart) (store : Holding) → pdu.segment ≡ Some part
-      → TakesSegment old.store now (coming frame (bound_of old.setup frame.to.lan) pdu part) joined.Held store
-      → Receives tables old now frame (record { ups = []; frames = [] }) (record old { clock = now; store = store })
-  comes_held part store is takes = joined_as part joined.Held store _ is takes (refl, no_answer old.setup frame.from frame.to here.single)

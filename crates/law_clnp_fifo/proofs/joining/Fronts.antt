@@ -1,26 +1,19 @@
 -- Segments of a unit that come in order: what is held of it is its front. The next run of its octets clashes with nothing, as it stands behind
--- the front; with it the front is longer, and where nothing is missing then, the unit is whole.
-use Rattle.std.proofs.Common.{◌≡◌, ◌⊎◌, ◌&&◌, ℕ, zero, suc, ◌+◌, ◌-◌, ◌<◌, ◌≤◌, Bool, true, false, List, [], ◌∷◌, ◌++◌, length, map, nat_eq, replicate, slice_get, Option, Some, None, refl, sym, ◌∙◌, ap, subst, inl, inr, arith, length-append}
+-- the front; with it the front is longer, and where nothing is missing then, all is there.
+use Rattle.std.proofs.Common.{◌≡◌, ◌⊎◌, ◌&&◌, ℕ, zero, suc, ◌+◌, ◌-◌, ◌<◌, Bool, true, List, [], ◌∷◌, ◌++◌, length, map, nat_eq, replicate, slice_get, Option, Some, None, refl, sym, ◌∙◌, ap, subst, inl, inr, arith, length-append}
 use Rattle.std.specs.Prelude.{count_by, is_some}
-use Rattle.std.specs.List.{list_any}
 use Rattle.std.specs.Cmp.Lexicographic.{pointwise}
 use Rattle.std.proofs.lemmas.List.{append-nil, length-replicate}
 use Rattle.std.proofs.lemmas.List.Sums.{sum_by-cons}
 use Rattle.std.proofs.lemmas.Option.{slice_get_within}
-use Rattle.clnp_segment.specs.Joining.{Clash, Filled, Has, Held, Holds, Segment, Together, filled_places, nothing_of}
+use Rattle.clnp_segment.specs.Joining.{Clash, Filled, Has, Held, Holds, Segment, Together, nothing_of}
 use Rattle.clnp_segment.specs.Joining.{Header, Octet, Total}
-use Rattle.clnp_segment.specs.Store.{At, Coming, HasNoRoom, Holding, Joins, Key, Partial, Takes, found_or_nothing, has_key, key_of, octets_held, partial_with}
+use Rattle.clnp_segment.specs.Store.{Partial, has_key, key_of}
 use Rattle.clnp_segment.specs.declared.store.Joined.TheVariants as joined
 
 -- of a unit with that header the octets at its front are held, and so many are missing behind them
 abbrev pub held_front : ℕ → List ℕ → ℕ → Held
 held_front header front missing = record { header = header; total = header + (length front + missing); slots = map Some front ++ replicate missing None }
-
--- the octets at the front of the unit of that key are held, and of no other unit any; before the first, nothing is
-abbrev pub HoldsFront : Key → ℕ → List ℕ → ℕ → List Partial → Type 0
-HoldsFront key header [] missing held = held ≡ []
-HoldsFront key header (octet ∷ front) missing held =
-    (partial : Partial) × (held ≡ partial ∷ []) × (key_of partial ≡ key) × (partial.held ≡ held_front header (octet ∷ front) missing)
 
 -- ---- places
 
@@ -42,7 +35,7 @@ in_front [] missing position octet e = absurd cc
 in_front (x ∷ came) missing zero octet e = ap Some e
 in_front (x ∷ came) missing (suc position) octet e = in_front came missing position octet e
 
-length_front : (came : List ℕ) (missing : ℕ) → length (map Some came ++ replicate missing None) ≡ length came + missing
+pub length_front : (came : List ℕ) (missing : ℕ) → length (map Some came ++ replicate missing None) ≡ length came + missing
 length_front [] missing = length-replicate {A = Option ℕ} missing None ∙ omega arith
 length_front (x ∷ came) missing = omega (arith, length_front came missing)
 
@@ -50,7 +43,7 @@ count_none : (n : ℕ) → count_by is_some (replicate {A = Option ℕ} n None) 
 count_none zero = refl
 count_none (suc n) = sum_by-cons _ None (replicate {A = Option ℕ} n None) ∙ omega (arith, count_none n)
 
-count_front : (came : List ℕ) (missing : ℕ) → count_by is_some (map Some came ++ replicate missing None) ≡ length came
+pub count_front : (came : List ℕ) (missing : ℕ) → count_by is_some (map Some came ++ replicate missing None) ≡ length came
 count_front [] missing = count_none missing
 count_front (x ∷ came) missing = sum_by-cons _ (Some x) (map Some came ++ replicate missing None) ∙ omega (arith, count_front came missing)
 
@@ -86,22 +79,22 @@ abbrev pub next_run : ℕ → List ℕ → List ℕ → ℕ → Segment
 next_run header came run missing = record { offset = length came; octets = run; header = header; total = header + (length came + (length run + missing)) }
 
 module _ (header : ℕ) (came run : List ℕ) (missing : ℕ) where
-  abbrev Old : Held
+  abbrev pub Old : Held
   Old = held_front header came (length run + missing)
 
-  abbrev New : Held
+  abbrev pub New : Held
   New = held_front header (came ++ run) missing
 
-  abbrev Run : Segment
+  abbrev pub Run : Segment
   Run = next_run header came run missing
 
-  no_clash : Clash Old Run → ⊥
+  pub no_clash : Clash Old Run → ⊥
   no_clash (Header differ) = differ refl
   no_clash (Total differ) = differ refl
   no_clash (Octet position first second holds has differ) =
       omega (arith, slice_get_within came position first (out_of_front came (length run + missing) position first holds), has.at)
 
-  together : Together Old Run New
+  pub together : Together Old Run New
   together = record {
     header = refl;
     total = omega (arith, length-append came run);
@@ -117,7 +110,7 @@ module _ (header : ℕ) (came run : List ℕ) (missing : ℕ) where
       to_new position octet (inl h) = in_front (came ++ run) missing position octet (in_came came run position octet (out_of_front came (length run + missing) position octet h))
       to_new position octet (inr h) = in_front (came ++ run) missing position octet (in_run came run position h.place octet h.at h.is)
 
-  not_filled : 0 < missing → Filled New → ⊥
+  pub not_filled : 0 < missing → Filled New → ⊥
   not_filled some filled =
       let n : ℕ = length (came ++ run) in
       let there = filled n (omega (arith, length_front (came ++ run) missing)) in
@@ -125,117 +118,33 @@ module _ (header : ℕ) (came run : List ℕ) (missing : ℕ) where
       omega (arith, within)
 
 -- where nothing is missing behind it, the unit is whole
-whole_slots : (octets : List ℕ) → map Some octets ++ replicate 0 None ≡ map Some octets
+pub whole_slots : (octets : List ℕ) → map Some octets ++ replicate 0 None ≡ map Some octets
 whole_slots octets = append-nil (map Some octets)
 
-filled_slots : (octets : List ℕ) (position : ℕ) → position < length (map Some octets) → (octet : ℕ) × (slice_get (map Some octets) position ≡ Some (Some octet))
+pub filled_slots : (octets : List ℕ) (position : ℕ) → position < length (map Some octets) → (octet : ℕ) × (slice_get (map Some octets) position ≡ Some (Some octet))
 filled_slots [] position lt = absurd (omega (arith, lt))
 filled_slots (x ∷ octets) zero lt = (x, refl)
 filled_slots (x ∷ octets) (suc position) lt = filled_slots octets position (omega (arith, lt))
 
-now_filled : (header : ℕ) (octets : List ℕ) → Filled (held_front header octets 0)
+pub now_filled : (header : ℕ) (octets : List ℕ) → Filled (held_front header octets 0)
 now_filled header octets =
     subst (λ (slots : List (Option ℕ)). (position : ℕ) → position < length slots → (octet : ℕ) × (slice_get slots position ≡ Some (Some octet))) (sym (whole_slots octets)) (filled_slots octets)
 
 -- ---- the store
 
-same_numbers : (xs : List ℕ) → pointwise nat_eq xs xs ≡ true
+pub same_numbers : (xs : List ℕ) → pointwise nat_eq xs xs ≡ true
 same_numbers [] = refl
 same_numbers (x ∷ xs) = grind (arith, same_numbers xs)
 
 both_true : (a b : Bool) → a ≡ true → b ≡ true → (a && b) ≡ true
 both_true a b h k = ap (λ (c : Bool). c && b) h ∙ k
 
-own_key : (unit : Partial) → has_key (key_of unit) unit ≡ true
+pub own_key : (unit : Partial) → has_key (key_of unit) unit ≡ true
 own_key unit = both_true _ _ (both_true _ _ (same_numbers unit.source) (same_numbers unit.destination)) (grind arith)
 
-holds_some : (key : Key) (header : ℕ) (came : List ℕ) (missing : ℕ) (held : List Partial) (partial : Partial) → 0 < length came → held ≡ partial ∷ [] → key_of partial ≡ key
-    → partial.held ≡ held_front header came missing → HoldsFront key header came missing held
-holds_some key header [] missing held partial some is key_is held_is = absurd (omega (arith, some))
-holds_some key header (octet ∷ came) missing held partial some is key_is held_is = (partial, is, key_is, held_is)
-
--- where the unit of a run stands: it alone is held, or it is new
-record Stands (store : Holding) (coming : Coming) (old : Held) (filled : ℕ) : Type 0 where
-  found : Option Partial
-  at : At coming.key store.held [] found []
-  old_is : found_or_nothing found coming.segment ≡ old
-  octets : octets_held store.held ≡ filled
-  units : length store.held ≤ 1
-  alone : found ≡ None → length store.held ≡ 0
-  key_is : (new : Held) (deadline : ℕ) → key_of (partial_with found coming new deadline) ≡ coming.key
-  held_is : (new : Held) (deadline : ℕ) → (partial_with found coming new deadline).held ≡ new
-
-nothing_front : (header missing : ℕ) (segment : Segment) (run : List ℕ) (more : ℕ) → segment ≡ next_run header [] run more → missing ≡ length run + more
+pub nothing_front : (header missing : ℕ) (segment : Segment) (run : List ℕ) (more : ℕ) → segment ≡ next_run header [] run more → missing ≡ length run + more
     → nothing_of segment ≡ held_front header [] missing
 nothing_front header missing segment run more is missing_is =
     let total : header + (0 + (length run + more)) ≡ header + (0 + missing) = omega (arith, missing_is) in
     let places : header + (0 + (length run + more)) - header ≡ missing = omega (arith, missing_is) in
     ap nothing_of is ∙ (λ i. record { header = header; total = total i; slots = replicate {A = Option ℕ} (places i) None })
-
-stands : (store : Holding) (coming : Coming) (header : ℕ) (came run : List ℕ) (more missing : ℕ) → coming.segment ≡ next_run header came run more → missing ≡ length run + more
-    → HoldsFront coming.key header came missing store.held → Stands store coming (held_front header came missing) (length came)
-stands store coming header [] run more missing is missing_is none = record {
-  found = None;
-  at = At.New refl (sym none) refl (subst (λ (us : List Partial). list_any (has_key coming.key) us ≡ false) (sym none) refl);
-  old_is = nothing_front header missing coming.segment run more is missing_is;
-  octets = ap octets_held none;
-  units = omega (arith, ap (λ (us : List Partial). length us) none);
-  alone = λ e. ap (λ (us : List Partial). length us) none;
-  key_is = λ new deadline. refl;
-  held_is = λ new deadline. refl;
-}
-stands store coming header (octet ∷ came) run more missing is missing_is (partial, alone, key_is, held_is) =
-    let count : filled_places partial.held ≡ length (octet ∷ came) = ap filled_places held_is ∙ count_front (octet ∷ came) missing in
-    record {
-      found = Some partial;
-      at = At.There partial refl alone (subst (λ (key : Key). has_key key partial ≡ true) key_is (own_key partial)) refl;
-      old_is = held_is;
-      octets = omega (arith, ap octets_held alone, count);
-      units = omega (arith, ap (λ (us : List Partial). length us) alone);
-      alone = λ e. absurd cc;
-      key_is = λ new deadline. key_is;
-      held_is = λ new deadline. refl;
-    }
-
-module _ (store : Holding) (now : ℕ) (coming : Coming) (header : ℕ) (came run : List ℕ) (missing : ℕ) (is : coming.segment ≡ next_run header came run missing)
-    (holds : HoldsFront coming.key header came (length run + missing) store.held) where
-  abbrev Found : Stands store coming (held_front header came (length run + missing)) (length came)
-  Found = stands store coming header came run missing (length run + missing) is refl holds
-
-  joins : Joins Found.found coming.segment (held_front header (came ++ run) missing)
-  joins =
-      subst (λ (segment : Segment). (Clash (found_or_nothing Found.found coming.segment) segment → ⊥) × Together (found_or_nothing Found.found coming.segment) segment (held_front header (came ++ run) missing)) (sym is)
-      (subst (λ (old : Held). (Clash old (next_run header came run missing) → ⊥) × Together old (next_run header came run missing) (held_front header (came ++ run) missing)) (sym Found.old_is)
-      (no_clash header came run missing, together header came run missing))
-
-  has_room : 1 ≤ store.units → length came + length run ≤ store.octets
-      → HasNoRoom store Found.found (found_or_nothing Found.found coming.segment) (held_front header (came ++ run) missing) → ⊥
-  has_room units octets (inl none) = omega (arith, none.1, Found.alone none.0, units)
-  has_room units octets (inr over) =
-      let old : filled_places (found_or_nothing Found.found coming.segment) ≡ length came = ap filled_places Found.old_is ∙ count_front came (length run + missing) in
-      let new : filled_places (held_front header (came ++ run) missing) ≡ length came + length run = count_front (came ++ run) missing ∙ length-append came run in
-      omega (arith, over, old, new, Found.octets, octets)
-
-  -- more is missing: the unit is held, with this run
-  pub takes_more : 0 < length run → 0 < missing → 1 ≤ store.units → length came + length run ≤ store.octets
-      → (held : List Partial) × Takes store now coming joined.Held (record store { clock = now; held = held }) × HoldsFront coming.key header (came ++ run) missing held
-  takes_more some more units octets =
-      let new : Held = held_front header (came ++ run) missing in
-      let partial : Partial = partial_with Found.found coming new (now + coming.left) in (
-        partial ∷ [],
-        record { before = []; found = Found.found; rest = []; at = Found.at; takes = (new, joins, not_filled header came run missing more, has_room units octets, refl) },
-        holds_some coming.key header (came ++ run) missing (partial ∷ []) partial (omega (arith, some, length-append came run)) refl (Found.key_is new (now + coming.left)) (Found.held_is new (now + coming.left)),
-      )
-
--- nothing is missing: the unit is whole, and nothing is held
-pub takes_last : (store : Holding) (now : ℕ) (coming : Coming) (header : ℕ) (came run : List ℕ) → coming.segment ≡ next_run header came run 0
-    → HoldsFront coming.key header came (length run + 0) store.held → Takes store now coming (joined.Whole (came ++ run)) (record store { clock = now; held = [] })
-takes_last store now coming header came run is holds =
-    let found = stands store coming header came run 0 (length run + 0) is refl holds in
-    record {
-      before = [];
-      found = found.found;
-      rest = [];
-      at = found.at;
-      takes = (held_front header (came ++ run) 0, joins store now coming header came run 0 is holds, now_filled header (came ++ run), whole_slots (came ++ run), refl);
-    }

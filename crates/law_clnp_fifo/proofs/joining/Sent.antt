@@ -1,6 +1,6 @@
--- A unit that is sent to the other system: its hop is the other's port, so its frames go there, and each is read as a PDU of the unit. At an empty
--- store nothing came before them, so all are left, and they bring the unit.
-use Rattle.std.proofs.Common.{◌≡◌, ◌⊎◌, ◌&&◌, ℕ, ◌+◌, ◌≤◌, Bool, true, false, if◌then◌else◌, List, [], ◌∷◌, ◌++◌, length, Option, Some, None, Result, Ok, Err, refl, sym, ◌∙◌, ap, subst, inl, inr, arith}
+-- A unit that is sent to the other system: its hop is the other's port, so its frames go there, and each has a PDU of
+-- the unit within the room of the LAN.
+use Rattle.std.proofs.Common.{◌≡◌, ◌&&◌, ℕ, ◌+◌, ◌≤◌, Bool, true, false, if◌then◌else◌, List, [], ◌∷◌, ◌++◌, length, Option, Some, None, Result, Ok, Err, refl, sym, ◌∙◌, ap, subst, arith}
 use Rattle.std.specs.Prelude.{nat_lt, not}
 use Rattle.std.specs.List.{AllByRecursion}
 use Rattle.std.proofs.lemmas.Bool.{ltb-false}
@@ -18,33 +18,27 @@ use Rattle.clnp_header.specs.Writing.{header_length, pdu_length}
 use Rattle.clnp_header.specs.Grammar.{segment_part}
 use Rattle.pdu_parts.specs.Parameter.{spelled}
 use Rattle.clnp_segment.specs.Cutting.{Cuts, Pieces, piece_of, piece_pdus}
-use Rattle.clnp_segment.specs.Store.{Holding}
 use Rattle.clnp_system.specs.Hops.{hop_of}
-use Rattle.clnp_system.specs.Node.{Frame, Node, Reaction, at_tick}
-use Rattle.clnp_system.specs.Receiving.{Receives}
-use Rattle.clnp_system.specs.Sending.{IsDropped, IsSent, Sends, by_hop, first_length, first_pdu, first_segment, hop_by, numbered_if, recording_options, route_options, sending, way}
+use Rattle.clnp_system.specs.Node.{Frame, Node, at_tick}
+use Rattle.clnp_system.specs.Sending.{IsDropped, IsSent, Sends, by_hop, first_pdu, hop_by, numbered_if, recording_options, route_options, sending, way}
 use Rattle.clnp_system.specs.Setting.{Setting, is_own_system, path_of, room_of}
 use Rattle.clnp_system.specs.Tables.{Tables}
-use Rattle.clnp_system.specs.Written.{AreFrames, CutFrames, IsPduFrame}
-use Rattle.clnp_system.proofs.Initial.{first_length_is}
+use Rattle.clnp_system.specs.Written.{AreFrames, CutFrames}
 use Rattle.clnp_system.proofs.Outgoing.{IsPiece, cuts_are}
-use Rattle.law_clnp_answers.proofs.once.Receivings.{one_receiving}
-use Rattle.law_clnp_fifo.specs.Cutting.{Bring, Faces, IsEmptyStore, IsFrameTo, IsWhole, KeepsAll}
-use Rattle.law_clnp_fifo.specs.Laws.{CutBrings, CutGoes, CutKeeps}
-use Rattle.law_clnp_fifo.proofs.joining.Arrivals.{IsHere, comes_alone, has_pdu, whole_length}
-use Rattle.law_clnp_fifo.proofs.joining.Left.{IsInitial, IsReceiver, initial_part, read_there, runs_bring, unit_is}
-
--- ---- where a unit goes
+use Rattle.law_clnp_fifo.specs.Cutting.{Faces, IsFrameTo, KeepsAll}
+use Rattle.law_clnp_fifo.specs.Laws.{CutGoes, CutKeeps}
+use Rattle.law_clnp_fifo.proofs.joining.Arrivals.{has_pdu, whole_length}
+use Rattle.law_clnp_fifo.proofs.joining.Left.{IsInitial, IsReceiver}
 
 -- the first test failed
-not_first : {A : Type 0} (test : Bool) (cause : DropCause) (rest : Result A DropCause) (x : A) → (if test then Err cause else rest) ≡ Ok x → (test ≡ false) × (rest ≡ Ok x)
+pub not_first : {A : Type 0} (test : Bool) (cause : DropCause) (rest : Result A DropCause) (x : A) → (if test then Err cause else rest) ≡ Ok x → (test ≡ false) × (rest ≡ Ok x)
 not_first true cause rest x e = absurd cc
 not_first false cause rest x e = (refl, e)
 
 same_ok : {A : Type 0} (answer : Result A DropCause) (x y : A) → answer ≡ Ok x → answer ≡ Ok y → x ≡ y
 same_ok answer x y e k = cc
 
-same_some : {A : Type 0} (x y : A) → Some x ≡ Some y → x ≡ y
+pub same_some : {A : Type 0} (x y : A) → Some x ≡ Some y → x ≡ y
 same_some x y e = cc
 
 -- a way was found
@@ -67,7 +61,7 @@ module _ {N : Type 0} (tables : Tables N) (node : Node N) (now : ℕ) (unit : Ca
   few_octets : length unit.octets ≤ 16384
   few_octets = ltb-false 16384 (length unit.octets) (not_first (nat_lt 16384 (length unit.octets)) causes.TooLong _ hop goes).0
 
-  hop_found : wish.path ≡ 0 → hop_of tables node now unit.to ≡ Some hop
+  pub hop_found : wish.path ≡ 0 → hop_of tables node now unit.to ≡ Some hop
   hop_found plain =
       let by : by_hop node now unit wish (way tables node now unit.to wish.path) ≡ Ok hop = (not_first (nat_lt 16384 (length unit.octets)) causes.TooLong _ hop goes).1 in
       let found = found_way node now unit wish (way tables node now unit.to wish.path) hop by in
@@ -76,12 +70,12 @@ module _ {N : Type 0} (tables : Tables N) (node : Node N) (now : ℕ) (unit : Ca
 -- ---- what is sent there
 
 -- the unit has few octets, and its initial PDU was cut for the other's port
-record IsSentThere {N : Type 0} (node : Node N) (now : ℕ) (unit : CarriedUnit (List ℕ)) (wish : Wish) (port : Port) (frames : List Frame) (after : Node N) : Type 0 where
-  few_octets : length unit.octets ≤ 16384
-  cut : CutFrames node.setup port (first_pdu node.setup unit wish node.next_id) (Some frames)
-  after_is : after ≡ numbered_if wish.cut (at_tick now node) now
+pub record IsSentThere {N : Type 0} (node : Node N) (now : ℕ) (unit : CarriedUnit (List ℕ)) (wish : Wish) (port : Port) (frames : List Frame) (after : Node N) : Type 0 where
+  pub few_octets : length unit.octets ≤ 16384
+  pub cut : CutFrames node.setup port (first_pdu node.setup unit wish node.next_id) (Some frames)
+  pub after_is : after ≡ numbered_if wish.cut (at_tick now node) now
 
-sent_there : {N : Type 0} (tables : Tables N) (node : Node N) (now : ℕ) (other : Setting) (unit : CarriedUnit (List ℕ)) (wish : Wish) (port : Port) (frames : List Frame) (after : Node N)
+pub sent_there : {N : Type 0} (tables : Tables N) (node : Node N) (now : ℕ) (other : Setting) (unit : CarriedUnit (List ℕ)) (wish : Wish) (port : Port) (frames : List Frame) (after : Node N)
     → Faces tables node now other unit port → wish.path ≡ 0 → Sends tables node now unit wish (Ok frames) after → IsSentThere node now unit wish port frames after
 sent_there tables node now other unit wish port frames after faces plain (IsDropped cause is sent_is new_is) = absurd (not_sent frames cause sent_is)
   where
@@ -108,63 +102,15 @@ routeless : (setting : Setting) (wish : Wish) → wish.path ≡ 0 → value_of 0
 routeless setting wish e =
     ap (λ (path : ℕ). value_of 0xc8 (parameters (route_options (path_of setting path) ++ recording_options wish.trace))) e ∙ recording_routeless wish.trace
 
-initial : (setting : Setting) (unit : CarriedUnit (List ℕ)) (wish : Wish) (id : ℕ) → wish.path ≡ 0 → IsInitial (first_pdu setting unit wish id) unit setting.life
+pub initial : (setting : Setting) (unit : CarriedUnit (List ℕ)) (wish : Wish) (id : ℕ) → wish.path ≡ 0 → IsInitial (first_pdu setting unit wish id) unit setting.life
 initial setting unit wish id plain =
     record { kind = refl; source = refl; destination = refl; lifetime = refl; body = refl; routeless = routeless setting wish plain }
 
-cut_or_not : (cut : Bool) (id total : ℕ) → (first_segment cut id total ≡ None) ⊎ (first_segment cut id total ≡ Some (initial_part id total))
-cut_or_not false id total = inl refl
-cut_or_not true id total = inr refl
-
 -- ---- the laws
 
--- a unit in one PDU that may not be cut
-one_frame_brings : {N : Type 0} (tables : Tables N) (sender receiver : Setting) (unit : CarriedUnit (List ℕ)) (port : Port) (pdu : Pdu) (room : ℕ) (pdus : List Pdu) (frames : List Frame) (store : Holding)
-    → IsReceiver receiver unit sender.life port → IsInitial pdu unit sender.life → pdu.segment ≡ None → Cuts pdu room None (Some pdus) → AreFrames sender port pdus frames → IsEmptyStore store
-    → Bring tables receiver unit frames store
-one_frame_brings {N} tables sender receiver unit port pdu room pdus frames store is_receiver is segment cuts are empty =
-    let h : AreFrames sender port (pdu ∷ []) frames = subst (λ (ps : List Pdu). AreFrames sender port ps frames) cuts.1 are in
-    let one : frames ≡ h.0 ∷ [] = h.4 ∙ ap (λ (fs : List Frame). h.0 ∷ fs) h.3 in
-    subst (λ (fs : List Frame). Bring tables receiver unit fs store) (sym one) (λ old now reaction new setup store_is receives. comes h.0 h.2 old now reaction new setup store_is receives)
-  where
-    comes : (frame : Frame) → IsPduFrame sender port pdu frame → (old : Node N) (now : ℕ) (reaction : Reaction) (new : Node N) → old.setup ≡ receiver → old.store ≡ store
-        → Receives tables old now frame reaction new → IsWhole unit old now reaction new
-    comes frame is_frame old now reaction new setup store_is receives =
-        let here_is : IsHere old.setup frame pdu =
-        subst (λ (s : Setting). IsHere s frame pdu) (sym setup) (read_there sender receiver unit sender.life port frame pdu pdu is_receiver is is_frame refl refl refl refl) in
-        let made = comes_alone tables old now frame pdu here_is segment in
-        let both = one_receiving tables old now frame reaction _ new _ receives made in
-        record {
-          store = old.store;
-          comes = unit_is old pdu pdu.body unit reaction is.source is.destination is.body both.0;
-          after = both.1;
-          empty = subst IsEmptyStore (sym store_is) empty;
-        }
-
-is_receiver : {N : Type 0} (tables : Tables N) (node : Node N) (now : ℕ) (other : Setting) (unit : CarriedUnit (List ℕ)) (port : Port) → Faces tables node now other unit port
+pub is_receiver : {N : Type 0} (tables : Tables N) (node : Node N) (now : ℕ) (other : Setting) (unit : CarriedUnit (List ℕ)) (port : Port) → Faces tables node now other unit port
     → IsReceiver other unit node.setup.life port
 is_receiver tables node now other unit port f = record { at = f.at; single = f.single; lives = f.lives; end = f.end; own = f.own; selector = f.selector }
-
--- the frames bring the unit, whether it may be cut or not
-initial_brings : {N : Type 0} (tables : Tables N) (sender receiver : Setting) (unit : CarriedUnit (List ℕ)) (port : Port) (pdu : Pdu) (id total : ℕ) (frames : List Frame) (store : Holding)
-    → IsReceiver receiver unit sender.life port → IsInitial pdu unit sender.life → total ≡ pdu_length pdu → length unit.octets ≤ 16384 → pdu.body ≡ unit.octets
-    → CutFrames sender port pdu (Some frames) → IsEmptyStore store → (pdu.segment ≡ None) ⊎ (pdu.segment ≡ Some (initial_part id total)) → Bring tables receiver unit frames store
-initial_brings tables sender receiver unit port pdu id total frames store is_receiver is total_is few body cut empty (inl none) =
-    let cuts = subst (λ (part : Option SegmentPart). Cuts pdu (room_of sender port.lan) part (Some cut.0)) none cut.1 in
-    one_frame_brings tables sender receiver unit port pdu (room_of sender port.lan) cut.0 frames store is_receiver is none cuts cut.2 empty
-initial_brings tables sender receiver unit port pdu id total frames store is_receiver is total_is few body cut empty (inr some) =
-    let cuts = subst (λ (part : Option SegmentPart). Cuts pdu (room_of sender port.lan) part (Some cut.0)) some cut.1 in
-    runs_bring tables sender receiver unit port pdu id total is_receiver is some total_is few (room_of sender port.lan) [] unit.octets cuts.0 frames store refl
-    (subst (λ (octets : List ℕ). Pieces (room_of sender port.lan) (header_length pdu) octets cuts.0) body cuts.1)
-    (subst (λ (pdus : List Pdu). AreFrames sender port pdus frames) cuts.2 cut.2) (record { units = empty.units; octets = empty.octets }) empty.held
-
-pub cut_brings : {N : Type 0} → CutBrings N
-cut_brings tables node now other unit port frames after store s empty =
-    let there = sent_there tables node now other unit s.wish port frames after s.faces s.plain s.sends in
-    let total = first_length node.setup unit s.wish in
-    initial_brings tables node.setup other unit port (first_pdu node.setup unit s.wish node.next_id) node.next_id total frames store (is_receiver tables node now other unit port s.faces)
-    (initial node.setup unit s.wish node.next_id s.plain) (sym (first_length_is node.setup unit s.wish node.next_id total)) there.few_octets refl there.cut empty
-    (cut_or_not s.wish.cut node.next_id total)
 
 -- each PDU fits the room
 run_length : (pdu : Pdu) (part : SegmentPart) (position : ℕ) (last : Bool) (run : List ℕ) → pdu.segment ≡ Some part

@@ -29,7 +29,8 @@ use Rattle.osi_script.specs.Tags.{HaveNames, Tags, tags_of}
 use Rattle.osi_script.proofs.FreshNames.{script_names}
 use Rattle.osi_script.proofs.LineNames.{line_named}
 use Rattle.osi_setup.specs.Fitting.{IsWell}
-use Rattle.osi_setup.specs.SetUp.{SetUp, entities_of, nodes_of, set_up, titles_of as titles_said}
+use Rattle.osi_setup.specs.SetUp.{SetUp, nodes_of, set_up, titles_of as titles_said}
+use Rattle.script_world.specs.Entities.{entities_of}
 use Rattle.law_setup.specs.Agreeing.{AreOne}
 use Rattle.law_setup.specs.Lines.{IsInOctets}
 use Rattle.law_setup.proofs.Fitted.{as_many}

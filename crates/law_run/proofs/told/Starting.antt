@@ -15,7 +15,8 @@ use Rattle.tp4_world.specs.declared.place.Placed.{Placed}
 use Rattle.osi_script.specs.Tags.{Tags}
 use Rattle.osi_setup.specs.declared.transport.Limits.{Limits}
 use Rattle.osi_setup.specs.Fitting.{IsWell}
-use Rattle.osi_setup.specs.SetUp.{System, SetUp, end_at as end_by, entities_from, entities_of, entity_with, nodes_from, nodes_of, timers_of}
+use Rattle.osi_setup.specs.SetUp.{System, SetUp, end_at as end_by, entity_with, nodes_from, nodes_of, timers_of}
+use Rattle.script_world.specs.Entities.{entities_from, entities_of}
 use Rattle.law_run.proofs.told.EndSteps.{EntityFew}
 use Rattle.law_run.proofs.told.Network.{AreNodes}
 use Rattle.law_run.proofs.told.Notes.{BagTold, IsDeclared}

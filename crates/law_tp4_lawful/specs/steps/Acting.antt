@@ -18,7 +18,8 @@ use Rattle.tp4_world.specs.Telling.{call_events}
 use Rattle.tp4_world.specs.World.{entity_at}
 use Rattle.tp4_world.specs.declared.place.EndAt.{EndAt}
 use Rattle.tp4_world.specs.declared.place.Placed.{Placed}
-use Rattle.law_tp4_lawful.specs.steps.Known.{AreTerms, Follows, IsKnown, Known}
+use Rattle.law_tp4_lawful.specs.steps.Known.{AreTerms, IsKnown, Known}
+use Rattle.law_tp4_lawful.specs.steps.Worlds.{Follows}
 
 -- the same ends at another tick
 pub record IsLike (now : ℕ) (entity other : Entity) : Type 0 where

@@ -1,37 +1,28 @@
 -- A history that explains the ends of a running network: each end that stands at an entity is an end of the history, whose halves stand in the
 -- lines of its connection (X.224, class 4 procedures).
-use Rattle.std.specs.Prelude.{◌≡◌, ℕ, ◌+◌, ◌-◌, ◌<◌, ◌≤◌, true, false, if◌then◌else◌, List, [], ◌∷◌, ◌++◌, length, slice_get, Option, Some, None, Contains}
+use Rattle.std.specs.Prelude.{◌≡◌, ℕ, ◌+◌, ◌-◌, ◌<◌, ◌≤◌, true, false, if◌then◌else◌, List, length, slice_get, Option, Some, None, Contains}
 use Rattle.nsap.specs.Address.{is_same_system}
 use Rattle.osi_journal.specs.declared.event.Event.{Event}
-use Rattle.osi_journal.specs.declared.event.Event.TheVariants as events
 use Rattle.tpdu.specs.Kinds.{has_number}
 use Rattle.tpdu.specs.Values.{TpduAndSum, destination_of, format_for}
 use Rattle.tpdu.specs.Writing.{IsAllowed, kind_for}
 use Rattle.tp4_number.specs.Formats.{block_of}
-use Rattle.tp4_number.specs.Number.{whole}
 use Rattle.tp4_flow.specs.declared.step.Sent.{Sent}
 use Rattle.tp4_conn.specs.Agreeing.{is_extended}
-use Rattle.tp4_conn.specs.End.{End, IsTimed}
-use Rattle.tp4_conn.specs.Proper.{IsProper, IsProperCall, IsSendable}
-use Rattle.tp4_conn.specs.Calls.{IsCall}
-use Rattle.tp4_conn.specs.declared.call.ConnectRequest.{ConnectRequest}
-use Rattle.tp4_conn.specs.declared.call.UserCall.{UserCall}
+use Rattle.tp4_conn.specs.End.{End}
+use Rattle.tp4_conn.specs.Proper.{IsProper, IsSendable}
 use Rattle.tp4_conn.specs.declared.timers.Timers.{Timers}
-use Rattle.tp4_entity.specs.Association.{met}
-use Rattle.tp4_entity.specs.Entity.{Acted, Entity, end_at}
-use Rattle.tp4_entity.specs.References.{least_free, is_silent}
+use Rattle.tp4_entity.specs.Entity.{Entity, end_at}
 use Rattle.tp4_entity.specs.Unit.{extended_of}
-use Rattle.tp4_entity.specs.Step.{call_of, calling, connecting, first_due, ticking, user_refusal, restarted}
+use Rattle.tp4_entity.specs.Step.{first_due}
 use Rattle.law_tp4_history.specs.Ends.{Offer, Terms}
-use Rattle.law_tp4_history.specs.History.{History, IsCaller, IsFree, IsPartner, Note, Tick, Restart}
-use Rattle.law_tp4_history.specs.Journals.{IsAside, Written}
-use Rattle.law_tp4_history.specs.Tracks.{Nothing, Track, Whole, onward}
+use Rattle.law_tp4_history.specs.History.{History, IsCaller, IsFree, IsPartner}
+use Rattle.law_tp4_history.specs.Journals.{Written}
+use Rattle.law_tp4_history.specs.Tracks.{Track, Whole}
 use Rattle.law_tp4_moves.specs.Lines.{Stands}
 use Rattle.law_tp4_moves.specs.Moves.{Sees, times_of}
 use Rattle.law_tp4_moves.specs.Seen.{IsNumbered, seen}
-use Rattle.tp4_world.specs.Telling.{call_events, connect_event, ends_after, events_after}
-use Rattle.tp4_world.specs.World.{end_numbered, entity_at, with_entity}
-use Rattle.tp4_world.specs.Run.{has_ended}
+use Rattle.tp4_world.specs.World.{entity_at}
 use Rattle.tp4_world.specs.declared.place.EndAt.{EndAt}
 use Rattle.tp4_world.specs.declared.place.Placed.{Placed}
 
@@ -136,25 +127,12 @@ pub record IsOffered (h : History) (tick : ℕ) (own : List ℕ) (sent : Sent) :
   pub format : offer.is_extended ≡ is_extended sent.format
   pub sendable : IsSendable sent
 
-abbrev pub AreOffered : History → ℕ → List ℕ → List Sent → Type 0
-AreOffered h tick own [] = Unit {0}
-AreOffered h tick own (sent ∷ tpdus) = IsOffered h tick own sent × AreOffered h tick own tpdus
-
 -- the history went on, at the same tick; no offer is taken away
 pub record GoesOn (old new : History) : Type 0 where
   pub clock : new.clock ≡ old.clock
   pub offers : (offer : Offer) → Contains old.offers offer → Contains new.offers offer
 
 -- ---- what the steps of entities come to
-
--- an entity of a system did this, and these events came first: the history goes on, and explains what stands then
-pub record Follows (titles : List (List ℕ)) (timers : Timers) (w : Whole) (journal : List Event) (entities : List Placed) (ends : List EndAt)
-    (system : ℕ) (own : List ℕ) (first : List Event) (acted : Acted) : Type 0 where
-  pub new : Whole
-  pub goes_on : GoesOn w.base new.base
-  pub known : Known titles timers new (journal ++ first ++ events_after ends system own acted.events) (with_entity entities system acted.entity)
-      (ends_after ends system acted.events)
-  pub offered : AreOffered new.base w.base.clock own acted.tpdus
 
 -- A TPDU that was sent is read by an entity: its kind and destination are as they were sent, and all of it, but for a DT, ED, AK or EA that is
 -- read in another format
@@ -164,50 +142,3 @@ pub record IsReadAs (entity : Entity) (sent : Sent) (tpdu : TpduAndSum) : Type 0
   pub control : has_number (kind_for sent.tpdu) ≡ false → tpdu.0 ≡ sent.tpdu
   pub flow : format_for (extended_of entity) (destination_of sent.tpdu) ≡ sent.format → tpdu.0 ≡ sent.tpdu
   pub allowed : IsAllowed (format_for (extended_of entity) (destination_of tpdu.0)) tpdu.0
-
-module _ (titles : List (List ℕ)) (timers : Timers) where
-  -- a user asks for a connection; the entity is not silent, and a reference is free
-  abbrev pub AfterConnect : Type 0
-  AfterConnect = (w : Whole) (journal : List Event) (entities : List Placed) (ends : List EndAt) (system : ℕ) (entity : Entity) (request : ConnectRequest) (reference : ℕ)
-      → Known titles timers w journal entities ends → entity_at entities system ≡ Some entity → is_silent w.base.clock entity ≡ false → IsProperCall (call_of entity reference request)
-      → least_free w.base.clock entity ≡ Some reference
-      → Follows titles timers w journal entities (ends ++ record { system = system; reference = reference } ∷ []) system entity.own
-      (connect_event (length ends + 1) system reference entity.own request ∷ []) (connecting w.base.clock entity reference request)
-
-  -- a user calls an end, and the call is not refused
-  abbrev pub AfterCall : Type 0
-  AfterCall = (w : Whole) (journal : List Event) (entities : List Placed) (ends : List EndAt) (number : ℕ) (end : EndAt) (entity : Entity) (call : UserCall)
-      → Known titles timers w journal entities ends → end_numbered ends number ≡ Some end → entity_at entities end.system ≡ Some entity
-      → has_ended w.base.clock ends number end entity ≡ false → user_refusal entity end.reference call ≡ None → IsCall call
-      → Follows titles timers w journal entities ends end.system entity.own (call_events number call) (calling whole w.base.clock entity end.reference call)
-
-  -- a TPDU comes to an entity that is not silent: it was offered, and is read in the format of the end there
-  abbrev pub AfterMeet : Type 0
-  AfterMeet = (w : Whole) (journal : List Event) (entities : List Placed) (ends : List EndAt) (system : ℕ) (entity : Entity)
-      (tick : ℕ) (from : List ℕ) (sent : Sent) (tpdu : TpduAndSum)
-      → Known titles timers w journal entities ends → IsTimed timers → entity_at entities system ≡ Some entity → is_silent w.base.clock entity ≡ false
-      → IsOffered w.base tick from sent → sent.to ≡ entity.own → w.base.clock ≤ tick + timers.life → IsReadAs entity sent tpdu
-      → Follows titles timers w journal entities ends system entity.own [] (met whole w.base.clock entity from tpdu)
-
-  -- an end that is due ticks
-  abbrev pub AfterTick : Type 0
-  AfterTick = (w : Whole) (journal : List Event) (entities : List Placed) (ends : List EndAt) (system : ℕ) (entity : Entity) (reference : ℕ)
-      → Known titles timers w journal entities ends → entity_at entities system ≡ Some entity → first_due w.base.clock entity ≡ Some reference
-      → Follows titles timers w journal entities ends system entity.own [] (ticking whole w.base.clock entity)
-
-  -- events that make no end and tell no unit
-  abbrev pub AfterAside : Type 0
-  AfterAside = (w : Whole) (journal made : List Event) (entities : List Placed) (ends : List EndAt) → Known titles timers w journal entities ends → IsAside made
-      → Known titles timers (onward (times_of timers) w (record { step = Note; doing = Nothing })) (journal ++ made) entities ends
-
-  -- a tick, where no end is due
-  abbrev pub AfterClock : Type 0
-  AfterClock = (w : Whole) (journal made : List Event) (entities : List Placed) (ends : List EndAt) → Known titles timers w journal entities ends → AreIdle w.base.clock entities
-      → IsAside made → Known titles timers (onward (times_of timers) w (record { step = Tick; doing = Nothing })) (journal ++ made) entities ends
-
-  -- an entity begins again
-  abbrev pub AfterRestart : Type 0
-  AfterRestart = (w : Whole) (journal : List Event) (entities : List Placed) (ends : List EndAt) (system : ℕ) (entity : Entity)
-      → Known titles timers w journal entities ends → entity_at entities system ≡ Some entity
-      → Known titles timers (onward (times_of timers) w (record { step = Restart entity.own; doing = Nothing })) (journal ++ events.Restart system ∷ [])
-      (with_entity entities system (restarted w.base.clock entity)) ends

@@ -1,13 +1,8 @@
 -- Beside each state of a running network stands a history that explains it; and what is asked of the steps of its entities (X.224, class 4
 -- procedures).
-use Rattle.std.specs.Prelude.{◌≡◌, ◌⊎◌, ◌≤◌, ◌+◌, ◌==◌, ℕ, true, false, List, [], ◌∷◌, replicate, Some, None, Contains}
-use Rattle.std.specs.List.{AllByRecursion}
-use Rattle.nsap.specs.Address.{selector_of}
+use Rattle.std.specs.Prelude.{◌≡◌, ◌⊎◌, ◌≤◌, ◌+◌, ℕ, false, List, [], ◌∷◌, replicate, Some, None}
 use Rattle.osi_base.specs.declared.unit.Unit.{Unit as CarriedUnit}
-use Rattle.osi_base.specs.declared.unit.Up.{Up}
-use Rattle.osi_base.specs.declared.unit.Up.TheVariants.{Unit as Came, Note as Noted}
 use Rattle.osi_base.specs.Link.{Link}
-use Rattle.osi_journal.specs.declared.event.Event.{Event}
 use Rattle.tpdu.specs.Kinds.{has_number}
 use Rattle.tpdu.specs.Values.{TpduAndSum, destination_of, format_for}
 use Rattle.tpdu.specs.Writing.{IsAllowed, IsWritten, kind_for}
@@ -23,17 +18,18 @@ use Rattle.tp4_conn.specs.declared.call.ConnectRequest.{ConnectRequest}
 use Rattle.tp4_conn.specs.declared.call.UserCall.{UserCall}
 use Rattle.tp4_conn.specs.declared.timers.Timers.{Timers}
 use Rattle.tp4_entity.specs.Association.{met}
-use Rattle.tp4_entity.specs.Entity.{Entity, at}
+use Rattle.tp4_entity.specs.Entity.{Entity, at, Acted}
 use Rattle.tp4_entity.specs.References.{least_free}
 use Rattle.tp4_entity.specs.Step.{call_of, calling, connecting, first_due, ticking, user_refusal, restarted}
 use Rattle.tp4_entity.specs.Unit.{EndsWith, Separates, extended_of}
+use Rattle.osi_journal.specs.declared.event.Event.{Event}
 use Rattle.law_tp4_history.specs.History.{History}
 use Rattle.law_tp4_history.specs.Tracks.{Whole}
-use Rattle.tp4_world.specs.World.{World, entity_at}
+use Rattle.tp4_world.specs.World.{World}
 use Rattle.tp4_world.specs.declared.place.Placed.{Placed}
-use Rattle.law_tp4_lawful.specs.steps.Known.{AfterAside, AfterCall, AfterClock, AfterConnect, AfterMeet, AfterTick, IsOffered, Known, AfterRestart}
-
--- ---- what is asked of entities
+use Rattle.tp4_world.specs.declared.place.EndAt.{EndAt}
+use Rattle.law_tp4_lawful.specs.steps.Along as along
+use Rattle.law_tp4_lawful.specs.steps.Known.{IsOffered, Known}
 
 -- what entities keep (`Sound`), and that none of their ends was due before a tick (`InTime`): where no end is due, none is after an event; and each
 -- tick keeps both
@@ -50,10 +46,6 @@ pub record Outcomes (Sound : Entity → Type 0) (InTime : ℕ → Entity → Typ
   pub ticking : (now : ℕ) (e : Entity) → Sound e → InTime now e → Sound (ticking whole now e).entity × InTime now (ticking whole now e).entity
   pub waits : (now : ℕ) (e : Entity) → first_due now e ≡ None → InTime now e × InTime (now + 1) e
 
--- each entity keeps what it has to, and no end is due
-abbrev pub AreAtRest : (Entity → Type 0) → ℕ → List Placed → Type 0
-AreAtRest Sound now entities = (system : ℕ) (e : Entity) → entity_at entities system ≡ Some e → Sound e × (first_due now e ≡ None)
-
 -- the octets of one TPDU are that TPDU alone, by its kind and its destination, and by all else where it is read in the format in which it was
 -- written; or they are none, and their fault is told
 abbrev pub OneInUnit : Type 0
@@ -66,59 +58,59 @@ OneInUnit = (extended octets rest : List ℕ) (sent : Sent) (tpdus : List TpduAn
     × IsAllowed (format_for extended (destination_of tpdu.0)) tpdu.0)
     ⊎ ((cause : TpduCause) × (place : ℕ) × (tpdus ≡ []) × (told ≡ record { reference = 0; what = BadTpdu cause place } ∷ []))
 
--- the history follows each step of an entity
-pub record Followed (titles : List (List ℕ)) (timers : Timers) : Type 0 where
-  pub connects : AfterConnect titles timers
-  pub calls : AfterCall titles timers
-  pub meets : AfterMeet titles timers
-  pub ticks : AfterTick titles timers
-  pub aside : AfterAside titles timers
-  pub clock : AfterClock titles timers
-  pub restarts : AfterRestart titles timers
+-- ---- where a history explains the ends, and no more is known
 
--- ---- what floats
+-- an entity of a system did this, and these events came first: the history goes on, and explains what stands then
+abbrev pub Follows : List (List ℕ) → Timers → Whole → List Event → List Placed → List EndAt → ℕ → List ℕ → List Event → Acted → Type 0
+Follows titles timers = along.Follows timers (Known titles timers) IsOffered
+
+-- a user asks for a connection; the entity is not silent, and a reference is free
+abbrev pub AfterConnect : List (List ℕ) → Timers → Type 0
+AfterConnect titles timers = along.AfterConnect timers (Known titles timers) IsOffered
+
+-- a user calls an end, and the call is not refused
+abbrev pub AfterCall : List (List ℕ) → Timers → Type 0
+AfterCall titles timers = along.AfterCall timers (Known titles timers) IsOffered
+
+-- a TPDU comes to an entity that is not silent: it was offered, and is read in the format of the end there
+abbrev pub AfterMeet : List (List ℕ) → Timers → Type 0
+AfterMeet titles timers = along.AfterMeet timers (Known titles timers) IsOffered
+
+-- an end that is due ticks
+abbrev pub AfterTick : List (List ℕ) → Timers → Type 0
+AfterTick titles timers = along.AfterTick timers (Known titles timers) IsOffered
+
+-- events that make no end and tell no unit
+abbrev pub AfterAside : List (List ℕ) → Timers → Type 0
+AfterAside titles timers = along.AfterAside timers (Known titles timers) IsOffered
+
+-- a tick, where no end is due
+abbrev pub AfterClock : List (List ℕ) → Timers → Type 0
+AfterClock titles timers = along.AfterClock timers (Known titles timers) IsOffered
+
+-- an entity begins again
+abbrev pub AfterRestart : List (List ℕ) → Timers → Type 0
+AfterRestart titles timers = along.AfterRestart timers (Known titles timers) IsOffered
+
+-- the history follows each step of an entity
+abbrev pub Followed : List (List ℕ) → Timers → Type 0
+Followed titles timers = along.Followed timers (Known titles timers) IsOffered
+
+abbrev pub AreOffered : History → ℕ → List ℕ → List Sent → Type 0
+AreOffered = along.AreOffered IsOffered
 
 -- the unit is a TPDU that was offered at that tick
-pub record IsBacked (h : History) (tick : ℕ) (unit : CarriedUnit (List ℕ)) : Type 0 where
-  pub sent : Sent
-  pub offered : IsOffered h tick unit.from sent
-  pub to_is : sent.to ≡ unit.to
-  pub written : IsWritten sent.format sent.sum sent.tpdu unit.octets
-
--- each unit for transport that floats was offered
-abbrev pub AreBacked : History → List (ℕ × CarriedUnit (List ℕ)) → Type 0
-AreBacked h floating = (entry : ℕ × CarriedUnit (List ℕ)) → Contains floating entry → (selector_of entry.1.to == 1) ≡ true → IsBacked h entry.0 entry.1
-
--- a unit for transport that came up was offered, at most the lifetime ago
-pub record HasCome (life : ℕ) (h : History) (unit : CarriedUnit (List ℕ)) : Type 0 where
-  pub tick : ℕ
-  pub backed : IsBacked h tick unit
-  pub live : h.clock ≤ tick + life
-
-abbrev pub IsExplained : ℕ → History → Up (List ℕ) → Type 0
-IsExplained life h (Noted note) = Unit {0}
-IsExplained life h (Came arrival) = (selector_of arrival.unit.to == 1) ≡ true → HasCome life h arrival.unit
-
-abbrev pub AreExplained : ℕ → History → List (Up (List ℕ)) → Type 0
-AreExplained life h ups = AllByRecursion (IsExplained life h) ups
-
--- ---- the network
+abbrev pub IsBacked : History → ℕ → CarriedUnit (List ℕ) → Type 0
+IsBacked = along.IsBacked IsOffered
 
 -- what is seen of the carrier, beside the history
-pub record Carries (life : ℕ) (h : History) (link : Link (List ℕ)) : Type 0 where
-  pub clock : link.clock ≡ h.clock
-  pub quiet : link.waiting ≡ []
-  pub honest : link.honest ≡ true
-  pub bounds : (to : List ℕ) → link.bound to ≤ life
-  pub backed : AreBacked h link.floating
+abbrev pub Carries : ℕ → History → Link (List ℕ) → Type 0
+Carries = along.Carries IsOffered
 
 -- the history explains the network
-pub record Explains {C : Type 0} (link : C → Link (List ℕ)) (titles : List (List ℕ)) (timers : Timers) (w : Whole) (journal : List Event) (world : World C) : Type 0 where
-  pub known : Known titles timers w journal world.entities world.ends
-  pub carries : Carries timers.life w.base (link world.carrier)
+abbrev pub Explains : {C : Type 0} → (C → Link (List ℕ)) → List (List ℕ) → Timers → Whole → List Event → World C → Type 0
+Explains {C} link titles timers = along.Explains timers (Known titles timers) IsOffered link
 
 -- and no end is due
-pub record Rests {C : Type 0} (link : C → Link (List ℕ)) (Sound : Entity → Type 0) (titles : List (List ℕ)) (timers : Timers) (journal : List Event) (world : World C) : Type 0 where
-  pub w : Whole
-  pub explains : Explains link titles timers w journal world
-  pub rest : AreAtRest Sound w.base.clock world.entities
+abbrev pub Rests : {C : Type 0} → (C → Link (List ℕ)) → (Entity → Type 0) → List (List ℕ) → Timers → List Event → World C → Type 0
+Rests {C} link Sound titles timers = along.Rests timers (Known titles timers) IsOffered link Sound

@@ -6,7 +6,8 @@ use Rattle.osi_base.specs.Link.{Link}
 use Rattle.osi_base.specs.Calls.{Call}
 use Rattle.osi_journal.specs.declared.event.Event.{Event}
 use Rattle.osi_setup.specs.Fitting.{IsRelay, IsWell}
-use Rattle.osi_setup.specs.SetUp.{SetUp, entities_of, timers_of, titles_of}
+use Rattle.osi_setup.specs.SetUp.{SetUp, timers_of, titles_of}
+use Rattle.script_world.specs.Entities.{entities_of}
 use Rattle.osi_setup.specs.declared.relay.RelayLine.{RelayLine}
 use Rattle.osi_setup.proofs.Entities.{are_timed}
 use Rattle.script_world.specs.steps.Peopled.{entities_new}

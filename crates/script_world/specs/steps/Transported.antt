@@ -30,7 +30,8 @@ use Rattle.osi_script.specs.Known.{Declared, is_end}
 use Rattle.osi_script.specs.Names.{NamesDeclared}
 use Rattle.osi_script.proofs.LineNames.{line_named}
 use Rattle.osi_setup.specs.Fitting.{Fits, IsWell}
-use Rattle.osi_setup.specs.SetUp.{System, SetUp, entities_of, timers_of, titles_of as titles_said}
+use Rattle.osi_setup.specs.SetUp.{System, SetUp, timers_of, titles_of as titles_said}
+use Rattle.script_world.specs.Entities.{entities_of}
 use Rattle.osi_setup.proofs.Elements.{at, there}
 use Rattle.law_setup.specs.Agreeing.{AreOne}
 use Rattle.law_setup.specs.Lines.{IsInOctets, LineInOctets, RunsAt}

@@ -30,17 +30,6 @@ fn a_redirect_tells_the_hop(rt: HostRuntime) {
     finds(&rt, &table, 40, Some(hop(2, Some(title))));
 }
 
-/// The limit of the table, as of neighbours.
-#[test]
-fn a_257th_address_is_refused(rt: HostRuntime) {
-    let mut table = Redirects::new(rt.alloc());
-    assert_eq!(rt; fill(&mut table), Ok(()));
-    assert_eq!(rt; hear(&mut table, 1, TO_AN_END, 1), Err(HearRefusal::Full));
-    assert_eq!(rt; hear(&mut table, 1, &to(255), 1), Ok(()));
-    table.tick(40);
-    assert_eq!(rt; hear(&mut table, 40, TO_AN_END, 1), Ok(()));
-}
-
 /// The hop to an address.
 fn find(table: &Redirects, now: Tick, address: &str) -> Result<Option<Hop>, NsapFault>
     requires { table.now.clock ≤ now }
@@ -82,22 +71,4 @@ fn is_redirect(hello: &HelloRef<'_>) -> bool
         HelloRef::Rd { .. } => true,
         HelloRef::Esh { .. } | HelloRef::Ish { .. } => false,
     }
-}
-
-/// Redirects of 256 addresses, at tick 0.
-fn fill(table: &mut Redirects) -> Heard
-    requires { table.old.clock ≤ 0 }
-    ensures { table.new.clock ≤ 0 }
-{
-    for last in 0..=255 {
-        hear(table, 0, &to(last), 1)?;
-    }
-    Ok(())
-}
-
-/// An RD of an address that ends by this octet, with 20 seconds.
-fn to(last: u8) -> [u8; 20] {
-    [
-        0x82, 20, 1, 0, 6, 0, 20, 0, 0, 2, 0, last, 6, 2, 0, 0, 0, 0, 1, 0,
-    ]
 }

@@ -4,7 +4,8 @@ ghost use Rattle.std.specs.Prelude.{IfOk};
 ghost use Rattle.tpdu.specs.Values.{tpdu_of};
 ghost use Rattle.tpdu.specs.Writing.{IsAllowed, IsCredit, IsNumber};
 
-use super::words::{Sizes, format_of, number, octet, pair, word};
+use super::words::{Sizes, format_of};
+use crate::words::{number, octet, pair, word};
 use std::test::Fail;
 use tpdu::{Format, TpduRef};
 

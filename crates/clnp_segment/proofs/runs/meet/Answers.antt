@@ -26,7 +26,7 @@ loop-last-preserved c =
     record {
       is_first = c.loop-last.invariant.is_first;
       met = λ r start long.
-          meeting_next c.args.runs.now r c.first_met-first.result c.loop-last.last c.loop-last.start c.loop-last.end c.loop-last.held _ _ _ x
+          meeting_next c.args.runs.now r c.first_met-first.result c.loop-last.last c.loop-last.start c.loop-last.end c.loop-last.held _ _ _ x c.requires.rise
           (subst (λ (n : ℕ). IsFirst c.args.runs.now n c.first_met-first.result) (sym start) c.loop-last.invariant.is_first) (c.loop-last.invariant.met r start long)
           got (omega (arith, c.from.ensures, c.if-from-end.false)) (omega (arith, c.min-start.ensures, c.from-in-loop-last.ensures))
           (omega (arith, c.max-end.ensures, c.end.ensures)) (omega (arith, ap (λ (xs : List ℕ). length xs) c.as_slice.ensures));

@@ -1,4 +1,4 @@
-use Rattle.law_clnp_fifo.proofs.joining.Sent.{cut_brings}
+use Rattle.law_clnp_fifo.proofs.joining.Brings.{cut_brings}
 use Rattle.law_clnp_fifo.proofs.cutting.cut_brings.Goals as goal
 
 pub returns : goal.returns

@@ -3,6 +3,9 @@ use Rattle.std.specs.Prelude.{option_copied}
 use Rattle.osi_base.specs.declared.unit.Picked.TheVariants.{Taken as WasPicked}
 use Rattle.lan_bag.specs.Bag.{Bag, picked_in}
 use Rattle.lan_bag.specs.Frames.{marked_at}
+use Rattle.std.specs.BTreeSet.{contains}
+use Rattle.std.specs.Ordering.{nat_cmp}
+use Rattle.lan_bag.proofs.Indices.{indexed_marked, indexed_same}
 use Rattle.lan_bag.proofs.Openings.{closed_marked, closed_same, fresh_marked, fresh_same}
 use Rattle.lan_bag.proofs.Picks.{picked_there}
 use Rattle.lan_bag.proofs.Wheels.{due_marked, due_same}
@@ -34,4 +37,6 @@ invariant_of-self-2 c = record {
   due = due_same c.self.inside.clock c.self.inside.setup.lans (marked_at c.self.inside.frames c.args.pick c.args.system) c.mark.new.self c.self.inside.wheel c.self.inside.wheel
       (due_marked c.self.inside.clock c.self.inside.setup.lans c.self.inside.frames c.self.inside.wheel c.args.pick c.args.system c.self.invariant.due)
       c.in_ok-mark.ensures.ok refl;
+  indexed = λ wanted. indexed_same (contains nat_cmp c.self.inside.index.codes) (marked_at c.self.inside.frames c.args.pick c.args.system) c.mark.new.self c.in_ok-mark.ensures.ok
+      (indexed_marked (contains nat_cmp c.self.inside.index.codes) c.self.inside.frames c.args.pick c.args.system (c.self.invariant.indexed wanted));
 }

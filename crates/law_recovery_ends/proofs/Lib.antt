@@ -1,0 +1,4 @@
+pub mod Due
+pub mod Knowing
+pub mod Lines
+pub mod Resting

@@ -1,0 +1,8 @@
+//! What is known of two partner ends where nothing waits between them (X.224, class 4 procedures; X.214, queue model).
+#![tactic(auto)]
+
+mod laws;
+
+pub use laws::{
+    known_are_carried, partners_are_known, partners_part, partners_recover, partners_show,
+};

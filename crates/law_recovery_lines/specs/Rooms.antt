@@ -1,0 +1,1 @@
+-- Both lines of a connection begin with the room that the timers give (X.224, class 4: explicit flow control).

@@ -1,0 +1,13 @@
+pub mod Asking
+pub mod Beginning
+pub mod Directions
+pub mod Pairs
+pub mod Quieting
+pub mod Recovering
+pub mod Resting
+pub mod Sending
+pub mod Settling
+pub mod Showing
+pub mod Steps
+pub mod Trying
+pub mod Urging

@@ -1,0 +1,11 @@
+pub mod Asking
+pub mod Beginning
+pub mod Directions
+pub mod Known
+pub mod Laws
+pub mod Quieting
+pub mod Resting
+pub mod Sending
+pub mod Showing
+pub mod Steps
+pub mod Urging

@@ -1,0 +1,15 @@
+pub mod After
+pub mod Ends
+pub mod HeardAt
+pub mod Hearing
+pub mod Knowing
+pub mod Late
+pub mod LateRows
+pub mod SeeRows
+pub mod SeeSteps
+pub mod Seeing
+pub mod ViewRows
+pub mod Viewing
+pub mod Views
+pub mod WorldKnown
+pub mod WorldSteady

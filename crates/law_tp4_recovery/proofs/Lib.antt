@@ -1,0 +1,12 @@
+pub mod Answering
+pub mod Asking
+pub mod Chains
+pub mod Free
+pub mod Holding
+pub mod Keeping
+pub mod Older
+pub mod Receiving
+pub mod Resting
+pub mod Rising
+pub mod Speaking
+pub mod Telling

@@ -1,0 +1,73 @@
+# What happened before a refusal or the end of a connection, and so explains it: `explain` tells it behind `here:`.
+BEGIN {
+    limit["life"] = 32
+    limit["i"] = 60
+    limit["n"] = 4
+    limit["t1"] = 8
+}
+function set_up_title(name, title) { system_at[tolower(substr(title, 1, length(title) - 2)) "01"] = name }
+# Of ends: their name, their partner, the lines that made, indicated and accepted them, and the first frame of each of these.
+function remember_event(number, w,   caller) {
+    if (w[1] == "connect") {
+        ends = w[2]
+        system_of_end[w[2]] = w[3]
+        caller_at[w[5] " " w[4]] = w[2]
+        called_system[w[2]] = system_at[w[7]]
+        asked_at[w[2]] = number
+    } else if (w[1] == "incoming") {
+        ends = w[2]
+        system_of_end[w[2]] = w[3]
+        indicated_at[w[2]] = number
+        if ((w[5] " " w[6]) in caller_at) {
+            caller = caller_at[w[5] " " w[6]]
+            partner_of[w[2]] = caller
+            partner_of[caller] = w[2]
+        }
+    } else if (w[1] == "accept") answered_at[w[2]] = number
+    else if (w[1] == "restart") {
+        began_at[w[2]] = clock
+        began_line[w[2]] = number
+    } else if (w[1] == "drop" && w[3] == "toolong") dropped_at[w[2]] = number
+    else if (w[1] == "frame" && last_event ~ /^(connect|accept)$/) first_frame[last_event, last_end] = w[2]
+    else if (w[1] == "frame") return
+    last_event = w[1]
+    last_end = w[2]
+}
+# The frame of a CR or a CC, and that it was not delivered yet.
+function awaits(event, end, pdu, name,   n) {
+    n = first_frame[event, end]
+    return n == "" ? "the " pdu " has not come" : (n in got) ? "its " pdu " went in frame " n : "its " pdu " went in frame " n ", which was not delivered: `deliver " n " " name "`, or `settle`"
+}
+# The last connect request of which no indication came.
+function unheard(   e) {
+    for (e = ends; e; e--) if (e in asked_at && !(e in partner_of)) return e
+}
+function is_silent(name) { return name in began_at && clock + 0 <= began_at[name] + 2 * limit["life"] + limit["i"] + limit["n"] * limit["t1"] }
+function began(name) {
+    return name " began again at tick " began_at[name] " (line " began_line[name] ")"
+}
+function before(text, w,   e, p) {
+    e = $2
+    p = partner_of[e]
+    if (text == "no nosuchend" && e == ends + 1) {
+        p = unheard()
+        if (p) return "the number may be right: end " e " is not made yet, since no `incoming` came. Of `connect " p "` (line " asked_at[p] ") " \
+            awaits("connect", p, "CR", called_system[p]) "; where frames are lost, `#when incoming " e "` above the line lets it wait"
+    }
+    if (text == "no wrongstate crwait" && $1 ~ /^(accept|refuse)$/) {
+        return "end " e " is the caller's" (p ? "; the indicated end is " p ": `" $1 " " p " ..`" : ", and no `incoming` came for it")
+    }
+    if (text == "no wrongstate crwait") {
+        if (!p) return "no `incoming` came for `connect " e "`: " awaits("connect", e, "CR", called_system[e])
+        if (!(p in answered_at)) return "`incoming " p "` came at line " indicated_at[p] ", and no line above accepts it: `accept " p " ..`, and then `settle`, above this line"
+        return "`accept " p "` stands at line " answered_at[p] ": " awaits("accept", p, "CC", system_of_end[e])
+    }
+    if (text == "no wrongstate ended" && system_of_end[e] in began_at) return began(system_of_end[e]) ", and lost its ends"
+    if (w[1] == "gone" && w[3] ~ /^(exhausted|inactive|132)$/) {
+        p = (w[2] in called_system) ? called_system[w[2]] : system_of_end[partner_of[w[2]]]
+        if (is_silent(p)) return began(p) ": it lost its ends, and is silent up to tick " \
+            began_at[p] + 2 * limit["life"] + limit["i"] + limit["n"] * limit["t1"] ", so nothing answers; connect again after that tick"
+        if (w[3] == "exhausted" && system_of_end[w[2]] in dropped_at) return "the TPDU was too long for the network each time: `drop " system_of_end[w[2]] " toolong` at line " dropped_at[system_of_end[w[2]]]
+    }
+    return ""
+}
