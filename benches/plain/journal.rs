@@ -15,7 +15,18 @@ pub enum Mode {
 
 /// The octets that were not written yet; the standard output takes them in large pieces.
 pub struct Output {
-    octets: Vec<u8>,
+    pub octets: Vec<u8>,
+}
+
+impl Output {
+    pub fn new() -> Output {
+        Output { octets: Vec::new() }
+    }
+
+    /// Writes what there is, where it is much.
+    pub fn check(&mut self) -> io::Result<()> {
+        if self.octets.len() >= WRITTEN_AT_ONCE { self.flush() } else { Ok(()) }
+    }
 }
 
 impl Write for Output {
@@ -62,6 +73,22 @@ pub struct Counts {
     pub gone: u32,
 }
 
+/// Appends a number in decimal.
+pub fn push_number(number: impl Into<u64>, out: &mut Vec<u8>) {
+    let mut left = number.into();
+    let mut digits = [0; 20];
+    let mut start = digits.len();
+    loop {
+        start -= 1;
+        digits[start] = b'0' + (left % 10) as u8;
+        left /= 10;
+        if left == 0 {
+            break;
+        }
+    }
+    out.extend_from_slice(&digits[start..]);
+}
+
 pub struct Journal {
     pub mode: Mode,
     pub out: Output,
@@ -78,7 +105,7 @@ pub struct Journal {
 
 impl Journal {
     pub fn new(mode: Mode) -> io::Result<Journal> {
-        let mut out = Output { octets: Vec::new() };
+        let mut out = Output::new();
         if mode == Mode::Capture {
             out.write_all(&[0xa1, 0xb2, 0xc3, 0xd4, 0, 2, 0, 4, 0, 0, 0, 0, 0, 0, 0, 0, 0, 0, 0xff, 0xff, 0, 0, 0, 1])?;
         }
@@ -105,7 +132,7 @@ impl Journal {
 
     /// Writes what there is, where it is much.
     pub fn check(&mut self) -> io::Result<()> {
-        if self.out.octets.len() >= WRITTEN_AT_ONCE { self.out.flush() } else { Ok(()) }
+        self.out.check()
     }
 
     /// Counts an event; whether it has room.
@@ -133,19 +160,8 @@ impl Journal {
     }
 
     fn number(&mut self, number: impl Into<u64>) {
-        let mut left = number.into();
-        let mut digits = [0; 20];
-        let mut start = digits.len();
-        loop {
-            start -= 1;
-            digits[start] = b'0' + (left % 10) as u8;
-            left /= 10;
-            if left == 0 {
-                break;
-            }
-        }
         self.out.octets.push(b' ');
-        self.out.octets.extend_from_slice(&digits[start..]);
+        push_number(number, &mut self.out.octets);
     }
 
     fn system(&mut self, system: u8) {

@@ -1,9 +1,11 @@
-//! What `osi run`, `osi frames`, `osi storm`, `osi datagrams`, `osi inactive` and `osi relay` do, as a plain program: a yardstick for their speed.
+//! What `osi run`, `osi frames`, `osi decode`, `osi storm`, `osi datagrams`, `osi inactive` and `osi relay` do, as a plain program: a yardstick for
+//! their speed.
 //! Nothing is proved of it.
 
 mod address;
 mod clnp;
 mod connection;
+mod decode;
 mod entity;
 mod esis;
 mod flow;
@@ -43,6 +45,7 @@ fn main() -> ExitCode {
     let answer = match words[..] {
         ["run"] => run(Command::Run, Mode::Transcript),
         ["frames"] => run(Command::Run, Mode::Capture),
+        ["decode"] => decode::run(),
         ["datagrams"] => run(Command::Datagrams, Mode::Transcript),
         ["inactive"] => run(Command::Inactive, Mode::Transcript),
         ["relay"] => run(Command::Relay, Mode::Transcript),

@@ -73,7 +73,7 @@ pub fn distance(extended: bool, from: u32, wire: u32) -> u32 {
 }
 
 #[derive(Clone, Copy, PartialEq, Eq)]
-enum Kind {
+pub enum Kind {
     Cr,
     Cc,
     Dr,
@@ -83,6 +83,44 @@ enum Kind {
     Ak,
     Ea,
     Er,
+}
+
+impl Kind {
+    pub fn word(self) -> &'static str {
+        match self {
+            Kind::Cr => "cr",
+            Kind::Cc => "cc",
+            Kind::Dr => "dr",
+            Kind::Dc => "dc",
+            Kind::Dt => "dt",
+            Kind::Ed => "ed",
+            Kind::Ak => "ak",
+            Kind::Ea => "ea",
+            Kind::Er => "er",
+        }
+    }
+
+    /// Whether a TPDU of this kind knows parameters of this code.
+    pub fn knows(self, code: u8) -> bool {
+        match (self, code) {
+            (_, 0xc3) => true,
+            (Kind::Cr | Kind::Cc, 0xc0 | 0xc1 | 0xc2 | 0xc4 | 0xc6 | 0xc7 | 0xf0 | 0x85) => true,
+            (Kind::Dr, 0xe0) | (Kind::Er, 0xc1) | (Kind::Ak, 0x8a | 0x8c) => true,
+            _ => false,
+        }
+    }
+}
+
+/// The parts of a TPDU that has no fault.
+pub struct Parts<'a> {
+    pub kind: Kind,
+    pub code: u8,
+    pub extended: bool,
+    pub fixed: &'a [u8],
+    pub parameters: &'a [u8],
+    pub body: &'a [u8],
+    pub has_sum: bool,
+    pub rest: &'a [u8],
 }
 
 fn kind_of(code: u8) -> Option<Kind> {
@@ -166,6 +204,12 @@ fn value_of(mut octets: &[u8], code: u8) -> Option<&[u8]> {
 
 /// The first TPDU of octets, whether it has a checksum, and the octets behind it; or its first fault and the place.
 pub fn read(octets: &[u8], extended: bool) -> Result<(Tpdu<'_>, bool, &[u8]), (&'static str, usize)> {
+    let parts = parts(octets, extended)?;
+    Ok((tpdu_of(&parts), parts.has_sum, parts.rest))
+}
+
+/// The parts of the first TPDU of octets; or its first fault and the place.
+pub fn parts(octets: &[u8], extended: bool) -> Result<Parts<'_>, (&'static str, usize)> {
     let [indicator, code, ..] = *octets else {
         return Err(("short", 0));
     };
@@ -202,8 +246,7 @@ pub fn read(octets: &[u8], extended: bool) -> Result<(Tpdu<'_>, bool, &[u8]), (&
     if !suits {
         return Err(("body", length + 2));
     }
-    let tpdu = tpdu_of(kind, code, fixed, parameters, body, extended);
-    Ok((tpdu, sum_place.is_some(), rest))
+    Ok(Parts { kind, code, extended, fixed, parameters, body, has_sum: sum_place.is_some(), rest })
 }
 
 /// The place of the value of the last checksum.
@@ -222,7 +265,8 @@ fn check_parameters(kind: Kind, mut octets: &[u8], first: usize) -> Result<Optio
     Ok(sum_place)
 }
 
-fn tpdu_of<'a>(kind: Kind, code: u8, fixed: &[u8], parameters: &'a [u8], octets: &'a [u8], extended: bool) -> Tpdu<'a> {
+fn tpdu_of<'a>(parts: &Parts<'a>) -> Tpdu<'a> {
+    let Parts { kind, code, extended, fixed, parameters, body: octets, .. } = *parts;
     let destination = number_at(fixed, 0);
     match kind {
         Kind::Cr => Tpdu::Cr(proposal_of(code, fixed, parameters, octets)),
@@ -260,7 +304,7 @@ fn proposal_of<'a>(code: u8, fixed: &[u8], parameters: &'a [u8], octets: &'a [u8
 }
 
 /// The top bit and the number behind the destination reference.
-fn numbered(fixed: &[u8], extended: bool) -> (bool, u32) {
+pub fn numbered(fixed: &[u8], extended: bool) -> (bool, u32) {
     if extended {
         let number = u32::from_be_bytes([fixed[2], fixed[3], fixed[4], fixed[5]]);
         (number >> 31 == 1, number & 0x7fff_ffff)

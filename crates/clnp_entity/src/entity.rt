@@ -23,7 +23,6 @@ const MOST_OCTETS: u32 = 262_144;
 ///
 /// Contracts see it as a `Node`: its setup, its clock, the data unit identifiers that it gave, the units that it holds, and the
 /// rows of what it knows of others.
-#[derive(Drop)]
 pub struct NetEntity {
     pub(crate) alloc: Global,
     pub(crate) setup: SystemSetup,
@@ -34,6 +33,23 @@ pub struct NetEntity {
     pub(crate) store: Store,
     pub(crate) neighbours: Neighbours,
     pub(crate) redirects: Redirects,
+}
+
+// By hand, so that it is proved here alone: what is derived is proved again in each crate that lets one go.
+impl Drop for NetEntity {
+    fn drop(self) {
+        let NetEntity {
+            alloc: _,
+            setup: _,
+            clock: _,
+            next_id: _,
+            low: _,
+            high: _,
+            store: _,
+            neighbours: _,
+            redirects: _,
+        } = self;
+    }
 }
 
 // Each hop that was heard is on the LAN of a port, and no part was called later than the whole.

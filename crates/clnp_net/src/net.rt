@@ -16,6 +16,7 @@ use clnp_entity::{Handled, NetEntity, NetSent, Outcome};
 use nsap::{Nsap, Port};
 use osi_base::{
     Arrival, Carrier, DropCause, Injected, NoMemory, Offered, Picked, Tick, Unit, Up, Wish, gather,
+    go_on,
 };
 use std::alloc::Global;
 use std::collections::VecDeque;
@@ -272,16 +273,6 @@ impl<C: Carrier<Addr = Port> + Drop> Carrier for ClnpNet<C> {
     ghost given = { net_given C.link C.given };
 
     ghost keeps = { net_keeps C.link C.steps C.keeps C.given rows_tables };
-}
-
-/// After a call that ended for want of memory each further one wants it again: what that one left half done is not known.
-fn go_on(stopped: bool) -> Result<(), NoMemory>
-    ensures { OnOk result (stopped ≡ false) }
-{
-    if stopped {
-        return Err(NoMemory);
-    }
-    Ok(())
 }
 
 /// A unit is handed to the system that has its source, and the frames that it sends are offered.

@@ -47,9 +47,15 @@ impl From<NoMemory> for AddRefusal {
 }
 
 /// The rows of a system, which contracts see as their list, in the order in which they were added.
-#[derive(Drop)]
 pub struct Table {
     rows: Vec<RouteRow>,
+}
+
+// By hand, so that it is proved here alone: what is derived is proved again in each crate that lets one go.
+impl Drop for Table {
+    fn drop(self) {
+        let Table { rows: _ } = self;
+    }
 }
 
 // No two rows have one prefix, and there are at most 256.

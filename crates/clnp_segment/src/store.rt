@@ -1,18 +1,17 @@
 //! Units of which some segments came (X.233, reassembly, reassembly lifetime).
 
-ghost use Rattle.std.specs.Prelude.{◌≡◌, ◌<◌, ◌≤◌, ◌+◌, ◌↔◌, IsTrue, ℕ, [], drop, length, slice_get, slice_set, take, IfOk, None, Some};
+ghost use Rattle.std.specs.Prelude.{◌≡◌, ◌<◌, ◌≤◌, ◌+◌, ◌↔◌, IsTrue, [], drop, length, slice_get, take, IfOk, None, Some};
 ghost use Rattle.std.specs.List.{position, remove};
 ghost use Rattle.clnp_header.specs.declared.pdu.SegmentPart.{SegmentPart};
 ghost use Rattle.clnp_segment.specs.Joining.{filled_places};
 ghost use Rattle.clnp_segment.specs.Store.{Expires, FitsIn, IsAt, IsWithin, MayCome, Takes, TakesAt, coming_of, has_key, octets_held};
-ghost use Rattle.clnp_segment.specs.steps.Due.{FindsDue, IsKept, deadline_at};
 ghost use Rattle.clnp_segment.specs.steps.Incoming.{incoming_of};
 ghost use Rattle.clnp_segment.specs.steps.Places.{with_segment};
 
 use crate::held::Verdict;
 use crate::unit::{HeldUnit, Incoming};
 use clnp_header::PduRef;
-use due_links::Due;
+use due_links::DueList;
 use nsap::Nsap;
 use osi_base::{Bytes, NoMemory, Tick};
 use std::alloc::Global;
@@ -44,7 +43,6 @@ pub struct Expired {
 
 /// The units of which some segments came, each until the lifetime of its segments has passed. The octets of all that is held are counted
 /// in `used`, so that a segment goes over those of its own unit alone.
-#[derive(Drop)]
 pub struct Store {
     alloc: Global,
     clock: Tick,
@@ -52,8 +50,23 @@ pub struct Store {
     octets: usize,
     used: usize,
     held: Vec<HeldUnit>,
-    /// Until when each unit is held, by its place among them: a tick gives up those whose time has passed, and goes over no others.
-    due: Due,
+    /// Until when each unit is held, in their order: a tick gives up those whose time has passed, and goes over no others.
+    due: DueList,
+}
+
+// By hand, so that it is proved here alone: what is derived is proved again in each crate that lets one go.
+impl Drop for Store {
+    fn drop(self) {
+        let Store {
+            alloc: _,
+            clock: _,
+            units: _,
+            octets: _,
+            used: _,
+            held: _,
+            due: _,
+        } = self;
+    }
 }
 
 // The octets used are those that are held, and what is due is exactly the deadline of each unit.
@@ -83,7 +96,7 @@ impl Store {
             octets: octets as usize,
             used: 0,
             held: Vec::with_capacity(alloc, units as usize)?,
-            due: Due::new(alloc, units)?,
+            due: DueList::new(alloc, units)?,
         })
     }
 
@@ -134,8 +147,9 @@ impl Store {
         ensures clock { IsAt self.old now self.new }
     {
         self.clock = now;
-        let place = self.first_due(now)?;
-        let unit = self.withdraw(place);
+        let place = self.due.pop(now.checked_sub(1)?)?;
+        let unit = self.held.remove(place);
+        self.used -= unit.count();
         Some(unit.expired())
     }
 
@@ -144,17 +158,6 @@ impl Store {
         ensures { result ≡ position (has_key (incoming_of incoming.now).key) self.now.held }
     {
         self.held.iter().position(|unit| unit.is_of(incoming))
-    }
-
-    /// The place of the first unit of least deadline among those past it.
-    fn first_due(&mut self, now: Tick) -> Option<usize>
-        ensures found { FindsDue now self.old.held result }
-        ensures same { self.new ≡ self.old }
-    {
-        let first = self.due.pop(now.checked_sub(1)?)? as usize;
-        // It stays due until it is withdrawn.
-        keep(&mut self.due, first, Some(self.held[first].deadline()));
-        Some(first)
     }
 
     /// Takes a segment of a unit that is held.
@@ -182,7 +185,7 @@ impl Store {
             Verdict::Fresh(fresh) => {
                 let unit = &mut self.held[place];
                 unit.add(&segment, self.clock + incoming.left)?;
-                keep(&mut self.due, place, Some(unit.deadline()));
+                self.due.set(place, Some(unit.deadline()));
                 self.used += fresh;
                 Ok(Joined::Held)
             }
@@ -227,9 +230,8 @@ impl Store {
             Verdict::Fresh(fresh) => {
                 unit.add(&segment, deadline)?;
                 let until = unit.deadline();
-                let place = self.held.len();
                 self.held.push(unit)?;
-                keep(&mut self.due, place, Some(until));
+                self.due.push(Some(until));
                 self.used += fresh;
                 Ok(Joined::Held)
             }
@@ -250,42 +252,9 @@ impl Store {
         ensures rest { self.new ≡ record self.old { held = remove self.old.held place } }
         ensures within { IsWithin self.new }
     {
-        let count = self.held.len();
         let unit = self.held.remove(place);
-        keep_from(&mut self.due, &self.held, place, count);
+        self.due.remove(place);
         self.used -= unit.count();
         unit
-    }
-}
-
-/// A place is due at that tick, or at none.
-fn keep(due: &mut Due, place: usize, tick: Option<Tick>)
-    requires within { place < length due.old }
-    requires few { length due.old < 4294967296 }
-    ensures { due.new ≡ slice_set due.old place tick }
-{
-    let id = place as u32;
-    match tick {
-        Some(tick) => due.set(id, tick),
-        None => due.clear(id),
-    }
-}
-
-/// The deadline of the unit at a place, where one is there.
-fn deadline_at(held: &[HeldUnit], place: usize) -> Option<Tick>
-    ensures { result ≡ deadline_at held.now place }
-{
-    Some(held.get(place)?.deadline())
-}
-
-/// The places between those two are due as their units are.
-fn keep_from(due: &mut Due, held: &[HeldUnit], from: usize, count: usize)
-    requires order { from ≤ count }
-    requires within { count ≤ length due.old }
-    requires few { length due.old < 4294967296 }
-    ensures { IsKept held.now from count due.old due.new }
-{
-    for place in from..count {
-        keep(due, place, deadline_at(held, place));
     }
 }

@@ -7,7 +7,7 @@ use Rattle.pdu_parts.specs.Parameter.{Parameter, front_parameter, parameters_in,
 use Rattle.pdu_parts.specs.steps.Reading.{unless}
 use Rattle.tpdu.proofs.Parts.{some_left}
 use Rattle.tpdu.proofs.Splits.{parameters-front, parameters-none}
-use Rattle.osi_journal.specs.declared.cause.UdCause.{UdCause}
+use Rattle.script_journal.specs.declared.cause.UdCause.{UdCause}
 use Rattle.cltp.specs.declared.fault.UdFault.{UdFault}
 use Rattle.cltp.specs.Faults.{parameter_steps}
 use Rattle.cltp.specs.Parameters.{trouble}

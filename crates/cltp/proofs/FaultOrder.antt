@@ -8,8 +8,8 @@ use Rattle.pdu_parts.specs.Parameter.{parameters_in, left_in}
 use Rattle.pdu_parts.specs.steps.Reading.{◌>>=◌, unless}
 use Rattle.tpdu.specs.Faults.{indicator, header, behind}
 use Rattle.tpdu.specs.Parameters.{last_value, sum_place}
-use Rattle.osi_journal.specs.declared.cause.UdCause.{UdCause}
-use Rattle.osi_journal.specs.declared.cause.UdCause.TheVariants.{Short, Length, Code, Missing, Checksum}
+use Rattle.script_journal.specs.declared.cause.UdCause.{UdCause}
+use Rattle.script_journal.specs.declared.cause.UdCause.TheVariants.{Short, Length, Code, Missing, Checksum}
 use Rattle.cltp.specs.declared.fault.UdFault.{UdFault}
 use Rattle.cltp.specs.Faults.{fault_at, parameter_steps, parameters_steps, first_fault}
 use Rattle.cltp.specs.Ud.{Ud}

@@ -4,17 +4,16 @@ use Rattle.std.specs.Prelude.{◌==◌, if◌then◌else◌}
 use Rattle.std.specs.List.{AllByRecursion}
 use Rattle.nsap.specs.Address.{selector_of}
 use Rattle.osi_base.specs.declared.note.Note.{Note}
-use Rattle.osi_base.specs.declared.note.Note.TheVariants as notes
 use Rattle.osi_base.specs.declared.unit.Offered.{Offered}
 use Rattle.osi_base.specs.declared.unit.Offered.TheVariants.{Taken as WasTaken, Dropped}
 use Rattle.osi_base.specs.declared.unit.Picked.{Picked}
 use Rattle.osi_base.specs.declared.unit.Picked.TheVariants as picks
 use Rattle.osi_base.specs.declared.unit.Up.{Up}
 use Rattle.osi_base.specs.declared.unit.Up.TheVariants.{Unit as Came, Note as Noted}
-use Rattle.osi_journal.specs.declared.event.Event.{Event}
-use Rattle.osi_journal.specs.declared.event.Event.TheVariants as events
-use Rattle.osi_journal.specs.RawLawful.{clock_after}
-use Rattle.net_world.specs.Told.{note_event, told, picked_event}
+use Rattle.script_journal.specs.declared.event.Event.{Event}
+use Rattle.script_journal.specs.declared.event.Event.TheVariants as events
+use Rattle.script_journal.specs.RawLawful.{clock_after}
+use Rattle.net_world.specs.Told.{told, picked_event}
 use Rattle.net_world.proofs.Shown.{picked_still}
 use Rattle.cltp.specs.declared.sending.Request.{Request}
 use Rattle.cltp.specs.Sending.{send_event}
@@ -42,16 +41,8 @@ picked_other number system picks.Late = tt
 picked_other number system picks.NotThere = tt
 picked_other number system picks.NotOurs = tt
 
-note_other : (note : Note) → IsOther (note_event note)
-note_other (notes.Frame number lan system snpa length) = tt
-note_other (notes.DropFrame system) = tt
-note_other (notes.Discard system reason place) = tt
-note_other (notes.Report system reason place) = tt
-note_other (notes.Alien system) = tt
-note_other (notes.BadHello system cause) = tt
-note_other (notes.HelloFull system) = tt
-note_other (notes.Hello system kind snpa) = tt
-note_other (notes.Redirect system address snpa) = tt
+note_other : (note : Note) → IsOther (events.Net note)
+note_other note = tt
 
 raw_other : (shown : Bool) (system : ℕ) (from octets : List ℕ) (more : List Event) → AllByRecursion IsOther more
     → AllByRecursion IsOther ((if shown then events.Unit system from octets ∷ [] else []) ++ more)

@@ -9,12 +9,12 @@ use Rattle.osi_base.specs.declared.unit.Up.{Up}
 use Rattle.osi_base.specs.declared.unit.Up.TheVariants.{Unit as Came, Note as Noted}
 use Rattle.osi_base.specs.Link.{Link, IsLeastFresh, is_fresh}
 use Rattle.osi_base.specs.Calls.{Call, Offer, Choose, Tick}
-use Rattle.osi_journal.specs.declared.cause.Settled.{Settled}
-use Rattle.osi_journal.specs.declared.cause.Settled.TheVariants as settled
+use Rattle.script_journal.specs.declared.cause.Settled.{Settled}
+use Rattle.script_journal.specs.declared.cause.Settled.TheVariants as settled
 use Rattle.law_carrier_answers.specs.Answers.{OneStep, OneGathering, asked_of, Offering}
 use Rattle.net_world.specs.Told.{told, picked_event}
-use Rattle.osi_journal.specs.declared.event.Event.{Event}
-use Rattle.osi_journal.specs.declared.event.Event.TheVariants as events
+use Rattle.script_journal.specs.declared.event.Event.{Event}
+use Rattle.script_journal.specs.declared.event.Event.TheVariants as events
 use Rattle.cltp.specs.declared.sending.Request.{Request}
 use Rattle.cltp.specs.declared.sending.ClAnswer.{ClAnswer}
 use Rattle.cltp.specs.declared.system.ClSystem.{ClSystem}

@@ -6,8 +6,8 @@ use Rattle.std.proofs.lemmas.Bool.{le-leb, leb-true}
 use Rattle.pdu_parts.specs.FirstFault.{or_else, first_failing}
 use Rattle.pdu_parts.specs.Parameter.{Parameter}
 use Rattle.tpdu.proofs.Parts.{some_left}
-use Rattle.osi_journal.specs.declared.cause.UdCause.{UdCause}
-use Rattle.osi_journal.specs.declared.cause.UdCause.TheVariants.{Param}
+use Rattle.script_journal.specs.declared.cause.UdCause.{UdCause}
+use Rattle.script_journal.specs.declared.cause.UdCause.TheVariants.{Param}
 use Rattle.cltp.specs.declared.fault.UdFault.{UdFault}
 use Rattle.cltp.specs.declared.parameter.Lengths.{Lengths}
 use Rattle.cltp.specs.Faults.{fault_at, parameter_steps}

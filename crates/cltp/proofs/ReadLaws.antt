@@ -14,7 +14,7 @@ use Rattle.tpdu.proofs.Heads.{or_false, cut, Fronted, refront}
 use Rattle.tpdu.proofs.Parts.{is_some-sum_place}
 use Rattle.tpdu.proofs.Splits.{parameters-spelled, spelled-parameters}
 use Rattle.cltp.specs.declared.fault.UdFault.{UdFault}
-use Rattle.osi_journal.specs.declared.cause.UdCause.TheVariants.{Checksum}
+use Rattle.script_journal.specs.declared.cause.UdCause.TheVariants.{Checksum}
 use Rattle.cltp.specs.Faults.{fault_at, parameter_steps}
 use Rattle.cltp.specs.Parameters.{Suits}
 use Rattle.cltp.specs.Ud.{Ud, IsUd}

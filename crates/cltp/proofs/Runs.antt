@@ -7,12 +7,12 @@ use Rattle.osi_base.specs.declared.unit.Up.{Up}
 use Rattle.osi_base.specs.Link.{Link}
 use Rattle.osi_base.specs.Calls.{Call, Offer, Choose, Tick, Keeps}
 use Rattle.osi_base.specs.Gathering.{Gathers}
-use Rattle.osi_journal.specs.declared.cause.Refused.TheVariants.{TooLong}
-use Rattle.osi_journal.specs.declared.cause.Settled.{Settled}
+use Rattle.script_journal.specs.declared.cause.Refused.TheVariants.{TooLong}
+use Rattle.script_journal.specs.declared.cause.Settled.{Settled}
 use Rattle.net_world.specs.Told.{picked_event}
 use Rattle.net_world.proofs.Standing.{Gathered}
-use Rattle.osi_journal.specs.declared.event.Event.{Event}
-use Rattle.osi_journal.specs.declared.event.Event.TheVariants as events
+use Rattle.script_journal.specs.declared.event.Event.{Event}
+use Rattle.script_journal.specs.declared.event.Event.TheVariants as events
 use Rattle.cltp.specs.declared.sending.Request.{Request}
 use Rattle.cltp.specs.declared.sending.ClAnswer.{ClAnswer}
 use Rattle.cltp.specs.declared.system.ClSystem.{ClSystem}

@@ -13,9 +13,9 @@ use Rattle.osi_base.specs.declared.unit.Unit.{Unit as CarriedUnit}
 use Rattle.osi_base.specs.declared.unit.Up.{Up}
 use Rattle.osi_base.specs.declared.unit.Up.TheVariants.{Unit as Came, Note as Noted}
 use Rattle.osi_base.specs.Link.{Link, IsNote, IsLawful, IsAfloat}
-use Rattle.osi_journal.specs.RawLawful.{clock_after, clock_from, tick_after}
-use Rattle.osi_journal.specs.declared.event.Event.{Event}
-use Rattle.osi_journal.specs.declared.event.Event.TheVariants as events
+use Rattle.script_journal.specs.RawLawful.{clock_after, clock_from, tick_after}
+use Rattle.script_journal.specs.declared.event.Event.{Event}
+use Rattle.script_journal.specs.declared.event.Event.TheVariants as events
 use Rattle.cltp.specs.declared.sending.Request.{Request}
 use Rattle.net_world.proofs.Journals.{clock_from-append}
 use Rattle.cltp.specs.declared.system.ClSystem.{ClSystem}

@@ -14,14 +14,14 @@ use Rattle.osi_base.specs.declared.unit.Up.TheVariants.{Unit as Came, Note as No
 use Rattle.osi_base.specs.declared.unit.Wish.{Wish}
 use Rattle.osi_base.specs.Link.{Link, IsLeastFresh}
 use Rattle.osi_base.specs.Calls.{Call, Offer, Choose, Inject, Keeps, NextUp, Tick}
-use Rattle.osi_journal.specs.declared.cause.Refused.TheVariants.{TooLong}
-use Rattle.osi_journal.specs.declared.cause.Settled.{Settled}
-use Rattle.osi_journal.specs.declared.cause.Settled.TheVariants as settled
+use Rattle.script_journal.specs.declared.cause.Refused.TheVariants.{TooLong}
+use Rattle.script_journal.specs.declared.cause.Settled.{Settled}
+use Rattle.script_journal.specs.declared.cause.Settled.TheVariants as settled
 use Rattle.law_carrier_answers.specs.Answers.{AreOctets, CanBeAsked, Choosing, MayBeOffered, Offering, Ticking, asked_of}
 use Rattle.law_carrier_answers.proofs.Gatherings.{some_gathering}
 use Rattle.net_world.specs.Told.{told, picked_event}
-use Rattle.osi_journal.specs.declared.event.Event.{Event}
-use Rattle.osi_journal.specs.declared.event.Event.TheVariants as events
+use Rattle.script_journal.specs.declared.event.Event.{Event}
+use Rattle.script_journal.specs.declared.event.Event.TheVariants as events
 use Rattle.cltp.specs.declared.sending.Request.{Request}
 use Rattle.cltp.specs.declared.sending.ClAnswer.{ClAnswer}
 use Rattle.cltp.specs.declared.sending.ClAnswer.TheVariants as replies

@@ -13,9 +13,9 @@ use Rattle.net_world.specs.Told.{told, picked_event}
 use Rattle.net_world.proofs.Journals.{clock_from-append}
 use Rattle.net_world.proofs.Shown.{told_clock}
 use Rattle.net_world.proofs.Standing.{Gathered, these_waited}
-use Rattle.osi_journal.specs.RawLawful.{clock_after, clock_from, tick_after}
-use Rattle.osi_journal.specs.declared.event.Event.{Event}
-use Rattle.osi_journal.specs.declared.event.Event.TheVariants as events
+use Rattle.script_journal.specs.RawLawful.{clock_after, clock_from, tick_after}
+use Rattle.script_journal.specs.declared.event.Event.{Event}
+use Rattle.script_journal.specs.declared.event.Event.TheVariants as events
 use Rattle.cltp.specs.declared.sending.Request.{Request}
 use Rattle.cltp.specs.declared.system.ClSystem.{ClSystem}
 use Rattle.cltp.specs.Hearing.{HearsAll}

@@ -7,7 +7,7 @@ use Rattle.osi_base.specs.Calls.{Call, NextUp, TakesUp as HandsUp}
 use Rattle.osi_base.proofs.Gatherings.{Gathering, gathering_next, gathered}
 use Rattle.osi_base.proofs.Standings.{stands_same}
 use Rattle.net_world.specs.Told.{told, up_events}
-use Rattle.osi_journal.specs.declared.event.Event.{Event}
+use Rattle.script_journal.specs.declared.event.Event.{Event}
 use Rattle.cltp.specs.declared.system.ClSystem.{ClSystem}
 use Rattle.cltp.specs.Hearing.{HearsAll}
 use Rattle.cltp.specs.Run.{TakesUp, Tells}

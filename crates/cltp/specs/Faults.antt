@@ -5,8 +5,8 @@ use Rattle.pdu_parts.specs.FirstFault.{must, first_failing}
 use Rattle.pdu_parts.specs.Parameter.{Parameter, parameters_in, left_in}
 use Rattle.tpdu.specs.Faults.{indicator, header}
 use Rattle.tpdu.specs.Parameters.{last_value, sum_place}
-use Rattle.osi_journal.specs.declared.cause.UdCause.{UdCause}
-use Rattle.osi_journal.specs.declared.cause.UdCause.TheVariants.{Short, Length, Code, Param, Missing, Checksum}
+use Rattle.script_journal.specs.declared.cause.UdCause.{UdCause}
+use Rattle.script_journal.specs.declared.cause.UdCause.TheVariants.{Short, Length, Code, Param, Missing, Checksum}
 use Rattle.cltp.specs.declared.fault.UdFault.{UdFault}
 use Rattle.cltp.specs.Parameters.{trouble}
 

@@ -4,8 +4,8 @@ use Rattle.osi_base.specs.declared.unit.Arrival.{Arrival}
 use Rattle.osi_base.specs.declared.unit.Unit.{Unit as CarriedUnit}
 use Rattle.osi_base.specs.declared.unit.Up.{Up}
 use Rattle.osi_base.specs.declared.unit.Up.TheVariants.{Unit as Came, Note as Noted}
-use Rattle.osi_journal.specs.declared.event.Event.{Event}
-use Rattle.osi_journal.specs.declared.event.Event.TheVariants as events
+use Rattle.script_journal.specs.declared.event.Event.{Event}
+use Rattle.script_journal.specs.declared.event.Event.TheVariants as events
 use Rattle.cltp.specs.declared.fault.UdFault.{UdFault}
 use Rattle.cltp.specs.declared.system.ClSystem.{ClSystem}
 use Rattle.cltp.specs.Faults.{IsUdFault}

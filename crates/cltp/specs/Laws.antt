@@ -4,7 +4,7 @@ use Rattle.osi_base.specs.declared.unit.Arrival.{Arrival}
 use Rattle.osi_base.specs.Link.{Link}
 use Rattle.osi_base.specs.Calls.{Call}
 use Rattle.law_carrier_answers.specs.Answers.{OneStep}
-use Rattle.osi_journal.specs.declared.event.Event.{Event}
+use Rattle.script_journal.specs.declared.event.Event.{Event}
 use Rattle.cltp.specs.declared.system.ClSystem.{ClSystem}
 use Rattle.cltp.specs.Hearing.{Hears}
 use Rattle.cltp.specs.Lawful.{DatagramLawful}

@@ -2,8 +2,8 @@
 use Rattle.std.specs.Prelude.{ℕ, ◌≤◌, ◌==◌, ◌&&◌, ◌||◌, nat_le, length, Option, Some, None, if◌then◌else◌}
 use Rattle.pdu_parts.specs.FirstFault.{must}
 use Rattle.pdu_parts.specs.Parameter.{Parameter}
-use Rattle.osi_journal.specs.declared.cause.UdCause.{UdCause}
-use Rattle.osi_journal.specs.declared.cause.UdCause.TheVariants.{Param, Unknown}
+use Rattle.script_journal.specs.declared.cause.UdCause.{UdCause}
+use Rattle.script_journal.specs.declared.cause.UdCause.TheVariants.{Param, Unknown}
 use Rattle.cltp.specs.declared.parameter.Lengths.{Lengths}
 
 -- a source or a destination transport selector has 1 to 32 octets, a checksum two; no other parameter is known

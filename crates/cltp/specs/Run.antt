@@ -8,12 +8,12 @@ use Rattle.osi_base.specs.declared.unit.Picked.TheVariants.{Taken as WasPicked}
 use Rattle.osi_base.specs.Link.{Link, IsLeastFresh}
 use Rattle.osi_base.specs.Calls.{Call, Offer, Choose, Tick}
 use Rattle.osi_base.specs.Gathering.{Gathers}
-use Rattle.osi_journal.specs.declared.cause.Refused.TheVariants.{TooLong}
-use Rattle.osi_journal.specs.declared.cause.Settled.{Settled}
-use Rattle.osi_journal.specs.declared.cause.Settled.TheVariants as settled
+use Rattle.script_journal.specs.declared.cause.Refused.TheVariants.{TooLong}
+use Rattle.script_journal.specs.declared.cause.Settled.{Settled}
+use Rattle.script_journal.specs.declared.cause.Settled.TheVariants as settled
 use Rattle.net_world.specs.Told.{told, picked_event}
-use Rattle.osi_journal.specs.declared.event.Event.{Event}
-use Rattle.osi_journal.specs.declared.event.Event.TheVariants as events
+use Rattle.script_journal.specs.declared.event.Event.{Event}
+use Rattle.script_journal.specs.declared.event.Event.TheVariants as events
 use Rattle.cltp.specs.declared.sending.Request.{Request}
 use Rattle.cltp.specs.declared.sending.ClAnswer.{ClAnswer}
 use Rattle.cltp.specs.declared.sending.ClAnswer.TheVariants as answers

@@ -4,7 +4,7 @@ use Rattle.std.specs.Prelude.{◌≡◌, ℕ, ◌<◌, Bool, true, List, Option,
 use Rattle.osi_base.specs.Link.{Link, IsLeastFresh}
 use Rattle.osi_base.specs.Calls.{Call}
 use Rattle.law_carrier_answers.specs.Answers.{AlwaysAnswers, AreOctets, Asked, CanBeAsked, GoesThrough, IsAnswered}
-use Rattle.osi_journal.specs.declared.event.Event.{Event}
+use Rattle.script_journal.specs.declared.event.Event.{Event}
 use Rattle.cltp.specs.declared.sending.Request.{Request}
 use Rattle.cltp.specs.declared.system.ClSystem.{ClSystem}
 use Rattle.cltp.specs.Run.{ClCall, Sending, Delivering, Ticking, Settling, RunsCall, Starts}

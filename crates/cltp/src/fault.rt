@@ -2,7 +2,7 @@
 
 ghost use Rattle.std.specs.Prelude.{◌≡◌};
 
-use osi_journal::UdCause;
+use script_journal::UdCause;
 
 /// The first fault of a UD, and the number of its octet from 1; 0 for none.
 #[derive(Clone, Copy, Debug, PartialEq, Eq)]

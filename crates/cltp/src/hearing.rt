@@ -9,7 +9,7 @@ use crate::system::{ClSystem, system_at};
 use net_world::tell;
 use nsap::Nsap;
 use osi_base::{Arrival, Carrier, NoMemory, Up};
-use osi_journal::Event;
+use script_journal::Event;
 use std::alloc::Global;
 
 /// Takes up all that waits and tells it, and then what the units among it give, which `heard` keeps meanwhile.

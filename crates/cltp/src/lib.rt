@@ -18,8 +18,8 @@ pub use laws::{
     one_fault, one_hearing, one_run, one_start, one_value, one_writing, shows_sent, some_run,
     some_start, value_or_fault,
 };
-pub use osi_journal::UdCause;
 pub use reading::read_ud;
+pub use script_journal::UdCause;
 pub use sending::{ClAnswer, Request};
 pub use system::ClSystem;
 pub use ud::UdRef;

@@ -7,8 +7,8 @@ ghost use Rattle.cltp.specs.Parameters.{lengths_of, trouble};
 ghost use Rattle.cltp.specs.steps.Reading.{checked, parameter_at, values_view, with_parameter};
 
 use crate::fault::UdFault;
-use osi_journal::UdCause;
 use pdu_parts::{ParameterRef, split_parameter};
+use script_journal::UdCause;
 
 /// Source transport selector.
 pub const SOURCE: u8 = 0xc1;

@@ -11,7 +11,7 @@ use crate::UdRef;
 use crate::fault::UdFault;
 use crate::parameter::{ValuesRef, check_parameters};
 use osi_base::fletcher_ok;
-use osi_journal::UdCause;
+use script_journal::UdCause;
 
 /// The code of a UD.
 pub const UD: u8 = 0x40;

@@ -1,16 +1,15 @@
 //! Datagrams that go out (X.234, unit data transfer).
 
 ghost use Rattle.std.specs.Prelude.{◌≡◌, ◌≤◌, length, IfOk};
-ghost use Rattle.net_world.specs.Told.{refusal};
 ghost use Rattle.cltp.specs.Sending.{answer_of, send_event, ud_for};
 ghost use Rattle.cltp.specs.Ud.{IsSelector};
 ghost use Rattle.cltp.specs.Writing.{IsWritten};
 
 use crate::writing::write_ud;
-use net_world::address;
+use net_world::{address, refusal};
 use nsap::Nsap;
 use osi_base::{Bytes, DropCause, NoMemory, Offered, Wish};
-use osi_journal::{Boxed, Event, Refused};
+use script_journal::{Boxed, Event};
 use std::alloc::Global;
 
 /// The most octets of data.
@@ -93,17 +92,5 @@ pub fn send_event(
         Offered::Dropped(cause) => Ok(Event::No {
             cause: refusal(cause),
         }),
-    }
-}
-
-/// Why the network does not take a datagram.
-fn refusal(cause: DropCause) -> Refused
-    ensures { result ≡ refusal cause }
-{
-    match cause {
-        DropCause::TooLong => Refused::TooLong,
-        DropCause::NoRoute => Refused::NoRoute,
-        DropCause::Full => Refused::Full,
-        DropCause::IdsSpent => Refused::IdsSpent,
     }
 }

@@ -3,7 +3,7 @@
 ghost use Rattle.std.specs.Prelude.{◌≡◌, ◌==◌, ◌&&◌, nat_eq, IfOk, option_copied};
 ghost use Rattle.std.specs.Cmp.Lexicographic.{pointwise};
 ghost use Rattle.nsap.specs.Address.{selector_of};
-ghost use Rattle.osi_journal.specs.declared.event.Event.TheVariants.{Datagram};
+ghost use Rattle.script_journal.specs.declared.event.Event.TheVariants.{Datagram};
 ghost use Rattle.cltp.specs.Hearing.{TellsOf};
 ghost use Rattle.cltp.specs.Systems.{has_selector, is_for, system_at};
 ghost use Rattle.cltp.specs.Ud.{ud_of};
@@ -13,7 +13,7 @@ use crate::ud::UdRef;
 use net_world::address;
 use nsap::{Nsap, TRANSPORT};
 use osi_base::{Bytes, Items, NoMemory, Unit};
-use osi_journal::{Boxed, Event};
+use script_journal::{Boxed, Event};
 use std::alloc::Global;
 
 /// A system with its users.

@@ -13,7 +13,7 @@ use crate::system::{ClSystem, system_at};
 use net_world::picked_event;
 use nsap::Nsap;
 use osi_base::{Carrier, NoMemory, Picked, Unit};
-use osi_journal::{Event, Refused, Settled};
+use script_journal::{Event, Refused, Settled};
 use std::alloc::Global;
 use std::marker::Model;
 

@@ -6,5 +6,6 @@ pub mod Firsts
 pub mod Froms
 pub mod Gaps
 pub mod Keys
+pub mod Listings
 pub mod Maps
 pub mod Writes

@@ -155,7 +155,7 @@ impl Due {
     }
 
     /// The tick of an id.
-    fn tick_of(&self, id: u32) -> Option<Tick>
+    pub(crate) fn tick_of(&self, id: u32) -> Option<Tick>
         requires { id < length self.now }
         ensures { result ≡ tick_at self.now id }
     {

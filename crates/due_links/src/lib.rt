@@ -3,5 +3,7 @@
 
 mod bucket;
 mod due;
+mod list;
 
 pub use due::Due;
+pub use list::DueList;

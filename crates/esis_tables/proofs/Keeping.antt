@@ -1,24 +1,24 @@
--- The map holds the deadline of each row under its place: after a hello, since it changes only rows whose places are noted, and
--- after a sweep, since each place that had a row is written again. Where none is due, each row is known.
-use Rattle.std.proofs.Common.{◌≡◌, ◌≢◌, ℕ, zero, suc, ◌+◌, ◌-◌, ◌<◌, ◌≤◌, Bool, true, false, nat_lt, List, [], ◌∷◌, ◌++◌, length, get_or, take, set, is_some, map, replicate, slice_get, Option, Some, None, refl, sym, ap, ◌∙◌, subst, arith, length-append, length-set, inl, inr}
+-- The list holds the deadline of each row: after a hello, since it changes only rows whose places are noted, and in a sweep, since a row goes
+-- with its deadline. A row whose deadline has come is not known, and where none is due each is.
+use Rattle.std.proofs.Common.{◌≡◌, ◌≢◌, ℕ, zero, suc, ◌+◌, ◌-◌, ◌<◌, ◌≤◌, Bool, true, false, nat_lt, List, [], ◌∷◌, ◌++◌, length, get_or, take, set, map, slice_get, Option, Some, None, refl, sym, ap, ◌∙◌, subst, arith, length-append, length-set, inl, inr}
 use Rattle.std.specs.Prelude.{◌||◌, ◌==◌, ◌⊎◌, cond, if◌then◌else◌}
-use Rattle.std.specs.List.{filter}
+use Rattle.std.specs.List.{filter, remove}
 use Rattle.std.proofs.Math.Bool.{or-false}
 use Rattle.std.proofs.lemmas.Bool.{cases_eq, cases_lt, or_left, or_right, ltb-false, lt-ltb}
-use Rattle.std.proofs.lemmas.List.{get_or-append_right, get_or-map, get_or-replicate, get_or-set_other, get_or-set_same, get_or_append_left, get_or_past, length-map, length-replicate, take_more}
+use Rattle.std.proofs.lemmas.List.{get_or-append_right, get_or-map, get_or-set_other, get_or-set_same, get_or_append_left, get_or_default, get_or_past, length-map, same_lists, take_more}
 use Rattle.std.proofs.lemmas.List.Elements.{All-get_or}
 use Rattle.std.proofs.lemmas.List.Folds.{list_any-append}
 use Rattle.std.proofs.lemmas.Option.{slice_get_cases}
-use Rattle.due_links.specs.Ticks.{Pops, tick_at}
+use Rattle.due_links.specs.Entries.{Entries, TakesDue}
+use Rattle.due_links.specs.Ticks.{tick_at}
 use Rattle.esis_tables.specs.declared.holding_time.Heard.{Heard}
 use Rattle.esis_tables.specs.declared.holding_time.Row.{Row}
 use Rattle.esis_tables.specs.Told.{is_among}
 use Rattle.esis_tables.specs.Rows.{addresses, is_row_known, new_names, row_of, rows_with}
-use Rattle.esis_tables.specs.steps.Deadlines.{AreDeadlines, IsDue, IsKept, IsKeptBelow, IsMade, deadline_at, deadline_of}
+use Rattle.esis_tables.specs.steps.Deadlines.{AreDeadlines, IsDue, IsKept, IsListed, IsMade, deadline_at, deadline_of}
 use Rattle.esis_tables.specs.steps.Places.{ArePlaces, IsRenewed, is_noted, renewed_if, told_by}
 use Rattle.esis_tables.proofs.Names.{new_are_names}
 use Rattle.esis_tables.proofs.Placing.{addresses-with}
-use Rattle.esis_tables.proofs.Sweeping.{short_filter}
 
 abbrev Ticks : Type 0
 Ticks = List (Option ℕ)
@@ -74,37 +74,34 @@ keeping_more rows all i place old due new tick low is within tick_is new_is h =
         ∙ ap (λ (b : Bool). if b then deadline_at rows k else tick_at old k)
         (sym (noted k ∙ ap (λ (b : Bool). is_noted (take i all) k || (b || false)) missed ∙ or-false (is_noted (take i all) k)))
 
-pub below_more : (rows : List Row) (place : ℕ) (old due new : Ticks) (tick : Option ℕ) → place < length old → tick ≡ deadline_at rows place
-    → new ≡ set due place tick → IsKeptBelow rows place old due → IsKeptBelow rows (place + 1) old new
-below_more rows place old due new tick within tick_is new_is h = record {
-  long = ap length new_is ∙ length-set due place tick ∙ h.long;
-  below = λ k low. by k low (cases_eq k place);
-  rest = λ k high. ap (λ (xs : Ticks). tick_at xs k) new_is
-      ∙ get_or-set_other due place k tick None (λ same. absurd (omega (arith, high, same))) ∙ h.rest k (omega (arith, high));
+pub listing_more : (rows : List Row) (place : ℕ) (old due new : Ticks) (tick : Option ℕ) → length old ≤ place → place < length rows → tick ≡ deadline_at rows place → new ≡ due ++ tick ∷ []
+    → IsListed rows place old due → IsListed rows (place + 1) old new
+listing_more rows place old due new tick order within tick_is new_is h = record {
+  long = ap length new_is ∙ (length-append due (tick ∷ []) ∙ ap (λ (n : ℕ). n + 1) h.long);
+  below = λ k low. front k (omega (arith, low, order, h.long)) ∙ h.below k low;
+  rest = λ k high low. by k high low (cases_eq k place);
 }
   where
-    by : (k : ℕ) → k < place + 1 → (k ≡ place) ⊎ (k ≢ place) → tick_at new k ≡ deadline_at rows k
-    by k low (inl same) =
-        ap (λ (xs : Ticks). tick_at xs k) new_is ∙ ap (λ (n : ℕ). tick_at (set due place tick) n) same
-        ∙ get_or-set_same due place tick None (omega (arith, h.long, within)) ∙ tick_is ∙ ap (deadline_at rows) (sym same)
-    by k low (inr apart) =
-        ap (λ (xs : Ticks). tick_at xs k) new_is ∙ get_or-set_other due place k tick None apart ∙ h.below k (omega (arith, low, apart))
+    front : (k : ℕ) → k < length due → tick_at new k ≡ tick_at due k
+    front k low = ap (λ (xs : Ticks). tick_at xs k) new_is ∙ get_or_append_left due (tick ∷ []) None k low
+
+    by : (k : ℕ) → length old ≤ k → k < place + 1 → (k ≡ place) ⊎ (k ≢ place) → tick_at new k ≡ deadline_at rows k
+    by k high low (inl same) =
+        let last : k ≡ length due = same ∙ sym h.long in
+        let first : k - length due ≡ 0 = omega (arith, last) in
+        ap (λ (xs : Ticks). tick_at xs k) new_is ∙ (get_or-append_right due (tick ∷ []) (length due) k None refl (omega (arith, last))
+        ∙ (ap (λ (n : ℕ). get_or (tick ∷ []) n None) first ∙ (tick_is ∙ ap (deadline_at rows) (sym same))))
+    by k high low (inr apart) = front k (omega (arith, h.long, low, apart)) ∙ h.rest k high (omega (arith, low, apart))
 
 -- ---- after a hello
 
-pub made_due : (due : Option Ticks) (made : Ticks) (rows : List Row) → IsDue due rows → IsMade due made → AreDeadlines rows made
-made_due None made rows none is = subst (AreDeadlines rows) (sym is) (record {
-  long = length-replicate 256 none_yet;
-  same = λ place. all_none place (cases_lt place 256) ∙ sym (deadline_past rows place (omega (arith, ap length none)));
-})
-  where
-    none_yet : Option ℕ
-    none_yet = None
+pub made_due : (due : Option Entries) (made : Entries) (rows : List Row) → IsDue due rows → IsMade due made → (made.most ≡ 256) × AreDeadlines rows made.ticks
+made_due None made rows none is =
+    (ap (λ (e : Entries). e.most) is, ap (λ (e : Entries). e.ticks) is ∙ sym (ap (map deadline_of) none))
+made_due (Some due) made rows h is = (ap (λ (e : Entries). e.most) is ∙ h.0, ap (λ (e : Entries). e.ticks) is ∙ h.1)
 
-    all_none : (place : ℕ) → (place < 256) ⊎ (256 ≤ place) → tick_at (replicate 256 None) place ≡ None
-    all_none place (inl low) = get_or-replicate 256 place None None low
-    all_none place (inr high) = get_or_past (replicate 256 None) place None (omega (arith, length-replicate 256 none_yet, high))
-made_due (Some due) made rows h is = subst (AreDeadlines rows) (sym is) h
+pub some_most : (due : Option Entries) (entries : Entries) (rows : List Row) → due ≡ Some entries → IsDue due rows → entries.most ≡ 256
+some_most due entries rows is h = (subst (λ (d : Option Entries). IsDue d rows) is h).0
 
 module _ (names : List (List ℕ)) (heard : Heard) (places : List ℕ) (old rows new : List Row) where
   -- a row that was put is named, so its place is noted
@@ -140,48 +137,82 @@ module _ (names : List (List ℕ)) (heard : Heard) (places : List ℕ) (old rows
       by (inr high) (inl low) = let clash : true ≡ false = sym (put_noted is at place high low) ∙ not in absurd cc
       by (inr high) (inr past) = deadline_past old place high ∙ sym (deadline_past new place (omega (arith, h.long, past)))
 
-  pub heard_due : (due kept : Ticks) → rows ≡ rows_with old (told_by names heard) → ArePlaces names rows places → IsRenewed heard places rows new
-      → length new ≤ 256 → AreDeadlines old due → IsKept new places due kept → AreDeadlines new kept
-  heard_due due kept is at h few was k = record {
-    long = k.long ∙ was.long;
-    same = λ place. by place (cases_lt place 256);
-  }
+  pub heard_due : (due listed kept : Ticks) → rows ≡ rows_with old (told_by names heard) → ArePlaces names rows places → IsRenewed heard places rows new
+      → AreDeadlines old due → IsListed new (length new) due listed → IsKept new places listed kept → AreDeadlines new kept
+  heard_due due listed kept is at h was l k = same_lists kept (map deadline_of new) long each
     where
-      chosen : (place : ℕ) (noted : Bool) → is_noted places place ≡ noted → (if noted then deadline_at new place else tick_at due place) ≡ deadline_at new place
-      chosen place true how = refl
-      chosen place false how = was.same place ∙ unnoted is at h place how
+      long : length kept ≡ length (map deadline_of new)
+      long = k.long ∙ (l.long ∙ sym (length-map new deadline_of))
 
-      by : (place : ℕ) → (place < 256) ⊎ (256 ≤ place) → tick_at kept place ≡ deadline_at new place
-      by place (inl low) = k.noted place (omega (arith, was.long, low)) ∙ chosen place (is_noted places place) refl
-      by place (inr high) = get_or_past kept place None (omega (arith, k.long, was.long, high)) ∙ sym (deadline_past new place (omega (arith, few, high)))
+      count : length due ≡ length old
+      count = ap length was ∙ length-map old deadline_of
 
--- ---- after a sweep
+      there : (place : ℕ) → is_noted places place ≡ false → (place < length due) ⊎ (length due ≤ place) → place < length new → tick_at listed place ≡ deadline_at new place
+      there place not (inl low) inside = l.below place low ∙ (ap (λ (xs : Ticks). tick_at xs place) was ∙ unnoted is at h place not)
+      there place not (inr high) inside = l.rest place high inside
 
-module _ (now : ℕ) (old new : List Row) (due popped kept : Ticks) (is : new ≡ filter (is_row_known now) old) (was : AreDeadlines old due)
-    (k : IsKeptBelow new (length old) popped kept) where
-  none_still : (id place : ℕ) → (place ≡ id) ⊎ (place ≢ id) → length old ≤ place → tick_at (set due id None) place ≡ None
-  none_still id place (inl same) high = by_room (cases_lt id (length due))
-    where
-      by_room : (id < length due) ⊎ (length due ≤ id) → tick_at (set due id None) place ≡ None
-      by_room (inl low) = ap (tick_at (set due id None)) same ∙ get_or-set_same due id None None low
-      by_room (inr past) = get_or_past (set due id None) place None (omega (arith, length-set due id None, past, same))
-  none_still id place (inr apart) high = get_or-set_other due id place None None apart ∙ was.same place ∙ deadline_past old place high
+      chosen : (place : ℕ) (noted : Bool) → place < length new → is_noted places place ≡ noted → (if noted then deadline_at new place else tick_at listed place) ≡ deadline_at new place
+      chosen place true inside how = refl
+      chosen place false inside how = there place how (cases_lt place (length due)) inside
 
-  by_place : length popped ≡ length due → ((place : ℕ) → length old ≤ place → tick_at popped place ≡ None) → AreDeadlines new kept
-  by_place long none = record {
-    long = k.long ∙ long ∙ was.long;
-    same = λ place. by place (cases_lt place (length old));
-  }
-    where
-      by : (place : ℕ) → (place < length old) ⊎ (length old ≤ place) → tick_at kept place ≡ deadline_at new place
-      by place (inl low) = k.below place low
-      by place (inr high) = k.rest place high ∙ none place high
-          ∙ sym (deadline_past new place (omega (arith, ap length is, short_filter (is_row_known now) old, high)))
+      each : (place : ℕ) (d : Option ℕ) → place < length kept → get_or kept place d ≡ get_or (map deadline_of new) place d
+      each place d low =
+          let inside : place < length new = omega (arith, low, k.long, l.long) in
+          get_or_default kept place d None low ∙ (k.noted place (omega (arith, low, k.long)) ∙ (chosen place (is_noted places place) inside refl
+          ∙ get_or_default (map deadline_of new) place None d (omega (arith, low, long))))
 
-  pub swept_due : (found : Option ℕ) → Pops due now found popped → AreDeadlines new kept
-  swept_due None pops = by_place (ap length pops.0) (λ place high. ap (λ (xs : Ticks). tick_at xs place) pops.0 ∙ was.same place ∙ deadline_past old place high)
-  swept_due (Some id) pops = by_place (ap length pops.0 ∙ length-set due id None)
-      (λ place high. ap (λ (xs : Ticks). tick_at xs place) pops.0 ∙ none_still id place (cases_eq place id) high)
+-- ---- a row that is due goes
+
+map-without : (rows : List Row) (place : ℕ) → remove (map deadline_of rows) place ≡ map deadline_of (remove rows place)
+map-without [] zero = refl
+map-without [] (suc place) = refl
+map-without (row ∷ rows) zero = refl
+map-without (row ∷ rows) (suc place) = ap (λ (xs : Ticks). deadline_of row ∷ xs) (map-without rows place)
+
+pub gone_due : (rows rest : List Row) (ticks : Ticks) (place : ℕ) → rest ≡ remove rows place → AreDeadlines rows ticks → AreDeadlines rest (remove ticks place)
+gone_due rows rest ticks place is was = ap (λ (xs : Ticks). remove xs place) was ∙ (map-without rows place ∙ ap (map deadline_of) (sym is))
+
+unknown_at : (now at : ℕ) (row : Row) (reached : Bool) → at ≤ now → (if reached then Some (row.heard.tick + row.heard.ticks) else None) ≡ Some at → is_row_known now row ≡ false
+unknown_at now at row true late is =
+    let same : row.heard.tick + row.heard.ticks ≡ at = cc is in
+    ltb-from-le (row.heard.tick + row.heard.ticks) now (omega (arith, same, late))
+  where
+    ltb-from-le : (end now : ℕ) → end ≤ now → nat_lt now end ≡ false
+    ltb-from-le end now h = grind (arith, h)
+unknown_at now at row false late is = absurd cc
+
+without_unknown : (now at : ℕ) (rows : List Row) (place : ℕ) → deadline_at rows place ≡ Some at → at ≤ now → filter (is_row_known now) (remove rows place) ≡ filter (is_row_known now) rows
+without_unknown now at [] zero is late = refl
+without_unknown now at [] (suc place) is late = refl
+without_unknown now at (row ∷ rows) zero is late =
+    ap (λ (b : Bool). cond b (row ∷ filter (is_row_known now) rows) (filter (is_row_known now) rows))
+    (sym (unknown_at now at row (nat_lt (row.heard.tick + row.heard.ticks) 4294967296) late is))
+without_unknown now at (row ∷ rows) (suc place) is late =
+    ap (λ (xs : List Row). cond (is_row_known now row) (row ∷ xs) xs) (without_unknown now at rows place is late)
+
+length-without : (rows : List Row) (place : ℕ) → place < length rows → length (remove rows place) < length rows
+length-without [] place low = absurd (omega (arith, low))
+length-without (row ∷ rows) zero low = omega arith
+length-without (row ∷ rows) (suc place) low = let rest = length-without rows place (omega (arith, low)) in omega (arith, rest)
+
+-- so far only rows that are not known went
+pub record IsSweeping (now : ℕ) (old rows : List Row) (ticks : Ticks) : Type 0 where
+  pub due : AreDeadlines rows ticks
+  pub known : filter (is_row_known now) rows ≡ filter (is_row_known now) old
+
+pub sweeping_within : (now : ℕ) (old rows : List Row) (due new : Entries) (place : ℕ) → IsSweeping now old rows due.ticks → TakesDue due now (Some place) new → place < length rows
+sweeping_within now old rows due new place h t = omega (arith, t.0, ap length h.due, length-map rows deadline_of)
+
+pub sweeping_more : (now : ℕ) (old rows rest : List Row) (due new : Entries) (place : ℕ) → rest ≡ remove rows place → IsSweeping now old rows due.ticks → TakesDue due now (Some place) new
+    → IsSweeping now old rest new.ticks × (new.most ≡ due.most) × (length rest < length rows)
+sweeping_more now old rows rest due new place is h t = (
+  record {
+    due = ap (λ (e : Entries). e.ticks) t.1 ∙ gone_due rows rest due.ticks place is h.due;
+    known = ap (filter (is_row_known now)) is ∙ (without_unknown now t.2 rows place (ap (λ (xs : Ticks). tick_at xs place) (sym h.due) ∙ t.3.set) t.4 ∙ h.known);
+  },
+  ap (λ (e : Entries). e.most) t.1,
+  omega (arith, ap length is, length-without rows place (sweeping_within now old rows due new place h t)),
+)
 
 -- ---- where none is due
 
@@ -199,7 +230,8 @@ all_known now (row ∷ rows) fits later =
     ap (λ (xs : List Row). row ∷ xs) (all_known now rows fits (λ place at is. later (suc place) at is))
     ∙ ap (λ (b : Bool). cond b (row ∷ filter (is_row_known now) rows) (filter (is_row_known now) rows)) (sym here)
 
-pub idle : (now : ℕ) (rows : List Row) (due popped : Ticks) (found : Option ℕ) → is_some found ≡ false → now < 4294967296 → AreDeadlines rows due
-    → Pops due now found popped → rows ≡ filter (is_row_known now) rows
-idle now rows due popped None none fits was pops = all_known now rows fits (λ place at is. pops.1 place at (was.same place ∙ is))
-idle now rows due popped (Some id) none fits was pops = absurd cc
+pub sweeping_end : (now : ℕ) (old rows : List Row) (due new : Entries) (found : Option ℕ) → now < 4294967296 → found ≡ None → IsSweeping now old rows due.ticks
+    → TakesDue due now found new → rows ≡ filter (is_row_known now) old
+sweeping_end now old rows due new None fits none h t =
+    all_known now rows fits (λ place at is. t.1 place at (ap (λ (xs : Ticks). tick_at xs place) h.due ∙ is)) ∙ h.known
+sweeping_end now old rows due new (Some place) fits none h t = absurd cc

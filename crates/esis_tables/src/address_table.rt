@@ -2,17 +2,17 @@
 //!
 //! Profile: a table has at most 256 rows.
 
-ghost use Rattle.std.specs.Prelude.{◌≡◌, ◌<◌, ◌≤◌, ◌↔◌, [], ◌∷◌, ◌++◌, false, Err, None, Some, IsTrue, OnOk, OnErr, IfOk, length, position, replicate, slice_set, take, option_copied, nat_eq};
+ghost use Rattle.std.specs.Prelude.{◌≡◌, ◌<◌, ◌≤◌, ◌↔◌, [], ◌∷◌, ◌++◌, false, Err, None, Some, IsTrue, OnOk, OnErr, IfOk, length, position, take, option_copied, nat_eq};
 ghost use Rattle.std.specs.List.{All, filter};
 ghost use Rattle.std.specs.Cmp.Lexicographic.{pointwise};
 ghost use Rattle.esis_tables.specs.declared.address_table.HearRefusal.TheVariants.{Full};
 ghost use Rattle.esis_tables.specs.Rows.{IsTable, count_with, find_row, has_row, heard_table, is_row_known, no_rows, router_in, row_at, rows_with, swept_table};
 ghost use Rattle.esis_tables.specs.steps.Places.{ArePlaces, IsPlace, IsRenewed, row_added, told_by};
-ghost use Rattle.esis_tables.specs.steps.Deadlines.{AreDeadlines, IsKept, IsKeptBelow, IsMade, deadline_at};
+ghost use Rattle.esis_tables.specs.steps.Deadlines.{AreDeadlines, IsKept, IsListed, IsMade, deadline_at};
 ghost use Rattle.esis_tables.specs.steps.Least.{IsLeastRouter, IsRouterHop, is_lesser};
 
 use crate::holding_time::{Heard, Row};
-use due_links::Due;
+use due_links::DueList;
 use nsap::{Hop, Nsap};
 use osi_base::{NoMemory, Tick};
 use std::alloc::Global;
@@ -47,8 +47,8 @@ pub struct AddressTable {
     alloc: Global,
     clock: Tick,
     rows: Vec<Row>,
-    /// When rows are known no longer, by their places: a tick sweeps those alone. Made by the first hello.
-    due: Option<Due>,
+    /// When rows are known no longer, in their order: a tick sweeps those alone. Made by the first hello.
+    due: Option<DueList>,
 }
 
 // An address has at most one row, and there are at most 256. What is due is exactly the deadline of each row, and no row is
@@ -116,6 +116,7 @@ impl AddressTable {
         match places_of(self.alloc, &mut self.rows, names, heard) {
             Ok(places) => {
                 renew(&mut self.rows, heard, &places);
+                list_new(&mut due, &self.rows, stood);
                 keep_noted(&mut due, &self.rows, &places);
                 self.due = Some(due);
                 self.clock = heard.tick;
@@ -231,26 +232,13 @@ fn renew(rows: &mut Vec<Row>, heard: &Heard, places: &[usize])
 }
 
 // What is due is the deadline of each row, made where it was not.
-fn made(due: Option<Due>, alloc: Global) -> Result<Due, NoMemory>
+fn made(due: Option<DueList>, alloc: Global) -> Result<DueList, NoMemory>
     ensures ok { IfOk result (λ new. IsMade due new) }
     ensures err { OnErr result (due ≡ None) }
 {
     match due {
         Some(due) => Ok(due),
-        None => Due::new(alloc, MOST_ROWS as u32),
-    }
-}
-
-// A place is due at that tick, or at none.
-fn keep(due: &mut Due, place: usize, tick: Option<Tick>)
-    requires within { place < length due.old }
-    requires few { length due.old ≡ 256 }
-    ensures { due.new ≡ slice_set due.old place tick }
-{
-    let id = place as u32;
-    match tick {
-        Some(tick) => due.set(id, tick),
-        None => due.clear(id),
+        None => DueList::new(alloc, MOST_ROWS as u32),
     }
 }
 
@@ -261,57 +249,42 @@ fn deadline_at(rows: &[Row], place: usize) -> Option<Tick>
     rows.get(place)?.deadline()
 }
 
-// The rows at these places are due at their deadlines.
-fn keep_noted(due: &mut Due, rows: &[Row], places: &[usize])
-    requires within { All (λ place. place < length due.old) places.now }
-    requires few { length due.old ≡ 256 }
-    ensures { IsKept rows.now places.now due.old due.new }
+// The rows from that place on are listed, due at their deadlines.
+fn list_new(due: &mut DueList, rows: &[Row], stood: usize)
+    requires stood { length due.old.ticks ≡ stood }
+    requires order { stood ≤ length rows.now }
+    requires few { length rows.now ≤ due.old.most }
+    ensures ticks { IsListed rows.now (length rows.now) due.old.ticks due.new.ticks }
+    ensures most { due.new.most ≡ due.old.most }
 {
-    for place in places {
-        keep(due, *place, deadline_at(rows, *place));
+    for place in stood..rows.len() {
+        due.push(deadline_at(rows, place));
     }
 }
 
-// The places below that one are due as their rows are.
-fn keep_below(due: &mut Due, rows: &[Row], count: usize)
-    requires within { count ≤ length due.old }
-    requires few { length due.old ≡ 256 }
-    ensures { IsKeptBelow rows.now count due.old due.new }
+// The rows at these places are due at their deadlines.
+fn keep_noted(due: &mut DueList, rows: &[Row], places: &[usize])
+    requires { All (λ place. place < length due.old.ticks) places.now }
+    ensures ticks { IsKept rows.now places.now due.old.ticks due.new.ticks }
+    ensures most { due.new.most ≡ due.old.most }
 {
-    for place in 0..count {
-        keep(due, place, deadline_at(rows, place));
+    for place in places {
+        due.set(*place, deadline_at(rows, *place));
     }
 }
 
 // Only the rows that are known stay; none is looked at where none is due.
 // Apart, so that a tick before the first hello has no room for these values to clear.
 #[inline(never)]
-fn sweep_due(due: &mut Due, rows: &mut Vec<Row>, now: Tick)
-    requires few { length rows.old.items ≤ 256 }
-    requires due { AreDeadlines rows.old.items due.old }
-    ensures due { AreDeadlines rows.new.items due.new }
+fn sweep_due(due: &mut DueList, rows: &mut Vec<Row>, now: Tick)
+    requires { AreDeadlines rows.old.items due.old.ticks }
+    ensures due { AreDeadlines rows.new.items due.new.ticks }
+    ensures most { due.new.most ≡ due.old.most }
     ensures rows { rows.new.items ≡ filter (is_row_known now) rows.old.items }
 {
-    if due.pop(now).is_some() {
-        let stood = rows.len();
-        sweep(rows, now);
-        keep_below(due, rows, stood);
+    while let Some(place) = due.pop(now) {
+        rows.remove(place);
     }
-}
-
-// Only the rows that are known stay.
-fn sweep(rows: &mut Vec<Row>, now: Tick)
-    ensures { rows.new.items ≡ filter (is_row_known now) rows.old.items }
-{
-    let mut kept = 0;
-    for place in 0..rows.len() {
-        let row = rows[place];
-        if row.is_known(now) {
-            rows[kept] = row;
-            kept += 1;
-        }
-    }
-    rows.truncate(kept);
 }
 
 // The hop to the known intermediate system of least title.

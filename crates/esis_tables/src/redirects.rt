@@ -17,9 +17,15 @@ use std::alloc::Global;
 use std::marker::Model;
 
 /// The addresses of which a redirect told a hop, each with the one that was told last.
-#[derive(Drop)]
 pub struct Redirects {
     known: AddressTable,
+}
+
+// By hand, so that it is proved here alone: what is derived is proved again in each crate that lets one go.
+impl Drop for Redirects {
+    fn drop(self) {
+        let Redirects { known: _ } = self;
+    }
 }
 
 impl Model for Redirects {

@@ -10,7 +10,9 @@ use crate::frames::{Ups, frame_of, is_too_long, read_all};
 use crate::rows::Rows;
 use inactive_step::InactiveRow;
 use nsap::{Nsap, Port};
-use osi_base::{Carrier, DropCause, Injected, NoMemory, Offered, Picked, Tick, Unit, Up, Wish};
+use osi_base::{
+    Carrier, DropCause, Injected, NoMemory, Offered, Picked, Tick, Unit, Up, Wish, go_on,
+};
 use std::alloc::Global;
 use std::collections::VecDeque;
 use std::marker::Model;
@@ -27,7 +29,6 @@ const PLAIN: Wish = Wish {
 ///
 /// Contracts see it as an `Inactive`: the carrier below, the end systems, the units that were taken and may still arrive, what waits
 /// to be taken up, and how many arrivals equalled no unit afloat.
-#[derive(Drop)]
 pub struct InactiveNet<C: Carrier<Addr = Port> + Drop> {
     alloc: Global,
     stopped: bool,
@@ -36,6 +37,21 @@ pub struct InactiveNet<C: Carrier<Addr = Port> + Drop> {
     floating: Afloat,
     waiting: Ups,
     strays: u32,
+}
+
+// By hand, so that it is proved here alone: what is derived is proved again in each crate that lets one go.
+impl<C: Carrier<Addr = Port> + Drop> Drop for InactiveNet<C> {
+    fn drop(self) {
+        let InactiveNet {
+            alloc: _,
+            stopped: _,
+            link: _,
+            rows: _,
+            floating: _,
+            waiting: _,
+            strays: _,
+        } = self;
+    }
 }
 
 // It is sound, unless a call stopped for want of memory.
@@ -235,16 +251,6 @@ impl<C: Carrier<Addr = Port> + Drop> Carrier for InactiveNet<C> {
     ghost given = { inactive_given C.link C.given };
 
     ghost keeps = { inactive_keeps C.link C.steps C.keeps C.given };
-}
-
-/// After a call that ended for want of memory each further one wants it again: what that one left half done is not known.
-fn go_on(stopped: bool) -> Result<(), NoMemory>
-    ensures { OnOk result (stopped ≡ false) }
-{
-    if stopped {
-        return Err(NoMemory);
-    }
-    Ok(())
 }
 
 /// A unit that was taken floats from now on.

@@ -1,7 +1,7 @@
 -- Each frame is found through the index, and stays in it until it is late.
-use Rattle.std.proofs.Common.{◌≡◌, ◌∙◌, inl, inr, ℕ, zero, suc, ◌+◌, ◌*◌, ◌%◌, ◌<◌, ◌≤◌, Bool, true, false, List, [], ◌∷◌, ◌++◌, length, map, slice_get, Option, Some, None, set, refl, sym, ap, subst, arith}
+use Rattle.std.proofs.Common.{◌≡◌, ◌∙◌, inl, inr, ℕ, zero, suc, ◌+◌, ◌*◌, ◌%◌, ◌<◌, ◌≤◌, Bool, true, false, List, [], ◌∷◌, ◌++◌, length, length-append, map, slice_get, Option, Some, None, set, refl, sym, ap, subst, arith}
 use Rattle.std.specs.Prelude.{◌&&◌, ◌||◌, ◌==◌, nat_eq, cond, nat_lt}
-use Rattle.std.specs.BTreeSet.{BTreeSet, IsUnchanged, Updates, UpdatesBy, contains, keys_between}
+use Rattle.std.specs.BTreeSet.{BTreeSet, UpdatesBy, contains, keys_between}
 use Rattle.std.specs.BTreeMap.Range.{range_contains}
 use Rattle.std.specs.Cmp.Lexicographic.{pointwise}
 use Rattle.std.specs.List.{list_any}
@@ -16,7 +16,7 @@ use Rattle.lan_bag.specs.declared.setup.Lan.{Lan}
 use Rattle.lan_bag.specs.Rows.{same_port}
 use Rattle.lan_bag.specs.Frames.{Frame, kept, kept_at, is_live, is_of, carries_live, marked, marked_frame, marked_at}
 use Rattle.lan_bag.specs.steps.Places.{push_cases, set_same, set_other, kept_places, kept_was}
-use Rattle.lan_bag.specs.steps.Index.{AreIndexed, carries_at, code_of, key_of, sum_from}
+use Rattle.lan_bag.specs.steps.Index.{AreIndexed, AreIndexedTo, carries_at, code_of, key_of, sum_from}
 use Rattle.lan_bag.proofs.Wheels.{kept_live, past_last}
 
 -- ---- tests over lists
@@ -159,43 +159,32 @@ searched s clock lans frames unit few h = same_bool _ _ sound complete
 
 -- ---- what is listed
 
-still_there : (s n : BTreeSet ℕ) (code : ℕ) → Updates nat_cmp s n code true → (q : ℕ) → contains nat_cmp s q ≡ true → contains nat_cmp n q ≡ true
-still_there s n code updates q was = updates.0 q ∙ by_test (is_eq (nat_cmp code q)) (contains nat_cmp s q) was
-  where
-    by_test : (b c : Bool) → c ≡ true → cond b true c ≡ true
-    by_test true c k = refl
-    by_test false c k = k
-
-indexed_more : (had has : ℕ → Bool) (frames : List (Option Frame)) → ((code : ℕ) → had code ≡ true → has code ≡ true) → AreIndexed had frames → AreIndexed has frames
-indexed_more had has frames more h = record { at = λ place frame here. more (code_of (key_of frame.unit) place) (h.at place frame here) }
-
 pub indexed_same : (has : ℕ → Bool) (frames others : List (Option Frame)) → others ≡ frames → AreIndexed has frames → AreIndexed has others
 indexed_same has frames others same h = subst (λ (fs : List (Option Frame)). AreIndexed has fs) (sym same) h
 
--- where memory was wanting nothing has changed
-pub indexed_unchanged : (s n : BTreeSet ℕ) (frames : List (Option Frame)) → IsUnchanged s n → AreIndexed (contains nat_cmp s) frames → AreIndexed (contains nat_cmp n) frames
-indexed_unchanged s n frames unchanged h = indexed_more (contains nat_cmp s) (contains nat_cmp n) frames (λ q was. ap (list_any (λ x. is_eq (nat_cmp q x))) unchanged ∙ was) h
-
--- a code more than there are frames
-pub indexed_kept : (s n : BTreeSet ℕ) (code : ℕ) (frames : List (Option Frame)) → Updates nat_cmp s n code true → AreIndexed (contains nat_cmp s) frames → AreIndexed (contains nat_cmp n) frames
-indexed_kept s n code frames updates h = indexed_more (contains nat_cmp s) (contains nat_cmp n) frames (still_there s n code updates) h
-
--- one frame more
-pub indexed_pushed : (s n : BTreeSet ℕ) (frames after : List (Option Frame)) (frame : Frame) (place : ℕ) → Updates nat_cmp s n (code_of (key_of frame.unit) place) true → place ≡ length frames → after ≡ frames ++ Some frame ∷ []
-    → AreIndexed (contains nat_cmp s) frames → AreIndexed (contains nat_cmp n) after
-indexed_pushed s n frames after frame place updates last is h =
-    indexed_same (contains nat_cmp n) (frames ++ Some frame ∷ []) after is (record { at = each })
+-- one frame more: each before it has its code
+pub indexed_below : (has : ℕ → Bool) (frames after : List (Option Frame)) (frame : Frame) (place : ℕ) → place ≡ length frames → after ≡ frames ++ Some frame ∷ []
+    → AreIndexed has frames → AreIndexedTo has place after
+indexed_below has frames after frame place last is h =
+    subst (λ (fs : List (Option Frame)). AreIndexedTo has place fs) (sym is) (record { at = each })
   where
-    each : (k : ℕ) (other : Frame) → kept (slice_get (frames ++ Some frame ∷ []) k) ≡ Some other → contains nat_cmp n (code_of (key_of other.unit) k) ≡ true
-    each k other here =
+    each : (k : ℕ) (other : Frame) → k < place → kept (slice_get (frames ++ Some frame ∷ []) k) ≡ Some other → has (code_of (key_of other.unit) k) ≡ true
+    each k other low here =
         elim (push_cases frames (Some frame) k) [
-          | inl same ↦ still_there s n (code_of (key_of frame.unit) place) updates (code_of (key_of other.unit) k) (h.at k other (ap kept (sym same) ∙ here))
-          | inr new ↦
-              let is : frame ≡ other = cc (ap kept new.1, here) in
-              let there : k ≡ place = past_last frames (Some frame) k new.0 new.1 ∙ sym last in
-              subst (λ (f : Frame). contains nat_cmp n (code_of (key_of f.unit) k) ≡ true) is
-              (subst (λ (p : ℕ). contains nat_cmp n (code_of (key_of frame.unit) p) ≡ true) (sym there) updates.1)
+          | inl same ↦ h.at k other (ap kept (sym same) ∙ here)
+          | inr new ↦ absurd (let there : k ≡ place = past_last frames (Some frame) k new.0 new.1 ∙ sym last in omega (arith, low, there))
         ]
+
+-- and where it has its own too, each has
+pub indexed_pushed : (has : ℕ → Bool) (frames after : List (Option Frame)) (frame : Frame) (place : ℕ) → place ≡ length frames → after ≡ frames ++ Some frame ∷ []
+    → AreIndexedTo has (place + 1) after → AreIndexed has after
+indexed_pushed has frames after frame place last is h = record { at = λ k other here. h.at k other (low k other here) here }
+  where
+    count : length after ≡ place + 1
+    count = ap length is ∙ (length-append frames (Some frame ∷ []) ∙ ap (λ (n : ℕ). n + 1) (sym last))
+
+    low : (k : ℕ) (other : Frame) → kept (slice_get after k) ≡ Some other → k < place + 1
+    low k other here = let within = slice_get_within after k (Some other) (kept_some (slice_get after k) other here) in omega (arith, within, count)
 
 -- a frame that was taken
 indexed_marked_at : (has : ℕ → Bool) (frames : List (Option Frame)) (i system : ℕ) (o : Option (Option Frame)) → slice_get frames i ≡ o → AreIndexed has frames → AreIndexed has (marked_frame frames i system (kept o))

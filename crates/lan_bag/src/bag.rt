@@ -24,7 +24,6 @@ use std::alloc::Global;
 use std::marker::Model;
 
 /// LANs that deliver a frame unaltered, to the systems that it goes to, while it is not late.
-#[derive(Drop)]
 pub struct LanBag {
     alloc: Global,
     clock: Tick,
@@ -39,6 +38,24 @@ pub struct LanBag {
     waiting: Waiting,
     honest: bool,
     strays: u32,
+}
+
+// By hand, so that it is proved here alone: what is derived is proved again in each crate that lets one go.
+impl Drop for LanBag {
+    fn drop(self) {
+        let LanBag {
+            alloc: _,
+            clock: _,
+            setup: _,
+            frames: _,
+            wheel: _,
+            index: _,
+            fresh: _,
+            waiting: _,
+            honest: _,
+            strays: _,
+        } = self;
+    }
 }
 
 // The first frame that a system may take and has not taken is that of `fresh`, and the place of each frame is in the wheel, and in the
@@ -140,11 +157,11 @@ impl LanBag {
         self.wheel.list(self.setup.bound(unit.to.lan), place)?;
         let to = unit.to;
         let sent = Sent::new(self.alloc, self.clock, unit)?;
-        self.index.enlist(&sent, place)?;
         self.frames.push(sent)?;
+        let listed = self.index.enlist(&self.frames, place);
         let fresh = self.fresh;
         self.fresh = open_with(self.clock, &self.setup, &self.frames, fresh, place + 1, &to);
-        Ok(())
+        listed
     }
 
     /// Lets a frame arrive at a system.

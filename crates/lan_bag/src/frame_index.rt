@@ -54,18 +54,30 @@ impl FrameIndex {
         Ok(())
     }
 
-    /// Lists the frame of a place, where that is wanted.
+    /// Lists what stands at a place, where that is wanted. At NoMemory it is wanted no more: the next `index_all` lists each frame anew.
     // Inlined: mostly one look tells.
     #[inline(always)]
-    pub fn enlist(&mut self, sent: &Sent, place: u32) -> Result<(), NoMemory>
-        ensures wanted { self.new.wanted ≡ self.old.wanted }
-        ensures ok { OnOk result (self.old.wanted ≡ true → Updates nat_cmp self.old.codes self.new.codes (code_of (key_of sent.now.unit) place) true) }
-        ensures err { OnErr result (IsUnchanged self.old.codes self.new.codes) }
+    pub fn enlist(&mut self, frames: &FrameStore, place: u32) -> Result<(), NoMemory>
+        ensures { (self.old.wanted ≡ true → AreIndexedTo (contains nat_cmp self.old.codes) place frames.now)
+            → self.new.wanted ≡ true → AreIndexedTo (contains nat_cmp self.new.codes) (place + 1) frames.now }
     {
         if !self.wanted {
             return Ok(());
         }
-        put(&mut self.codes, sent, place)
+        self.enlist_wanted(frames, place)
+    }
+
+    /// Lists what stands at a place.
+    // Not inlined: where nothing was injected, as mostly, there is no room for its values to clear.
+    #[inline(never)]
+    fn enlist_wanted(&mut self, frames: &FrameStore, place: u32) -> Result<(), NoMemory>
+        ensures { AreIndexedTo (contains nat_cmp self.old.codes) place frames.now
+            → self.new.wanted ≡ true → AreIndexedTo (contains nat_cmp self.new.codes) (place + 1) frames.now }
+    {
+        self.wanted = false;
+        enlist_at(&mut self.codes, frames, place)?;
+        self.wanted = true;
+        Ok(())
     }
 
     /// The late frames at these places leave the index.

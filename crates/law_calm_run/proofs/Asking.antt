@@ -10,12 +10,11 @@ use Rattle.osi_base.specs.declared.unit.Offered.{Offered}
 use Rattle.osi_base.specs.declared.unit.Offered.TheVariants.{Taken as WasTaken, Dropped}
 use Rattle.osi_base.specs.declared.unit.Unit.{Unit as CarriedUnit}
 use Rattle.osi_base.specs.declared.unit.Wish.{Wish}
-use Rattle.osi_journal.specs.RawLawful.{raw_address}
-use Rattle.osi_journal.specs.declared.cause.Refused.{Refused}
-use Rattle.osi_journal.specs.declared.cause.Refused.TheVariants as refusals
-use Rattle.osi_journal.specs.declared.cause.Standing.TheVariants.{Ended}
-use Rattle.osi_journal.specs.declared.event.Event.{Event}
-use Rattle.osi_journal.specs.declared.event.Event.TheVariants as events
+use Rattle.script_journal.specs.RawLawful.{raw_address}
+use Rattle.script_journal.specs.declared.cause.Refused.{Refused}
+use Rattle.script_journal.specs.declared.cause.Refused.TheVariants as refusals
+use Rattle.script_journal.specs.declared.event.Event.{Event}
+use Rattle.script_journal.specs.declared.event.Event.TheVariants as events
 use Rattle.net_world.specs.Fifo.{IsBetween, IsFifo, queued}
 use Rattle.net_world.specs.Run.{SendsUnit, raw_unit}
 use Rattle.net_world.specs.Told.{sent_event, told}
@@ -200,7 +199,7 @@ module _ {C : Type 0} (link : C → Link (List ℕ)) (steps : C → Call (List �
   call_end : (old new : World C) (hall : Hall) (queue : List (CarriedUnit (List ℕ))) (made : List Event) (number : ℕ) (end : EndAt) (entity : Entity) (call : UserCall) (ended : Bool) → Known old hall queue → queue ≡ []
       → AllByRecursion IsUndropped made → end_numbered old.ends number ≡ Some end → entity_at old.entities end.system ≡ Some entity → IsCall call
       → has_ended (clock_of link steps old) old.ends number end entity ≡ ended → CallsEnd link steps whole old number end entity call ended made new → Answers old hall made new number call
-  call_end old new hall queue made number end entity call true s none all numbered there proper is step = Refuses (Some (refusals.WrongState Ended)) step
+  call_end old new hall queue made number end entity call true s none all numbered there proper is step = Refuses (Some refusals.Ended) step
   call_end old new hall queue made number end entity call false s none all numbered there proper is step =
       call_by old new hall queue made number end entity call (user_refusal entity end.reference call) s none all numbered there proper is refl step
 

@@ -13,9 +13,9 @@ use Rattle.osi_base.specs.declared.unit.Picked.TheVariants.{Taken as WasPicked}
 use Rattle.osi_base.specs.declared.unit.Unit.{Unit as CarriedUnit}
 use Rattle.osi_base.specs.declared.unit.Up.{Up}
 use Rattle.osi_base.specs.declared.unit.Up.TheVariants.{Unit as Came, Note as Noted}
-use Rattle.osi_journal.specs.declared.event.Event.{Event}
-use Rattle.osi_journal.specs.declared.event.Event.TheVariants as events
-use Rattle.osi_journal.specs.declared.cause.Settled.TheVariants.{Settled}
+use Rattle.script_journal.specs.declared.event.Event.{Event}
+use Rattle.script_journal.specs.declared.event.Event.TheVariants as events
+use Rattle.script_journal.specs.declared.cause.Settled.TheVariants.{Settled}
 use Rattle.net_world.specs.Fifo.{First, Hands, IsFifo, IsUser, Nothing, arrivals}
 use Rattle.net_world.specs.Told.{picked_event, told}
 use Rattle.tp4_number.specs.Number.{whole}

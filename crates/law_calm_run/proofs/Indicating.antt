@@ -8,18 +8,17 @@ use Rattle.nsap.proofs.AddressLemmas.{system_part-append}
 use Rattle.osi_base.specs.Calls.{Call, Keeps}
 use Rattle.osi_base.specs.Link.{Link}
 use Rattle.osi_base.specs.declared.unit.Unit.{Unit as CarriedUnit}
-use Rattle.osi_journal.specs.declared.cause.Refused.{Refused}
-use Rattle.osi_journal.specs.declared.event.Event.{Event}
-use Rattle.osi_journal.specs.declared.event.Event.TheVariants as events
-use Rattle.osi_journal.specs.declared.event.Indication.{Indication}
-use Rattle.osi_journal.specs.declared.event.Request.{Request}
-use Rattle.osi_script.specs.declared.line.Line.{Line}
-use Rattle.osi_script.specs.declared.line.Options.{Options as ScriptOptions}
+use Rattle.script_journal.specs.declared.cause.Refused.{Refused}
+use Rattle.script_journal.specs.declared.event.Event.{Event}
+use Rattle.script_journal.specs.declared.event.Event.TheVariants as events
+use Rattle.script_journal.specs.declared.event.Indication.{Indication}
+use Rattle.script_journal.specs.declared.event.Request.{Request}
+use Rattle.script_lines.specs.declared.line.Line.{Line}
+use Rattle.tpdu.specs.declared.service.Options.{Options}
 use Rattle.net_world.specs.Fifo.{IsFifo}
 use Rattle.tpdu.specs.Kinds.{has_number}
 use Rattle.tpdu.specs.Writing.{is_summed, kind_for}
 use Rattle.tp4_number.specs.Number.{whole}
-use Rattle.tp4_flow.specs.declared.rules.Options.{Options}
 use Rattle.tp4_flow.specs.declared.step.Sent.{Sent}
 use Rattle.tp4_conn.specs.Agreeing.{proposed_by, request as cr_of}
 use Rattle.tp4_conn.specs.End.{IsSized}
@@ -36,7 +35,7 @@ use Rattle.law_tp4_proper.proofs.Ends.{connecting_rests}
 use Rattle.law_tp4_pair.specs.Claim.{IsUndropped}
 use Rattle.law_tp4_pair.proofs.Confirming.{incoming}
 use Rattle.tp4_world.specs.Run.{Acts, BeginsAt, ConnectsBy, IsRefused, clock_of, transport_address}
-use Rattle.tp4_world.specs.Telling.{events_after, told_connect, told_options}
+use Rattle.tp4_world.specs.Telling.{events_after, told_connect}
 use Rattle.tp4_world.specs.World.{World, entity_at, latest}
 use Rattle.tp4_world.specs.declared.place.EndAt.{EndAt}
 use Rattle.tp4_world.specs.declared.place.Placed.{Placed}
@@ -219,7 +218,7 @@ module _ {C : Type 0} (link : C → Link (List ℕ)) (steps : C → Call (List �
             calling_selector = request.from_selector;
             called = m.entity.own;
             called_selector = request.to_selector;
-            options = told_options request.options;
+            options = request.options;
             octets = request.octets;
           } in (
             heard,
@@ -234,7 +233,7 @@ module _ {C : Type 0} (link : C → Link (List ℕ)) (steps : C → Call (List �
   refused_never old new asked later (Some why) r = no_refusal asked why later [] r.0
 
   module _ (timers : Timers) (first before last : World C) (script : List Line) (journal settled_by : List Event) (start : IsStart titles timers Waits first)
-      (run : IsCalmRun link steps whole titles first script journal before) (system to : ℕ) (selector called : List ℕ) (octets : List ℕ) (options : ScriptOptions) (asked : Request)
+      (run : IsCalmRun link steps whole titles first script journal before) (system to : ℕ) (selector called : List ℕ) (octets : List ℕ) (options : Options) (asked : Request)
       (c : ConnectsAndSettles link steps whole titles before system to selector called octets options asked settled_by last) where
     done : HasSettled link steps law titles Waits fifo (first_hall titles timers Waits first start link steps law fifo) journal before
     done = run_settles titles timers Waits first start link steps law fifo script journal before run

@@ -4,12 +4,12 @@ use Rattle.std.specs.List.{AllByRecursion}
 use Rattle.osi_base.specs.Calls.{Call, Keeps}
 use Rattle.osi_base.specs.Link.{Link}
 use Rattle.osi_base.specs.declared.unit.Unit.{Unit as CarriedUnit}
-use Rattle.osi_journal.specs.declared.event.Event.{Event}
-use Rattle.osi_script.specs.declared.line.Line.{Line}
-use Rattle.osi_script.specs.declared.line.Line.TheVariants as lines
+use Rattle.script_journal.specs.declared.event.Event.{Event}
+use Rattle.script_lines.specs.declared.line.Line.{Line}
+use Rattle.script_lines.specs.declared.line.Line.TheVariants as lines
 use Rattle.net_world.specs.Fifo.{IsFifo}
 use Rattle.tp4_number.specs.Number.{whole}
-use Rattle.tp4_flow.specs.declared.rules.Options.{Options}
+use Rattle.tpdu.specs.declared.service.Options.{Options}
 use Rattle.tp4_conn.specs.End.{IsSized}
 use Rattle.tp4_conn.specs.declared.call.UserCall.TheVariants as asks
 use Rattle.law_tp4_pair.specs.Calm.{IsSettledScript, Settles as IsSettledNext}

@@ -11,7 +11,7 @@ use Rattle.osi_base.specs.declared.unit.Offered.TheVariants.{Taken as WasTaken, 
 use Rattle.osi_base.specs.declared.unit.Unit.{Unit as CarriedUnit}
 use Rattle.osi_base.specs.declared.unit.Up.{Up}
 use Rattle.osi_base.specs.declared.unit.Up.TheVariants.{Unit as Came, Note as Noted}
-use Rattle.osi_journal.specs.declared.event.Event.{Event}
+use Rattle.script_journal.specs.declared.event.Event.{Event}
 use Rattle.net_world.specs.Fifo.{IsBetween, IsFifo, IsUser, NoneDropped, queued}
 use Rattle.net_world.specs.Told.{shown_at, told}
 use Rattle.tp4_flow.specs.declared.step.Sent.{Sent}

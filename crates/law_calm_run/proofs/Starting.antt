@@ -5,8 +5,8 @@ use Rattle.std.specs.List.{AllByRecursion, find}
 use Rattle.osi_base.specs.Calls.{Call, Keeps}
 use Rattle.osi_base.specs.Link.{Link}
 use Rattle.osi_base.specs.declared.unit.Unit.{Unit as CarriedUnit}
-use Rattle.osi_journal.specs.declared.event.Event.{Event}
-use Rattle.osi_script.specs.declared.line.Line.{Line}
+use Rattle.script_journal.specs.declared.event.Event.{Event}
+use Rattle.script_lines.specs.declared.line.Line.{Line}
 use Rattle.net_world.specs.Fifo.{IsFifo}
 use Rattle.tp4_number.specs.Number.{whole}
 use Rattle.tp4_conn.specs.End.{End, IsTimed}

@@ -6,16 +6,15 @@ use Rattle.std.proofs.lemmas.List.Elements.{Contains-append_left, Contains-appen
 use Rattle.osi_base.specs.Calls.{Call, Keeps}
 use Rattle.osi_base.specs.Link.{Link}
 use Rattle.osi_base.specs.declared.unit.Unit.{Unit as CarriedUnit}
-use Rattle.osi_journal.specs.Lawful.{AreEnds}
-use Rattle.osi_journal.specs.declared.cause.Refused.{Refused}
-use Rattle.osi_journal.specs.declared.event.Event.{Event}
-use Rattle.osi_journal.specs.declared.event.Event.TheVariants as events
-use Rattle.osi_script.specs.declared.line.Options.{Options as ScriptOptions}
+use Rattle.script_journal.specs.Lawful.{AreEnds}
+use Rattle.script_journal.specs.declared.cause.Refused.{Refused}
+use Rattle.script_journal.specs.declared.event.Event.{Event}
+use Rattle.script_journal.specs.declared.event.Event.TheVariants as events
+use Rattle.tpdu.specs.declared.service.Options.{Options}
 use Rattle.net_world.specs.Fifo.{IsFifo}
 use Rattle.tpdu.specs.Kinds.{has_number}
 use Rattle.tpdu.specs.Writing.{is_summed, kind_for}
 use Rattle.tp4_number.specs.Number.{whole}
-use Rattle.tp4_flow.specs.declared.rules.Options.{Options}
 use Rattle.tp4_flow.specs.declared.step.Sent.{Sent}
 use Rattle.tp4_conn.specs.Agreeing.{agreed_by, confirm, is_confirmed}
 use Rattle.tp4_conn.specs.CrWait.{confirmed}
@@ -43,7 +42,7 @@ use Rattle.tp4_conn.proofs.Agreed.{agreed_within}
 use Rattle.tp4_conn.proofs.Sizes.{agreed_sized}
 use Rattle.law_tp4_pair.proofs.Confirming.{confirms}
 use Rattle.tp4_world.specs.Run.{transport_address}
-use Rattle.tp4_world.specs.Telling.{asked_options, call_events, ends_after, events_after, told_options}
+use Rattle.tp4_world.specs.Telling.{call_events, ends_after, events_after}
 use Rattle.tp4_world.specs.World.{entity_at, latest, with_entity}
 use Rattle.tp4_world.specs.declared.place.EndAt.{EndAt}
 use Rattle.tp4_world.specs.declared.place.Placed.{Placed}
@@ -67,6 +66,7 @@ use Rattle.law_calm_service.proofs.Keeping.{has_story}
 use Rattle.law_calm_service.proofs.Partnering.{none_waits}
 use Rattle.law_calm_service.proofs.Placing.{IsWhere, party_of, where_it_stands}
 use Rattle.law_calm_service.proofs.Telling.{first_there}
+use Rattle.tpdu.specs.declared.service.EndTold.TheVariants as tells
 
 -- ---- one end
 
@@ -205,7 +205,7 @@ module _ (titles : List (List ℕ)) (timers : Timers) (laws : Laws timers (addre
   ends_are = ap (λ (h : Hall). h.ends) becomes ∙ ap (λ (a : Acted). ends_after hall.ends c.end.system a.events) acted_is
 
   -- and the line says what was agreed
-  told_is : made ≡ events.Accept (latest hall.ends c.end.system y.base.own) (told_options agreed) octets ∷ c.does.aside
+  told_is : made ≡ events.End (latest hall.ends c.end.system y.base.own) (tells.Accept agreed octets) ∷ c.does.aside
   told_is =
       c.made_is ∙ ap (λ (call : UserCall). call_events c.number call ++ c.later) call_is ∙ c.does.made_is
       ∙ ap (λ (call : UserCall). events_after hall.ends c.end.system c.entity.own (calling_at whole hall.clock c.entity c.end.reference call).events ++ c.does.aside) call_is
@@ -311,9 +311,9 @@ module _ (titles : List (List ℕ)) (timers : Timers) (laws : Laws timers (addre
         ∙ ap (λ (i : ℕ). latest hall.ends i x.base.own) system_is
         ∙ some_same _ _ (sym (s.tells.numbered.party_is k a true x o.called_party.is o.calling_is) ∙ o.caller_is)
 
-    told : Contains here (events.Confirm calling (told_options agreed) octets)
+    told : Contains here (events.End calling (tells.Confirm agreed octets))
     told =
-        let event : ℕ → Event = λ n. events.Confirm n (told_options agreed) octets in
+        let event : ℕ → Event = λ n. events.End n (tells.Confirm agreed octets) in
         let lines : here ≡ events_after next.ends meets.system meets.entity.own (moved (at hall.clock meets.entity) x.base.own (confirmed (record x.base { partner = y.base.own; credit = y.base.timers.credit; agreed = Some agreed; clock = hall.clock }) agreed octets)).events ++ meets.does.aside =
         meets.does.made_is ∙ ap (λ (d : Acted). events_after next.ends meets.system meets.entity.own d.events ++ meets.does.aside) confirms_it in
         subst (λ (n : ℕ). Contains here (event n)) number_is_calling
@@ -321,23 +321,23 @@ module _ (titles : List (List ℕ)) (timers : Timers) (laws : Laws timers (addre
         (first_there _ _))
 
   -- the settle tells it
-  confirms_then : (settled : List Event) (last : Hall) (over : Goes titles next settled last) → last.posts ≡ [] → Contains settled (events.Confirm calling (told_options agreed) octets)
+  confirms_then : (settled : List Event) (last : Hall) (over : Goes titles next settled last) → last.posts ≡ [] → Contains settled (events.End calling (tells.Confirm agreed octets))
   confirms_then settled last over none =
       let m = met_first titles next settled last over first [] posts_are none in
       let found = told of_one.0 of_one.1 m.here m.next m.meets in
-      let event : Event = events.Confirm calling (told_options agreed) octets in
+      let event : Event = events.End calling (tells.Confirm agreed octets) in
       subst (λ (es : List Event). Contains es event) (sym m.made_is) (Contains-append_right m.before (m.here ++ m.rest) event (Contains-append_left m.here m.rest event found))
 
   -- with what the line of the accept says
-  says_agreed : (given : ScriptOptions) (later : List Event) → made ≡ events.Accept called given octets ∷ later → told_options agreed ≡ given
-  says_agreed given later is = same_options _ called (told_options agreed) given c.does.aside later (sym told_is ∙ is)
+  says_agreed : (given : Options) (later : List Event) → made ≡ events.End called (tells.Accept given octets) ∷ later → agreed ≡ given
+  says_agreed given later is = same_options _ called agreed given c.does.aside later (sym told_is ∙ is)
     where
-      same_options : (n m : ℕ) (one other : ScriptOptions) (xs ys : List Event) → events.Accept n one octets ∷ xs ≡ events.Accept m other octets ∷ ys → one ≡ other
+      same_options : (n m : ℕ) (one other : Options) (xs ys : List Event) → events.End n (tells.Accept one octets) ∷ xs ≡ events.End m (tells.Accept other octets) ∷ ys → one ≡ other
       same_options n m one other xs ys is = cc is
 
 -- ---- the network over its carrier
 
-accepted_not_refused : (n : ℕ) (agreed : ScriptOptions) (octets : List ℕ) (later : List Event) (why : Refused) → events.Accept n agreed octets ∷ later ≡ events.No why ∷ [] → ⊥
+accepted_not_refused : (n : ℕ) (agreed : Options) (octets : List ℕ) (later : List Event) (why : Refused) → events.End n (tells.Accept agreed octets) ∷ later ≡ events.No why ∷ [] → ⊥
 accepted_not_refused n agreed octets later why is = cc is
 
 pub all_confirmed : {C : Type 0} (link : C → Link (List ℕ)) (steps : C → Call (List ℕ) → C → Type 0) (law : (old : C) (call : Call (List ℕ)) (new : C) → steps old call new → Keeps (link old) call (link new))
@@ -349,8 +349,8 @@ all_confirmed link steps law titles Waits fifo timers first before last script b
     let known : Stands link steps law titles Waits fifo before hall done.went.queue = stands_then link steps law titles Waits fifo begins journal before done.went in
     let story : Story timers (address_of titles) hall (begun ++ journal) = has_story titles timers Waits first start (link first.carrier).clock begun journal hall aside done.went.goes in
     let parts = all_parts IsUndropped c.later settled_by c.undropped in
-    let call : UserCall = Accept (asked_options options) octets in
-    let made : List Event = events.Accept called agreed octets ∷ c.later in
+    let call : UserCall = Accept options octets in
+    let made : List Event = events.End called (tells.Accept agreed octets) ∷ c.later in
     let took : TookCall link steps law titles Waits fifo hall made c.between called call =
     taken link steps law titles Waits fifo before c.between hall done.went.queue made called call known done.none (tt, parts.0) c.proper (accepted_not_refused called agreed octets c.later) c.accepts in
     let over = settled link steps law titles Waits fifo 0 c.between settled_by last c.settles took.next took.queue took.stands parts.1 in
@@ -360,8 +360,8 @@ all_confirmed link steps law titles Waits fifo timers first before last script b
     (subst (λ (ps : List Placed). IsWhere ps before.ends calling c.unanswered.end) known.shows.entities (where_it_stands before calling c.unanswered.end c.unanswered.stands)) in
     let proper : AreAllProper hall.entities = λ system e is. (known.kept system e is).proper in
     let proper_then : AreAllProper took.next.entities = λ system e is. (took.stands.kept system e is).proper in
-    let confirms_it = confirms_then titles timers (all_laws timers (address_of titles)) hall (begun ++ journal) proper story calling called are c.unanswered.end c.unanswered.request x_at c.unanswered.waits (asked_options options) octets made took.next
+    let confirms_it = confirms_then titles timers (all_laws timers (address_of titles)) hall (begun ++ journal) proper story calling called are c.unanswered.end c.unanswered.request x_at c.unanswered.waits options octets made took.next
     took.calls took.number_is took.call_is c.proper proper_then settled_by over.went.next over.went.goes none in
-    let says = says_agreed titles timers (all_laws timers (address_of titles)) hall (begun ++ journal) proper story calling called are c.unanswered.end c.unanswered.request x_at c.unanswered.waits (asked_options options) octets made took.next
+    let says = says_agreed titles timers (all_laws timers (address_of titles)) hall (begun ++ journal) proper story calling called are c.unanswered.end c.unanswered.request x_at c.unanswered.waits options octets made took.next
     took.calls took.number_is took.call_is c.proper proper_then agreed c.later refl in
-    subst (λ (o : ScriptOptions). Contains settled_by (events.Confirm calling o octets)) says confirms_it
+    subst (λ (o : Options). Contains settled_by (events.End calling (tells.Confirm o octets))) says confirms_it

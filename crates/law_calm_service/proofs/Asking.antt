@@ -1,9 +1,9 @@
 -- A user's call on an end, where nothing waits: the end of that number is one of an association, and what comes of the call is what the associations have
 -- to hand over.
 use Rattle.std.proofs.Common.{◌≡◌, ◌⊎◌, ℕ, ◌==◌, Bool, true, false, not, ◌||◌, List, [], ◌++◌, slice_set, Option, Some, None, refl, sym, ◌∙◌, ap, subst, inl, inr, arith}
-use Rattle.osi_journal.specs.declared.event.Event.{Event as JournalEvent}
+use Rattle.script_journal.specs.declared.event.Event.{Event as JournalEvent}
 use Rattle.tp4_number.specs.Number.{whole}
-use Rattle.tp4_flow.specs.declared.rules.Options.{Options}
+use Rattle.tpdu.specs.declared.service.Options.{Options}
 use Rattle.tp4_conn.specs.Calls.{IsCall, call_refusal}
 use Rattle.tp4_conn.specs.End.{End, IsSized, Moved, end_of}
 use Rattle.tp4_conn.specs.Table.{Called, stepped}

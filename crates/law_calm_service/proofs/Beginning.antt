@@ -6,9 +6,9 @@ use Rattle.std.proofs.lemmas.Option.{slice_get_within, get_or_from_slice_get}
 use Rattle.nsap.specs.Address.{system_part}
 use Rattle.nsap.proofs.AddressLemmas.{system_part-append}
 use Rattle.osi_base.specs.declared.unit.Unit.{Unit as CarriedUnit}
-use Rattle.osi_journal.specs.declared.event.Event.{Event}
-use Rattle.osi_journal.specs.declared.event.Event.TheVariants as events
-use Rattle.osi_journal.specs.declared.event.Indication.{Indication}
+use Rattle.script_journal.specs.declared.event.Event.{Event}
+use Rattle.script_journal.specs.declared.event.Event.TheVariants as events
+use Rattle.script_journal.specs.declared.event.Indication.{Indication}
 use Rattle.tp4_conn.specs.End.{End}
 use Rattle.tp4_conn.specs.declared.timers.Timers.{Timers}
 use Rattle.tp4_entity.specs.Entity.{Entity, end_at, there}

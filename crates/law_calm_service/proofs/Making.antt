@@ -2,9 +2,9 @@
 -- no other end's that has to keep it.
 use Rattle.std.proofs.Common.{◌≡◌, ◌⊎◌, ◌<◌, ℕ, ◌+◌, ◌==◌, Bool, true, false, if◌then◌else◌, List, [], ◌∷◌, ◌++◌, length, map, slice_get, Option, Some, None, refl, sym, ◌∙◌, ap, subst, inl, inr, arith}
 use Rattle.std.proofs.lemmas.Option.{slice_get_within}
-use Rattle.osi_journal.specs.declared.event.Event.{Event as JournalEvent}
-use Rattle.osi_journal.specs.declared.event.Event.TheVariants as events
-use Rattle.osi_journal.specs.declared.event.Request.{Request}
+use Rattle.script_journal.specs.declared.event.Event.{Event as JournalEvent}
+use Rattle.script_journal.specs.declared.event.Event.TheVariants as events
+use Rattle.script_journal.specs.declared.event.Request.{Request}
 use Rattle.tp4_flow.specs.declared.step.Sent.{Sent}
 use Rattle.tp4_conn.specs.End.{End}
 use Rattle.tp4_conn.specs.declared.states.InCrWait.{InCrWait}

@@ -1,7 +1,7 @@
 -- The TPDU that waits first is handed to the entity that it is for: the end takes it, or none does, or it is the CR that makes the called end. In each case
 -- the story of the associations stands beside the network that comes of it.
 use Rattle.std.proofs.Common.{◌≡◌, ℕ, zero, suc, ◌+◌, Bool, true, false, not, List, [], ◌∷◌, ◌++◌, length, map, slice_get, slice_set, Some, None, refl, sym, ◌∙◌, ap, subst, append-nil}
-use Rattle.osi_journal.specs.declared.event.Event.{Event as JournalEvent}
+use Rattle.script_journal.specs.declared.event.Event.{Event as JournalEvent}
 use Rattle.tp4_number.specs.Number.{whole}
 use Rattle.tp4_flow.specs.declared.step.Sent.{Sent}
 use Rattle.tp4_conn.specs.End.{End, Moved, end_of, frozen_for}

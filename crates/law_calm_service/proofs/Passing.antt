@@ -2,7 +2,7 @@
 use Rattle.std.proofs.Common.{◌≡◌, ◌≢◌, ◌⊎◌, ℕ, Bool, true, false, not, List, ◌∷◌, ◌++◌, slice_get, Some, refl, sym, ◌∙◌, ap, subst, inl, inr}
 use Rattle.std.proofs.lemmas.Bool.{cases_eq}
 use Rattle.std.proofs.lemmas.List.{append-nil}
-use Rattle.osi_journal.specs.declared.event.Event.{Event as JournalEvent}
+use Rattle.script_journal.specs.declared.event.Event.{Event as JournalEvent}
 use Rattle.tp4_flow.specs.declared.step.Sent.{Sent}
 use Rattle.tp4_conn.specs.End.{End}
 use Rattle.law_tp4_history.specs.Journals.{MakesNone}

@@ -4,7 +4,7 @@ use Rattle.std.proofs.Common.{◌≡◌, ◌≢◌, ◌==◌, ◌&&◌, ℕ, ◌
 use Rattle.std.proofs.lemmas.Bool.{eq-eqb, ne_eqb}
 use Rattle.std.proofs.lemmas.List.{append-nil}
 use Rattle.std.proofs.lemmas.Option.{slice_get_within}
-use Rattle.osi_journal.specs.declared.event.Event.{Event as JournalEvent}
+use Rattle.script_journal.specs.declared.event.Event.{Event as JournalEvent}
 use Rattle.tpdu.specs.declared.tpdu.Tpdu.{Tpdu}
 use Rattle.tp4_number.specs.Number.{whole}
 use Rattle.tp4_number.proofs.Past.{if_kept}

@@ -2,25 +2,26 @@
 -- is held back has its line.
 use Rattle.std.proofs.Common.{◌≡◌, ◌≢◌, ◌⊎◌, ℕ, false, List, [], ◌∷◌, ◌++◌, Contains, sym, ◌∙◌, ap, subst, inl, inr, append-nil, append_assoc, arith}
 use Rattle.std.proofs.lemmas.List.Elements.{All-append, Contains-append_cases, Contains-append_left, Contains-append_right, Contains-push, Contains-push_cases}
-use Rattle.osi_journal.specs.Lawful.{Marked, shown, submitted}
-use Rattle.osi_journal.specs.declared.event.Event.{Event as JournalEvent}
-use Rattle.osi_journal.specs.declared.event.Event.TheVariants as events
+use Rattle.script_journal.specs.Lawful.{Marked, shown, submitted}
+use Rattle.script_journal.specs.declared.event.Event.{Event as JournalEvent}
+use Rattle.script_journal.specs.declared.event.Event.TheVariants as events
 use Rattle.tp4_flow.specs.declared.step.EndEvent.{EndEvent}
-use Rattle.tp4_flow.specs.declared.step.HeldKind.{HeldKind}
-use Rattle.tp4_flow.specs.declared.step.HeldKind.TheVariants.{Dt, Ed}
+use Rattle.tpdu.specs.declared.service.HeldKind.{HeldKind}
+use Rattle.tpdu.specs.declared.service.HeldKind.TheVariants.{Dt, Ed}
 use Rattle.tp4_flow.specs.declared.step.What.TheVariants as whats
 use Rattle.tp4_conn.specs.Table.{Event}
 use Rattle.law_tp4_history.specs.Journals.{IsAside, MakesNone, makes_end}
 use Rattle.law_tp4_history.proofs.Appended.{shown-append, submitted-append}
 use Rattle.law_tp4_moves.specs.Lines.{given, shown_in}
 use Rattle.law_tp4_pair.specs.steps.Pairs.{IsToldIn}
-use Rattle.tp4_world.specs.Telling.{ends_after, events_after, is_urgent}
+use Rattle.tp4_world.specs.Telling.{ends_after, events_after}
 use Rattle.tp4_world.specs.World.{latest}
 use Rattle.tp4_world.specs.declared.place.EndAt.{EndAt}
 use Rattle.law_tp4_lawful.specs.steps.Acting.{first_of}
 use Rattle.law_tp4_lawful.proofs.ActsRows.{AreTold, IsTold}
 use Rattle.law_tp4_lawful.proofs.ActsTold.{ends_stay}
 use Rattle.law_tp4_lawful.proofs.ActsUnits.{given_other, given_own, made_none, shown_other, shown_own}
+use Rattle.tpdu.specs.declared.service.EndTold.TheVariants as tells
 
 -- these events tell of the end of that number: it was given these units, showed those, and told this
 pub record ActsIn (n : ℕ) (lines : List JournalEvent) (gave showed : List Marked) (told : List EndEvent) : Type 0 where
@@ -47,21 +48,21 @@ first_there x xs = Contains-append_left (x ∷ []) xs x (Contains-push [] x)
 
 module _ (system : ℕ) (address : List ℕ) (own n : ℕ) where
   held_first : (ends : List EndAt) (reference m : ℕ) (kind : HeldKind) (rest : List EndEvent) → latest ends system own ≡ n → reference ≡ own
-      → Contains (events_after ends system address (record { reference = reference; what = whats.Held kind m } ∷ rest)) (events.Held n (is_urgent kind) m)
+      → Contains (events_after ends system address (record { reference = reference; what = whats.End (tells.Held kind m) } ∷ rest)) (events.End n (tells.Held kind m))
   held_first ends reference m kind rest at same =
-      subst (λ (k : ℕ). Contains (events.Held k (is_urgent kind) m ∷ events_after ends system address rest) (events.Held n (is_urgent kind) m)) (sym (ap (latest ends system) same ∙ at))
-      (first_there (events.Held n (is_urgent kind) m) (events_after ends system address rest))
+      subst (λ (k : ℕ). Contains (events.End k (tells.Held kind m) ∷ events_after ends system address rest) (events.End n (tells.Held kind m))) (sym (ap (latest ends system) same ∙ at))
+      (first_there (events.End n (tells.Held kind m)) (events_after ends system address rest))
 
   held_in : (told : List EndEvent) (ends : List EndAt) (reference m : ℕ) (kind : HeldKind) → latest ends system own ≡ n → AreTold own told
-      → Contains told (record { reference = reference; what = whats.Held kind m }) → Contains (events_after ends system address told) (events.Held n (is_urgent kind) m)
+      → Contains told (record { reference = reference; what = whats.End (tells.Held kind m) }) → Contains (events_after ends system address told) (events.End n (tells.Held kind m))
   held_in [] ends reference m kind at are there = absurd (omega (arith, there.1))
-  held_in (first ∷ told) ends reference m kind at are there = elim (first_or_rest first told (record { reference = reference; what = whats.Held kind m }) there) [
+  held_in (first ∷ told) ends reference m kind at are there = elim (first_or_rest first told (record { reference = reference; what = whats.End (tells.Held kind m) }) there) [
     | inl same ↦
-        subst (λ (e : EndEvent). Contains (events_after ends system address (e ∷ told)) (events.Held n (is_urgent kind) m)) (sym same)
+        subst (λ (e : EndEvent). Contains (events_after ends system address (e ∷ told)) (events.End n (tells.Held kind m))) (sym same)
         (held_first ends reference m kind told at (subst (λ (e : EndEvent). IsTold own e.reference e.what) same are.0))
     | inr rest ↦
         let stays : ends_after ends system (first ∷ []) ≡ ends = ends_stay system address ends own (first ∷ []) (are.0, tt) in
-        Contains-append_right (_ ∷ []) (events_after (ends_after ends system (first ∷ [])) system address told) (events.Held n (is_urgent kind) m)
+        Contains-append_right (_ ∷ []) (events_after (ends_after ends system (first ∷ [])) system address told) (events.End n (tells.Held kind m))
         (held_in told (ends_after ends system (first ∷ [])) reference m kind (ap (λ (es : List EndAt). latest es system own) stays ∙ at) are.1 rest)
   ]
 
@@ -89,7 +90,7 @@ acts_in ends system address own n event told aside lines are at quiet is =
     showed : (j : ℕ) → shown j (here ++ aside) ≡ shown j here ++ []
     showed j = shown-append j here aside ∙ ap (λ (us : List Marked). shown j here ++ us) (quiet.units j).1
 
-    kept : (reference m : ℕ) (kind : HeldKind) → Contains told (record { reference = reference; what = whats.Held kind m }) → Contains (here ++ aside) (events.Held n (is_urgent kind) m)
+    kept : (reference m : ℕ) (kind : HeldKind) → Contains told (record { reference = reference; what = whats.End (tells.Held kind m) }) → Contains (here ++ aside) (events.End n (tells.Held kind m))
     kept reference m kind there =
-        Contains-append_left here aside (events.Held n (is_urgent kind) m)
-        (Contains-append_right (first_of n event) (events_after ends system address told) (events.Held n (is_urgent kind) m) (held_in system address own n told ends reference m kind at are there))
+        Contains-append_left here aside (events.End n (tells.Held kind m))
+        (Contains-append_right (first_of n event) (events_after ends system address told) (events.End n (tells.Held kind m)) (held_in system address own n told ends reference m kind at are there))

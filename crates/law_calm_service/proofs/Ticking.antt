@@ -1,7 +1,7 @@
 -- The clock goes on, where nothing waits; then the due end of least reference of an entity ticks, again and again, until none is due. So the associations
 -- are at the next tick, and what their ends sent waits.
 use Rattle.std.proofs.Common.{◌≡◌, ℕ, ◌+◌, Bool, true, false, List, [], ◌++◌, slice_get, slice_set, Option, Some, None, refl, sym, ◌∙◌, ap, subst, append-nil, append_assoc}
-use Rattle.osi_journal.specs.declared.event.Event.{Event as JournalEvent}
+use Rattle.script_journal.specs.declared.event.Event.{Event as JournalEvent}
 use Rattle.tp4_number.specs.Number.{whole}
 use Rattle.tp4_conn.specs.End.{End, Moved}
 use Rattle.tp4_conn.specs.Table.{Ticked, due, stepped}

@@ -6,9 +6,9 @@ use Rattle.std.proofs.lemmas.Option.{slice_get-map}
 use Rattle.osi_base.specs.Calls.{Call}
 use Rattle.osi_base.specs.Link.{Link}
 use Rattle.osi_base.specs.declared.unit.Unit.{Unit as CarriedUnit}
-use Rattle.osi_journal.specs.declared.event.Event.{Event}
-use Rattle.osi_journal.specs.declared.event.Event.TheVariants as events
-use Rattle.osi_script.specs.declared.line.Line.TheVariants as lines
+use Rattle.script_journal.specs.declared.event.Event.{Event}
+use Rattle.script_journal.specs.declared.event.Event.TheVariants as events
+use Rattle.script_lines.specs.declared.line.Line.TheVariants as lines
 use Rattle.tp4_number.specs.Number.{whole, wire}
 use Rattle.tp4_conn.specs.declared.states.InOpened.{InOpened}
 use Rattle.tp4_conn.specs.declared.states.InCrWait.{InCrWait}
@@ -30,6 +30,7 @@ use Rattle.law_calm_service.specs.steps.Confirms.{AcceptsAreConfirmed}
 use Rattle.law_calm_service.specs.Pairs.{ShowAll}
 use Rattle.law_calm_service.proofs.Continuing.{none_some, some_same}
 use Rattle.law_calm_service.proofs.Wired.{no_ends}
+use Rattle.tpdu.specs.declared.service.EndTold.TheVariants as tells
 
 -- ---- ends by their numbers
 
@@ -129,7 +130,7 @@ pub confirmed_on_wire : {C : Type 0} (link : C → Link (List ℕ)) (steps : C �
     → WholeRun link steps → WholeLine link steps → AcceptsAreConfirmed link steps whole titles Waits → AcceptsAreConfirmed link steps wire titles Waits
 confirmed_on_wire {C} link steps titles Waits whole_run whole_line confirmed timers first before last script begun journal settled calling called options agreed octets start aside run are c =
     let line = lines.Accept called options octets in
-    let made = events.Accept called agreed octets ∷ c.later in
+    let made = events.End called (tells.Accept agreed octets) ∷ c.later in
     let above = whole_run titles first script journal before (no_ends titles first.entities start.entities) run.runs in
     let accepts = whole_line titles above.0 line made c.between (subst (λ (x : World C). RunsLine link steps wire titles x line made c.between) above.2 c.accepts) in
     let settles = whole_line titles accepts.0 lines.Settle settled last (subst (λ (x : World C). RunsLine link steps wire titles x lines.Settle settled last) accepts.2 c.settles) in

@@ -3,7 +3,7 @@ use Rattle.std.proofs.Common.{◌≡◌, ◌⊎◌, inl, inr, ◌<◌, ◌≤◌
 use Rattle.std.proofs.lemmas.Bool.{cases_lt}
 use Rattle.tp4_number.specs.Number.{whole}
 use Rattle.tp4_flow.specs.declared.rules.Life.TheVariants.{Exhausted, Goes}
-use Rattle.tp4_flow.specs.declared.step.GoneCause.TheVariants.{Exhausted as Spent, Inactive}
+use Rattle.tpdu.specs.declared.service.GoneCause.TheVariants.{Exhausted as Spent, Inactive}
 use Rattle.tp4_flow.specs.declared.step.Sent.{Sent}
 use Rattle.tp4_sending.specs.Pieces.{once}
 use Rattle.tp4_sending.specs.declared.tries.Tries.{Tries}

@@ -5,7 +5,7 @@ use Rattle.tp4_number.specs.Number.{whole}
 use Rattle.tp4_number.specs.Traffic.{Traffic}
 use Rattle.tp4_flow.specs.Half.{Half}
 use Rattle.tp4_flow.specs.declared.rules.FlowRules.{FlowRules}
-use Rattle.tp4_flow.specs.declared.rules.Options.{Options}
+use Rattle.tpdu.specs.declared.service.Options.{Options}
 use Rattle.tp4_flow.specs.declared.step.Sent.{Sent}
 use Rattle.tp4_sending.specs.FlowSender.{FlowSender, block_in}
 use Rattle.tp4_conn.specs.declared.call.UserCall.{UserCall}

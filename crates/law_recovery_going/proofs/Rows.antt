@@ -11,7 +11,7 @@ use Rattle.tp4_number.proofs.Past.{if_kept}
 use Rattle.tp4_flow.specs.Half.{Half, Received, aks, ak, dt_arrival, half_after, half_granted, taken_dt, taken_ed}
 use Rattle.tp4_flow.specs.declared.rules.Life.{Life}
 use Rattle.tp4_flow.specs.declared.rules.Life.TheVariants.{Goes, Exhausted}
-use Rattle.tp4_flow.specs.declared.step.GoneCause.TheVariants.{Exhausted as Spent, Inactive}
+use Rattle.tpdu.specs.declared.service.GoneCause.TheVariants.{Exhausted as Spent, Inactive}
 use Rattle.tp4_flow.specs.declared.step.Sent.{Sent}
 use Rattle.tp4_sending.specs.FlowSender.{Sendings, acknowledged, at, life_of, submitted, ticked, urged, urgent_done}
 use Rattle.tp4_sending.specs.Pieces.{again, once}

@@ -1,7 +1,7 @@
 -- An end that leaves by itself does so in time.
 use Rattle.std.proofs.Common.{◌≡◌, inl, inr, ◌≤◌, ℕ, ◌+◌, max, Bool, List, arith}
-use Rattle.tp4_flow.specs.declared.step.GoneCause.{GoneCause}
-use Rattle.tp4_flow.specs.declared.step.GoneCause.TheVariants.{Exhausted, Inactive}
+use Rattle.tpdu.specs.declared.service.GoneCause.{GoneCause}
+use Rattle.tpdu.specs.declared.service.GoneCause.TheVariants.{Exhausted, Inactive}
 use Rattle.tp4_conn.specs.declared.states.InOpened.{InOpened}
 use Rattle.tp4_conn.specs.declared.timers.Timers.{Timers}
 use Rattle.law_tp4_pair.specs.Pair.{Asks_called, Asks_calling, Clock, Comes_back, Comes_forth, Happening, Pair, next}

@@ -6,8 +6,8 @@ use Rattle.tpdu.specs.declared.tpdu.Tpdu.TheVariants.{Dt, Ed}
 use Rattle.tp4_number.specs.Number.{whole}
 use Rattle.tp4_number.specs.declared.got.Got.TheVariants.{TooLarge}
 use Rattle.tp4_flow.specs.Half.{dt_arrival}
-use Rattle.tp4_flow.specs.declared.step.GoneCause.{GoneCause}
-use Rattle.tp4_flow.specs.declared.step.GoneCause.TheVariants.{Exhausted, Inactive}
+use Rattle.tpdu.specs.declared.service.GoneCause.{GoneCause}
+use Rattle.tpdu.specs.declared.service.GoneCause.TheVariants.{Exhausted, Inactive}
 use Rattle.tp4_flow.specs.declared.step.Sent.{Sent}
 use Rattle.tp4_sending.specs.FlowSender.{FlowSender}
 use Rattle.tp4_sending.specs.declared.tries.Tries.{Tries}

@@ -14,7 +14,7 @@ use Rattle.tp4_number.proofs.Sound.{Sound}
 use Rattle.law_tp4_recovery.specs.Views.{AreViews}
 use Rattle.tp4_flow.specs.Half.{Half}
 use Rattle.tp4_flow.specs.declared.rules.FlowRules.{FlowRules}
-use Rattle.tp4_flow.specs.declared.rules.Options.{Options}
+use Rattle.tpdu.specs.declared.service.Options.{Options}
 use Rattle.tp4_sending.specs.FlowSender.{FlowSender}
 use Rattle.tp4_sending.specs.Kept.{urgent_base}
 use Rattle.tp4_sending.specs.Pieces.{count_in, cut_at}
@@ -24,8 +24,8 @@ use Rattle.tp4_conn.specs.declared.states.InOpened.{InOpened}
 use Rattle.tp4_conn.specs.declared.timers.Timers.{Timers}
 use Rattle.tp4_conn.specs.End.{End}
 use Rattle.tp4_conn.specs.Proper.{AreOpen}
-use Rattle.osi_journal.specs.Lawful.{ArePartners, expediteds, normals, shown, submitted}
-use Rattle.osi_journal.specs.declared.event.Event.{Event}
+use Rattle.script_journal.specs.Lawful.{ArePartners, expediteds, normals, shown, submitted}
+use Rattle.script_journal.specs.declared.event.Event.{Event}
 use Rattle.law_tp4_history.specs.Ends.{Terms}
 use Rattle.law_tp4_history.specs.History.{IsPartner}
 use Rattle.law_tp4_history.specs.Line.{empty}

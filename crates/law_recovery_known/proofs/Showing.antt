@@ -2,7 +2,7 @@
 use Rattle.std.proofs.Common.{◌≡◌, inl, inr, ℕ, List, subst}
 use Rattle.osi_base.specs.Calls.{Call}
 use Rattle.osi_base.specs.Link.{Link}
-use Rattle.osi_journal.specs.declared.event.Event.{Event}
+use Rattle.script_journal.specs.declared.event.Event.{Event}
 use Rattle.tp4_conn.specs.declared.states.InOpened.{InOpened}
 use Rattle.tp4_conn.specs.declared.states.StateData.{StateData}
 use Rattle.tp4_conn.specs.declared.states.StateData.TheVariants.{Opened}

@@ -8,7 +8,7 @@ use Rattle.tp4_sending.specs.FlowSender.{FlowSender}
 use Rattle.tp4_conn.specs.declared.states.InOpened.{InOpened}
 use Rattle.tp4_conn.specs.declared.states.StateData.TheVariants.{Opened}
 use Rattle.tp4_conn.specs.declared.timers.Timers.{Timers}
-use Rattle.osi_journal.specs.declared.event.Event.{Event}
+use Rattle.script_journal.specs.declared.event.Event.{Event}
 use Rattle.law_tp4_pair.specs.Claim.{HasShown}
 use Rattle.law_tp4_pair.specs.Telling.{AreTold}
 use Rattle.law_tp4_pair.specs.steps.Pairs.{IsToldIn}

@@ -6,8 +6,8 @@ use Rattle.tp4_conn.specs.declared.states.InOpened.{InOpened}
 use Rattle.tp4_conn.specs.declared.states.StateData.TheVariants.{Opened}
 use Rattle.tp4_conn.specs.declared.timers.Timers.{Timers}
 use Rattle.tp4_entity.specs.Entity.{Entity}
-use Rattle.osi_journal.specs.Lawful.{ArePartners, shown, submitted}
-use Rattle.osi_journal.specs.declared.event.Event.{Event}
+use Rattle.script_journal.specs.Lawful.{ArePartners, shown, submitted}
+use Rattle.script_journal.specs.declared.event.Event.{Event}
 use Rattle.law_tp4_pair.specs.Pair.{IsIdle, Pair}
 use Rattle.law_recovery_steps.specs.Beginning.{AreAgreed}
 use Rattle.law_recovery_steps.specs.Known.{AreKnown}

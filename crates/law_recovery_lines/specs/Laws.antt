@@ -5,7 +5,7 @@ use Rattle.law_tp4_history.specs.Tracks.{ReachedAll, Whole, Starts, Track}
 use Rattle.law_tp4_recovery.specs.Speaking.{Knows, Speaks}
 use Rattle.law_tp4_recovery.specs.Views.{AreViews}
 use Rattle.law_recovery_lines.specs.Reached.{IsReachedLine}
-use Rattle.tp4_flow.specs.declared.rules.Options.{Options}
+use Rattle.tpdu.specs.declared.service.Options.{Options}
 use Rattle.tp4_conn.specs.declared.end_record.EndRecord.{EndRecord}
 use Rattle.tp4_conn.specs.UserWait.{user_wait_accept}
 use Rattle.law_tp4_moves.specs.Lines.{AreUntouched, Stands}

@@ -75,7 +75,7 @@ module _ (life size u : ℕ) (old : Road) (s : FlowSender) (h : Half) where
 
   -- ---- the sending half
 
-  sends_on : (now : ℕ) (dts : List ℕ) (waiting aks : List View) (acked : ℕ) (rest : List Answer) (z : Sendings) (r : Ride now s h dts waiting acked) → IsSettled z.sender
+  pub sends_on : (now : ℕ) (dts : List ℕ) (waiting aks : List View) (acked : ℕ) (rest : List Answer) (z : Sendings) (r : Ride now s h dts waiting acked) → IsSettled z.sender
       → GoesOut life size u (at now s) h r.aside (record r.aside { aks = rest }) z → aks ≡ aks_on (block_in s) rest → ((a : Answer) → Contains rest a → Contains r.aside.aks a)
       → RidesOn life size u now old s h dts aks acked z
   sends_on now dts waiting aks acked rest z r settled g are left =

@@ -180,6 +180,46 @@ quiet_in life size t1 p_clock now s t h k acked b same r young late =
     (subst (λ (f : FlowRules). LeadsUrgently (rules_by life f) (quiet a.tick) a.events a.urgent) (sym same) a.leads)
     (subst (λ (n : ℕ). Urges life (n + 1) now (record { urgent = urgently (rules_by life t.rules) a.urgent Ticks; eds = []; eas = [] }) t k [] []) (sym a.clock) r) young (omega (arith, a.clock, late))
 
+-- long enough after it, a pair that rode since then is level
+pub rides_level : (life size t1 window : ℕ) (p : Pair) (o q : InOpened) (last : Pair) (b : AreBegun life size p o q) → o.halves.sending.rules.t1 ≡ t1 → q.halves.sending.rules.t1 ≡ t1 → HaveWindow window last
+    → IsIdle last → AreLater last → p.clock + max t1 window ≤ last.clock → IsRiding life size (p.clock + 1) (one_since life size p o q b) (other_since life size p o q b) last → AreLevel last
+rides_level life size t1 window p o q last b one_t1 other_t1 windows idle later late r =
+    let both : AreRiding life size (p.clock + 1) last.clock one other (party last.calling.base) (party last.called.base) r.o r.q [] [] =
+    subst (λ (l : List Sent). AreRiding life size (p.clock + 1) last.clock one other (party last.calling.base) (party last.called.base) r.o r.q l []) idle.forth
+    (subst (λ (l : List Sent). AreRiding life size (p.clock + 1) last.clock one other (party last.calling.base) (party last.called.base) r.o r.q last.forth l) idle.back r.both) in
+    let mine : IsUndue last.clock last.calling.base r.o =
+    undue last.clock last.calling.base r.o both.there.fed.is_open (subst (λ (stage : StateData). IsInTime (due last.calling.base stage) (last.clock + 1)) r.calling later.0) in
+    let theirs : IsUndue last.clock last.called.base r.q =
+    undue last.clock last.called.base r.q both.here.fed.is_open (subst (λ (stage : StateData). IsInTime (due last.called.base stage) (last.clock + 1)) r.called later.1) in
+    let mine_t1 : r.o.halves.sending.rules.t1 ≡ t1 = ap (λ (f : FlowRules). f.t1) both.ours.sending ∙ one_t1 in
+    let theirs_t1 : r.q.halves.sending.rules.t1 ≡ t1 = ap (λ (f : FlowRules). f.t1) both.theirs.sending ∙ other_t1 in
+    let mine_young : IsYoung t1 last.clock r.o.halves.sending.urgent.out =
+    subst (λ (t : ℕ). IsYoung t last.clock r.o.halves.sending.urgent.out) mine_t1
+    (eds_young last.clock last.calling.base r.o both.there.fed.is_open (subst (λ (stage : StateData). IsInTime (due last.calling.base stage) (last.clock + 1)) r.calling later.0)) in
+    let their_young : IsYoung t1 last.clock r.q.halves.sending.urgent.out =
+    subst (λ (t : ℕ). IsYoung t last.clock r.q.halves.sending.urgent.out) theirs_t1
+    (eds_young last.clock last.called.base r.q both.here.fed.is_open (subst (λ (stage : StateData). IsInTime (due last.called.base stage) (last.clock + 1)) r.called later.1)) in
+    record {
+      o = r.o;
+      q = r.q;
+      calling = r.calling;
+      called = r.called;
+      there = level_in life size t1 window last.clock r.q.acked (road_of p.clock o.halves.sending.numbers q.halves.receiving b.there.aside).traffic r.o.halves.sending r.q.halves.receiving
+          (past_for life size o.halves.sending r.o.halves.sending (road_of p.clock o.halves.sending.numbers q.halves.receiving b.there.aside).traffic both.ours.sending b.there.past) both.there
+          (subst (λ (t : ℕ). AreYoung t last.clock r.o.halves.sending.window) mine_t1 mine.young) (omega (arith, theirs.spoke, (windows r.o r.q r.calling r.called).1)) late
+          (quiet_in life size t1 p.clock last.clock o.halves.sending r.o.halves.sending q.halves.receiving r.q.halves.receiving q.acked b.there both.ours.sending both.there_eds mine_young (omega (arith, late)));
+      here = level_in life size t1 window last.clock r.o.acked (road_of p.clock q.halves.sending.numbers o.halves.receiving b.here.aside).traffic r.q.halves.sending r.o.halves.receiving
+          (past_for life size q.halves.sending r.q.halves.sending (road_of p.clock q.halves.sending.numbers o.halves.receiving b.here.aside).traffic both.theirs.sending b.here.past) both.here
+          (subst (λ (t : ℕ). AreYoung t last.clock r.q.halves.sending.window) theirs_t1 theirs.young) (omega (arith, mine.spoke, (windows r.o r.q r.calling r.called).0)) late
+          (quiet_in life size t1 p.clock last.clock q.halves.sending r.q.halves.sending o.halves.receiving r.o.halves.receiving o.acked b.here both.theirs.sending both.here_eds their_young (omega (arith, late)));
+    }
+  where
+    one : Since
+    one = since life p.clock o.halves.sending q.halves.receiving b.there.aside b.there.asked.urgent
+
+    other : Since
+    other = since life p.clock q.halves.sending o.halves.receiving b.here.aside b.here.asked.urgent
+
 -- from the next tick on
 ticks_rest : (life size t1 window : ℕ) (p : Pair) (o q : InOpened) (calling called : Bool) (happenings : List Happening) (last : Pair) → AreBegun life size p o q
     → o.halves.sending.rules.t1 ≡ t1 → q.halves.sending.rules.t1 ≡ t1 → HaveWindow window last
@@ -190,7 +230,7 @@ ticks_rest life size t1 window p o q calling called happenings last b one_t1 oth
       | inl left ↦ inl (parted_after (next p (Clock calling called)) last happenings left leads.1)
       | inr on ↦ elim (leads_on life size (p.clock + 1) one other (next p (Clock calling called)) happenings last on leads.1) [
         | inl left ↦ inl left
-        | inr r ↦ inr (level r)
+        | inr r ↦ inr (rides_level life size t1 window p o q last b one_t1 other_t1 windows idle later late r)
       ]
     ]
   where
@@ -199,38 +239,6 @@ ticks_rest life size t1 window p o q calling called happenings last b one_t1 oth
 
     other : Since
     other = since life p.clock q.halves.sending o.halves.receiving b.here.aside b.here.asked.urgent
-
-    level : IsRiding life size (p.clock + 1) one other last → AreLevel last
-    level r =
-        let both : AreRiding life size (p.clock + 1) last.clock one other (party last.calling.base) (party last.called.base) r.o r.q [] [] =
-        subst (λ (l : List Sent). AreRiding life size (p.clock + 1) last.clock one other (party last.calling.base) (party last.called.base) r.o r.q l []) idle.forth
-        (subst (λ (l : List Sent). AreRiding life size (p.clock + 1) last.clock one other (party last.calling.base) (party last.called.base) r.o r.q last.forth l) idle.back r.both) in
-        let mine : IsUndue last.clock last.calling.base r.o =
-        undue last.clock last.calling.base r.o both.there.fed.is_open (subst (λ (stage : StateData). IsInTime (due last.calling.base stage) (last.clock + 1)) r.calling later.0) in
-        let theirs : IsUndue last.clock last.called.base r.q =
-        undue last.clock last.called.base r.q both.here.fed.is_open (subst (λ (stage : StateData). IsInTime (due last.called.base stage) (last.clock + 1)) r.called later.1) in
-        let mine_t1 : r.o.halves.sending.rules.t1 ≡ t1 = ap (λ (f : FlowRules). f.t1) both.ours.sending ∙ one_t1 in
-        let theirs_t1 : r.q.halves.sending.rules.t1 ≡ t1 = ap (λ (f : FlowRules). f.t1) both.theirs.sending ∙ other_t1 in
-        let mine_young : IsYoung t1 last.clock r.o.halves.sending.urgent.out =
-        subst (λ (t : ℕ). IsYoung t last.clock r.o.halves.sending.urgent.out) mine_t1
-        (eds_young last.clock last.calling.base r.o both.there.fed.is_open (subst (λ (stage : StateData). IsInTime (due last.calling.base stage) (last.clock + 1)) r.calling later.0)) in
-        let their_young : IsYoung t1 last.clock r.q.halves.sending.urgent.out =
-        subst (λ (t : ℕ). IsYoung t last.clock r.q.halves.sending.urgent.out) theirs_t1
-        (eds_young last.clock last.called.base r.q both.here.fed.is_open (subst (λ (stage : StateData). IsInTime (due last.called.base stage) (last.clock + 1)) r.called later.1)) in
-        record {
-          o = r.o;
-          q = r.q;
-          calling = r.calling;
-          called = r.called;
-          there = level_in life size t1 window last.clock r.q.acked (road_of p.clock o.halves.sending.numbers q.halves.receiving b.there.aside).traffic r.o.halves.sending r.q.halves.receiving
-              (past_for life size o.halves.sending r.o.halves.sending (road_of p.clock o.halves.sending.numbers q.halves.receiving b.there.aside).traffic both.ours.sending b.there.past) both.there
-              (subst (λ (t : ℕ). AreYoung t last.clock r.o.halves.sending.window) mine_t1 mine.young) (omega (arith, theirs.spoke, (windows r.o r.q r.calling r.called).1)) late
-              (quiet_in life size t1 p.clock last.clock o.halves.sending r.o.halves.sending q.halves.receiving r.q.halves.receiving q.acked b.there both.ours.sending both.there_eds mine_young (omega (arith, late)));
-          here = level_in life size t1 window last.clock r.o.acked (road_of p.clock q.halves.sending.numbers o.halves.receiving b.here.aside).traffic r.q.halves.sending r.o.halves.receiving
-              (past_for life size q.halves.sending r.q.halves.sending (road_of p.clock q.halves.sending.numbers o.halves.receiving b.here.aside).traffic both.theirs.sending b.here.past) both.here
-              (subst (λ (t : ℕ). AreYoung t last.clock r.q.halves.sending.window) theirs_t1 theirs.young) (omega (arith, mine.spoke, (windows r.o r.q r.calling r.called).0)) late
-              (quiet_in life size t1 p.clock last.clock q.halves.sending r.q.halves.sending o.halves.receiving r.o.halves.receiving o.acked b.here both.theirs.sending both.here_eds their_young (omega (arith, late)));
-        }
 
 -- ---- before the next tick
 

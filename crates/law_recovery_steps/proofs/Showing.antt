@@ -3,7 +3,7 @@ use Rattle.std.proofs.Common.{◌≡◌, ℕ, List, [], ◌∷◌, ◌++◌, len
 use Rattle.tp4_flow.specs.Half.{Half}
 use Rattle.tp4_sending.specs.FlowSender.{FlowSender}
 use Rattle.tp4_sending.specs.declared.tries.Tries.{Tries}
-use Rattle.osi_journal.specs.Lawful.{expediteds}
+use Rattle.script_journal.specs.Lawful.{expediteds}
 use Rattle.law_tp4_pair.specs.Pair.{Account, Pair, back_units, forth_units}
 use Rattle.law_tp4_pair.specs.steps.Carrying.{AreLeft, Carries}
 use Rattle.law_tp4_pair.specs.steps.Rest.{AreAtRest, IsAtRest, IsShown}

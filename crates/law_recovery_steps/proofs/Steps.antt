@@ -15,7 +15,7 @@ use Rattle.tp4_flow.specs.declared.rules.FlowRules.{FlowRules}
 use Rattle.tp4_flow.specs.declared.rules.Life.{Life}
 use Rattle.tp4_flow.specs.declared.rules.Life.TheVariants.{Goes, Exhausted}
 use Rattle.tp4_flow.specs.declared.step.Sent.{Sent}
-use Rattle.tp4_flow.specs.declared.step.What.TheVariants.{Window as WindowTold}
+use Rattle.tpdu.specs.declared.service.EndTold.TheVariants.{Window as WindowTold}
 use Rattle.tp4_sending.specs.FlowSender.{Sendings, acknowledged, at, life_of, submitted, ticked, urged, urgent_done}
 use Rattle.tp4_conn.specs.declared.call.UserCall.{UserCall}
 use Rattle.tp4_conn.specs.declared.call.UserCall.TheVariants.{Accept, Refuse, Normal, Urgent, Window, Disconnect}

@@ -1,7 +1,7 @@
 -- What is known of two ends at a tick at which nothing waits is what a pair begins with, where two things more are known of them: that they agreed, and that each number
 -- that was sent has a piece (X.224, class 4: connection establishment, segmentation).
 use Rattle.std.specs.Prelude.{◌≡◌, ◌≤◌}
-use Rattle.tp4_flow.specs.declared.rules.Options.{Options}
+use Rattle.tpdu.specs.declared.service.Options.{Options}
 use Rattle.tp4_sending.specs.FlowSender.{FlowSender}
 use Rattle.tp4_sending.specs.Pieces.{end_of}
 use Rattle.tp4_conn.specs.declared.states.InOpened.{InOpened}

@@ -5,7 +5,7 @@ use Rattle.tp4_number.specs.Formats.{most_of}
 use Rattle.tp4_number.specs.Expedited.{LeadsUrgently, Ticks, Urgent, UrgentEvent, quiet, urgently}
 use Rattle.tp4_number.specs.Traffic.{Answer, Tick, after}
 use Rattle.tp4_flow.specs.Half.{Half}
-use Rattle.tp4_flow.specs.declared.rules.Options.{Options}
+use Rattle.tpdu.specs.declared.service.Options.{Options}
 use Rattle.tp4_sending.specs.Kept.{urgent_base}
 use Rattle.tp4_sending.specs.FlowSender.{FlowSender}
 use Rattle.tp4_sending.specs.Settled.{IsSettled}

@@ -5,7 +5,7 @@ use Rattle.std.specs.List.{sum_by}
 use Rattle.tp4_flow.specs.Half.{Half}
 use Rattle.tp4_sending.specs.FlowSender.{FlowSender}
 use Rattle.tp4_sending.specs.Pieces.{count_in}
-use Rattle.osi_journal.specs.Lawful.{expediteds, normals}
+use Rattle.script_journal.specs.Lawful.{expediteds, normals}
 use Rattle.law_tp4_history.proofs.Complete.{AllFull, Complete}
 use Rattle.law_tp4_pair.specs.Pair.{Account}
 

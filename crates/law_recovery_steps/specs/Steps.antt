@@ -3,7 +3,7 @@ use Rattle.std.specs.Prelude.{◌≡◌, ◌⊎◌, ℕ, List, ◌++◌}
 use Rattle.law_tp4_recovery.specs.Recovering.{Road}
 use Rattle.law_tp4_recovery.specs.Urgent.{UrgentRoad}
 use Rattle.tp4_flow.specs.declared.rules.FlowRules.{FlowRules}
-use Rattle.tp4_flow.specs.declared.rules.Options.{Options}
+use Rattle.tpdu.specs.declared.service.Options.{Options}
 use Rattle.tp4_flow.specs.declared.step.Sent.{Sent}
 use Rattle.tp4_conn.specs.declared.states.InOpened.{InOpened}
 use Rattle.tp4_conn.specs.declared.states.StateData.TheVariants.{Opened}

@@ -12,7 +12,7 @@ use Rattle.law_tp4_credit.specs.Giving.{AllGive, GivesCredit}
 use Rattle.tp4_entity.specs.Entity.{Acted, Entity, end_at}
 use Rattle.tp4_entity.specs.Step.{restarted}
 use Rattle.tp4_entity.proofs.Restarts.{none_stands}
-use Rattle.osi_journal.specs.declared.event.Event.{Event}
+use Rattle.script_journal.specs.declared.event.Event.{Event}
 use Rattle.law_tp4_history.specs.Ends.{Offer}
 use Rattle.law_tp4_history.specs.History.{History}
 use Rattle.law_tp4_history.specs.Tracks.{Whole}

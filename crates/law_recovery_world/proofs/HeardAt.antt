@@ -13,8 +13,8 @@ use Rattle.tp4_conn.specs.Matching.{is_match}
 use Rattle.tp4_conn.specs.Table.{Took}
 use Rattle.law_recovery_ends.specs.Knowing.{HasHeard}
 use Rattle.tp4_entity.specs.Entity.{Entity, end_at}
-use Rattle.osi_journal.specs.Lawful.{ArePartners}
-use Rattle.osi_journal.specs.declared.event.Event.{Event}
+use Rattle.script_journal.specs.Lawful.{ArePartners}
+use Rattle.script_journal.specs.declared.event.Event.{Event}
 use Rattle.law_tp4_history.specs.Ends.{Terms}
 use Rattle.law_tp4_history.specs.History.{IsPartner}
 use Rattle.law_tp4_history.specs.Tracks.{Whole}

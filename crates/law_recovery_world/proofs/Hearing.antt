@@ -15,8 +15,8 @@ use Rattle.tp4_conn.specs.declared.halves.Halves.{Halves}
 use Rattle.tp4_conn.specs.declared.timers.Timers.{Timers}
 use Rattle.law_recovery_ends.specs.Knowing.{HasHeard}
 use Rattle.law_recovery_ends.specs.Lines.{WasSaid}
-use Rattle.osi_journal.specs.Lawful.{ArePartners}
-use Rattle.osi_journal.specs.declared.event.Event.{Event}
+use Rattle.script_journal.specs.Lawful.{ArePartners}
+use Rattle.script_journal.specs.declared.event.Event.{Event}
 use Rattle.law_tp4_history.specs.Ends.{Ak, Body, Flow, Tpdu}
 use Rattle.law_tp4_history.specs.Tracks.{IsNumbered, Noted, Whole}
 use Rattle.law_tp4_history.specs.History.{IsPartner}

@@ -7,8 +7,8 @@ use Rattle.tp4_conn.specs.declared.halves.Halves.{Halves}
 use Rattle.tp4_conn.specs.declared.states.StateData.{StateData}
 use Rattle.tp4_conn.specs.declared.states.StateData.TheVariants.{CrWait, WaitBeforeClose, UserWait, AkWait, Opened, Closing, Frozen}
 use Rattle.law_recovery_ends.specs.Knowing.{HasHeard, IsFreshView, RowKnows, ViewIn}
-use Rattle.osi_journal.specs.Lawful.{ArePartners}
-use Rattle.osi_journal.specs.declared.event.Event.{Event as Told}
+use Rattle.script_journal.specs.Lawful.{ArePartners}
+use Rattle.script_journal.specs.declared.event.Event.{Event as Told}
 use Rattle.law_tp4_history.specs.Ends.{Ak, Offer}
 use Rattle.law_tp4_history.specs.Tracks.{Whole}
 use Rattle.law_tp4_lawful.specs.References.{halves_at}

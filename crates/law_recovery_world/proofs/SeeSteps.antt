@@ -23,8 +23,8 @@ use Rattle.tp4_entity.specs.Entity.{Acted, Entity, at, end_at, moved, with_end}
 use Rattle.tp4_entity.specs.References.{least_free}
 use Rattle.tp4_entity.specs.Step.{call_of, calling, calling_end, connecting, first_due, kept_end, ticking, ticking_at, ticking_end}
 use Rattle.tp4_entity.proofs.Standings.{free_least}
-use Rattle.osi_journal.specs.Lawful.{ArePartners}
-use Rattle.osi_journal.specs.declared.event.Event.{Event as Told}
+use Rattle.script_journal.specs.Lawful.{ArePartners}
+use Rattle.script_journal.specs.declared.event.Event.{Event as Told}
 use Rattle.law_tp4_history.specs.Ends.{Offer}
 use Rattle.law_tp4_history.specs.Tracks.{Whole}
 use Rattle.tp4_world.specs.Telling.{ends_after, events_after}

@@ -9,7 +9,7 @@ use Rattle.tp4_conn.specs.declared.timers.Timers.{Timers}
 use Rattle.law_tp4_credit.specs.Giving.{EventGives}
 use Rattle.law_recovery_ends.proofs.Knowing.{row_knows}
 use Rattle.tp4_entity.specs.Entity.{Entity, end_at, with_end}
-use Rattle.osi_journal.specs.declared.event.Event.{Event as Told}
+use Rattle.script_journal.specs.declared.event.Event.{Event as Told}
 use Rattle.law_tp4_history.specs.Ends.{Offer}
 use Rattle.law_tp4_history.specs.Tracks.{Whole}
 use Rattle.tp4_world.specs.Telling.{ends_after}

@@ -14,8 +14,8 @@ use Rattle.tp4_conn.specs.declared.halves.Halves.{Halves}
 use Rattle.law_tp4_credit.specs.Giving.{GivesCredit}
 use Rattle.tp4_entity.specs.Unit.{EndsWith, Separates}
 use Rattle.law_tp4_proper.specs.Rest.{AreInTime, AreProper}
-use Rattle.osi_journal.specs.Lawful.{ArePartners}
-use Rattle.osi_journal.specs.declared.event.Event.{Event}
+use Rattle.script_journal.specs.Lawful.{ArePartners}
+use Rattle.script_journal.specs.declared.event.Event.{Event}
 use Rattle.law_tp4_history.specs.Ends.{Times}
 use Rattle.law_tp4_history.specs.Journals.{Written}
 use Rattle.law_tp4_history.specs.Tracks.{IsNothing, Whole}

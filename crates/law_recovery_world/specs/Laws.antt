@@ -14,8 +14,8 @@ use Rattle.tp4_conn.specs.declared.timers.Timers.{Timers}
 use Rattle.law_tp4_credit.specs.Giving.{EventGives, Gives}
 use Rattle.law_recovery_ends.specs.Knowing.{HasHeard, StageKnows}
 use Rattle.tp4_entity.specs.Entity.{Entity}
-use Rattle.osi_journal.specs.declared.event.Event.{Event}
-use Rattle.osi_journal.specs.Lawful.{ArePartners}
+use Rattle.script_journal.specs.declared.event.Event.{Event}
+use Rattle.script_journal.specs.Lawful.{ArePartners}
 use Rattle.law_tp4_history.specs.Tracks.{Whole}
 use Rattle.tp4_world.specs.World.{World, entity_at}
 use Rattle.law_tp4_lawful.specs.Called.{AreHonestCalls}

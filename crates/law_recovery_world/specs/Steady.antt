@@ -22,7 +22,7 @@ use Rattle.law_recovery_ends.specs.Knowing.{StageKnows}
 use Rattle.law_recovery_ends.specs.Due.{HasTried}
 use Rattle.tp4_entity.specs.Entity.{Entity, end_at}
 use Rattle.tp4_entity.specs.Unit.{EndsWith, Separates}
-use Rattle.osi_journal.specs.declared.event.Event.{Event}
+use Rattle.script_journal.specs.declared.event.Event.{Event}
 use Rattle.tp4_world.specs.World.{entity_at, World}
 use Rattle.tp4_world.specs.declared.place.Placed.{Placed}
 use Rattle.law_tp4_lawful.specs.Called.{AreHonestCalls}

@@ -2,9 +2,9 @@
 use Rattle.std.proofs.Common.{◌≡◌, ℕ, ◌+◌, ◌<◌, ◌≤◌, List, [], ◌∷◌, ◌++◌, length, get_or, Some, refl, sym, ◌∙◌, ap, subst, arith, append_assoc, length-append}
 use Rattle.std.specs.Prelude.{slice_get}
 use Rattle.std.specs.List.{Contains}
-use Rattle.osi_journal.specs.declared.event.Event.{Event}
-use Rattle.osi_journal.specs.declared.event.Event.TheVariants.{Joined}
-use Rattle.osi_journal.specs.Lawful.{AreEnds, AreQueues, IsFront, IsQueue, Marked, Normal, Expedited, befores, expediteds, normals, shown, submitted}
+use Rattle.script_journal.specs.declared.event.Event.{Event}
+use Rattle.script_journal.specs.declared.event.Event.TheVariants.{Joined}
+use Rattle.script_journal.specs.Lawful.{AreEnds, AreQueues, IsFront, IsQueue, Marked, Normal, Expedited, befores, expediteds, normals, shown, submitted}
 use Rattle.law_relay.specs.Through.{IsMarkedFront, IsCalled, IsThrough, Relays}
 use Rattle.law_tp4_history.proofs.Marks.{befores_kept, expediteds-append, normals-append}
 

@@ -2,15 +2,16 @@
 use Rattle.std.proofs.Common.{◌≡◌, ◌⊎◌, inl, inr, ℕ, zero, suc, ◌+◌, ◌<◌, ◌≤◌, Bool, true, false, List, [], ◌∷◌, ◌++◌, Some, None, refl, sym, ◌∙◌, ap, subst, arith}
 use Rattle.std.specs.Prelude.{if◌then◌else◌, slice_get}
 use Rattle.std.proofs.lemmas.Bool.{cases_order, false≢true}
-use Rattle.osi_journal.specs.declared.cause.Refused.TheVariants as refused
-use Rattle.osi_journal.specs.declared.event.Event.{Event}
-use Rattle.osi_journal.specs.declared.event.Event.TheVariants as events
-use Rattle.osi_journal.specs.declared.event.Event.TheVariants.{Connect, Incoming}
-use Rattle.osi_journal.specs.declared.event.Indication.{Indication}
-use Rattle.osi_journal.specs.declared.event.Request.{Request}
-use Rattle.osi_journal.specs.Lawful.{AreEnds, AreQueues, HasPartner, IsLatest, IsLawful, IsOf, IsQueue, KeepsSilence, Lawful, Makes, MakesAt, Marked, Normal, Expedited, Partner, shown, submitted}
-use Rattle.osi_journal.specs.RawLawful.{clock_after, clock_from, tick_after}
+use Rattle.script_journal.specs.declared.cause.Refused.TheVariants as refused
+use Rattle.script_journal.specs.declared.event.Event.{Event}
+use Rattle.script_journal.specs.declared.event.Event.TheVariants as events
+use Rattle.script_journal.specs.declared.event.Event.TheVariants.{Connect, Incoming}
+use Rattle.script_journal.specs.declared.event.Indication.{Indication}
+use Rattle.script_journal.specs.declared.event.Request.{Request}
+use Rattle.script_journal.specs.Lawful.{AreEnds, AreQueues, HasPartner, IsLatest, IsLawful, IsOf, IsQueue, KeepsSilence, Lawful, Makes, MakesAt, Marked, Normal, Expedited, Partner, shown, submitted}
+use Rattle.script_journal.specs.RawLawful.{clock_after, clock_from, tick_after}
 use Rattle.law_relay.specs.Notes.{is_note, plain}
+use Rattle.tpdu.specs.declared.service.EndTold.TheVariants as tells
 
 -- ---- units
 
@@ -23,8 +24,8 @@ submitted_plain end (event ∷ journal) = submitted_plain end journal
 
 shown_plain : (end : ℕ) (journal : List Event) → shown end (plain journal) ≡ shown end journal
 shown_plain end [] = refl
-shown_plain end (events.Got at octets ∷ journal) = rw (shown_plain end journal) refl
-shown_plain end (events.Urgent at octets ∷ journal) = rw (shown_plain end journal) refl
+shown_plain end (events.End at (tells.Got octets) ∷ journal) = rw (shown_plain end journal) refl
+shown_plain end (events.End at (tells.Urgent octets) ∷ journal) = rw (shown_plain end journal) refl
 shown_plain end (events.No refused.Relayed ∷ journal) = shown_plain end journal
 shown_plain end (event ∷ journal) = shown_plain end journal
 

@@ -1,8 +1,8 @@
 -- A journal without what a relay notes in it.
 use Rattle.std.specs.Prelude.{Bool, true, false, if◌then◌else◌, List, [], ◌∷◌}
-use Rattle.osi_journal.specs.declared.cause.Refused.TheVariants as refused
-use Rattle.osi_journal.specs.declared.event.Event.{Event}
-use Rattle.osi_journal.specs.declared.event.Event.TheVariants as events
+use Rattle.script_journal.specs.declared.cause.Refused.TheVariants as refused
+use Rattle.script_journal.specs.declared.event.Event.{Event}
+use Rattle.script_journal.specs.declared.event.Event.TheVariants as events
 
 -- the event is a note of a relay, or the answer to a line about an end of a relay
 abbrev pub is_note : Event → Bool

@@ -1,9 +1,9 @@
 -- What is shown behind a relay (X.214, two queues for each connection).
 use Rattle.std.specs.Prelude.{◌≡◌, ℕ, List, []}
 use Rattle.std.specs.List.{Contains}
-use Rattle.osi_journal.specs.Lawful.{AreEnds, IsQueue, shown, submitted}
-use Rattle.osi_journal.specs.declared.event.Event.{Event}
-use Rattle.osi_journal.specs.declared.event.Event.TheVariants as events
+use Rattle.script_journal.specs.Lawful.{AreEnds, IsQueue, shown, submitted}
+use Rattle.script_journal.specs.declared.event.Event.{Event}
+use Rattle.script_journal.specs.declared.event.Event.TheVariants as events
 pub use Rattle.tp4_relay.specs.Relaying.{AreJoinedOnce, IsCalled, IsMarkedFront, Relays, RelaysUnits}
 
 -- for each pair, of the partners of its two ends: what the one shows is what the other submitted, as for partners; and nothing where one is missing

@@ -1,8 +1,8 @@
 //! What holds of the journals in which a relay takes part (X.214, model of the transport service).
 
 ghost use Rattle.std.specs.Prelude.{List, ℕ};
-ghost use Rattle.osi_journal.specs.Lawful.{AreQueues, Lawful};
-ghost use Rattle.osi_journal.specs.declared.event.Event.{Event};
+ghost use Rattle.script_journal.specs.Lawful.{AreQueues, Lawful};
+ghost use Rattle.script_journal.specs.declared.event.Event.{Event};
 ghost use Rattle.law_relay.specs.Notes.{plain};
 ghost use Rattle.law_relay.specs.Through.{IsThrough, Relays};
 

@@ -4,15 +4,14 @@ use Rattle.std.proofs.Common.{◌≡◌, ◌∙◌, ℕ, Bool, true, false, List
 use Rattle.std.specs.Prelude.{◌==◌}
 use Rattle.nsap.specs.Address.{selector_of}
 use Rattle.osi_base.specs.declared.note.Note.{Note}
-use Rattle.osi_base.specs.declared.note.Note.TheVariants as notes
 use Rattle.osi_base.specs.declared.unit.Up.{Up}
 use Rattle.osi_base.specs.declared.unit.Up.TheVariants.{Unit as Came, Note as Noted}
-use Rattle.net_world.specs.Told.{note_event, told}
-use Rattle.osi_journal.specs.declared.event.Event.{Event}
-use Rattle.osi_journal.specs.declared.event.Event.TheVariants as events
-use Rattle.osi_script.specs.declared.line.Line.{Line}
-use Rattle.osi_script.specs.declared.line.Line.TheVariants as lines
-use Rattle.osi_setup.specs.SetUp.{SetUp, nothing_said, set_up, timers_of, titles_of as titles_said}
+use Rattle.net_world.specs.Told.{told}
+use Rattle.script_journal.specs.declared.event.Event.{Event}
+use Rattle.script_journal.specs.declared.event.Event.TheVariants as events
+use Rattle.script_lines.specs.declared.line.Line.{Line}
+use Rattle.script_lines.specs.declared.line.Line.TheVariants as lines
+use Rattle.script_setup.specs.SetUp.{SetUp, nothing_said, set_up, timers_of, titles_of as titles_said}
 use Rattle.script_world.specs.Plays.{IsOfSetUp}
 use Rattle.script_world.specs.declared.play.World.TheVariants.{SettingUp}
 use Rattle.script_world.specs.steps.Made.{net_law}
@@ -23,16 +22,8 @@ use Rattle.law_run.specs.World.{NetDoes, SetsUp, StartsUp, World, WorldRun, Worl
 use Rattle.law_run.specs.steps.WorldLaws.{started}
 use Rattle.law_run.proofs.Lawful.{runs_on}
 
-note_asks : (note : Note) (more : List Event) → asked_in more ≡ [] → asked_in (note_event note ∷ more) ≡ []
-note_asks (notes.Frame number lan system snpa length) more none = none
-note_asks (notes.DropFrame system) more none = none
-note_asks (notes.Discard system reason place) more none = none
-note_asks (notes.Report system reason place) more none = none
-note_asks (notes.Alien system) more none = none
-note_asks (notes.BadHello system cause) more none = none
-note_asks (notes.HelloFull system) more none = none
-note_asks (notes.Hello system kind snpa) more none = none
-note_asks (notes.Redirect system address snpa) more none = none
+note_asks : (note : Note) (more : List Event) → asked_in more ≡ [] → asked_in (events.Net note ∷ more) ≡ []
+note_asks note more none = none
 
 shown_asks : (test : Bool) (system : ℕ) (from octets : List ℕ) (more : List Event) → asked_in more ≡ [] → asked_in ((if test then events.Unit system from octets ∷ [] else []) ++ more) ≡ []
 shown_asks true system from octets more none = none

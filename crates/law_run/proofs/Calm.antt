@@ -16,14 +16,14 @@ use Rattle.law_clnp_fifo.proofs.Carried.{begins_empty, is_fifo}
 use Rattle.net_world.specs.Fifo.{IsFifo}
 use Rattle.net_world.specs.Told.{told}
 use Rattle.tp4_number.specs.Number.{whole, wire}
-use Rattle.osi_journal.specs.declared.event.Event.{Event}
-use Rattle.osi_journal.specs.declared.event.Event.TheVariants as events
-use Rattle.osi_script.specs.declared.line.Line.{Line}
-use Rattle.osi_script.specs.declared.line.Line.TheVariants as lines
-use Rattle.osi_script.specs.Grammar.{line_read}
-use Rattle.osi_script.specs.Known.{Declared}
-use Rattle.osi_script.specs.Script.{Says}
-use Rattle.osi_journal.specs.Lawful.{AreEnds}
+use Rattle.script_journal.specs.declared.event.Event.{Event}
+use Rattle.script_journal.specs.declared.event.Event.TheVariants as events
+use Rattle.script_lines.specs.declared.line.Line.{Line}
+use Rattle.script_lines.specs.declared.line.Line.TheVariants as lines
+use Rattle.script_lines.specs.Grammar.{line_read}
+use Rattle.script_lines.specs.Known.{Declared}
+use Rattle.script_lines.specs.Script.{Says}
+use Rattle.script_journal.specs.Lawful.{AreEnds}
 use Rattle.law_tp4_history.specs.Journals.{IsAside}
 use Rattle.law_tp4_pair.specs.Claim.{AllShown, IsUndropped}
 use Rattle.law_tp4_lawful.proofs.WorldAsides.{AreQuiet, are_aside, told_quiet}
@@ -42,10 +42,10 @@ use Rattle.law_calm_service.specs.Pairs.{ShowAll}
 use Rattle.law_tp4_pair.proofs.ShownIn.{claims}
 use Rattle.law_calm_service.proofs.Wired.{indicated_on_wire}
 use Rattle.law_calm_service.proofs.WiredEnds.{confirmed_on_wire, shown_on_wire}
-use Rattle.osi_setup.specs.Fitting.{IsWell}
-use Rattle.osi_setup.specs.SetUp.{SetUp, timers_of, titles_of as titles_said}
+use Rattle.script_setup.specs.Fitting.{IsWell}
+use Rattle.script_setup.specs.SetUp.{SetUp, timers_of, titles_of as titles_said}
 use Rattle.script_world.specs.Entities.{entities_of}
-use Rattle.osi_setup.proofs.Entities.{are_timed}
+use Rattle.script_setup.proofs.Entities.{are_timed}
 use Rattle.law_run.specs.Calm.{AcceptsAreConfirmed, ActsCalmly, ConnectsAreIndicated, RunsCalmly}
 use Rattle.law_run.specs.Laws.{ServesCalmScripts}
 use Rattle.law_run.specs.World.{TransportNet, Net, NetDoes, Started, World, WorldRuns, WorldStep, link_of_net, running, titles_of}
@@ -62,6 +62,7 @@ use Rattle.law_run.proofs.Lawful.{RunsOn, runs_on}
 use Rattle.script_world.specs.steps.Placing.{present}
 use Rattle.law_setup.proofs.Proper.{script_proper}
 use Rattle.tp4_conn.specs.declared.timers.Timers.{Timers}
+use Rattle.tpdu.specs.declared.service.EndTold.TheVariants as tells
 
 -- ---- networks that run
 
@@ -268,8 +269,8 @@ module _ (whole_run : WholeRun link_of_net NetDoes) (whole_line : WholeLine link
   accepts_confirmed : (texts : List (List ℕ)) (script : List Line) (names : Declared) (before : List Event) (titles : List (List ℕ)) (old : TransportNet) → RunsCalmly texts script names before titles old
       → AcceptsAreConfirmed names before titles old
   accepts_confirmed texts script names before titles old r new between text calling called options agreed octets read partners waits later settled last a =
-      let c = calmly texts script names before titles old r (all_parts IsUndropped before (events.Accept called agreed octets ∷ (later ++ settled)) a.undropped).0 in
-      let h = has_acted texts script names new before titles (titles_said c.setup) old between r c.titles_are text (lines.Accept called options octets) read (events.Accept called agreed octets) later settled last a in
+      let c = calmly texts script names before titles old r (all_parts IsUndropped before (events.End called (tells.Accept agreed octets) ∷ (later ++ settled)) a.undropped).0 in
+      let h = has_acted texts script names new before titles (titles_said c.setup) old between r c.titles_are text (lines.Accept called options octets) read (events.End called (tells.Accept agreed octets)) later settled last a in
       confirmed_on_wire link_of_net NetDoes (titles_said c.setup) (queue_of c.setup c.calm) whole_run whole_line
       (all_confirmed link_of_net NetDoes net_law (titles_said c.setup) (queue_of c.setup c.calm) (fifo c.setup c.calm))
       (timers_of c.setup.life c.setup.limits) c.first old h.new c.script c.begun c.rest settled calling called options agreed octets c.start c.aside c.run

@@ -5,15 +5,15 @@ use Rattle.std.specs.Prelude.{slice_get, slice_set}
 use Rattle.std.specs.List.{AllByRecursion, Contains}
 use Rattle.std.proofs.lemmas.List.{append-nil, map-append}
 use Rattle.nsap.specs.declared.port.Hop.{Hop}
-use Rattle.osi_script.specs.declared.settings.Key.{Key}
-use Rattle.osi_script.specs.declared.settings.Key.TheVariants as keys
-use Rattle.osi_script.specs.declared.line.Line.{Line}
-use Rattle.osi_script.specs.declared.line.Line.TheVariants as lines
+use Rattle.script_lines.specs.declared.settings.Key.{Key}
+use Rattle.script_lines.specs.declared.settings.Key.TheVariants as keys
+use Rattle.script_lines.specs.declared.line.Line.{Line}
+use Rattle.script_lines.specs.declared.line.Line.TheVariants as lines
 use Rattle.law_tp4_pair.specs.Calm.{end_systems, intermediate_systems, lans}
-use Rattle.osi_setup.specs.SetUp.{System, SetUp, hop_to, routed, selected, set_up, titles_of, with_route, with_selector, with_time}
-use Rattle.osi_setup.specs.Fitting.{Fits}
-use Rattle.osi_setup.proofs.Elements.{push}
-use Rattle.osi_setup.proofs.Wellness.{set_titles}
+use Rattle.script_setup.specs.SetUp.{System, SetUp, hop_to, routed, selected, set_up, titles_of, with_route, with_selector, with_time}
+use Rattle.script_setup.specs.Fitting.{Fits}
+use Rattle.script_setup.proofs.Elements.{push}
+use Rattle.script_setup.proofs.Wellness.{set_titles}
 
 -- each line fits the set-up that the lines before it made
 abbrev pub SetBy : SetUp → List Line → SetUp → Type 0

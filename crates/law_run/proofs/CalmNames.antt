@@ -2,18 +2,18 @@
 use Rattle.std.proofs.Common.{◌≡◌, ℕ, zero, suc, ◌<◌, ◌≤◌, true, false, List, [], ◌∷◌, length, Option, Some, None, refl, sym, ◌∙◌, subst, arith}
 use Rattle.std.specs.Prelude.{slice_get}
 use Rattle.std.specs.List.{AllByRecursion}
-use Rattle.osi_script.specs.declared.words.Word.{Word}
-use Rattle.osi_script.specs.declared.words.Word.TheVariants as words
-use Rattle.osi_script.specs.declared.line.Line.{Line}
-use Rattle.osi_script.specs.declared.field_values.FieldValues.{FieldValues}
-use Rattle.osi_script.specs.Grammar.{Reading, declared_by, line_for, new_system, next_number}
-use Rattle.osi_script.specs.Known.{Declared, KnownSystem, changed, end_of as end_of_known, with_changed}
-use Rattle.osi_script.specs.Names.{AreIntermediateSystems, NamesDeclared}
-use Rattle.osi_script.specs.Table.{row_of}
+use Rattle.script_lines.specs.declared.words.Word.{Word}
+use Rattle.script_lines.specs.declared.words.Word.TheVariants as words
+use Rattle.script_lines.specs.declared.line.Line.{Line}
+use Rattle.script_lines.specs.declared.field_values.FieldValues.{FieldValues}
+use Rattle.script_lines.specs.Grammar.{Reading, declared_by, line_for, new_system, next_number}
+use Rattle.script_lines.specs.Known.{Declared, KnownSystem, changed, end_of as end_of_known, with_changed}
+use Rattle.script_lines.specs.Names.{AreIntermediateSystems, NamesDeclared}
+use Rattle.script_lines.specs.Table.{row_of}
 use Rattle.law_tp4_pair.specs.Calm.{intermediate_systems}
-use Rattle.osi_setup.specs.Fitting.{Fits}
-use Rattle.osi_setup.specs.SetUp.{SetUp}
-use Rattle.osi_setup.proofs.Elements.{push, set_each}
+use Rattle.script_setup.specs.Fitting.{Fits}
+use Rattle.script_setup.specs.SetUp.{SetUp}
+use Rattle.script_setup.proofs.Elements.{push, set_each}
 use Rattle.script_bench.specs.steps.Came.{Came, Idle, Worded}
 
 -- ---- end systems alone

@@ -18,13 +18,13 @@ use Rattle.esis_tables.specs.Rows.{no_rows}
 use Rattle.clnp_system.specs.Node.{fresh_node}
 use Rattle.clnp_system.specs.Setting.{Setting, is_group}
 use Rattle.law_clnp_fifo.specs.Calm.{AreBoth, IsCalmNet, end_row}
-use Rattle.osi_script.specs.declared.line.Line.{Line}
-use Rattle.osi_script.specs.declared.line.Line.TheVariants as lines
+use Rattle.script_lines.specs.declared.line.Line.{Line}
+use Rattle.script_lines.specs.declared.line.Line.TheVariants as lines
 use Rattle.law_tp4_pair.specs.Calm.{IsOneLan, IsRouted}
-use Rattle.osi_setup.specs.SetUp.{System, SetUp, end_at, nodes_from, nodes_of, nothing_said, ports_at, rows_at, setting_of, titles_of}
-use Rattle.osi_setup.specs.Fitting.{AreTitlesApart, IsWell}
-use Rattle.osi_setup.proofs.Elements.{each}
-use Rattle.osi_setup.proofs.Ports.{number_is}
+use Rattle.script_setup.specs.SetUp.{System, SetUp, end_at, nodes_from, nodes_of, nothing_said, ports_at, rows_at, setting_of, titles_of}
+use Rattle.script_setup.specs.Fitting.{AreTitlesApart, IsWell}
+use Rattle.script_setup.proofs.Elements.{each}
+use Rattle.script_setup.proofs.Ports.{number_is}
 use Rattle.law_run.proofs.CalmDrawn.{AreEndSystems, SetBy, are_ends}
 use Rattle.law_run.proofs.CalmRows.{HasRow, IsDrawn, ports_named, rows_distinct, rows_drawn, rows_named}
 

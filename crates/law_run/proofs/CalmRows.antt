@@ -9,13 +9,13 @@ use Rattle.lan_bag.specs.declared.setup.PortRow.{PortRow}
 use Rattle.clnp_route.specs.declared.table.RouteRow.{RouteRow}
 use Rattle.clnp_route.specs.Routes.{AreDistinct, has_prefix}
 use Rattle.clnp_route.proofs.Prefixes.{distinct_push}
-use Rattle.osi_script.specs.declared.line.Line.{Line}
-use Rattle.osi_script.specs.declared.line.Line.TheVariants as lines
-use Rattle.osi_setup.specs.SetUp.{System, SetUp, end_at, hop_to, hop_title, port_on, ports_at, routed, rows_at, rows_of, selected, set_up, with_route, with_selector}
-use Rattle.osi_setup.specs.Fitting.{Fits}
-use Rattle.osi_setup.proofs.Elements.{push, there}
-use Rattle.osi_setup.proofs.Ports.{own_is, own_port, ports_push}
-use Rattle.osi_setup.proofs.Wellness.{rows_more, set_rows}
+use Rattle.script_lines.specs.declared.line.Line.{Line}
+use Rattle.script_lines.specs.declared.line.Line.TheVariants as lines
+use Rattle.script_setup.specs.SetUp.{System, SetUp, end_at, hop_to, hop_title, port_on, ports_at, routed, rows_at, rows_of, selected, set_up, with_route, with_selector}
+use Rattle.script_setup.specs.Fitting.{Fits}
+use Rattle.script_setup.proofs.Elements.{push, there}
+use Rattle.script_setup.proofs.Ports.{own_is, own_port, ports_push}
+use Rattle.script_setup.proofs.Wellness.{rows_more, set_rows}
 use Rattle.law_run.proofs.CalmDrawn.{SetBy, first_or_behind, time_leaves}
 
 -- ---- ports

@@ -2,20 +2,20 @@
 use Rattle.std.proofs.Common.{◌≡◌, ◌⊎◌, ℕ, ◌≤◌, Bool, true, false, List, [], ◌∷◌, ◌++◌, length, inl, inr, refl, sym, ◌∙◌, ap, subst, arith}
 use Rattle.std.specs.List.{AllByRecursion}
 use Rattle.lan_bag.specs.declared.setup.Lan.{Lan}
-use Rattle.osi_journal.specs.declared.event.Event.{Event}
-use Rattle.osi_script.specs.declared.line.Line.{Line}
-use Rattle.osi_script.specs.declared.line.Line.TheVariants as lines
-use Rattle.osi_script.specs.Grammar.{Reading}
-use Rattle.osi_script.specs.Known.{Declared, nothing_declared}
-use Rattle.osi_script.specs.Names.{NamesDeclared}
-use Rattle.osi_script.specs.Script.{Says}
-use Rattle.osi_script.proofs.LineNames.{line_named}
+use Rattle.script_journal.specs.declared.event.Event.{Event}
+use Rattle.script_lines.specs.declared.line.Line.{Line}
+use Rattle.script_lines.specs.declared.line.Line.TheVariants as lines
+use Rattle.script_lines.specs.Grammar.{Reading}
+use Rattle.script_lines.specs.Known.{Declared, nothing_declared}
+use Rattle.script_lines.specs.Names.{NamesDeclared}
+use Rattle.script_lines.specs.Script.{Says}
+use Rattle.script_lines.proofs.LineNames.{line_named}
 use Rattle.law_tp4_pair.specs.Calm.{IsCalmScript, IsSettledScript, intermediate_systems}
 use Rattle.law_calm_run.specs.Run.{IsUnrouted}
-use Rattle.osi_setup.specs.Fitting.{IsWell}
-use Rattle.osi_setup.specs.SetUp.{SetUp, nothing_said, set_up}
-use Rattle.osi_setup.proofs.Wellness.{nothing_well, well_after}
-use Rattle.osi_script.specs.declared.words.Dialect.TheVariants as dialects
+use Rattle.script_setup.specs.Fitting.{IsWell}
+use Rattle.script_setup.specs.SetUp.{SetUp, nothing_said, set_up}
+use Rattle.script_setup.proofs.Wellness.{nothing_well, well_after}
+use Rattle.script_lines.specs.declared.words.Dialect.TheVariants as dialects
 use Rattle.law_run.specs.World.{SetsUp, Started, WorldRun, WorldRuns, is_start}
 use Rattle.law_run.specs.steps.WorldLaws.{started}
 use Rattle.law_run.specs.World.{World}

@@ -1,12 +1,12 @@
 -- Whatever part of the octets was run, its lines are a script and the network ran them; so where no injection was taken the journal is lawful, and a system
 -- that began again is silent in any case.
 use Rattle.std.proofs.Common.{◌≡◌, ℕ, List, None}
-use Rattle.osi_journal.specs.declared.event.Event.{Event}
-use Rattle.osi_journal.specs.Lawful.{KeepsSilence, Lawful}
-use Rattle.osi_script.specs.declared.line.Line.{Line}
-use Rattle.osi_script.specs.Known.{Declared, nothing_declared}
-use Rattle.osi_script.specs.Script.{Says}
-use Rattle.osi_script.specs.declared.words.Dialect.TheVariants as dialects
+use Rattle.script_journal.specs.declared.event.Event.{Event}
+use Rattle.script_journal.specs.Lawful.{KeepsSilence, Lawful}
+use Rattle.script_lines.specs.declared.line.Line.{Line}
+use Rattle.script_lines.specs.Known.{Declared, nothing_declared}
+use Rattle.script_lines.specs.Script.{Says}
+use Rattle.script_lines.specs.declared.words.Dialect.TheVariants as dialects
 use Rattle.script_bench.proofs.Claimed.{shows}
 use Rattle.script_world.proofs.Headline.{front_lawful, front_silent}
 use Rattle.law_run.specs.Transcript.{ShowsSilence, ShowsWhatWasSubmitted}

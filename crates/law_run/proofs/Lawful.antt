@@ -3,15 +3,15 @@ use Rattle.std.proofs.Common.{◌≡◌, ℕ, Bool, true, false, List, [], ◌�
 use Rattle.tp4_number.specs.Number.{wire}
 use Rattle.tp4_world.specs.Run.{RunsLines}
 use Rattle.tp4_world.proofs.Shown.{sent_where_honest}
-use Rattle.osi_journal.specs.declared.event.Event.{Event}
-use Rattle.osi_journal.specs.declared.event.Event.TheVariants as events
-use Rattle.osi_journal.specs.RawLawful.{RawLawful}
-use Rattle.osi_script.specs.declared.words.Dialect.TheVariants as dialects
-use Rattle.osi_script.specs.declared.line.Line.{Line}
-use Rattle.osi_script.specs.Injecting.{HasNoInject}
-use Rattle.osi_script.specs.Known.{Declared, nothing_declared}
-use Rattle.osi_script.specs.Script.{Says}
-use Rattle.osi_setup.specs.SetUp.{SetUp, nothing_said, set_up, timers_of, titles_of as titles_said}
+use Rattle.script_journal.specs.declared.event.Event.{Event}
+use Rattle.script_journal.specs.declared.event.Event.TheVariants as events
+use Rattle.script_journal.specs.RawLawful.{RawLawful}
+use Rattle.script_lines.specs.declared.words.Dialect.TheVariants as dialects
+use Rattle.script_lines.specs.declared.line.Line.{Line}
+use Rattle.script_lines.specs.Injecting.{HasNoInject}
+use Rattle.script_lines.specs.Known.{Declared, nothing_declared}
+use Rattle.script_lines.specs.Script.{Says}
+use Rattle.script_setup.specs.SetUp.{SetUp, nothing_said, set_up, timers_of, titles_of as titles_said}
 use Rattle.script_world.specs.Entities.{entities_of}
 use Rattle.law_run.specs.World.{TransportNet, NetDoes, SetsUp, StartsUp, World, WorldRun, WorldRuns, is_start, life_of, link_of_net, running, strays_of, titles_of}
 use Rattle.script_world.specs.ClnpNets.{MakesNet}

@@ -6,9 +6,9 @@ use Rattle.osi_base.specs.Ends.{Took, Put, IsAtEnd}
 use Rattle.line_loop.specs.Course.{Runs}
 use Rattle.line_loop.specs.Limits.{most_octets, most_read}
 use Rattle.line_loop.specs.Outcome.{Outcome}
-use Rattle.osi_journal.specs.declared.event.Event.{Event}
-use Rattle.osi_journal.specs.declared.event.Event.TheVariants as events
-use Rattle.osi_journal.specs.RawLawful.{RawLawful}
+use Rattle.script_journal.specs.declared.event.Event.{Event}
+use Rattle.script_journal.specs.declared.event.Event.TheVariants as events
+use Rattle.script_journal.specs.RawLawful.{RawLawful}
 use Rattle.script_bench.proofs.Given.{outcome_run, ran_script}
 use Rattle.script_bench.proofs.Runs.{filled_run as filled_of, script_run as run_of}
 use Rattle.law_run.specs.Bench.{Bench, FillsJournal, first_bench, bench_meaning, most_events}

@@ -1,7 +1,7 @@
 -- The machine of scripts, over the network: what a line of a script does to the names declared, to the network and to the journal.
 use Rattle.std.specs.Prelude.{ℕ, List}
-use Rattle.osi_journal.specs.declared.event.Event.{Event}
-use Rattle.osi_script.specs.declared.cause.LineFault.{LineFault}
+use Rattle.script_journal.specs.declared.event.Event.{Event}
+use Rattle.script_lines.specs.declared.cause.LineFault.{LineFault}
 use Rattle.line_loop.specs.Meaning.{Meaning}
 use Rattle.script_bench.specs.Bench.{Bench as BenchOf, FillsJournal as FillsJournalOf, RefusesLine as RefusesLineOf, RunsText as RunsTextOf, bench_meaning as meaning_of, first_bench as first_of}
 pub use Rattle.script_bench.specs.Bench.{most_events}

@@ -3,26 +3,27 @@
 -- stopped at its number, nothing is missing then.
 use Rattle.std.specs.Prelude.{◌≡◌, ℕ, List, [], ◌∷◌, ◌++◌, Ok, Some}
 use Rattle.std.specs.List.{AllByRecursion, Contains}
-use Rattle.osi_journal.specs.Lawful.{AreEnds}
-use Rattle.osi_journal.specs.declared.event.Event.{Event}
-use Rattle.osi_journal.specs.declared.event.Event.TheVariants as events
-use Rattle.osi_journal.specs.declared.event.Indication.{Indication}
-use Rattle.osi_journal.specs.declared.event.Request.{Request}
-use Rattle.osi_script.specs.declared.line.Line.{Line}
-use Rattle.osi_script.specs.declared.line.Line.TheVariants as lines
-use Rattle.osi_script.specs.declared.line.Options.{Options}
-use Rattle.osi_script.specs.Grammar.{line_read}
-use Rattle.osi_script.specs.Known.{Declared, nothing_declared}
-use Rattle.osi_script.specs.Script.{Says}
+use Rattle.script_journal.specs.Lawful.{AreEnds}
+use Rattle.script_journal.specs.declared.event.Event.{Event}
+use Rattle.script_journal.specs.declared.event.Event.TheVariants as events
+use Rattle.script_journal.specs.declared.event.Indication.{Indication}
+use Rattle.script_journal.specs.declared.event.Request.{Request}
+use Rattle.script_lines.specs.declared.line.Line.{Line}
+use Rattle.script_lines.specs.declared.line.Line.TheVariants as lines
+use Rattle.tpdu.specs.declared.service.Options.{Options}
+use Rattle.script_lines.specs.Grammar.{line_read}
+use Rattle.script_lines.specs.Known.{Declared, nothing_declared}
+use Rattle.script_lines.specs.Script.{Says}
 use Rattle.law_tp4_pair.specs.Calm.{IsCalmScript}
 use Rattle.law_tp4_pair.specs.Claim.{AllShown, IsUndropped}
 use Rattle.tp4_entity.specs.Entity.{Entity}
 use Rattle.tp4_world.specs.World.{entity_at}
 use Rattle.law_calm_run.specs.Service.{IsIndicationOf, MayIndicate, end_at_number}
 use Rattle.law_calm_service.specs.Confirms.{IsUnanswered}
-use Rattle.osi_script.specs.declared.words.Dialect.TheVariants as dialects
+use Rattle.script_lines.specs.declared.words.Dialect.TheVariants as dialects
 use Rattle.law_run.specs.World.{TransportNet, World, WorldRun, WorldRuns, WorldStep, link_of_net, running}
 use Rattle.tp4_conn.specs.declared.timers.Timers.{Timers}
+use Rattle.tpdu.specs.declared.service.EndTold.TheVariants as tells
 
 -- the texts are the lines of a calm script, and by the run of the network they have this journal and lead to this network
 pub record RunsCalmly (texts : List (List ℕ)) (script : List Line) (names : Declared) (journal : List Event) (titles : List (List ℕ)) (last : TransportNet) : Type 0 where
@@ -54,8 +55,8 @@ ConnectsAreIndicated names before titles old = (new : Declared) (between : Trans
 abbrev pub AcceptsAreConfirmed : Declared → List Event → List (List ℕ) → TransportNet → Type 0
 AcceptsAreConfirmed names before titles old = (new : Declared) (between : TransportNet) (text : List ℕ) (calling called : ℕ) (options agreed : Options) (octets : List ℕ)
     → line_read names text ≡ Ok (record { line = lines.Accept called options octets; names = new }) → AreEnds before calling called → IsUnanswered old calling
-    → (later settled : List Event) (last : World) → ActsCalmly titles before old (lines.Accept called options octets) (events.Accept called agreed octets) later between settled last
-    → Contains settled (events.Confirm calling agreed octets)
+    → (later settled : List Event) (last : World) → ActsCalmly titles before old (lines.Accept called options octets) (events.End called (tells.Accept agreed octets)) later between settled last
+    → Contains settled (events.End calling (tells.Confirm agreed octets))
 
 -- The network serves its users after these lines. As long as nothing was dropped: each two partner ends that are both Opened have shown all that the other submitted,
 -- of expedited and of normal units, but for a number that the number rule holds back at that tick, which has its `held` line, or, of normal units, for want of

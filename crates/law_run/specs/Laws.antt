@@ -1,21 +1,21 @@
 -- What holds of every run of the network; and what a reader of a transcript may conclude from its text, with the names of the script: the events that he
 -- reads are those of the run, and each line that asks something has its own.
 use Rattle.std.specs.Prelude.{◌≡◌, ℕ, List, None}
-use Rattle.osi_journal.specs.declared.event.Event.{Event}
-use Rattle.osi_script.specs.declared.line.Line.{Line}
+use Rattle.script_journal.specs.declared.event.Event.{Event}
+use Rattle.script_lines.specs.declared.line.Line.{Line}
 use Rattle.line_loop.specs.Course.{Runs}
-use Rattle.osi_script.specs.Known.{nothing_declared, Declared}
-use Rattle.osi_script.specs.Script.{Says}
-use Rattle.osi_script.specs.declared.words.Dialect.TheVariants as dialects
+use Rattle.script_lines.specs.Known.{nothing_declared, Declared}
+use Rattle.script_lines.specs.Script.{Says}
+use Rattle.script_lines.specs.declared.words.Dialect.TheVariants as dialects
 use Rattle.law_run.specs.Bench.{Bench, first_bench, bench_meaning}
 use Rattle.law_run.specs.Calm.{ServesUsers, RunsCalmly}
 use Rattle.law_run.specs.World.{TransportNet, frozen_of, strays_of, titles_of, WorldRun, World}
-use Rattle.osi_journal.specs.Lawful.{Lawful}
+use Rattle.script_journal.specs.Lawful.{Lawful}
 use Rattle.law_run.specs.Transcript.{IsScriptRun, IsRun}
-use Rattle.osi_journal.specs.Injective.{EachTold}
-use Rattle.osi_journal.specs.Showing.{EachTellsRightly}
-use Rattle.osi_journal.specs.Told.{journal_text}
-use Rattle.osi_script.specs.Tags.{HaveNames, tags_of}
+use Rattle.script_journal.specs.Injective.{EachTold}
+use Rattle.script_journal.specs.Showing.{EachTellsRightly}
+use Rattle.script_journal.specs.Told.{journal_text}
+use Rattle.script_lines.specs.Tags.{HaveNames, tags_of}
 use Rattle.tp4_world.specs.Asked.{AreAsked}
 
 -- ---- scripts

@@ -1,23 +1,23 @@
 -- What `run` writes for a script: the transcript of the run of the network, and what is claimed of it.
 use Rattle.std.specs.Prelude.{◌≡◌, ℕ, ◌+◌, ◌<◌, ◌≤◌, List, length, take, None}
 use Rattle.osi_base.specs.declared.status.Status.{Status}
-use Rattle.osi_journal.specs.declared.event.Event.{Event}
-use Rattle.osi_script.specs.declared.line.Line.{Line}
+use Rattle.script_journal.specs.declared.event.Event.{Event}
+use Rattle.script_lines.specs.declared.line.Line.{Line}
 use Rattle.line_loop.specs.Course.{Runs}
 use Rattle.line_loop.specs.Limits.{most_octets, most_read}
 use Rattle.line_loop.specs.Outcome.{Outcome}
-use Rattle.osi_script.specs.Known.{nothing_declared}
-use Rattle.osi_script.specs.Script.{Says}
+use Rattle.script_lines.specs.Known.{nothing_declared}
+use Rattle.script_lines.specs.Script.{Says}
 use Rattle.law_tp4_pair.specs.Calm.{IsCalmScript}
 use Rattle.script_bench.specs.Claims.{AllLines, IsRun as IsRunOf, ToLimit, ToLimitAtEnd, WholeLines, lines_handled as lines_handled_of, lines_run as lines_run_of}
 pub use Rattle.script_bench.specs.Claims.{texts_in}
 use Rattle.script_bench.specs.Told.{OutcomeRun as OutcomeRunOf, RanScript as RanScriptOf}
-use Rattle.osi_script.specs.declared.words.Dialect.TheVariants as dialects
+use Rattle.script_lines.specs.declared.words.Dialect.TheVariants as dialects
 use Rattle.law_run.specs.Bench.{Bench, first_bench, bench_meaning, most_events}
 use Rattle.law_run.specs.Calm.{ServesUsers}
 use Rattle.law_run.specs.World.{TransportNet, frozen_of, life_of, running, strays_of, titles_of, world_acts, WorldRun}
-use Rattle.osi_journal.specs.Lawful.{KeepsSilence, Lawful}
-use Rattle.osi_journal.specs.RawLawful.{RawLawful}
+use Rattle.script_journal.specs.Lawful.{KeepsSilence, Lawful}
+use Rattle.script_journal.specs.RawLawful.{RawLawful}
 use Rattle.line_loop.specs.Writing.{IsPrefix}
 use Rattle.tp4_conn.specs.declared.timers.Timers.{Timers}
 

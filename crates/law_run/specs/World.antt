@@ -5,10 +5,10 @@ use Rattle.tp4_conn.specs.declared.timers.Timers.{Timers}
 use Rattle.tp4_number.specs.Number.{wire}
 use Rattle.tp4_world.specs.Run.{RunsLine, Starts}
 use Rattle.tp4_world.specs.World.{World as TransportWorld}
-use Rattle.osi_journal.specs.declared.event.Event.{Event}
-use Rattle.osi_script.specs.declared.words.Dialect.TheVariants as dialects
-use Rattle.osi_script.specs.declared.line.Line.{Line}
-use Rattle.osi_setup.specs.SetUp.{SetUp, timers_of, titles_of as titles_said}
+use Rattle.script_journal.specs.declared.event.Event.{Event}
+use Rattle.script_lines.specs.declared.words.Dialect.TheVariants as dialects
+use Rattle.script_lines.specs.declared.line.Line.{Line}
+use Rattle.script_setup.specs.SetUp.{SetUp, timers_of, titles_of as titles_said}
 use Rattle.script_world.specs.Entities.{entities_of}
 use Rattle.script_bench.specs.Acts.{Acts, RunsScript}
 pub use Rattle.script_bench.specs.Script.{is_start}

@@ -2,17 +2,17 @@
 
 ghost use Rattle.std.specs.Prelude.{◌≡◌, List, None, ℕ};
 ghost use Rattle.law_run.specs.Laws.{ServesCalmScripts, RunsScripts};
-ghost use Rattle.osi_script.specs.declared.words.Dialect.TheVariants as dialects;
+ghost use Rattle.script_lines.specs.declared.words.Dialect.TheVariants as dialects;
 ghost use Rattle.law_run.specs.Bench.{bench_meaning, first_bench};
 ghost use Rattle.line_loop.specs.Laws.{AsksSomething, OneCourse, AsksOne};
-ghost use Rattle.osi_journal.specs.declared.event.Event.{Event};
-ghost use Rattle.osi_script.specs.declared.line.Line.{Line};
-ghost use Rattle.osi_script.specs.Injecting.{HasNoInject};
-ghost use Rattle.osi_script.specs.Known.{Declared, nothing_declared};
-ghost use Rattle.osi_script.specs.Script.{Says};
+ghost use Rattle.script_journal.specs.declared.event.Event.{Event};
+ghost use Rattle.script_lines.specs.declared.line.Line.{Line};
+ghost use Rattle.script_lines.specs.Injecting.{HasNoInject};
+ghost use Rattle.script_lines.specs.Known.{Declared, nothing_declared};
+ghost use Rattle.script_lines.specs.Script.{Says};
 ghost use Rattle.law_run.specs.World.{World, WorldRun, frozen_of, life_of, strays_of, titles_of};
-ghost use Rattle.osi_journal.specs.Lawful.{KeepsSilence, Lawful};
-ghost use Rattle.osi_journal.specs.RawLawful.{RawLawful};
+ghost use Rattle.script_journal.specs.Lawful.{KeepsSilence, Lawful};
+ghost use Rattle.script_journal.specs.RawLawful.{RawLawful};
 
 use script_world::RoutedNet;
 

@@ -19,7 +19,7 @@ pub fn transcripts_tell_their_events()
     ensures one { HasOneReading }
 {
     crate::laws::ends_are_lawful();
-    osi_journal::shown_is_next();
+    script_journal::shown_is_next();
 }
 
 /// Each line that asks for a connection, or hands over a unit, has its own event or is refused; and where no strays are told, each
@@ -29,5 +29,5 @@ pub fn lines_and_events()
     ensures told { EventsTellRightly }
 {
     crate::laws::ends_are_lawful();
-    osi_journal::shown_is_next();
+    script_journal::shown_is_next();
 }

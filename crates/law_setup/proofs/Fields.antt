@@ -6,20 +6,20 @@ use Rattle.std.specs.List.{AllByRecursion, list_any}
 use Rattle.std.proofs.lemmas.Bool.Decides.{nat_tests}
 use Rattle.law_carrier_answers.specs.Answers.{AreOctets}
 use Rattle.tp4_conn.specs.End.{IsSize, IsSizedBy}
-use Rattle.osi_script.specs.declared.cause.LineCause.{LineCause}
-use Rattle.osi_script.specs.declared.cause.LineCause.TheVariants as causes
-use Rattle.osi_script.specs.declared.field_forms.TpduSize.{TpduSize}
-use Rattle.osi_script.specs.declared.words.FieldKind.{FieldKind}
-use Rattle.osi_script.specs.declared.words.FieldKind.TheVariants as forms
-use Rattle.osi_script.specs.declared.words.NameKind.TheVariants as named
-use Rattle.osi_script.specs.declared.words.WordKind.TheVariants as plain
-use Rattle.osi_script.specs.declared.field_values.FieldValues.{FieldValues}
-use Rattle.osi_script.specs.Field.{number_of, octets_of, within}
-use Rattle.osi_script.specs.Gives.{into, then_read}
-use Rattle.osi_script.specs.Grammar.{at_column, count_fault, fields_read, next_column}
-use Rattle.osi_script.specs.Known.{Declared, no_parts}
-use Rattle.osi_script.specs.Reading.{as_listed, as_preferred, field_read, is_preferred, is_size, new_selector, passing, selector_of, size_of, with_size}
-use Rattle.osi_script.specs.Table.{agreement}
+use Rattle.script_lines.specs.declared.cause.LineCause.{LineCause}
+use Rattle.script_lines.specs.declared.cause.LineCause.TheVariants as causes
+use Rattle.script_lines.specs.declared.field_forms.TpduSize.{TpduSize}
+use Rattle.script_lines.specs.declared.words.FieldKind.{FieldKind}
+use Rattle.script_lines.specs.declared.words.FieldKind.TheVariants as forms
+use Rattle.script_lines.specs.declared.words.NameKind.TheVariants as named
+use Rattle.script_lines.specs.declared.words.WordKind.TheVariants as plain
+use Rattle.script_lines.specs.declared.field_values.FieldValues.{FieldValues}
+use Rattle.script_lines.specs.Field.{number_of, octets_of, within}
+use Rattle.script_lines.specs.Gives.{into, then_read}
+use Rattle.script_lines.specs.Grammar.{at_column, count_fault, fields_read, next_column}
+use Rattle.script_lines.specs.Known.{Declared, no_parts}
+use Rattle.script_lines.specs.Reading.{as_listed, as_preferred, field_read, is_preferred, is_size, new_selector, passing, selector_of, size_of, with_size}
+use Rattle.script_lines.specs.Table.{agreement}
 use Rattle.law_setup.specs.Lines.{IsShort}
 use Rattle.law_setup.proofs.InOctets.{unit_octets}
 use Rattle.law_setup.proofs.Values.{number_within, same_parts, then_by}

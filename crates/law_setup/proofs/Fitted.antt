@@ -11,15 +11,15 @@ use Rattle.nsap.proofs.AddressLemmas.{system_part-selector_of, is_same_system-De
 use Rattle.lan_bag.specs.Rows.{same_snpa}
 use Rattle.clnp_route.specs.declared.table.RouteRow.{RouteRow}
 use Rattle.clnp_route.specs.Routes.{has_prefix}
-use Rattle.osi_script.specs.Grammar.{many_from}
-use Rattle.osi_script.specs.Known.{Declared, KnownSystem, end_of as known_end, ports_of, routes_of, selectors_of, has_snpa, has_port, is_among, is_end}
-use Rattle.osi_script.specs.Names.{AreIntermediateSystems, IsEndSystem}
-use Rattle.osi_setup.specs.declared.relay.RelayLine.{RelayLine}
-use Rattle.osi_setup.specs.SetUp.{System, SetUp, end_at, rows_at, port_on}
+use Rattle.script_lines.specs.Grammar.{many_from}
+use Rattle.script_lines.specs.Known.{Declared, KnownSystem, end_of as known_end, ports_of, routes_of, selectors_of, has_snpa, has_port, is_among, is_end}
+use Rattle.script_lines.specs.Names.{AreIntermediateSystems, IsEndSystem}
+use Rattle.script_setup.specs.declared.relay.RelayLine.{RelayLine}
+use Rattle.script_setup.specs.SetUp.{System, SetUp, end_at, rows_at, port_on}
 use Rattle.law_setup.specs.Agreeing.{AreOne, shape_of, known_shape, Shape}
-use Rattle.osi_setup.specs.Fitting.{IsWell, IsTitle, IsNewTitle, IsNewPort, IsNewRoute, IsNewPath, IsNewRelay, IsNewSelector, most_ports}
-use Rattle.osi_setup.proofs.Elements.{each, none_pass}
-use Rattle.osi_setup.proofs.Ports.{of_each, numbers_differ}
+use Rattle.script_setup.specs.Fitting.{IsWell, IsTitle, IsNewTitle, IsNewPort, IsNewRoute, IsNewPath, IsNewRelay, IsNewSelector, most_ports}
+use Rattle.script_setup.proofs.Elements.{each, none_pass}
+use Rattle.script_setup.proofs.Ports.{of_each, numbers_differ}
 use Rattle.law_setup.proofs.Relays.{RelayRead}
 use Rattle.law_setup.proofs.Values.{IsWithin, PortRead, RouteRead, TitleRead, many_left}
 

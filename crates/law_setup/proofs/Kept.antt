@@ -17,37 +17,37 @@ use Rattle.nsap.specs.declared.port.Port.{Port}
 use Rattle.lan_bag.specs.declared.setup.Lan.{Lan}
 use Rattle.lan_bag.specs.declared.setup.PortRow.{PortRow}
 use Rattle.clnp_route.specs.declared.table.RouteRow.{RouteRow}
-use Rattle.osi_script.specs.declared.cause.LineCause.TheVariants as causes
-use Rattle.osi_script.specs.declared.words.FieldKind.TheVariants as forms
-use Rattle.osi_script.specs.declared.words.NameKind.TheVariants as named
-use Rattle.osi_script.specs.declared.words.WordKind.TheVariants as plain
-use Rattle.osi_script.specs.declared.words.Word.{Word}
-use Rattle.osi_script.specs.declared.words.Word.TheVariants as words
-use Rattle.osi_script.specs.declared.line.Line.{Line}
-use Rattle.osi_script.specs.declared.line.Line.TheVariants as lines
-use Rattle.osi_script.specs.declared.field_values.FieldValues.{FieldValues}
-use Rattle.osi_script.specs.declared.settings.Key.{Key}
-use Rattle.osi_script.specs.declared.settings.Key.TheVariants as keys
-use Rattle.osi_script.specs.declared.system.LanRow.{LanRow}
-use Rattle.osi_script.specs.Grammar.{Reading, life_cause, count_fault, fields_read, is_out_of_order, limit_cause, next_number, line_for, line_read, new_port, new_system, declared_by}
-use Rattle.osi_script.specs.Known.{Declared, KnownSystem, no_parts, given_title, given_station, given_prefix, is_among, ports_of, selectors_of, with, with_changed, changed}
-use Rattle.osi_script.specs.Names.{NamesDeclared}
-use Rattle.osi_script.specs.Settings.{setting_or, with_setting}
-use Rattle.osi_script.specs.Table.{row_of}
-use Rattle.osi_script.proofs.LineNames.{line_named}
+use Rattle.script_lines.specs.declared.cause.LineCause.TheVariants as causes
+use Rattle.script_lines.specs.declared.words.FieldKind.TheVariants as forms
+use Rattle.script_lines.specs.declared.words.NameKind.TheVariants as named
+use Rattle.script_lines.specs.declared.words.WordKind.TheVariants as plain
+use Rattle.script_lines.specs.declared.words.Word.{Word}
+use Rattle.script_lines.specs.declared.words.Word.TheVariants as words
+use Rattle.script_lines.specs.declared.line.Line.{Line}
+use Rattle.script_lines.specs.declared.line.Line.TheVariants as lines
+use Rattle.script_lines.specs.declared.field_values.FieldValues.{FieldValues}
+use Rattle.script_lines.specs.declared.settings.Key.{Key}
+use Rattle.script_lines.specs.declared.settings.Key.TheVariants as keys
+use Rattle.script_lines.specs.declared.system.LanRow.{LanRow}
+use Rattle.script_lines.specs.Grammar.{Reading, life_cause, count_fault, fields_read, is_out_of_order, limit_cause, next_number, line_for, line_read, new_port, new_system, declared_by}
+use Rattle.script_lines.specs.Known.{Declared, KnownSystem, no_parts, given_title, given_station, given_prefix, is_among, ports_of, selectors_of, with, with_changed, changed}
+use Rattle.script_lines.specs.Names.{NamesDeclared}
+use Rattle.script_lines.specs.Settings.{setting_or, with_setting}
+use Rattle.script_lines.specs.Table.{row_of}
+use Rattle.script_lines.proofs.LineNames.{line_named}
 use Rattle.tp4_entity.specs.Association.{is_registered}
-use Rattle.osi_setup.specs.SetUp.{System, SetUp, end_at, hop_to, hop_title, port_on, routed, selected, selectors_at, selectors_of as registered_of, with_route, with_selector, with_time, set_up}
+use Rattle.script_setup.specs.SetUp.{System, SetUp, end_at, hop_to, hop_title, port_on, routed, selected, selectors_at, selectors_of as registered_of, with_route, with_selector, with_time, set_up}
 use Rattle.law_setup.specs.Agreeing.{AreOne, Shape, shape_of, known_shape}
 use Rattle.script_bench.specs.steps.Came.{Came, Idle, Worded, came}
-use Rattle.osi_setup.specs.Fitting.{IsWell}
+use Rattle.script_setup.specs.Fitting.{IsWell}
 use Rattle.law_setup.specs.Lines.{Kept, RunsAt}
-use Rattle.osi_setup.proofs.Elements.{There, none_pass, there, set_keeps}
+use Rattle.script_setup.proofs.Elements.{There, none_pass, there, set_keeps}
 use Rattle.law_setup.proofs.Fields.{agreed_size, all_fine}
 use Rattle.law_setup.proofs.Fitted.{as_many, path_fits, port_fits, relay_fits, route_fits, selector_fits, title_fits, turned}
-use Rattle.osi_setup.proofs.Ports.{number_is, numbers_differ, own_is, own_none, own_port, ports_push}
+use Rattle.script_setup.proofs.Ports.{number_is, numbers_differ, own_is, own_none, own_port, ports_push}
 use Rattle.law_setup.proofs.Relays.{relay_values, send_values}
 use Rattle.law_setup.proofs.Values.{lan_values, path_values, port_values, route_values, selector_values, set_values, title_values}
-use Rattle.osi_setup.proofs.Wellness.{made_hop, with_one, with_row}
+use Rattle.script_setup.proofs.Wellness.{made_hop, with_one, with_row}
 
 -- ---- one more of each
 

@@ -15,26 +15,26 @@ use Rattle.esis_tables.specs.Rows.{Rows}
 use Rattle.law_clnp_step.specs.Sound.{IsPeopled, settings_of}
 use Rattle.law_clnp_answers.specs.Beginning.{MayBegin, first_node}
 use Rattle.law_clnp_answers.specs.Standing.{IsHop, IsNsap, IsSetUp, IsSnpa}
-use Rattle.osi_script.specs.declared.words.Word.{Word}
-use Rattle.osi_script.specs.declared.words.Word.TheVariants as words
-use Rattle.osi_script.specs.declared.line.Line.{Line}
-use Rattle.osi_script.specs.declared.line.Line.TheVariants as lines
-use Rattle.osi_script.specs.declared.field_values.FieldValues.{FieldValues}
-use Rattle.osi_script.specs.declared.settings.Key.{Key}
-use Rattle.osi_script.specs.declared.settings.Key.TheVariants as keys
-use Rattle.osi_script.specs.Grammar.{Reading, count_fault, fields_read, next_number, line_for, line_read}
-use Rattle.osi_script.specs.Known.{Declared, no_parts}
-use Rattle.osi_script.specs.Table.{row_of}
-use Rattle.osi_setup.specs.SetUp.{System, SetUp, end_at, hop_title, hop_to, nodes_from, port_on, ports_at, routed, rows_at, rows_of, selected, set_up, setting_of, title_at, titles_of, with_route, with_selector, with_time}
+use Rattle.script_lines.specs.declared.words.Word.{Word}
+use Rattle.script_lines.specs.declared.words.Word.TheVariants as words
+use Rattle.script_lines.specs.declared.line.Line.{Line}
+use Rattle.script_lines.specs.declared.line.Line.TheVariants as lines
+use Rattle.script_lines.specs.declared.field_values.FieldValues.{FieldValues}
+use Rattle.script_lines.specs.declared.settings.Key.{Key}
+use Rattle.script_lines.specs.declared.settings.Key.TheVariants as keys
+use Rattle.script_lines.specs.Grammar.{Reading, count_fault, fields_read, next_number, line_for, line_read}
+use Rattle.script_lines.specs.Known.{Declared, no_parts}
+use Rattle.script_lines.specs.Table.{row_of}
+use Rattle.script_setup.specs.SetUp.{System, SetUp, end_at, hop_title, hop_to, nodes_from, port_on, ports_at, routed, rows_at, rows_of, selected, set_up, setting_of, title_at, titles_of, with_route, with_selector, with_time}
 use Rattle.script_bench.specs.steps.Came.{Came, Idle, Worded, came}
-use Rattle.osi_setup.specs.Fitting.{Fits, IsWell}
-use Rattle.osi_setup.proofs.Elements.{each, find_all, get_end, push, there}
-use Rattle.osi_setup.proofs.Ports.{at_one}
-use Rattle.osi_setup.proofs.Starting.{is_peopled, is_setting}
+use Rattle.script_setup.specs.Fitting.{Fits, IsWell}
+use Rattle.script_setup.proofs.Elements.{each, find_all, get_end, push, there}
+use Rattle.script_setup.proofs.Ports.{at_one}
+use Rattle.script_setup.proofs.Starting.{is_peopled, is_setting}
 use Rattle.law_setup.specs.Lines.{HopInOctets, IsInOctets, LineInOctets, RelayInOctets}
 use Rattle.law_setup.proofs.Fields.{all_fine}
 use Rattle.law_setup.proofs.Values.{port_values, title_values}
-use Rattle.osi_setup.proofs.Wellness.{made_hop, rows_more, rows_there, set_rows, set_titles, with_one, with_row}
+use Rattle.script_setup.proofs.Wellness.{made_hop, rows_more, rows_there, set_rows, set_titles, with_one, with_row}
 
 -- ---- lines
 

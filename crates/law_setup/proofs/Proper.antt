@@ -4,24 +4,24 @@ use Rattle.std.proofs.Common.{◌≡◌, ℕ, ◌≤◌, Bool, true, false, List
 use Rattle.std.specs.Prelude.{◌&&◌, if◌then◌else◌, nat_le}
 use Rattle.std.specs.List.{AllByRecursion}
 use Rattle.std.proofs.lemmas.Bool.Decides.{nat_tests}
-use Rattle.osi_script.specs.declared.cause.LineCause.{LineCause}
-use Rattle.osi_script.specs.declared.cause.LineCause.TheVariants as causes
-use Rattle.osi_script.specs.declared.words.FieldKind.{FieldKind}
-use Rattle.osi_script.specs.declared.words.FieldKind.TheVariants as forms
-use Rattle.osi_script.specs.declared.words.NameKind.TheVariants as named
-use Rattle.osi_script.specs.declared.words.WordKind.TheVariants as plain
-use Rattle.osi_script.specs.declared.words.Word.{Word}
-use Rattle.osi_script.specs.declared.words.Word.TheVariants as words
-use Rattle.osi_script.specs.declared.line.Line.{Line}
-use Rattle.osi_script.specs.declared.line.Line.TheVariants as lines
-use Rattle.osi_script.specs.declared.field_values.FieldValues.{FieldValues}
-use Rattle.osi_script.specs.Field.{octets_of, within}
-use Rattle.osi_script.specs.Gives.{into, then_read}
-use Rattle.osi_script.specs.Grammar.{Reading, at_column, fields_read, line_for, next_column, next_number}
-use Rattle.osi_script.specs.Known.{Declared, no_parts}
-use Rattle.osi_script.specs.Reading.{field_read, new_selector, selector_of}
-use Rattle.osi_script.specs.Script.{Says}
-use Rattle.osi_script.specs.Table.{row_of}
+use Rattle.script_lines.specs.declared.cause.LineCause.{LineCause}
+use Rattle.script_lines.specs.declared.cause.LineCause.TheVariants as causes
+use Rattle.script_lines.specs.declared.words.FieldKind.{FieldKind}
+use Rattle.script_lines.specs.declared.words.FieldKind.TheVariants as forms
+use Rattle.script_lines.specs.declared.words.NameKind.TheVariants as named
+use Rattle.script_lines.specs.declared.words.WordKind.TheVariants as plain
+use Rattle.script_lines.specs.declared.words.Word.{Word}
+use Rattle.script_lines.specs.declared.words.Word.TheVariants as words
+use Rattle.script_lines.specs.declared.line.Line.{Line}
+use Rattle.script_lines.specs.declared.line.Line.TheVariants as lines
+use Rattle.script_lines.specs.declared.field_values.FieldValues.{FieldValues}
+use Rattle.script_lines.specs.Field.{octets_of, within}
+use Rattle.script_lines.specs.Gives.{into, then_read}
+use Rattle.script_lines.specs.Grammar.{Reading, at_column, fields_read, line_for, next_column, next_number}
+use Rattle.script_lines.specs.Known.{Declared, no_parts}
+use Rattle.script_lines.specs.Reading.{field_read, new_selector, selector_of}
+use Rattle.script_lines.specs.Script.{Says}
+use Rattle.script_lines.specs.Table.{row_of}
 use Rattle.law_tp4_lawful.specs.Limits.{IsProperLine}
 use Rattle.script_bench.specs.steps.Came.{Came, Idle, Worded, came}
 use Rattle.law_setup.specs.Lines.{RunsAt}

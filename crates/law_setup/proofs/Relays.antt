@@ -2,17 +2,17 @@
 use Rattle.std.proofs.Common.{◌≡◌, ℕ, Bool, true, false, List, [], ◌∷◌, length, None, Result, Ok, Err, refl, subst, arith}
 use Rattle.std.specs.Prelude.{◌&&◌, if◌then◌else◌, nat_le, not, slice_get}
 use Rattle.std.proofs.lemmas.Bool.Decides.{nat_tests}
-use Rattle.osi_script.specs.declared.cause.LineCause.{LineCause}
-use Rattle.osi_script.specs.declared.cause.LineCause.TheVariants as causes
-use Rattle.osi_script.specs.declared.words.FieldKind.TheVariants as forms
-use Rattle.osi_script.specs.declared.words.NameKind.TheVariants as named
-use Rattle.osi_script.specs.declared.field_values.FieldValues.{FieldValues}
-use Rattle.osi_script.specs.Field.{octets_of, within}
-use Rattle.osi_script.specs.Gives.{then_read}
-use Rattle.osi_script.specs.Grammar.{count_fault, fields_read, next_column}
-use Rattle.osi_script.specs.Known.{Declared, is_among, no_parts, selectors_of}
-use Rattle.osi_script.specs.Reading.{end_system_of, new_selector, other_end_of, selector_of}
-use Rattle.osi_setup.specs.Fitting.{IsSelector}
+use Rattle.script_lines.specs.declared.cause.LineCause.{LineCause}
+use Rattle.script_lines.specs.declared.cause.LineCause.TheVariants as causes
+use Rattle.script_lines.specs.declared.words.FieldKind.TheVariants as forms
+use Rattle.script_lines.specs.declared.words.NameKind.TheVariants as named
+use Rattle.script_lines.specs.declared.field_values.FieldValues.{FieldValues}
+use Rattle.script_lines.specs.Field.{octets_of, within}
+use Rattle.script_lines.specs.Gives.{then_read}
+use Rattle.script_lines.specs.Grammar.{count_fault, fields_read, next_column}
+use Rattle.script_lines.specs.Known.{Declared, is_among, no_parts, selectors_of}
+use Rattle.script_lines.specs.Reading.{end_system_of, new_selector, other_end_of, selector_of}
+use Rattle.script_setup.specs.Fitting.{IsSelector}
 use Rattle.law_setup.proofs.Values.{not_true, same_parts, step, then_by}
 
 sized_by : (all selector : List ℕ) (b : Bool) → (nat_le 1 (length all) && nat_le (length all) 32) ≡ b → (if b then Ok all else Err causes.Range) ≡ Ok selector → IsSelector selector

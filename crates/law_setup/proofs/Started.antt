@@ -1,8 +1,8 @@
 -- Once a network runs it goes on to, and no name is declared.
 use Rattle.std.proofs.Common.{◌≡◌, ◌⊎◌, Bool, true, false, inl, inr, refl, sym, ◌∙◌, ap}
 use Rattle.std.proofs.lemmas.Bool.{false≢true}
-use Rattle.osi_script.specs.declared.line.Line.{Line}
-use Rattle.osi_script.specs.Known.{Declared}
+use Rattle.script_lines.specs.declared.line.Line.{Line}
+use Rattle.script_lines.specs.Known.{Declared}
 use Rattle.script_bench.specs.Script.{is_start, started_after}
 use Rattle.script_bench.specs.steps.Moves.{start_only, starts_not}
 

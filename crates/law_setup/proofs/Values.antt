@@ -11,22 +11,22 @@ use Rattle.nsap.specs.Text.{address_of_text, snpa_of_text}
 use Rattle.nsap.specs.declared.text.NsapFault.{NsapFault}
 use Rattle.clnp_system.specs.Setting.{is_group}
 use Rattle.lan_bag.specs.Rows.{IsLan}
-use Rattle.osi_script.specs.declared.cause.LineCause.{LineCause}
-use Rattle.osi_script.specs.declared.cause.LineCause.TheVariants as causes
-use Rattle.osi_script.specs.declared.cause.LineFault.{LineFault}
-use Rattle.osi_script.specs.declared.words.FieldKind.TheVariants as forms
-use Rattle.osi_script.specs.declared.words.NameKind.TheVariants as named
-use Rattle.osi_script.specs.declared.words.WordKind.TheVariants as plain
-use Rattle.osi_script.specs.declared.field_values.FieldValues.{FieldValues}
-use Rattle.osi_script.specs.declared.settings.Key.{Key}
-use Rattle.osi_script.specs.Field.{is_name, is_number, number_of, as_title, title_of, as_station, station_of, prefix_of}
-use Rattle.osi_script.specs.Gives.{into, then_read}
-use Rattle.osi_script.specs.Grammar.{next_column, count_fault, at_column, fields_read, many_from}
-use Rattle.osi_script.specs.Known.{Declared, no_parts, given_title, given_station, given_prefix, system_at, lan_at, path_at, has_port, has_station, is_among, routes_of, selectors_of}
-use Rattle.osi_script.specs.Reading.{passing, system_of, lan_of, port_lan_of, route_lan_of, end_system_of, new_name, new_selector, selector_of as given_selector, unset_key, value_of, path_kind_of, new_title, new_station, new_prefix, listed_names, intermediate, each_intermediate, hops_of}
-use Rattle.osi_script.specs.Settings.{key_of, least_of, most_of, keeps_order, with_setting}
+use Rattle.script_lines.specs.declared.cause.LineCause.{LineCause}
+use Rattle.script_lines.specs.declared.cause.LineCause.TheVariants as causes
+use Rattle.script_lines.specs.declared.cause.LineFault.{LineFault}
+use Rattle.script_lines.specs.declared.words.FieldKind.TheVariants as forms
+use Rattle.script_lines.specs.declared.words.NameKind.TheVariants as named
+use Rattle.script_lines.specs.declared.words.WordKind.TheVariants as plain
+use Rattle.script_lines.specs.declared.field_values.FieldValues.{FieldValues}
+use Rattle.script_lines.specs.declared.settings.Key.{Key}
+use Rattle.script_lines.specs.Field.{is_name, is_number, number_of, as_title, title_of, as_station, station_of, prefix_of}
+use Rattle.script_lines.specs.Gives.{into, then_read}
+use Rattle.script_lines.specs.Grammar.{next_column, count_fault, at_column, fields_read, many_from}
+use Rattle.script_lines.specs.Known.{Declared, no_parts, given_title, given_station, given_prefix, system_at, lan_at, path_at, has_port, has_station, is_among, routes_of, selectors_of}
+use Rattle.script_lines.specs.Reading.{passing, system_of, lan_of, port_lan_of, route_lan_of, end_system_of, new_name, new_selector, selector_of as given_selector, unset_key, value_of, path_kind_of, new_title, new_station, new_prefix, listed_names, intermediate, each_intermediate, hops_of}
+use Rattle.script_lines.specs.Settings.{key_of, least_of, most_of, keeps_order, with_setting}
 use Rattle.law_clnp_answers.specs.Standing.{IsNsap, IsSnpa}
-use Rattle.osi_setup.specs.Fitting.{IsTitle}
+use Rattle.script_setup.specs.Fitting.{IsTitle}
 use Rattle.law_setup.proofs.InOctets.{station_octets, title_octets}
 
 -- ---- one field after another

@@ -1,12 +1,12 @@
 -- What the names that the lines of a set-up declare have in common with what these lines said.
 use Rattle.std.specs.Prelude.{◌≡◌, ℕ, Bool, List, length, map, slice_get}
 use Rattle.lan_bag.specs.declared.setup.Lan.{Lan}
-use Rattle.osi_script.specs.declared.settings.Key.TheVariants as keys
-use Rattle.osi_script.specs.declared.system.LanRow.{LanRow}
-use Rattle.osi_script.specs.Known.{Declared, KnownSystem, is_among, ports_of, selectors_of}
-use Rattle.osi_script.specs.Settings.{setting_or}
+use Rattle.script_lines.specs.declared.settings.Key.TheVariants as keys
+use Rattle.script_lines.specs.declared.system.LanRow.{LanRow}
+use Rattle.script_lines.specs.Known.{Declared, KnownSystem, is_among, ports_of, selectors_of}
+use Rattle.script_lines.specs.Settings.{setting_or}
 use Rattle.tp4_entity.specs.Association.{is_registered}
-use Rattle.osi_setup.specs.SetUp.{System, SetUp, ports_at, selectors_at}
+use Rattle.script_setup.specs.SetUp.{System, SetUp, ports_at, selectors_at}
 
 -- what the names and the set-up both know of a system
 pub record Shape : Type 0 where

@@ -1,12 +1,12 @@
 -- What a line that was read keeps, in each state of the names: the laws of this crate.
 use Rattle.std.specs.Prelude.{◌≡◌, ℕ, ◌<◌, true, false, List, length, Ok}
 use Rattle.std.specs.List.{AllByRecursion}
-use Rattle.osi_script.specs.declared.line.Line.{Line}
-use Rattle.osi_script.specs.Grammar.{line_read}
-use Rattle.osi_script.specs.Known.{Declared}
-use Rattle.osi_script.specs.Script.{Says}
-use Rattle.osi_setup.specs.Fitting.{IsWell}
-use Rattle.osi_setup.specs.SetUp.{SetUp}
+use Rattle.script_lines.specs.declared.line.Line.{Line}
+use Rattle.script_lines.specs.Grammar.{line_read}
+use Rattle.script_lines.specs.Known.{Declared}
+use Rattle.script_lines.specs.Script.{Says}
+use Rattle.script_setup.specs.Fitting.{IsWell}
+use Rattle.script_setup.specs.SetUp.{SetUp}
 use Rattle.law_tp4_lawful.specs.Limits.{IsProperLine}
 use Rattle.law_setup.specs.Agreeing.{AreOne}
 use Rattle.law_setup.specs.Lines.{Kept, LineInOctets, RunsAt}

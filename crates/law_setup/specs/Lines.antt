@@ -5,13 +5,12 @@ use Rattle.nsap.specs.declared.port.Hop.{Hop}
 use Rattle.law_carrier_answers.specs.Answers.{AreOctets}
 use Rattle.law_clnp_answers.specs.Standing.{IsNsap, IsSnpa}
 use Rattle.tp4_conn.specs.End.{IsSized}
-use Rattle.tp4_world.specs.Telling.{asked_options}
-use Rattle.osi_script.specs.declared.line.Line.{Line}
-use Rattle.osi_script.specs.declared.line.Line.TheVariants as lines
-use Rattle.osi_script.specs.Known.{Declared}
-use Rattle.osi_setup.specs.declared.relay.RelayLine.{RelayLine}
-use Rattle.osi_setup.specs.Fitting.{Fits, IsSelector}
-use Rattle.osi_setup.specs.SetUp.{SetUp, rows_at, set_up, titles_of}
+use Rattle.script_lines.specs.declared.line.Line.{Line}
+use Rattle.script_lines.specs.declared.line.Line.TheVariants as lines
+use Rattle.script_lines.specs.Known.{Declared}
+use Rattle.script_setup.specs.declared.relay.RelayLine.{RelayLine}
+use Rattle.script_setup.specs.Fitting.{Fits, IsSelector}
+use Rattle.script_setup.specs.SetUp.{SetUp, rows_at, set_up, titles_of}
 use Rattle.law_setup.specs.Agreeing.{AreOne}
 
 -- a line of a set-up fits what was said before it, and names and set-up are one after it
@@ -22,8 +21,8 @@ pub record Kept (setup : SetUp) (line : Line) (new : Declared) : Type 0 where
 -- a running network of so many systems has the line, and the systems that it names; a tick passes below the last value of the clock
 abbrev pub RunsAt : ℕ → ℕ → Line → Type 0
 RunsAt count clock lines.Nothing = Unit {0}
-RunsAt count clock (lines.Connect system selector to called options octets) = (system < count) × (to < count) × IsSized (asked_options options)
-RunsAt count clock (lines.Accept end options octets) = IsSized (asked_options options)
+RunsAt count clock (lines.Connect system selector to called options octets) = (system < count) × (to < count) × IsSized options
+RunsAt count clock (lines.Accept end options octets) = IsSized options
 RunsAt count clock (lines.Refuse end octets) = Unit {0}
 RunsAt count clock (lines.Disconnect end octets) = Unit {0}
 RunsAt count clock (lines.Data end octets) = Unit {0}

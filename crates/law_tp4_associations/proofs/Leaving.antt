@@ -1,7 +1,7 @@
 -- An end of a pair leaves: its DR comes behind all that it sent, and the other end takes it; what waits is data before that.
 use Rattle.std.proofs.Common.{◌≡◌, ◌⊎◌, ℕ, true, List, [], ◌∷◌, ◌++◌, Option, Some, refl, sym, ◌∙◌, ap, subst, inl, inr, append_assoc}
 use Rattle.tp4_flow.specs.declared.rules.FlowRules.{FlowRules}
-use Rattle.tp4_flow.specs.declared.rules.Options.{Options}
+use Rattle.tpdu.specs.declared.service.Options.{Options}
 use Rattle.tp4_flow.specs.declared.step.Sent.{Sent}
 use Rattle.tp4_conn.specs.declared.end_record.EndRecord.{EndRecord}
 use Rattle.tp4_conn.specs.declared.halves.Halves.{Halves}

@@ -4,7 +4,7 @@ use Rattle.std.specs.Prelude.{◌≡◌, ◌⊎◌, ℕ, ◌+◌, Bool, true, no
 use Rattle.tpdu.specs.Kinds.{has_number}
 use Rattle.tpdu.specs.Writing.{kind_for}
 use Rattle.tp4_number.specs.Number.{whole}
-use Rattle.tp4_flow.specs.declared.rules.Options.{Options}
+use Rattle.tpdu.specs.declared.service.Options.{Options}
 use Rattle.tp4_conn.specs.Calls.{IsCall}
 use Rattle.tp4_conn.specs.End.{End, IsSized, end_of}
 use Rattle.tp4_conn.specs.Proper.{IsProperCall}

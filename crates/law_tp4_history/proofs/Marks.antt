@@ -3,7 +3,7 @@
 use Rattle.std.proofs.Common.{◌≡◌, ℕ, zero, suc, ◌+◌, ◌-◌, ◌<◌, ◌≤◌, List, [], ◌∷◌, ◌++◌, length, get_or, refl, ◌∙◌, ap, arith}
 use Rattle.std.proofs.Math.ListN.{get_or-append}
 use Rattle.std.proofs.Math.Seq.{get_or-append_right}
-use Rattle.osi_journal.specs.Lawful.{Marked, Normal, Expedited, normals, expediteds, befores}
+use Rattle.script_journal.specs.Lawful.{Marked, Normal, Expedited, normals, expediteds, befores}
 use Rattle.law_tp4_history.specs.Line.{all_normal}
 
 pub normals-append : (xs ys : List Marked) → normals (xs ++ ys) ≡ normals xs ++ normals ys

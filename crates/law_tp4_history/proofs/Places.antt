@@ -3,11 +3,11 @@
 use Rattle.std.proofs.Common.{◌≡◌, ◌⊎◌, inl, inr, ℕ, zero, suc, ◌+◌, ◌-◌, ◌<◌, ◌==◌, true, false, if◌then◌else◌, List, [], ◌∷◌, ◌++◌, length, slice_get, Some, refl, sym, ◌∙◌, ap, subst, arith}
 use Rattle.std.proofs.lemmas.Option.{slice_get_within, get_or_from_slice_get}
 use Rattle.std.proofs.lemmas.Bool.{cases_lt, cases_order, cases_Bool, eqb-true, eqb-false}
-use Rattle.osi_journal.specs.Lawful.{IsLatest, Partner, AreEnds, HasPartner, Makes}
-use Rattle.osi_journal.specs.declared.event.Event.{Event}
-use Rattle.osi_journal.specs.declared.event.Event.TheVariants as events
-use Rattle.osi_journal.specs.declared.event.Indication.{Indication}
-use Rattle.osi_journal.specs.declared.event.Request.{Request}
+use Rattle.script_journal.specs.Lawful.{IsLatest, Partner, AreEnds, HasPartner, Makes}
+use Rattle.script_journal.specs.declared.event.Event.{Event}
+use Rattle.script_journal.specs.declared.event.Event.TheVariants as events
+use Rattle.script_journal.specs.declared.event.Indication.{Indication}
+use Rattle.script_journal.specs.declared.event.Request.{Request}
 use Rattle.tp4_number.proofs.Past.{if_kept}
 use Rattle.law_tp4_history.specs.Ends.{Times, Birth, Words, End}
 use Rattle.law_tp4_history.specs.History.{History, IsCaller}

@@ -1,6 +1,6 @@
 -- A queue stays one when more is submitted, as what is shown is a front of the units before; and one that shows nothing always is.
 use Rattle.std.proofs.Common.{◌≡◌, ℕ, ◌<◌, List, [], ◌++◌, length, refl, sym, ◌∙◌, ap, subst, arith, append_assoc, length-append}
-use Rattle.osi_journal.specs.Lawful.{Marked, normals, expediteds, IsQueue}
+use Rattle.script_journal.specs.Lawful.{Marked, normals, expediteds, IsQueue}
 use Rattle.law_tp4_history.proofs.Marks.{normals-append, expediteds-append, befores_kept}
 
 pub queue_none : (given got : List Marked) → got ≡ [] → IsQueue given got

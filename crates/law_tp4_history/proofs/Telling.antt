@@ -3,8 +3,8 @@
 use Rattle.std.proofs.Common.{◌≡◌, ◌⊎◌, inl, inr, ℕ, ◌+◌, ◌<◌, true, false, List, [], ◌∷◌, ◌++◌, Option, Some, None, refl, sym, ◌∙◌, ap, subst, arith, append-nil}
 use Rattle.tp4_number.specs.Traffic.{Tick as Ticks_on, Open, Send, Resend, Dt_comes, Grant, Acknowledge, Ak_comes}
 use Rattle.tp4_number.specs.Expedited.{Ticks, Sends_ed, Resends_ed, Ed_comes, Ea_comes}
-use Rattle.osi_journal.specs.Lawful.{Marked, submitted, shown, IsQueue}
-use Rattle.osi_journal.specs.declared.event.Event.{Event}
+use Rattle.script_journal.specs.Lawful.{Marked, submitted, shown, IsQueue}
+use Rattle.script_journal.specs.declared.event.Event.{Event}
 use Rattle.law_tp4_history.specs.Ends.{Times, IsFit, Offer, Birth, End}
 use Rattle.law_tp4_history.specs.History.{History, IsCaller, IsPartner, Step, Tick, Connect, Indicate, Reply, Take, Act, Release, Restart, Note, May, next}
 use Rattle.law_tp4_history.specs.Line.{Line, Happening, Submit, Clock, Flows, Expedites, next as next_line}

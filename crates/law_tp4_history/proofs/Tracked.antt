@@ -13,7 +13,7 @@ use Rattle.tp4_number.specs.Expedited.{Urgent, Ticks, Sends_ed, Resends_ed, Ed_c
 use Rattle.tp4_sending.specs.Pieces.{cut_at}
 use Rattle.law_tp4_history.specs.Ends.{Times, IsFit, Flow, Body, Plain, Dt, Ed, Ak, Ea, Sent, Offer, Birth, Terms, End}
 use Rattle.law_tp4_history.specs.History.{History, set_end, IsCaller, IsPartner, Step, Tick, Connect, Indicate, Reply, Take, Act, Release, Restart, Note, May, next, Leads}
-use Rattle.osi_journal.specs.Lawful.{normals, expediteds}
+use Rattle.script_journal.specs.Lawful.{normals, expediteds}
 use Rattle.law_tp4_history.specs.Line.{Line, Happening, Submit, Clock, Flows, Expedites, Can, Runs, next as next_line, empty}
 use Rattle.law_tp4_history.specs.Tracks.{Track, Starts, Accepted, CanOut, CanIn, RunsBy, Whole, set_track, Doing, Nothing, Start, Go, done, MayDo, Noted, clocked, Moment, MayAll, onward, LeadsAll, ReachedAll, IsTold, IsNumbered, IsNothing}
 use Rattle.law_tp4_history.proofs.Sound.{at_end, Sound, one_partner}

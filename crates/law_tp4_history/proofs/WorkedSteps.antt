@@ -2,9 +2,9 @@
 -- there are.
 use Rattle.std.proofs.Common.{◌≡◌, ◌≢◌, inl, inr, ℕ, zero, suc, ◌<◌, true, false, [], ◌∷◌, Some, None, Contains, ◌==◌, refl, sym, ◌∙◌, ap, subst, arith}
 use Rattle.std.proofs.lemmas.Bool.{cases_Bool, eqb-true, cond-false}
-use Rattle.osi_journal.specs.declared.event.Event.{Event}
-use Rattle.osi_journal.specs.declared.event.Event.TheVariants as events
-use Rattle.osi_script.specs.declared.line.Options.{Options}
+use Rattle.script_journal.specs.declared.event.Event.{Event}
+use Rattle.script_journal.specs.declared.event.Event.TheVariants as events
+use Rattle.tpdu.specs.declared.service.Options.{Options}
 use Rattle.tp4_number.specs.Number.{wire, ahead}
 use Rattle.tp4_number.specs.declared.piece.Piece.{Piece}
 use Rattle.law_tp4_history.specs.Ends.{Kind, Flow, Cr, Dr, Dc, Dt, Tpdu, Offer, Birth, End, Alone, Took, To_known, Accepts, Confirmed, IsOffered, IsMove}
@@ -12,6 +12,7 @@ use Rattle.law_tp4_history.specs.Tracks.{Starts, done, Noted}
 use Rattle.law_tp4_history.specs.Journals.{makes_end, MakesNone, IsAside, MayFollow, Written}
 use Rattle.law_tp4_history.proofs.Written.{written_start, written_more}
 use Rattle.law_tp4_history.specs.Worked.{times, titles, here, there, terms, calling, called, accepts, confirmed, opened, cr, confirm, dt0, dt1, ak, ak0, begun, opens, answers, sends, hears0, hears1, w0, w1, w2, w3, w4, w5, w6, w7, w8, w9, m1, m2, m3, m4, m5, m6, m7, m8, m9, asked, heard, first, second, by_calling, unit, journal}
+use Rattle.tpdu.specs.declared.service.EndTold.TheVariants as tells
 
 -- what is asked of the ends below one, or below two
 one_end : (P : ℕ → Type 0) → P 0 → (k : ℕ) → k < 1 → P k
@@ -370,7 +371,7 @@ f7 = record {
   makes = (record { others = λ end _. (refl, refl); gave = refl; showed = refl }, no_events.ends);
 }
 
-f8 : MayFollow times titles w7 m8 (events.Got 2 unit ∷ [])
+f8 : MayFollow times titles w7 m8 (events.End 2 (tells.Got unit) ∷ [])
 unfolding wire ahead
 f8 = record {
   may = (
@@ -397,7 +398,7 @@ f8 = record {
   );
   makes = (
     record { others = λ end other. (refl, cond-false _ _ _ (other_end 2 end other)); gave = refl; showed = refl },
-    one_event (events.Got 2 unit) refl,
+    one_event (events.End 2 (tells.Got unit)) refl,
   );
 }
 
@@ -439,5 +440,5 @@ worked options =
     let r5 = written_more times titles w4 _ m5 [] r4 f5 in
     let r6 = written_more times titles w5 _ m6 (events.Data 1 unit ∷ []) r5 f6 in
     let r7 = written_more times titles w6 _ m7 [] r6 f7 in
-    let r8 = written_more times titles w7 _ m8 (events.Got 2 unit ∷ []) r7 f8 in
+    let r8 = written_more times titles w7 _ m8 (events.End 2 (tells.Got unit) ∷ []) r7 f8 in
     written_more times titles w8 _ m9 [] r8 f9

@@ -1,10 +1,10 @@
 -- The journal of a history: the events of its steps, one after another (X.214, model of the transport service). End k has the number k + 1.
 use Rattle.std.specs.Prelude.{◌≡◌, ℕ, ◌+◌, Bool, true, false, List, [], ◌∷◌, ◌++◌, slice_get, Some, All}
 use Rattle.nsap.specs.Address.{is_same_system}
-use Rattle.osi_journal.specs.declared.event.Event.{Event}
-use Rattle.osi_journal.specs.declared.event.Event.TheVariants as events
-use Rattle.osi_journal.specs.declared.event.Indication.{Indication}
-use Rattle.osi_journal.specs.declared.event.Request.{Request}
+use Rattle.script_journal.specs.declared.event.Event.{Event}
+use Rattle.script_journal.specs.declared.event.Event.TheVariants as events
+use Rattle.script_journal.specs.declared.event.Indication.{Indication}
+use Rattle.script_journal.specs.declared.event.Request.{Request}
 use Rattle.law_tp4_history.specs.Ends.{Times, End}
 use Rattle.law_tp4_history.specs.History.{Step, Tick, Connect, Indicate, Reply, Take, Act, Release, Restart, Note, May}
 use Rattle.law_tp4_history.specs.Tracks.{Whole, Doing, Moment, MayAll, onward, IsNothing}

@@ -1,6 +1,6 @@
 -- A line from one end to its partner: units go in at one side and are shown at the other, normal and expedited (X.214, queue model).
 use Rattle.std.specs.Prelude.{◌≡◌, ℕ, ◌<◌, ◌==◌, if◌then◌else◌, List, [], ◌∷◌, ◌++◌, length, get_or, Some}
-use Rattle.osi_journal.specs.Lawful.{Marked, Normal, Expedited, normals, expediteds}
+use Rattle.script_journal.specs.Lawful.{Marked, Normal, Expedited, normals, expediteds}
 use Rattle.tp4_number.specs.declared.piece.Piece.{Piece}
 use Rattle.tp4_number.specs.Number.{wire}
 use Rattle.tp4_number.specs.Receiver.{arrival}

@@ -4,7 +4,7 @@ use Rattle.tp4_number.specs.declared.piece.Piece.{Piece}
 use Rattle.tp4_number.specs.Traffic.{Rules, IsFit as IsLong, Event, Tick as Ticks_on, Open, Send, Resend, Dt_comes, Grant, Acknowledge, Ak_comes, May as MayFlow, ReadsRightly, KeepsRule}
 use Rattle.tp4_number.specs.Expedited.{UrgentEvent, Ticks, Sends_ed, Resends_ed, Ed_comes, Ea_comes, MayUrgent, IsAlone, ObeysRule}
 use Rattle.tp4_sending.specs.Pieces.{cut_at}
-use Rattle.osi_journal.specs.Lawful.{normals, expediteds, IsQueue}
+use Rattle.script_journal.specs.Lawful.{normals, expediteds, IsQueue}
 use Rattle.law_tp4_history.specs.Ends.{Times, Terms, Flow, Body, Plain, Dt, Ed, Ak, Ea, Sent, Offer, End}
 use Rattle.law_tp4_history.specs.History.{History, nothing, IsPartner, Step, Tick, Connect, Indicate, Reply, Take, Act, Release, Restart, Note, May, next}
 use Rattle.law_tp4_history.specs.Line.{Line, Happening, Submit, Clock, Flows, Expedites, IsUnit, CarriesPiece, CarriesUnit, next as next_line, empty}

@@ -1,7 +1,7 @@
 -- The units that the events of a history tell: what its ends were asked to send, and what they show (X.214, queue model). End k has the number k + 1.
 use Rattle.std.specs.Prelude.{◌≡◌, ◌≢◌, ℕ, ◌+◌, true, List, [], ◌∷◌, ◌++◌}
-use Rattle.osi_journal.specs.Lawful.{submitted, shown, IsQueue}
-use Rattle.osi_journal.specs.declared.event.Event.{Event}
+use Rattle.script_journal.specs.Lawful.{submitted, shown, IsQueue}
+use Rattle.script_journal.specs.declared.event.Event.{Event}
 use Rattle.law_tp4_history.specs.Ends.{Times}
 use Rattle.law_tp4_history.specs.History.{IsPartner, Step, Tick, Connect, Indicate, Reply, Take, Act, Release, Restart, Note, May}
 use Rattle.law_tp4_history.specs.Tracks.{Whole, Track, Doing, Nothing, Start, Go, Moment, MayAll, onward, IsNothing}

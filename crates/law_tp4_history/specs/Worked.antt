@@ -1,19 +1,20 @@
 -- A history worked by hand: an end connects, and sends a unit of three octets in two pieces, of which the second comes first and comes again (X.224,
 -- class 4 procedures).
 use Rattle.std.specs.Prelude.{ℕ, true, false, List, [], ◌∷◌, Some, None}
-use Rattle.osi_journal.specs.declared.event.Event.{Event}
-use Rattle.osi_journal.specs.declared.event.Event.TheVariants as events
-use Rattle.osi_journal.specs.declared.event.Indication.{Indication}
-use Rattle.osi_journal.specs.declared.event.Request.{Request}
-use Rattle.osi_script.specs.declared.line.Options.{Options}
+use Rattle.script_journal.specs.declared.event.Event.{Event}
+use Rattle.script_journal.specs.declared.event.Event.TheVariants as events
+use Rattle.script_journal.specs.declared.event.Indication.{Indication}
+use Rattle.script_journal.specs.declared.event.Request.{Request}
+use Rattle.tpdu.specs.declared.service.Options.{Options}
 use Rattle.tp4_number.specs.declared.piece.Piece.{Piece}
 use Rattle.tp4_number.specs.Traffic.{Open, Send, Dt_comes, Acknowledge}
-use Rattle.osi_journal.specs.Lawful.{Normal}
+use Rattle.script_journal.specs.Lawful.{Normal}
 use Rattle.law_tp4_history.specs.Ends.{Times, Kind, Cr, Cc, Flow, Words, Terms, Body, Plain, Dt, Ak, Sent, Offer, CrWait, UserWait, AkWait, Opened, End}
 use Rattle.law_tp4_history.specs.History.{nothing, Tick, Connect, Indicate, Take, Act}
 use Rattle.law_tp4_history.specs.Line.{Happening, Submit, Flows, next as next_line, empty}
 use Rattle.law_tp4_history.specs.Tracks.{Track, Whole, Nothing, Start, Go, Moment, onward}
 use Rattle.law_tp4_history.specs.Journals.{Written}
+use Rattle.tpdu.specs.declared.service.EndTold.TheVariants as tells
 
 -- a lifetime of 4 ticks, and so on
 abbrev pub times : Times
@@ -244,7 +245,7 @@ heard options =
     }
 
 abbrev pub journal : Options → List Event
-journal options = events.Connect asked ∷ events.Tick 1 ∷ events.Incoming (heard options) ∷ events.Data 1 unit ∷ events.Got 2 unit ∷ []
+journal options = events.Connect asked ∷ events.Tick 1 ∷ events.Incoming (heard options) ∷ events.Data 1 unit ∷ events.End 2 (tells.Got unit) ∷ []
 
 -- this journal is written
 abbrev pub IsWorked : Type 0

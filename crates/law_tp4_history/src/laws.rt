@@ -1,8 +1,8 @@
 //! Laws of histories and of their journals, whatever is lost, repeated, delayed or reordered.
 
 ghost use Rattle.std.specs.Prelude.{◌<◌, ◌++◌, ℕ, List, []};
-ghost use Rattle.osi_journal.specs.Lawful.{AllQueues, Marked, IsQueue};
-ghost use Rattle.osi_journal.specs.declared.event.Event.{Event};
+ghost use Rattle.script_journal.specs.Lawful.{AllQueues, Marked, IsQueue};
+ghost use Rattle.script_journal.specs.declared.event.Event.{Event};
 ghost use Rattle.tp4_number.specs.Traffic.{Rules, IsFit as IsLong};
 ghost use Rattle.law_tp4_history.specs.Ends.{Times, IsFit};
 ghost use Rattle.law_tp4_history.specs.History.{History};

@@ -2,8 +2,8 @@
 use Rattle.std.proofs.Common.{◌≡◌, ◌≢◌, ℕ, Bool, false, List, [], ◌∷◌, ◌++◌, refl, sym, ◌∙◌, ap, if◌then◌else◌}
 use Rattle.std.proofs.lemmas.Bool.{eq-eqb, ne_eqb}
 use Rattle.std.proofs.lemmas.List.Elements.{All-cons, All-nil}
-use Rattle.osi_journal.specs.Lawful.{Marked, Normal, Expedited, submitted, shown}
-use Rattle.osi_journal.specs.declared.event.Event.{Event as Told}
+use Rattle.script_journal.specs.Lawful.{Marked, Normal, Expedited, submitted, shown}
+use Rattle.script_journal.specs.declared.event.Event.{Event as Told}
 use Rattle.tp4_flow.specs.declared.step.EndEvent.{EndEvent}
 use Rattle.tp4_flow.specs.declared.step.What.{What}
 use Rattle.tp4_flow.specs.declared.step.What.TheVariants as whats
@@ -16,6 +16,7 @@ use Rattle.tp4_world.specs.World.{latest}
 use Rattle.tp4_world.specs.declared.place.EndAt.{EndAt}
 use Rattle.law_tp4_lawful.specs.steps.Acting.{first_of}
 use Rattle.law_tp4_lawful.proofs.ActsRows.{AreTold, IsTold}
+use Rattle.tpdu.specs.declared.service.EndTold.TheVariants as tells
 
 -- ---- their lines
 
@@ -40,7 +41,7 @@ module _ (system : ℕ) (address : List ℕ) where
       All-cons (λ (event : Told). makes_end event ≡ false) _ _ (no_end _ own told.reference told.what are.0) (lines_make_none (ends_with ends system told told.what) own others are.1)
 
   not_given : (end n reference : ℕ) (what : What) (rest : List Told) → submitted end (event_for system address n reference what ∷ rest) ≡ submitted end rest
-  not_given end n reference (whats.Got octets) rest = refl
+  not_given end n reference (whats.End (tells.Got octets)) rest = refl
   not_given end n reference other rest = refl
 
   pub lines_give_none : (end : ℕ) (ends : List EndAt) (told : List EndEvent) → submitted end (events_after ends system address told) ≡ []
@@ -54,10 +55,10 @@ module _ (system : ℕ) (address : List ℕ) where
 
     shows_other : (end : ℕ) (ends : List EndAt) (reference : ℕ) (what : What) (rest : List Told) → end ≢ number → IsTold own reference what → latest ends system own ≡ number
         → shown end (event_for system address (latest ends system reference) reference what ∷ rest) ≡ shown end rest
-    shows_other end ends reference (whats.Got octets) rest other is at =
+    shows_other end ends reference (whats.End (tells.Got octets)) rest other is at =
         let n : latest ends system reference ≡ number = ap (latest ends system) is ∙ at in
         ap (λ (b : Bool). if b then Normal octets ∷ shown end rest else shown end rest) (ne_eqb (latest ends system reference) end (λ same. other (sym same ∙ n)))
-    shows_other end ends reference (whats.Urgent octets) rest other is at =
+    shows_other end ends reference (whats.End (tells.Urgent octets)) rest other is at =
         let n : latest ends system reference ≡ number = ap (latest ends system) is ∙ at in
         ap (λ (b : Bool). if b then Expedited octets ∷ shown end rest else shown end rest) (ne_eqb (latest ends system reference) end (λ same. other (sym same ∙ n)))
     shows_other end ends reference what rest other is at = refl
@@ -71,9 +72,9 @@ module _ (system : ℕ) (address : List ℕ) where
 
     shows_own : (ends : List EndAt) (reference : ℕ) (what : What) (rest : List Told) → IsTold own reference what → latest ends system own ≡ number
         → shown number (event_for system address (latest ends system reference) reference what ∷ rest) ≡ shown_as what ++ shown number rest
-    shows_own ends reference (whats.Got octets) rest is at =
+    shows_own ends reference (whats.End (tells.Got octets)) rest is at =
         ap (λ (b : Bool). if b then Normal octets ∷ shown number rest else shown number rest) (eq-eqb (latest ends system reference) number (ap (latest ends system) is ∙ at))
-    shows_own ends reference (whats.Urgent octets) rest is at =
+    shows_own ends reference (whats.End (tells.Urgent octets)) rest is at =
         ap (λ (b : Bool). if b then Expedited octets ∷ shown number rest else shown number rest) (eq-eqb (latest ends system reference) number (ap (latest ends system) is ∙ at))
     shows_own ends reference what rest is at = refl
 

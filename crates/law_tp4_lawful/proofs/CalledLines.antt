@@ -3,11 +3,11 @@ use Rattle.std.proofs.Common.{◌≡◌, ℕ, ◌≤◌, true, List, [], ◌∷�
 use Rattle.std.specs.List.{AllByRecursion}
 use Rattle.osi_base.specs.Link.{Link}
 use Rattle.osi_base.specs.Calls.{Call}
-use Rattle.osi_journal.specs.declared.event.Event.{Event}
-use Rattle.osi_script.specs.declared.line.Line.{Line}
-use Rattle.osi_script.specs.declared.line.Line.TheVariants as lines
+use Rattle.script_journal.specs.declared.event.Event.{Event}
+use Rattle.script_lines.specs.declared.line.Line.{Line}
+use Rattle.script_lines.specs.declared.line.Line.TheVariants as lines
 use Rattle.tp4_number.specs.Number.{wire}
-use Rattle.tp4_flow.specs.declared.rules.Options.{Options}
+use Rattle.tpdu.specs.declared.service.Options.{Options}
 use Rattle.tp4_conn.specs.End.{IsSized, IsTimed}
 use Rattle.tp4_conn.specs.declared.call.UserCall.TheVariants as asks
 use Rattle.tp4_conn.specs.declared.timers.Timers.{Timers}
@@ -15,7 +15,6 @@ use Rattle.tp4_world.specs.Called.{Did, DidAll, KeepsLimits, WorldCall}
 use Rattle.tp4_world.specs.Called as requests
 use Rattle.tp4_world.specs.First.{IsFirst}
 use Rattle.tp4_world.specs.Run.{RunsLine, RunsLines, Starts}
-use Rattle.tp4_world.specs.Telling.{asked_options}
 use Rattle.tp4_world.specs.World.{World}
 use Rattle.tp4_world.specs.declared.place.Placed.{Placed}
 use Rattle.law_tp4_lawful.specs.Called.{AreCalls, AreHonestCalls, OnCalls}
@@ -65,7 +64,7 @@ module _ {C : Type 0} (link : C → Link (List ℕ)) (steps : C → Call (List �
           subst (λ (o : List ℕ). length o ≤ 32) (sym s.4.0) proper.1,
           subst (λ (o : List ℕ). length o ≤ 32) (sym s.4.2) proper.2,
         ))
-    line_called titles (lines.Accept end options octets) old new made s = one_call (requests.Ask end (asks.Accept (asked_options options) octets)) old new made _ s (λ proper. proper)
+    line_called titles (lines.Accept end options octets) old new made s = one_call (requests.Ask end (asks.Accept options octets)) old new made _ s (λ proper. proper)
     line_called titles (lines.Refuse end octets) old new made s = one_call (requests.Ask end (asks.Refuse octets)) old new made _ s (λ proper. tt)
     line_called titles (lines.Disconnect end octets) old new made s = one_call (requests.Ask end (asks.Disconnect octets)) old new made _ s (λ proper. tt)
     line_called titles (lines.Data end octets) old new made s = one_call (requests.Ask end (asks.Normal octets)) old new made _ s (λ proper. tt)

@@ -5,7 +5,7 @@ use Rattle.std.specs.List.{list_any}
 use Rattle.std.specs.Cmp.Lexicographic.{pointwise}
 use Rattle.std.proofs.lemmas.Bool.{cases_eq, eq-eqb}
 use Rattle.std.proofs.lemmas.Option.{none-some, same_Some}
-use Rattle.osi_journal.specs.declared.event.Event.{Event}
+use Rattle.script_journal.specs.declared.event.Event.{Event}
 use Rattle.tpdu.specs.declared.tpdu.Format.{Format}
 use Rattle.tpdu.specs.declared.tpdu.Tpdu.{Tpdu as WireTpdu}
 use Rattle.tpdu.specs.declared.tpdu.Tpdu.TheVariants as wires
@@ -35,7 +35,7 @@ use Rattle.law_tp4_moves.specs.Moves.{Sees, times_of}
 use Rattle.law_tp4_moves.specs.Seen.{seen}
 use Rattle.law_tp4_moves.proofs.Beginnings.{fit_times, indicates}
 use Rattle.law_tp4_moves.proofs.Sources.{requests_sourced}
-use Rattle.tp4_world.specs.Telling.{events_after, told_options}
+use Rattle.tp4_world.specs.Telling.{events_after}
 use Rattle.tp4_world.specs.World.{entity_at, latest, with_entity}
 use Rattle.tp4_world.specs.declared.place.EndAt.{EndAt}
 use Rattle.tp4_world.specs.declared.place.Placed.{Placed}
@@ -234,7 +234,7 @@ module _ (titles : List (List ℕ)) (timers : Timers) (w : Whole) (journal : Lis
               calling_selector = calling;
               called = entity.own;
               called_selector = called;
-              options = told_options (options_in width size preferred extra);
+              options = (options_in width size preferred extra);
               octets = text;
             };
             rest = [];

@@ -2,8 +2,8 @@
 use Rattle.std.proofs.Common.{◌≡◌, [], ◌∷◌, ◌++◌, ℕ, ◌+◌, ◌-◌, ◌<◌, ◌≤◌, true, List, length, take, Option, Some, refl, sym, ap, subst, ◌∙◌, arith, Contains}
 use Rattle.std.specs.List.{sum_by}
 use Rattle.osi_base.specs.Link.{Link}
-use Rattle.osi_journal.specs.Lawful.{ArePartners, Marked, expediteds, normals, shown, submitted}
-use Rattle.osi_journal.specs.declared.event.Event.{Event}
+use Rattle.script_journal.specs.Lawful.{ArePartners, Marked, expediteds, normals, shown, submitted}
+use Rattle.script_journal.specs.declared.event.Event.{Event}
 use Rattle.tpdu.specs.declared.tpdu.Format.{Format}
 use Rattle.tpdu.specs.declared.tpdu.Tpdu.{Tpdu as WireTpdu}
 use Rattle.tpdu.specs.declared.tpdu.Tpdu.TheVariants as wires

@@ -3,7 +3,7 @@ use Rattle.std.proofs.Common.{◌≡◌, ◌≢◌, inl, inr, ℕ, ◌+◌, List
 use Rattle.std.specs.Prelude.{option_map}
 use Rattle.std.proofs.lemmas.Option.{none-some, same_Some}
 use Rattle.osi_base.specs.Link.{Link}
-use Rattle.osi_journal.specs.declared.event.Event.{Event}
+use Rattle.script_journal.specs.declared.event.Event.{Event}
 use Rattle.tp4_conn.specs.declared.end_record.EndRecord.{EndRecord}
 use Rattle.tp4_conn.specs.declared.halves.Halves.{Halves}
 use Rattle.tp4_conn.specs.declared.states.StateData.{StateData}

@@ -6,11 +6,11 @@ use Rattle.std.proofs.lemmas.Bool.{cases_Bool, cases_lt}
 use Rattle.std.proofs.lemmas.Option.{none-some, slice_get_within}
 use Rattle.osi_base.specs.Link.{Link}
 use Rattle.osi_base.specs.Calls.{Call, Keeps}
-use Rattle.osi_journal.specs.Lawful.{AreEnds, ArePartners, IsLatest, Makes}
-use Rattle.osi_journal.specs.RawLawful.{clock_after, clock_from, tick_after}
-use Rattle.osi_journal.specs.declared.event.Event.{Event}
-use Rattle.osi_journal.specs.declared.event.Event.TheVariants as events
-use Rattle.osi_journal.specs.declared.event.Request.{Request}
+use Rattle.script_journal.specs.Lawful.{AreEnds, ArePartners, IsLatest, Makes}
+use Rattle.script_journal.specs.RawLawful.{clock_after, clock_from, tick_after}
+use Rattle.script_journal.specs.declared.event.Event.{Event}
+use Rattle.script_journal.specs.declared.event.Event.TheVariants as events
+use Rattle.script_journal.specs.declared.event.Request.{Request}
 use Rattle.tpdu.specs.Values.{TpduAndSum, destination_of}
 use Rattle.tpdu.specs.declared.tpdu.Tpdu.{Tpdu as WireTpdu}
 use Rattle.tp4_number.specs.Number.{whole}

@@ -15,12 +15,11 @@ use Rattle.osi_base.specs.declared.unit.Up.TheVariants.{Unit as Came, Note as No
 use Rattle.osi_base.specs.declared.unit.Wish.{Wish}
 use Rattle.osi_base.specs.Link.{Link}
 use Rattle.osi_base.specs.Calls.{Call, Choose, Inject, Keeps, NextUp, Offer, Tick}
-use Rattle.osi_journal.specs.RawLawful.{clock_after, raw_address}
-use Rattle.osi_journal.specs.declared.cause.Refused.{Refused}
-use Rattle.osi_journal.specs.declared.cause.Refused.TheVariants as refusals
-use Rattle.osi_journal.specs.declared.cause.Standing.TheVariants.{Ended}
-use Rattle.osi_journal.specs.declared.event.Event.{Event}
-use Rattle.osi_journal.specs.declared.event.Event.TheVariants as events
+use Rattle.script_journal.specs.RawLawful.{clock_after, raw_address}
+use Rattle.script_journal.specs.declared.cause.Refused.{Refused}
+use Rattle.script_journal.specs.declared.cause.Refused.TheVariants as refusals
+use Rattle.script_journal.specs.declared.event.Event.{Event}
+use Rattle.script_journal.specs.declared.event.Event.TheVariants as events
 use Rattle.net_world.specs.Run.{Passes, SendsUnit}
 use Rattle.net_world.specs.Told.{picked_event, sent_event, shown_at, told}
 use Rattle.net_world.proofs.Shown.{IsStill, note_still, picked_still, sent_still}
@@ -85,13 +84,7 @@ drop_up c system (Dropped cause) = (λ now low. low, tt)
 
 event_up : (c system : ℕ) (own : List ℕ) (number reference : ℕ) (what : What) → IsUpTo c (event_for system own number reference what)
 event_up c system own number reference (whats.Incoming from partner calling called options octets) = λ now low. low
-event_up c system own number reference (whats.Accept options octets) = λ now low. low
-event_up c system own number reference (whats.Confirm options octets) = λ now low. low
-event_up c system own number reference (whats.Got octets) = λ now low. low
-event_up c system own number reference (whats.Urgent octets) = λ now low. low
-event_up c system own number reference (whats.Window credit) = λ now low. low
-event_up c system own number reference (whats.Held kind held) = λ now low. low
-event_up c system own number reference (whats.Gone cause octets) = λ now low. low
+event_up c system own number reference (whats.End what) = λ now low. low
 event_up c system own number reference (whats.BadTpdu cause place) = λ now low. low
 event_up c system own number reference (whats.Unknown kind) = λ now low. low
 event_up c system own number reference whats.Silent = λ now low. low
@@ -244,7 +237,7 @@ module _ {C : Type 0} (link : C → Link (List ℕ)) (steps : C → Call (List �
 
   call_end : (wrap : ℕ → ℕ → ℕ) (old new : World C) (made : List Event) (number : ℕ) (end : EndAt) (entity : Entity) (call : UserCall) (ended : Bool)
       → CallsEnd link steps wrap old number end entity call ended made new → Goes old made new
-  call_end wrap old new made number end entity call true s = refused old new made (Some (refusals.WrongState Ended)) s
+  call_end wrap old new made number end entity call true s = refused old new made (Some refusals.Ended) s
   call_end wrap old new made number end entity call false s = call_by wrap old new made number end entity call (user_refusal entity end.reference call) s
 
   call_at : (wrap : ℕ → ℕ → ℕ) (old new : World C) (made : List Event) (number : ℕ) (call : UserCall) (end : Option EndAt) → CallsAt link steps wrap old number call end made new → Goes old made new

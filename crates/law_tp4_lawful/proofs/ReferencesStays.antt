@@ -3,12 +3,11 @@ use Rattle.std.proofs.Common.{◌≡◌, ℕ, ◌+◌, ◌≤◌, Bool, true, fa
 use Rattle.osi_base.specs.declared.unit.Picked.TheVariants.{Taken as WasPicked}
 use Rattle.osi_base.specs.Link.{Link}
 use Rattle.osi_base.specs.Calls.{Call, Keeps}
-use Rattle.osi_journal.specs.declared.cause.Refused.{Refused}
-use Rattle.osi_journal.specs.declared.cause.Refused.TheVariants as refusals
-use Rattle.osi_journal.specs.declared.cause.Settled.TheVariants.{Settled, Stopped}
-use Rattle.osi_journal.specs.declared.cause.Standing.TheVariants.{Ended}
-use Rattle.osi_journal.specs.declared.event.Event.{Event}
-use Rattle.osi_journal.specs.declared.event.Event.TheVariants as events
+use Rattle.script_journal.specs.declared.cause.Refused.{Refused}
+use Rattle.script_journal.specs.declared.cause.Refused.TheVariants as refusals
+use Rattle.script_journal.specs.declared.cause.Settled.TheVariants.{Settled, Stopped}
+use Rattle.script_journal.specs.declared.event.Event.{Event}
+use Rattle.script_journal.specs.declared.event.Event.TheVariants as events
 use Rattle.net_world.specs.Told.{told}
 use Rattle.tp4_number.specs.Number.{whole}
 use Rattle.tp4_conn.specs.Calls.{IsCall}
@@ -128,7 +127,7 @@ module _ (titles : List (List ℕ)) (timers : Timers) (timed : IsTimed timers) {
 
     call_end : (number : ℕ) (end : EndAt) (entity : Entity) (call : UserCall) (ended : Bool) → end_numbered old.ends number ≡ Some end → entity_at old.entities end.system ≡ Some entity
         → IsCall call → has_ended (clock_of link steps old) old.ends number end entity ≡ ended → CallsEnd link steps whole old number end entity call ended made new → Stays w (journal ++ made) new
-    call_end number end entity call true numbered there proper is step = refused (Some (refusals.WrongState Ended)) step
+    call_end number end entity call true numbered there proper is step = refused (Some refusals.Ended) step
     call_end number end entity call false numbered there proper is step = call_by number end entity call (user_refusal entity end.reference call) numbered there proper is refl step
 
     call_at : (number : ℕ) (call : UserCall) (end : Option EndAt) → end_numbered old.ends number ≡ end → IsCall call → CallsAt link steps whole old number call end made new → Stays w (journal ++ made) new

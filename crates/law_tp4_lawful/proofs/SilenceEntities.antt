@@ -2,7 +2,7 @@
 use Rattle.std.proofs.Common.{◌≡◌, ◌⊎◌, inl, inr, ℕ, zero, suc, ◌+◌, ◌-◌, ◌≤◌, ◌==◌, not, Bool, true, false, if◌then◌else◌, List, [], ◌∷◌, ◌++◌, length, slice_get, slice_set, Option, Some, None, refl, sym, ◌∙◌, ap, subst, arith, append_assoc}
 use Rattle.std.specs.List.{list_any}
 use Rattle.std.proofs.lemmas.Bool.{cases_eq, leb-false}
-use Rattle.osi_journal.specs.declared.event.Event.{Event as Told}
+use Rattle.script_journal.specs.declared.event.Event.{Event as Told}
 use Rattle.tpdu.specs.Values.{TpduAndSum}
 use Rattle.tpdu.specs.Writing.{kind_for}
 use Rattle.tpdu.specs.declared.tpdu.Tpdu.{Tpdu}
@@ -134,13 +134,7 @@ module _ (frozen : ℕ) (system : ℕ) (address : List ℕ) where
         → Runs frozen s (kind_of (event_for system address (latest (ends_with s.ends system told what) system told.reference) told.reference what)
         ∷ kinds_of (events_after (ends_with s.ends system told what) system address others)) s
     one_told told (whats.Incoming from partner calling called options octets) others one rest = absurd one
-    one_told told (whats.Accept options octets) others one rest = names told.reference _ one rest
-    one_told told (whats.Confirm options octets) others one rest = names told.reference _ one rest
-    one_told told (whats.Got octets) others one rest = names told.reference _ one rest
-    one_told told (whats.Urgent octets) others one rest = names told.reference _ one rest
-    one_told told (whats.Window credit) others one rest = names told.reference _ one rest
-    one_told told (whats.Held kind number) others one rest = names told.reference _ one rest
-    one_told told (whats.Gone cause octets) others one rest = names told.reference _ one rest
+    one_told told (whats.End what) others one rest = names told.reference _ one rest
     one_told told (whats.BadTpdu cause place) others one rest = Goes s s s (Some Other) _ (Noting s (stays_same s) refl) rest
     one_told told (whats.Unknown kind) others one rest = Goes s s s (Some Other) _ (Noting s (stays_same s) refl) rest
     one_told told whats.Silent others one rest = Goes s s s (Some Other) _ (Noting s (stays_same s) refl) rest

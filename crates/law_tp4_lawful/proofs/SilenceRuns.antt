@@ -5,7 +5,6 @@ use Rattle.std.specs.List.{AllByRecursion}
 use Rattle.std.proofs.lemmas.Bool.{eqb-true}
 use Rattle.nsap.specs.Address.{selector_of}
 use Rattle.osi_base.specs.declared.note.Note.{Note}
-use Rattle.osi_base.specs.declared.note.Note.TheVariants as notes
 use Rattle.osi_base.specs.declared.unit.Arrival.{Arrival}
 use Rattle.osi_base.specs.declared.unit.Injected.{Injected}
 use Rattle.osi_base.specs.declared.unit.Injected.TheVariants as injects
@@ -18,16 +17,15 @@ use Rattle.osi_base.specs.declared.unit.Up.TheVariants.{Unit as Came, Note as No
 use Rattle.osi_base.specs.declared.unit.Wish.{Wish}
 use Rattle.osi_base.specs.Link.{Link}
 use Rattle.osi_base.specs.Calls.{Call, Keeps, Choose, Inject, Tick}
-use Rattle.osi_journal.specs.Lawful.{KeepsSilence}
-use Rattle.osi_journal.specs.RawLawful.{raw_address}
-use Rattle.osi_journal.specs.declared.cause.Refused.{Refused}
-use Rattle.osi_journal.specs.declared.cause.Refused.TheVariants as refusals
-use Rattle.osi_journal.specs.declared.cause.Settled.TheVariants.{Settled, Stopped}
-use Rattle.osi_journal.specs.declared.cause.Standing.TheVariants.{Ended}
-use Rattle.osi_journal.specs.declared.event.Event.{Event}
-use Rattle.osi_journal.specs.declared.event.Event.TheVariants as events
+use Rattle.script_journal.specs.Lawful.{KeepsSilence}
+use Rattle.script_journal.specs.RawLawful.{raw_address}
+use Rattle.script_journal.specs.declared.cause.Refused.{Refused}
+use Rattle.script_journal.specs.declared.cause.Refused.TheVariants as refusals
+use Rattle.script_journal.specs.declared.cause.Settled.TheVariants.{Settled, Stopped}
+use Rattle.script_journal.specs.declared.event.Event.{Event}
+use Rattle.script_journal.specs.declared.event.Event.TheVariants as events
 use Rattle.net_world.specs.Run.{SendsUnit}
-use Rattle.net_world.specs.Told.{note_event, picked_event, sent_event, shown_at, told}
+use Rattle.net_world.specs.Told.{picked_event, sent_event, shown_at, told}
 use Rattle.tp4_flow.specs.declared.step.EndEvent.{EndEvent}
 use Rattle.tp4_flow.specs.declared.step.Sent.{Sent}
 use Rattle.tp4_number.specs.Number.{wire}
@@ -72,16 +70,8 @@ others_append : (xs ys : List Event) → AreOthers xs → AreOthers ys → AreOt
 others_append [] ys first rest = rest
 others_append (x ∷ xs) ys first rest = (first.0, others_append xs ys first.1 rest)
 
-note_other : (note : Note) → kind_of (note_event note) ≡ Other
-note_other (notes.Frame number lan system snpa length) = refl
-note_other (notes.DropFrame system) = refl
-note_other (notes.Discard system reason place) = refl
-note_other (notes.Report system reason place) = refl
-note_other (notes.Alien system) = refl
-note_other (notes.BadHello system cause) = refl
-note_other (notes.HelloFull system) = refl
-note_other (notes.Hello system kind snpa) = refl
-note_other (notes.Redirect system address snpa) = refl
+note_other : (note : Note) → kind_of (events.Net note) ≡ Other
+note_other note = refl
 
 unit_others : (shown : Bool) (system : ℕ) (from octets : List ℕ) → AreOthers (if shown then events.Unit system from octets ∷ [] else [])
 unit_others true system from octets = (refl, tt)
@@ -300,7 +290,7 @@ module _ (timers : Timers) {C : Type 0} (link : C → Link (List ℕ)) (steps : 
     call_end : (old new : World C) (made : List Event) (number : ℕ) (end : EndAt) (entity : Entity) (call : UserCall) (ended : Bool) → AreSound old.entities
         → entity_at old.entities end.system ≡ Some entity → has_ended (clock_of link steps old) old.ends number end entity ≡ ended
         → CallsEnd link steps wrap old number end entity call ended made new → Ran old made new
-    call_end old new made number end entity call true sound there is s = refused old new made (Some (refusals.WrongState Ended)) sound s
+    call_end old new made number end entity call true sound there is s = refused old new made (Some refusals.Ended) sound s
     call_end old new made number end entity call false sound there is s =
         call_by old new made number end entity call (user_refusal entity end.reference call) sound there
         (number_by (latest old.ends end.system end.reference == number) (latest old.ends end.system end.reference) number

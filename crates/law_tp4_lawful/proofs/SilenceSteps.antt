@@ -2,10 +2,10 @@
 -- an end that stands is told of none that was lost, and an end is made only when the silence is over.
 use Rattle.std.proofs.Common.{◌≡◌, ◌⊎◌, inl, inr, ℕ, zero, suc, ◌+◌, ◌<◌, ◌≤◌, Bool, true, false, if◌then◌else◌, List, [], ◌∷◌, ◌++◌, length, slice_get, Option, Some, None, refl, sym, ◌∙◌, ap, subst, arith, append-nil, append_assoc}
 use Rattle.std.proofs.lemmas.Bool.{cases_eq}
-use Rattle.osi_journal.specs.Lawful.{IsOf as IsOfEnd, KeepsSilence, MakesAt}
-use Rattle.osi_journal.specs.RawLawful.{clock_after as clock_then, clock_from as clock_of, tick_after as tick_at}
-use Rattle.osi_journal.specs.declared.event.Event.{Event}
-use Rattle.osi_journal.specs.declared.event.Event.TheVariants as events
+use Rattle.script_journal.specs.Lawful.{IsOf as IsOfEnd, KeepsSilence, MakesAt}
+use Rattle.script_journal.specs.RawLawful.{clock_after as clock_then, clock_from as clock_of, tick_after as tick_at}
+use Rattle.script_journal.specs.declared.event.Event.{Event}
+use Rattle.script_journal.specs.declared.event.Event.TheVariants as events
 use Rattle.tp4_world.specs.World.{is_at, latest, latest_from}
 use Rattle.tp4_world.specs.declared.place.EndAt.{EndAt}
 use Rattle.law_tp4_lawful.specs.steps.Silence.{AreSilent, Begins, Clock, Goes, IsLongAgo, IsOf, IsStanding, IsUnused, Kind, Makes, Making, Noting, Of, Other, Quietly, Restarting, Runs, Seen, Stays, Step, Stops, Telling, Ticking, clock_after, clock_from, kind_of, kinds_of, restarted_at, tick_after, told_by}
@@ -357,17 +357,11 @@ clock_same : (now : ℕ) (event : Event) → clock_after now (kind_of event) ≡
 clock_same now (events.Tick tick) = refl
 clock_same now (events.Connect asked) = refl
 clock_same now (events.Incoming heard) = refl
-clock_same now (events.Accept end options octets) = refl
-clock_same now (events.Confirm end options octets) = refl
+clock_same now (events.End end what) = refl
 clock_same now (events.Data end octets) = refl
-clock_same now (events.Got end octets) = refl
 clock_same now (events.Expedite end octets) = refl
-clock_same now (events.Urgent end octets) = refl
 clock_same now (events.Refuse end octets) = refl
 clock_same now (events.Disconnect end octets) = refl
-clock_same now (events.Gone end cause octets) = refl
-clock_same now (events.Window end credit) = refl
-clock_same now (events.Held end expedited number) = refl
 clock_same now (events.Restart system) = refl
 clock_same now event = refl
 
@@ -383,17 +377,11 @@ makes_kind system end event is = absurd is
 of_kind : (end : ℕ) (event : Event) → IsOfEnd end event → IsOf end (kind_of event)
 of_kind end (events.Connect asked) is = is
 of_kind end (events.Incoming heard) is = is
-of_kind end (events.Accept at options octets) is = is
-of_kind end (events.Confirm at options octets) is = is
+of_kind end (events.End at what) is = is
 of_kind end (events.Data at octets) is = is
-of_kind end (events.Got at octets) is = is
 of_kind end (events.Expedite at octets) is = is
-of_kind end (events.Urgent at octets) is = is
 of_kind end (events.Refuse at octets) is = is
 of_kind end (events.Disconnect at octets) is = is
-of_kind end (events.Gone at cause octets) is = is
-of_kind end (events.Window at credit) is = is
-of_kind end (events.Held at expedited number) is = is
 of_kind end event is = absurd is
 
 kinds_front : (front rest : List Event) (event : Event) (kind : Kind) → kind_of event ≡ kind → kinds_of (front ++ event ∷ rest) ≡ kinds_of front ++ kind ∷ kinds_of rest

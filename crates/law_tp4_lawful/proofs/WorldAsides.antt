@@ -5,7 +5,6 @@ use Rattle.std.specs.List.{AllByRecursion}
 use Rattle.std.proofs.lemmas.List.Elements.{All-from_recursion}
 use Rattle.nsap.specs.Address.{selector_of}
 use Rattle.osi_base.specs.declared.note.Note.{Note}
-use Rattle.osi_base.specs.declared.note.Note.TheVariants as notes
 use Rattle.osi_base.specs.declared.unit.Offered.{Offered}
 use Rattle.osi_base.specs.declared.unit.Offered.TheVariants.{Taken as WasTaken, Dropped}
 use Rattle.osi_base.specs.declared.unit.Injected.{Injected}
@@ -14,10 +13,10 @@ use Rattle.osi_base.specs.declared.unit.Picked.{Picked}
 use Rattle.osi_base.specs.declared.unit.Picked.TheVariants as picks
 use Rattle.osi_base.specs.declared.unit.Up.{Up}
 use Rattle.osi_base.specs.declared.unit.Up.TheVariants.{Unit as Came, Note as Noted}
-use Rattle.osi_journal.specs.Lawful.{Marked, shown, submitted}
-use Rattle.osi_journal.specs.declared.event.Event.{Event}
-use Rattle.osi_journal.specs.declared.event.Event.TheVariants as events
-use Rattle.net_world.specs.Told.{note_event, picked_event, sent_event, shown_at, told}
+use Rattle.script_journal.specs.Lawful.{Marked, shown, submitted}
+use Rattle.script_journal.specs.declared.event.Event.{Event}
+use Rattle.script_journal.specs.declared.event.Event.TheVariants as events
+use Rattle.net_world.specs.Told.{picked_event, sent_event, shown_at, told}
 use Rattle.law_tp4_history.specs.Journals.{IsAside, makes_end}
 use Rattle.law_tp4_history.proofs.Appended.{shown-append, submitted-append}
 use Rattle.tp4_world.specs.Telling.{drop_events, inject_event}
@@ -55,16 +54,8 @@ are_aside made all = record {
 
 -- ---- what the network tells
 
-note_quiet : (note : Note) → IsQuiet (note_event note)
-note_quiet (notes.Frame number lan system snpa length) = record { submits = λ end. refl; shows = λ end. refl; makes = refl }
-note_quiet (notes.DropFrame system) = record { submits = λ end. refl; shows = λ end. refl; makes = refl }
-note_quiet (notes.Discard system reason place) = record { submits = λ end. refl; shows = λ end. refl; makes = refl }
-note_quiet (notes.Report system reason place) = record { submits = λ end. refl; shows = λ end. refl; makes = refl }
-note_quiet (notes.Alien system) = record { submits = λ end. refl; shows = λ end. refl; makes = refl }
-note_quiet (notes.BadHello system cause) = record { submits = λ end. refl; shows = λ end. refl; makes = refl }
-note_quiet (notes.HelloFull system) = record { submits = λ end. refl; shows = λ end. refl; makes = refl }
-note_quiet (notes.Hello system kind snpa) = record { submits = λ end. refl; shows = λ end. refl; makes = refl }
-note_quiet (notes.Redirect system address snpa) = record { submits = λ end. refl; shows = λ end. refl; makes = refl }
+note_quiet : (note : Note) → IsQuiet (events.Net note)
+note_quiet note = record { submits = λ end. refl; shows = λ end. refl; makes = refl }
 
 -- a raw unit
 unit_quiet : (raw : Bool) (system : ℕ) (from octets : List ℕ) → AreQuiet (if raw then events.Unit system from octets ∷ [] else [])

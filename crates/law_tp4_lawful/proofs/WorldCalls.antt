@@ -4,12 +4,11 @@ use Rattle.std.specs.List.{AllByRecursion}
 use Rattle.osi_base.specs.declared.unit.Picked.TheVariants.{Taken as WasPicked}
 use Rattle.osi_base.specs.Link.{Link}
 use Rattle.osi_base.specs.Calls.{Call, Keeps}
-use Rattle.osi_journal.specs.declared.cause.Refused.{Refused}
-use Rattle.osi_journal.specs.declared.cause.Refused.TheVariants as refusals
-use Rattle.osi_journal.specs.declared.cause.Settled.TheVariants.{Settled, Stopped}
-use Rattle.osi_journal.specs.declared.cause.Standing.TheVariants.{Ended}
-use Rattle.osi_journal.specs.declared.event.Event.{Event}
-use Rattle.osi_journal.specs.declared.event.Event.TheVariants as events
+use Rattle.script_journal.specs.declared.cause.Refused.{Refused}
+use Rattle.script_journal.specs.declared.cause.Refused.TheVariants as refusals
+use Rattle.script_journal.specs.declared.cause.Settled.TheVariants.{Settled, Stopped}
+use Rattle.script_journal.specs.declared.event.Event.{Event}
+use Rattle.script_journal.specs.declared.event.Event.TheVariants as events
 use Rattle.tp4_number.specs.Number.{whole}
 use Rattle.tp4_conn.specs.Calls.{IsCall}
 use Rattle.tp4_conn.specs.End.{IsSized, IsTimed}
@@ -143,7 +142,7 @@ module _ (titles : List (List ℕ)) (timers : Timers) (Knows : Knowing) (Offered
   call_end : (old new : World C) (journal made : List Event) (number : ℕ) (end : EndAt) (entity : Entity) (call : UserCall) (ended : Bool) → Holds old journal
       → end_numbered old.ends number ≡ Some end → entity_at old.entities end.system ≡ Some entity → IsCall call → has_ended (clock_of link steps old) old.ends number end entity ≡ ended
       → CallsEnd link steps whole old number end entity call ended made new → Holds new (journal ++ made)
-  call_end old new journal made number end entity call true h numbered there proper is step = refused old new journal made (Some (refusals.WrongState Ended)) h step
+  call_end old new journal made number end entity call true h numbered there proper is step = refused old new journal made (Some refusals.Ended) h step
   call_end old new journal made number end entity call false h numbered there proper is step =
       call_by old new journal made number end entity call (user_refusal entity end.reference call) h numbered there proper is refl step
 

@@ -17,8 +17,8 @@ use Rattle.osi_base.specs.declared.unit.Wish.{Wish}
 use Rattle.osi_base.specs.Link.{Link, IsLawful, IsNote}
 use Rattle.osi_base.specs.Calls.{Call, Choose, Inject, Keeps, Offer, Tick}
 use Rattle.osi_base.specs.Gathering.{Gathers}
-use Rattle.osi_journal.specs.RawLawful.{raw_address}
-use Rattle.osi_journal.specs.declared.event.Event.{Event}
+use Rattle.script_journal.specs.RawLawful.{raw_address}
+use Rattle.script_journal.specs.declared.event.Event.{Event}
 use Rattle.net_world.specs.First.{IsFirst}
 use Rattle.net_world.specs.Run.{Passes, SendsUnit, raw_unit}
 use Rattle.net_world.specs.Told.{told}

@@ -13,8 +13,8 @@ use Rattle.osi_base.specs.declared.unit.Up.{Up}
 use Rattle.osi_base.specs.declared.unit.Up.TheVariants.{Unit as Came, Note as Noted}
 use Rattle.osi_base.specs.Link.{Link}
 use Rattle.osi_base.specs.Calls.{Call, Keeps}
-use Rattle.osi_journal.specs.declared.event.Event.{Event}
-use Rattle.osi_journal.specs.declared.event.Event.TheVariants as events
+use Rattle.script_journal.specs.declared.event.Event.{Event}
+use Rattle.script_journal.specs.declared.event.Event.TheVariants as events
 use Rattle.net_world.specs.Told.{picked_event, told}
 use Rattle.tpdu.specs.Values.{TpduAndSum}
 use Rattle.tpdu.specs.declared.fault.TpduCause.{TpduCause}
@@ -32,7 +32,7 @@ use Rattle.law_tp4_history.specs.History.{Note}
 use Rattle.law_tp4_history.specs.Tracks.{Nothing, Whole, onward}
 use Rattle.law_tp4_moves.specs.Moves.{times_of}
 use Rattle.tp4_world.specs.Run.{Acts, Delivers, HearsAll, HearsIf, Injects, is_for}
-use Rattle.tp4_world.specs.Telling.{ends_after, events_after, inject_event, told_fault}
+use Rattle.tp4_world.specs.Telling.{ends_after, events_after, inject_event}
 use Rattle.tp4_world.specs.World.{World, entity_at, with_entity}
 use Rattle.tp4_world.specs.declared.place.EndAt.{EndAt}
 use Rattle.tp4_world.specs.declared.place.Placed.{Placed}
@@ -95,7 +95,7 @@ module _ (titles : List (List ℕ)) (timers : Timers) (Knows : Knowing) (Offered
       → Knows w journal entities ends → AreAtRest Sound w.base.clock entities → entity_at entities system ≡ Some entity
       → Hear w journal entities ends system entity.own (outcome w.base.clock entity from [] (record { reference = 0; what = BadTpdu cause place } ∷ []))
   fault_heard w journal entities ends system entity from cause place known rest is =
-      let event : Event = events.BadTpdu system (told_fault cause) place in
+      let event : Event = events.BadTpdu system cause place in
       let here : Knows w (journal ++ []) (with_entity entities system (at w.base.clock entity)) ends =
       subst (λ (xs : List Event). Knows w xs (with_entity entities system (at w.base.clock entity)) ends) (sym (append-nil journal)) (kept.clock w journal entities ends known system entity is) in
       record {

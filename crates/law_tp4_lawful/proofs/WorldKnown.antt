@@ -1,7 +1,7 @@
 -- A history explains an entity whose clock moves on as it did before; so it is what is kept along the calls.
 use Rattle.std.proofs.Common.{◌≡◌, ℕ, ◌==◌, Bool, true, false, List, Some, None, refl, sym, ◌∙◌, ap, subst, inl, inr, arith}
 use Rattle.nsap.specs.Address.{is_same_system}
-use Rattle.osi_journal.specs.declared.event.Event.{Event}
+use Rattle.script_journal.specs.declared.event.Event.{Event}
 use Rattle.tp4_conn.specs.declared.timers.Timers.{Timers}
 use Rattle.tp4_entity.specs.Entity.{Entity, at}
 use Rattle.tp4_entity.specs.Step.{first_due}

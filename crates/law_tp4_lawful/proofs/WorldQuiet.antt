@@ -1,7 +1,7 @@
 -- A tick at which no end is due is one of the history, which explains the same network: each end that goes on is before its latest tick.
 use Rattle.std.proofs.Common.{◌≡◌, ℕ, ◌+◌, ◌<◌, Bool, true, false, List, ◌++◌, slice_get, get_or, Option, Some, None, refl, sym, ◌∙◌, subst, arith}
 use Rattle.std.proofs.lemmas.Option.{slice_get-get_or}
-use Rattle.osi_journal.specs.declared.event.Event.{Event}
+use Rattle.script_journal.specs.declared.event.Event.{Event}
 use Rattle.tp4_conn.specs.Dues.{IsBefore}
 use Rattle.tp4_conn.specs.End.{End as ConnEnd}
 use Rattle.tp4_conn.specs.Living.{IsInTime}

@@ -4,8 +4,8 @@ use Rattle.std.specs.Prelude.{◌≡◌, ℕ, true, List, ◌++◌, ◌≤◌}
 use Rattle.std.specs.List.{AllByRecursion}
 use Rattle.osi_base.specs.Link.{Link}
 use Rattle.osi_base.specs.Calls.{Call}
-use Rattle.osi_journal.specs.Lawful.{KeepsSilence, Lawful}
-use Rattle.osi_journal.specs.declared.event.Event.{Event}
+use Rattle.script_journal.specs.Lawful.{KeepsSilence, Lawful}
+use Rattle.script_journal.specs.declared.event.Event.{Event}
 use Rattle.tp4_number.specs.Number.{wire}
 use Rattle.tp4_conn.specs.End.{IsTimed, frozen_for}
 use Rattle.tp4_conn.specs.declared.timers.Timers.{Timers}
@@ -16,7 +16,7 @@ use Rattle.tp4_world.specs.declared.place.Placed.{Placed}
 use Rattle.law_tp4_lawful.specs.First.{AreDistinct, IsUntouched}
 use Rattle.law_tp4_lawful.specs.Called.{AreCalls, AreHonestCalls}
 use Rattle.law_tp4_lawful.specs.Limits.{IsProperLine}
-use Rattle.osi_script.specs.declared.line.Line.{Line}
+use Rattle.script_lines.specs.declared.line.Line.{Line}
 
 -- ---- over lines
 

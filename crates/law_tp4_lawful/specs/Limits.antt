@@ -1,13 +1,12 @@
 -- The limits of a script that its lines keep.
 use Rattle.std.specs.Prelude.{◌≤◌, length}
-use Rattle.osi_script.specs.declared.line.Line.{Line}
-use Rattle.osi_script.specs.declared.line.Line.TheVariants as lines
+use Rattle.script_lines.specs.declared.line.Line.{Line}
+use Rattle.script_lines.specs.declared.line.Line.TheVariants as lines
 use Rattle.tp4_conn.specs.End.{IsSized}
-use Rattle.tp4_world.specs.Telling.{asked_options}
 
 -- the line keeps the limits of the script: the size of a TPDU is one that a script may name, a selector has 32 octets at most, and a credit is at most 255
 abbrev pub IsProperLine : Line → Type 0
-IsProperLine (lines.Connect system selector to called options octets) = IsSized (asked_options options) × (length selector ≤ 32) × (length called ≤ 32)
-IsProperLine (lines.Accept end options octets) = IsSized (asked_options options)
+IsProperLine (lines.Connect system selector to called options octets) = IsSized options × (length selector ≤ 32) × (length called ≤ 32)
+IsProperLine (lines.Accept end options octets) = IsSized options
 IsProperLine (lines.Window end credit) = credit ≤ 255
 IsProperLine line = Unit {0}

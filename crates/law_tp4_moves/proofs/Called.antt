@@ -3,7 +3,7 @@ use Rattle.std.proofs.Common.{◌≡◌, ◌≢◌, inl, inr, ℕ, ◌+◌, ◌�
 use Rattle.std.proofs.lemmas.Bool.{ltb-true}
 use Rattle.tpdu.specs.declared.tpdu.Tpdu.{Tpdu as WireTpdu}
 use Rattle.tpdu.specs.declared.tpdu.Tpdu.TheVariants as wires
-use Rattle.tp4_flow.specs.declared.rules.Options.{Options}
+use Rattle.tpdu.specs.declared.service.Options.{Options}
 use Rattle.tp4_flow.specs.declared.step.EndEvent.{EndEvent}
 use Rattle.tp4_flow.specs.declared.step.Sent.{Sent}
 use Rattle.tp4_sending.specs.FlowSender.{Sendings, at, opened}
@@ -24,7 +24,7 @@ use Rattle.law_tp4_moves.specs.Seen.{terms_of, seen}
 use Rattle.law_tp4_moves.proofs.Halves.{Sends, opened_flows, submitted_flows, urged_flows, shut_submitted, shut_urged}
 use Rattle.law_tp4_moves.proofs.Offers.{AreOfferable, cc_offerable, refusal_offerable}
 use Rattle.law_tp4_moves.proofs.Opens.{tpdu_takes}
-use Rattle.law_tp4_moves.proofs.Rows.{alone_hears, took_hears, new_end, by_row, freezes, closes, rests, once_more, dc_back}
+use Rattle.law_tp4_moves.proofs.Rows.{alone_hears, took_hears, new_end, by_row, goes_to, freezes, closes, rests, once_more, dc_back}
 
 module _ (times : Times) (h : End) (b : EndRecord) (since : ℕ) (s : Sees times b.clock h (record { base = b; stage = stages.UserWait since })) (going : h.stop ≡ None) (low : b.clock ≤ h.latest) where
   pub accepts : (asked : Options) (octets : List ℕ) → IsProposal b.proposed → IsSized asked → Moves times b.clock Alone h (user_wait_accept b asked octets)
@@ -82,19 +82,9 @@ module _ (times : Times) (h : End) (b : EndRecord) (w : InAkWait) (s : Sees time
 
   -- it waits on, whatever it took
   waits : (x : Tpdu) → x.kind ≢ Dr → Moves times b.clock (Took x) h (stays b (stages.AkWait w))
-  waits x no_dr = by_row times h b (stages.AkWait w) s going low (Took x) b.partner b.credit b.agreed (stages.AkWait w) h.latest h.is_parted [] [] (record {
-    known = inl refl;
-    agrees = inl refl;
-    stops = tt;
-    now_low = low;
-    latest_low = inl (omega arith);
-    parted_on = λ e. e;
-    parted_in = s.parted;
-    hears = took_hears h x (stages.AkWait w) (λ e. absurd (no_dr e)) (λ _ e. absurd (cc (e, s.phase))) (λ _ e. absurd cc);
-    state = s.state;
-    timely = s.timely;
-    offers = tt;
-  })
+  waits x no_dr =
+      goes_to times h b (stages.AkWait w) s going low (Took x) (stages.AkWait w) [] [] tt s.parted
+      (took_hears h x (stages.AkWait w) (λ e. absurd (no_dr e)) (λ _ e. absurd (cc (e, s.phase))) (λ _ e. absurd cc)) s.state s.timely tt
 
   pub ak_tpdu : (wrap : ℕ → ℕ → ℕ) (n : ℕ) (tpdu : WireTpdu) → Moves times b.clock (Took (seen n tpdu)) h (ak_wait_tpdu wrap b w tpdu)
   unfolding ak_wait_tpdu
@@ -124,52 +114,29 @@ module _ (times : Times) (h : End) (b : EndRecord) (w : InAkWait) (s : Sees time
       (λ _. if_kept (Moves times b.clock Alone h) (nat_lt w.tries.count b.timers.sendings) _ _
       (λ t. let few : w.tries.count + 1 ≤ b.timers.sendings = omega (arith, ltb-true _ _ t) in
       let to = stages.AkWait (record w { tries = again b.clock w.tries }) in
-      by_row times h b (stages.AkWait w) s going low Alone b.partner b.credit b.agreed to h.latest h.is_parted [] (confirms_again b b.agreed w.octets) (record {
-        known = inl refl;
-        agrees = inl refl;
-        stops = tt;
-        now_low = low;
-        latest_low = inl (omega arith);
-        parted_on = λ e. e;
-        parted_in = s.parted;
-        hears = alone_hears h to (λ e. absurd cc);
-        state = record {
-          called = s.state.called;
-          known = s.state.known;
-          halves = s.state.halves;
-          shut = s.state.shut;
-          tries = once_more b.timers w.first b.clock w.tries s.state.tries s.timely few;
-          latest_is = s.state.latest_is;
-        };
-        timely = omega arith;
-        offers = again_offerable _ b.agreed size refl refl;
-      }))
+      goes_to times h b (stages.AkWait w) s going low Alone to [] (confirms_again b b.agreed w.octets) tt s.parted (alone_hears h to (λ e. absurd cc)) (record {
+        called = s.state.called;
+        known = s.state.known;
+        halves = s.state.halves;
+        shut = s.state.shut;
+        tries = once_more b.timers w.first b.clock w.tries s.state.tries s.timely few;
+        latest_is = s.state.latest_is;
+      }) (omega arith) (again_offerable _ b.agreed size refl refl))
       (λ _. freezes times h b (stages.AkWait w) s going low Alone _ [] tt))
 
   -- what is queued is not sent
   queues : (y : Sendings) → Sends (flow_rules b s.state.halves.terms) false y → y.tpdus ≡ [] → Moves times b.clock Alone h (queueing b w y)
   queues y f none =
       let to = stages.AkWait (record w { halves = record w.halves { sending = y.sender } }) in
-      by_row times h b (stages.AkWait w) s going low Alone b.partner b.credit b.agreed to h.latest h.is_parted y.events y.tpdus (record {
-        known = inl refl;
-        agrees = inl refl;
-        stops = tt;
-        now_low = low;
-        latest_low = inl (omega arith);
-        parted_on = λ e. e;
-        parted_in = s.parted;
-        hears = alone_hears h to (λ e. absurd cc);
-        state = record {
-          called = s.state.called;
-          known = s.state.known;
-          halves = record { terms = s.state.halves.terms; agreed = s.state.halves.agreed; sending = f.ready.rules_are; receiving = s.state.halves.receiving };
-          shut = f.ready.is_open;
-          tries = s.state.tries;
-          latest_is = s.state.latest_is;
-        };
-        timely = s.timely;
-        offers = subst (λ (ts : List Sent). AreOfferable times b.clock Alone h (new_end times h b (stages.AkWait w) s going low Alone b.partner b.agreed to h.latest h.is_parted) ts) (sym none) tt;
-      })
+      goes_to times h b (stages.AkWait w) s going low Alone to y.events y.tpdus tt s.parted (alone_hears h to (λ e. absurd cc)) (record {
+        called = s.state.called;
+        known = s.state.known;
+        halves = record { terms = s.state.halves.terms; agreed = s.state.halves.agreed; sending = f.ready.rules_are; receiving = s.state.halves.receiving };
+        shut = f.ready.is_open;
+        tries = s.state.tries;
+        latest_is = s.state.latest_is;
+      }) s.timely
+      (subst (λ (ts : List Sent). AreOfferable times b.clock Alone h (new_end times h b (stages.AkWait w) s going low Alone b.partner b.agreed to h.latest h.is_parted) ts) (sym none) tt)
 
   pub normal_queued : (unit : List ℕ) → Moves times b.clock Alone h (ak_wait_normal b w unit)
   normal_queued unit = queues _ (submitted_flows (flow_rules b s.state.halves.terms) false (at b.clock w.halves.sending) unit (record { rules_are = s.state.halves.sending; is_open = s.state.shut }))

@@ -1,11 +1,11 @@
 -- The rows of a calling end whose partner has not answered: CrWait and WaitBeforeClose.
-use Rattle.std.proofs.Common.{◌≡◌, ◌≢◌, inl, inr, ℕ, ◌+◌, ◌-◌, ◌*◌, ◌≤◌, true, false, nat_lt, List, [], ◌∷◌, ◌++◌, Some, None, refl, sym, ◌∙◌, ap, subst, arith}
+use Rattle.std.proofs.Common.{◌≡◌, ◌≢◌, inr, ℕ, ◌+◌, ◌-◌, ◌*◌, ◌≤◌, true, false, nat_lt, List, [], ◌∷◌, ◌++◌, Some, None, refl, sym, ◌∙◌, ap, subst, arith}
 use Rattle.std.proofs.Math.Nat.{mul-le-mul_right}
 use Rattle.std.proofs.lemmas.Bool.{ltb-true}
 use Rattle.tpdu.specs.declared.tpdu.Tpdu.{Tpdu as WireTpdu}
 use Rattle.tpdu.specs.declared.tpdu.Tpdu.TheVariants as wires
 use Rattle.tp4_flow.specs.Half.{ak}
-use Rattle.tp4_flow.specs.declared.rules.Options.{Options}
+use Rattle.tpdu.specs.declared.service.Options.{Options}
 use Rattle.tp4_flow.specs.declared.step.EndEvent.{EndEvent}
 use Rattle.tp4_sending.specs.FlowSender.{at, opened}
 use Rattle.tp4_sending.specs.Pieces.{again}
@@ -26,7 +26,7 @@ use Rattle.law_tp4_moves.specs.Moves.{times_of, AreTries, Sees, Moves, HasSource
 use Rattle.law_tp4_moves.specs.Seen.{terms_of, seen}
 use Rattle.law_tp4_moves.proofs.Halves.{Sends, flows_appended, ak_flow, opened_flows}
 use Rattle.law_tp4_moves.proofs.Offers.{cr_offerable, flows_offerable}
-use Rattle.law_tp4_moves.proofs.Rows.{alone_hears, took_hears, new_end, by_row, freezes, closes, rests, once_more, dc_back}
+use Rattle.law_tp4_moves.proofs.Rows.{alone_hears, took_hears, new_end, by_row, goes_to, freezes, closes, rests, once_more, dc_back}
 
 pub never : {A : Type 0} → false ≡ true → A
 never e = absurd cc
@@ -92,48 +92,24 @@ module _ (times : Times) (h : End) (b : EndRecord) (w : InCrWait) (s : Sees time
       (λ _. if_kept (Moves times b.clock Alone h) (nat_lt w.tries.count b.timers.sendings) _ _
       (λ t. let few : w.tries.count + 1 ≤ b.timers.sendings = omega (arith, ltb-true _ _ t) in
       let to = stages.CrWait (record w { tries = again b.clock w.tries }) in
-      by_row times h b (stages.CrWait w) s going low Alone b.partner b.credit b.agreed to h.latest h.is_parted [] (request b w.octets ∷ []) (record {
-        known = inl refl;
-        agrees = inl refl;
-        stops = tt;
-        now_low = low;
-        latest_low = inl (omega arith);
-        parted_on = λ e. e;
-        parted_in = s.parted;
-        hears = alone_hears h to (λ e. absurd cc);
-        state = record {
-          calls = s.state.calls;
-          unknown = s.state.unknown;
-          unagreed = s.state.unagreed;
-          octets = s.state.octets;
-          tries = once_more b.timers h.birth.made b.clock w.tries s.state.tries s.timely few;
-          latest_is = s.state.latest_is;
-        };
-        timely = omega arith;
-        offers = (
-          cr_offerable times b.clock Alone h _ b w.octets (s.is_called ∙ s.state.calls) s.partner s.reference s.calling s.called s.state.octets
-              (soon_again times b.timers h.birth.made b.clock w.tries s.times_are s.state.tries s.timely few),
-          tt,
-        );
-      }))
+      goes_to times h b (stages.CrWait w) s going low Alone to [] (request b w.octets ∷ []) tt s.parted (alone_hears h to (λ e. absurd cc)) (record {
+        calls = s.state.calls;
+        unknown = s.state.unknown;
+        unagreed = s.state.unagreed;
+        octets = s.state.octets;
+        tries = once_more b.timers h.birth.made b.clock w.tries s.state.tries s.timely few;
+        latest_is = s.state.latest_is;
+      }) (omega arith) (
+        cr_offerable times b.clock Alone h _ b w.octets (s.is_called ∙ s.state.calls) s.partner s.reference s.calling s.called s.state.octets
+            (soon_again times b.timers h.birth.made b.clock w.tries s.times_are s.state.tries s.timely few),
+        tt,
+      ))
       (λ _. freezes times h b (stages.CrWait w) s going low Alone _ [] tt))
 
   pub cr_parts : (octets : List ℕ) → Moves times b.clock Alone h (cr_wait_disconnect b w octets)
   cr_parts octets =
       let to = stages.WaitBeforeClose (record { request = w; octets = octets }) in
-      by_row times h b (stages.CrWait w) s going low Alone b.partner b.credit b.agreed to h.latest h.is_parted [] [] (record {
-        known = inl refl;
-        agrees = inl refl;
-        stops = tt;
-        now_low = low;
-        latest_low = inl (omega arith);
-        parted_on = λ e. e;
-        parted_in = s.parted;
-        hears = alone_hears h to (λ e. absurd cc);
-        state = s.state;
-        timely = s.timely;
-        offers = tt;
-      })
+      goes_to times h b (stages.CrWait w) s going low Alone to [] [] tt s.parted (alone_hears h to (λ e. absurd cc)) s.state s.timely tt
 
 module _ (times : Times) (h : End) (b : EndRecord) (w : InWaitBeforeClose) (s : Sees times b.clock h (record { base = b; stage = stages.WaitBeforeClose w })) (going : h.stop ≡ None) (low : b.clock ≤ h.latest) where
   pub wait_tpdu : (n : ℕ) (tpdu : WireTpdu) → is_answer tpdu ≡ true → HasSource (seen n tpdu) → Moves times b.clock (Took (seen n tpdu)) h (wait_before_close_tpdu b w tpdu)
@@ -156,28 +132,16 @@ module _ (times : Times) (h : End) (b : EndRecord) (w : InWaitBeforeClose) (s : 
       (λ _. if_kept (Moves times b.clock Alone h) (nat_lt w.request.tries.count b.timers.sendings) _ _
       (λ t. let few : w.request.tries.count + 1 ≤ b.timers.sendings = omega (arith, ltb-true _ _ t) in
       let to = stages.WaitBeforeClose (again_parting b w) in
-      by_row times h b (stages.WaitBeforeClose w) s going low Alone b.partner b.credit b.agreed to h.latest h.is_parted [] (request b w.request.octets ∷ []) (record {
-        known = inl refl;
-        agrees = inl refl;
-        stops = tt;
-        now_low = low;
-        latest_low = inl (omega arith);
-        parted_on = λ e. e;
-        parted_in = s.parted;
-        hears = alone_hears h to (λ e. absurd cc);
-        state = record {
-          calls = s.state.calls;
-          unknown = s.state.unknown;
-          unagreed = s.state.unagreed;
-          octets = s.state.octets;
-          tries = once_more b.timers h.birth.made b.clock w.request.tries s.state.tries s.timely few;
-          latest_is = s.state.latest_is;
-        };
-        timely = omega arith;
-        offers = (
-          cr_offerable times b.clock Alone h _ b w.request.octets (s.is_called ∙ s.state.calls) s.partner s.reference s.calling s.called s.state.octets
-              (soon_again times b.timers h.birth.made b.clock w.request.tries s.times_are s.state.tries s.timely few),
-          tt,
-        );
-      }))
+      goes_to times h b (stages.WaitBeforeClose w) s going low Alone to [] (request b w.request.octets ∷ []) tt s.parted (alone_hears h to (λ e. absurd cc)) (record {
+        calls = s.state.calls;
+        unknown = s.state.unknown;
+        unagreed = s.state.unagreed;
+        octets = s.state.octets;
+        tries = once_more b.timers h.birth.made b.clock w.request.tries s.state.tries s.timely few;
+        latest_is = s.state.latest_is;
+      }) (omega arith) (
+        cr_offerable times b.clock Alone h _ b w.request.octets (s.is_called ∙ s.state.calls) s.partner s.reference s.calling s.called s.state.octets
+            (soon_again times b.timers h.birth.made b.clock w.request.tries s.times_are s.state.tries s.timely few),
+        tt,
+      ))
       (λ _. freezes times h b (stages.WaitBeforeClose w) s going low Alone _ [] tt))

@@ -1,5 +1,5 @@
 -- The rows of an end that closes.
-use Rattle.std.proofs.Common.{◌≡◌, ◌≢◌, inl, ℕ, ◌+◌, ◌≤◌, nat_lt, nat_le, [], ◌∷◌, None, refl, arith}
+use Rattle.std.proofs.Common.{◌≡◌, ◌≢◌, ℕ, ◌+◌, ◌≤◌, nat_lt, nat_le, [], ◌∷◌, None, refl}
 use Rattle.tpdu.specs.declared.tpdu.Tpdu.{Tpdu as WireTpdu}
 use Rattle.tpdu.specs.declared.tpdu.Tpdu.TheVariants as wires
 use Rattle.tp4_conn.specs.declared.end_record.EndRecord.{EndRecord}
@@ -12,23 +12,13 @@ use Rattle.law_tp4_history.specs.Ends.{Times, Dr, Dc, Tpdu, End, Alone, Took}
 use Rattle.law_tp4_moves.specs.Moves.{Sees, Moves}
 use Rattle.law_tp4_moves.specs.Seen.{seen}
 use Rattle.law_tp4_moves.proofs.Offers.{dr_offerable}
-use Rattle.law_tp4_moves.proofs.Rows.{alone_hears, took_hears, by_row, freezes, rests}
+use Rattle.law_tp4_moves.proofs.Rows.{alone_hears, took_hears, goes_to, freezes, rests}
 
 module _ (times : Times) (h : End) (b : EndRecord) (c : InClosing) (s : Sees times b.clock h (record { base = b; stage = stages.Closing c })) (going : h.stop ≡ None) (low : b.clock ≤ h.latest) where
   ignores : (x : Tpdu) → x.kind ≢ Dr → x.kind ≢ Dc → Moves times b.clock (Took x) h (stays b (stages.Closing c))
-  ignores x no_dr no_dc = by_row times h b (stages.Closing c) s going low (Took x) b.partner b.credit b.agreed (stages.Closing c) h.latest h.is_parted [] [] (record {
-    known = inl refl;
-    agrees = inl refl;
-    stops = tt;
-    now_low = low;
-    latest_low = inl (omega arith);
-    parted_on = λ e. e;
-    parted_in = s.parted;
-    hears = took_hears h x (stages.Closing c) (λ e. absurd (no_dr e)) (λ e. absurd (no_dc e)) (λ _ e. absurd cc);
-    state = s.state;
-    timely = s.timely;
-    offers = tt;
-  })
+  ignores x no_dr no_dc =
+      goes_to times h b (stages.Closing c) s going low (Took x) (stages.Closing c) [] [] tt s.parted
+      (took_hears h x (stages.Closing c) (λ e. absurd (no_dr e)) (λ e. absurd (no_dc e)) (λ _ e. absurd cc)) s.state s.timely tt
 
   pub closing_takes : (n : ℕ) (tpdu : WireTpdu) → Moves times b.clock (Took (seen n tpdu)) h (closing_tpdu b c tpdu)
   unfolding closing_tpdu
@@ -45,16 +35,6 @@ module _ (times : Times) (h : End) (b : EndRecord) (c : InClosing) (s : Sees tim
       (λ _. if_kept (Moves times b.clock Alone h) (nat_lt b.clock (c.last + b.timers.t1)) _ _
       (λ _. rests times h b (stages.Closing c) s going low)
       (λ _. let to = stages.Closing (record c { last = b.clock }) in
-      by_row times h b (stages.Closing c) s going low Alone b.partner b.credit b.agreed to h.latest h.is_parted [] (release b c.reason c.octets ∷ []) (record {
-        known = inl refl;
-        agrees = inl refl;
-        stops = tt;
-        now_low = low;
-        latest_low = inl (omega arith);
-        parted_on = λ e. e;
-        parted_in = s.parted;
-        hears = alone_hears h to (λ e. absurd cc);
-        state = record { known = s.state.known; latest_is = s.state.latest_is };
-        timely = s.timely;
-        offers = (dr_offerable times b.clock Alone h _ b c.reason c.octets s.partner s.reference refl s.state.known s.parted, tt);
-      })))
+      goes_to times h b (stages.Closing c) s going low Alone to [] (release b c.reason c.octets ∷ []) tt s.parted (alone_hears h to (λ e. absurd cc))
+      (record { known = s.state.known; latest_is = s.state.latest_is }) s.timely
+      (dr_offerable times b.clock Alone h _ b c.reason c.octets s.partner s.reference refl s.state.known s.parted, tt)))

@@ -4,7 +4,7 @@ use Rattle.std.specs.Prelude.{is_some}
 use Rattle.std.proofs.lemmas.Bool.{true≢false, and_parts, and_cases, and_left, and_right, and_from, lt-ltb, le-ltb, ltb-false, leb-false, eq-eqb, eqb-true, eqb-false, ne_eqb}
 use Rattle.std.proofs.lemmas.List.{length-take}
 use Rattle.std.proofs.lemmas.List.Sums.{sum_by-append}
-use Rattle.osi_journal.specs.Lawful.{Marked, Normal, Expedited, normals, expediteds}
+use Rattle.script_journal.specs.Lawful.{Marked, Normal, Expedited, normals, expediteds}
 use Rattle.tp4_number.specs.Number.{wire, near}
 use Rattle.tp4_number.specs.Sender.{Sender, told, is_newer}
 use Rattle.tp4_number.specs.Traffic.{Answer, Ak_comes, Open}
@@ -17,9 +17,9 @@ use Rattle.tp4_sending.specs.declared.tries.Tries.{Tries}
 use Rattle.tp4_sending.proofs.Advances.{advanced_is, taken_from}
 use Rattle.tp4_sending.proofs.Frees.{freed_left}
 use Rattle.law_tp4_history.specs.Ends.{Offer, Flow, Ak, Ea}
-use Rattle.law_tp4_history.specs.Line.{Submit, Flows, Expedites}
+use Rattle.law_tp4_history.specs.Line.{Line, Submit, Flows, Expedites}
 use Rattle.law_tp4_history.specs.Tracks.{Track}
-use Rattle.law_tp4_moves.proofs.FlowOut.{Around, line_at, Fits, Goes, then_goes}
+use Rattle.law_tp4_moves.proofs.FlowOut.{Around, line_at, Fits, Goes, goes_by, then_goes}
 use Rattle.law_tp4_moves.proofs.FlowSends.{new_goes}
 use Rattle.law_tp4_history.proofs.Marks.{normals-append, expediteds-append}
 use Rattle.law_tp4_moves.proofs.FlowUnits.{freed_front}
@@ -35,55 +35,39 @@ module _ (t : Track) (begun : t.is_begun ≡ true) (life : ℕ) (taken : Option 
       (then_goes t life taken s a (quietly new) given [] new_sends g (λ b f. new_goes t begun life taken new b f))
 
   pub submit_goes : (s : FlowSender) (a : Around) (unit : List ℕ) → Fits s a → 0 < length unit → Goes t life taken s a (submitted s unit) (Normal unit ∷ [])
-  submit_goes s a unit f some = then_new s (record s { queue = record s.queue { units = s.queue.units ++ unit ∷ [] } }) a (Normal unit ∷ []) (record {
-    around = record a { submitted = a.submitted ++ Normal unit ∷ [] };
-    happenings = Submit (Normal unit) ∷ [];
-    runs = (some, refl);
-    fits = record {
-      window = f.window;
-      first = f.first;
-      acknowledged = f.acknowledged;
-      normal = normals-append a.submitted (Normal unit ∷ []) ∙ ap (λ (us : List (List ℕ)). us ++ unit ∷ []) f.normal ∙ append_assoc f.acknowledged s.queue.units (unit ∷ []);
-      pieces = f.pieces;
-      base = f.base;
-      answered = f.answered;
-      expedited = same ∙ f.expedited;
-      answers = f.answers;
-      sent = omega (arith, f.sent, ap length same);
-    };
-    rules = refl;
-    clock = refl;
-    gave = refl;
-    quiet = refl;
-    sent = λ theirs. tt;
-  })
+  submit_goes s a unit f some = then_new s (record s { queue = record s.queue { units = s.queue.units ++ unit ∷ [] } }) a (Normal unit ∷ [])
+      (goes_by t life taken s a (record a { submitted = a.submitted ++ Normal unit ∷ [] }) (record s { queue = record s.queue { units = s.queue.units ++ unit ∷ [] } }) []
+      (Submit (Normal unit) ∷ []) (Normal unit ∷ []) (some, refl) (record {
+        window = f.window;
+        first = f.first;
+        acknowledged = f.acknowledged;
+        normal = normals-append a.submitted (Normal unit ∷ []) ∙ ap (λ (us : List (List ℕ)). us ++ unit ∷ []) f.normal ∙ append_assoc f.acknowledged s.queue.units (unit ∷ []);
+        pieces = f.pieces;
+        base = f.base;
+        answered = f.answered;
+        expedited = same ∙ f.expedited;
+        answers = f.answers;
+        sent = omega (arith, f.sent, ap length same);
+      }) refl refl refl refl)
     where
       same : expediteds (a.submitted ++ Normal unit ∷ []) ≡ expediteds a.submitted
       same = expediteds-append a.submitted (Normal unit ∷ []) ∙ append-nil (expediteds a.submitted)
 
   pub urge_goes : (s : FlowSender) (a : Around) (unit : List ℕ) → Fits s a → Goes t life taken s a (urged s unit) (Expedited unit ∷ [])
-  urge_goes s a unit f = then_new s (record s { urgent = record s.urgent { units = s.urgent.units ++ unit ∷ [] } }) a (Expedited unit ∷ []) (record {
-    around = record a { submitted = a.submitted ++ Expedited unit ∷ [] };
-    happenings = Submit (Expedited unit) ∷ [];
-    runs = (record {}, refl);
-    fits = record {
-      window = f.window;
-      first = f.first;
-      acknowledged = f.acknowledged;
-      normal = normals-append a.submitted (Expedited unit ∷ []) ∙ append-nil (normals a.submitted) ∙ f.normal;
-      pieces = f.pieces;
-      base = urgent_same s.urgent.out f.base;
-      answered = f.answered;
-      expedited = same ∙ ap (λ (us : List (List ℕ)). us ++ unit ∷ []) f.expedited ∙ append_assoc f.answered s.urgent.units (unit ∷ []);
-      answers = f.answers;
-      sent = omega (arith, f.sent, ap length same, length-append (expediteds a.submitted) (unit ∷ []));
-    };
-    rules = refl;
-    clock = refl;
-    gave = refl;
-    quiet = refl;
-    sent = λ theirs. tt;
-  })
+  urge_goes s a unit f = then_new s (record s { urgent = record s.urgent { units = s.urgent.units ++ unit ∷ [] } }) a (Expedited unit ∷ [])
+      (goes_by t life taken s a (record a { submitted = a.submitted ++ Expedited unit ∷ [] }) (record s { urgent = record s.urgent { units = s.urgent.units ++ unit ∷ [] } }) []
+      (Submit (Expedited unit) ∷ []) (Expedited unit ∷ []) (record {}, refl) (record {
+        window = f.window;
+        first = f.first;
+        acknowledged = f.acknowledged;
+        normal = normals-append a.submitted (Expedited unit ∷ []) ∙ append-nil (normals a.submitted) ∙ f.normal;
+        pieces = f.pieces;
+        base = urgent_same s.urgent.out f.base;
+        answered = f.answered;
+        expedited = same ∙ ap (λ (us : List (List ℕ)). us ++ unit ∷ []) f.expedited ∙ append_assoc f.answered s.urgent.units (unit ∷ []);
+        answers = f.answers;
+        sent = omega (arith, f.sent, ap length same, length-append (expediteds a.submitted) (unit ∷ []));
+      }) refl refl refl refl)
     where
       same : expediteds (a.submitted ++ Expedited unit ∷ []) ≡ expediteds a.submitted ++ unit ∷ []
       same = expediteds-append a.submitted (Expedited unit ∷ [])
@@ -93,28 +77,9 @@ module _ (t : Track) (begun : t.is_begun ≡ true) (life : ℕ) (taken : Option 
       urgent_same (Some tries) b = b
 
   pub open_goes : (s : FlowSender) (a : Around) → Fits s a → Goes t life taken s a (opened s) []
-  open_goes s a f = then_new s (record s { is_open = true }) a [] (record {
-    around = a;
-    happenings = [];
-    runs = refl;
-    fits = record {
-      window = f.window;
-      first = f.first;
-      acknowledged = f.acknowledged;
-      normal = f.normal;
-      pieces = f.pieces;
-      base = f.base;
-      answered = f.answered;
-      expedited = f.expedited;
-      answers = f.answers;
-      sent = f.sent;
-    };
-    rules = refl;
-    clock = refl;
-    gave = sym (append-nil a.submitted);
-    quiet = refl;
-    sent = λ theirs. tt;
-  })
+  open_goes s a f =
+      then_new s (record s { is_open = true }) a []
+      (goes_by t life taken s a a (record s { is_open = true }) [] [] [] refl f refl refl (sym (append-nil a.submitted)) refl)
 
   -- an AK that is not taken changes nothing
   not_told : (s : Sender) (n credit subsequence : ℕ) → (nat_le n s.blocks.high && is_newer s n credit subsequence) ≡ false → told s n credit subsequence ≡ s
@@ -151,28 +116,12 @@ module _ (t : Track) (begun : t.is_begun ≡ true) (life : ℕ) (taken : Option 
       → Goes t life taken s a (acknowledged s (wire (block_in s) m) credit subsequence) []
   ak_goes s a m credit subsequence o f is kind body =
       if_kept (λ (x : Sendings). Goes t life taken s a x []) (is_taken s n credit subsequence) _ _
-      (λ new. then_new s (acknowledged_to s n credit subsequence) a [] (record {
-        around = b;
-        happenings = Flows (Ak_comes answer) ∷ [];
-        runs = ((o, is, kind, body, refl), refl);
-        fits = later (ak_taken s a n credit subsequence f new);
-        rules = refl;
-        clock = refl;
-        gave = sym (append-nil a.submitted);
-        quiet = refl;
-        sent = λ theirs. tt;
-      }))
-      (λ old. record {
-        around = b;
-        happenings = Flows (Ak_comes answer) ∷ [];
-        runs = ((o, is, kind, body, refl), λ i. record (line_at s b) { world = record (line_at s b).world { sender = sym (not_told s.numbers n credit subsequence old) i } });
-        fits = later f;
-        rules = refl;
-        clock = refl;
-        gave = sym (append-nil a.submitted);
-        quiet = refl;
-        sent = λ theirs. tt;
-      })
+      (λ new. then_new s (acknowledged_to s n credit subsequence) a []
+      (goes_by t life taken s a b (acknowledged_to s n credit subsequence) [] (Flows (Ak_comes answer) ∷ []) [] ((o, is, kind, body, refl), refl)
+      (ak_taken s a n credit subsequence f new) refl refl (sym (append-nil a.submitted)) refl))
+      (λ old. goes_by t life taken s a b s [] (Flows (Ak_comes answer) ∷ []) []
+      ((o, is, kind, body, refl), λ i. record (line_at s b) { world = record (line_at s b).world { sender = sym (not_told s.numbers n credit subsequence old) i } })
+      f refl refl (sym (append-nil a.submitted)) refl)
     where
       n : ℕ
       n = near (block_in s) s.numbers.base (wire (block_in s) m)
@@ -182,20 +131,6 @@ module _ (t : Track) (begun : t.is_begun ≡ true) (life : ℕ) (taken : Option 
 
       b : Around
       b = record a { shown = a.shown ++ [] }
-
-      later : {x : FlowSender} → Fits x a → Fits x b
-      later g = record {
-        window = g.window;
-        first = g.first;
-        acknowledged = g.acknowledged;
-        normal = g.normal;
-        pieces = g.pieces;
-        base = g.base;
-        answered = g.answered;
-        expedited = g.expedited;
-        answers = g.answers;
-        sent = g.sent;
-      }
 
   -- an EA that is for the ED outstanding, and one that is not
   done_base : (s : FlowSender) (out : Option Tries) (base : ℕ) → is_some out ≡ true → urgent_base s.urgent out base → base + 1 ≡ s.urgent.next
@@ -217,6 +152,13 @@ module _ (t : Track) (begun : t.is_begun ≡ true) (life : ℕ) (taken : Option 
   first_count [] some = absurd (omega (arith, some))
   first_count (unit ∷ units) some = refl
 
+  -- the line after an EA, by whether it is for the ED outstanding
+  abbrev after : FlowSender → Around → Bool → Line
+  after s a c = record (line_at s a) { urgent = if c then record (line_at s a).urgent { base = a.base + 1 } else (line_at s a).urgent; shown = a.shown ++ [] }
+
+  tested : (s : FlowSender) (a : Around) (is test : Bool) → test ≡ is → after s a is ≡ after s a test
+  tested s a is test e = ap (after s a) (sym e)
+
   pub ea_goes : (s : FlowSender) (a : Around) (m : ℕ) (o : Offer) → Fits s a → taken ≡ Some o → o.tpdu.kind ≡ Flow → o.tpdu.body ≡ Ea m
       → Goes t life taken s a (urgent_done s (wire (block_in s) m)) []
   ea_goes s a m o f is kind body =
@@ -228,90 +170,31 @@ module _ (t : Track) (begun : t.is_begun ≡ true) (life : ℕ) (taken : Option 
       let before : s.urgent.next - 1 ≡ a.base = omega (arith, at) in
       let test : (nat_lt a.base s.urgent.next && (wire (block_in s) m == wire (block_in s) a.base)) ≡ true =
       and_from _ _ (lt-ltb a.base s.urgent.next (omega (arith, at))) (eq-eqb _ _ (sym (eqb-true _ _ both.1) ∙ ap (wire (block_in s)) before)) in
-      then_new s (record s { urgent = record s.urgent { units = drop 1 s.urgent.units; out = None } }) a [] (record {
-        around = record a { base = a.base + 1; shown = a.shown ++ [] };
-        happenings = Expedites (Ea_comes m o.tick) ∷ [];
-        runs = (
-          (o, is, kind, body, refl),
-          λ i. record (line_at s a) {
-            urgent = sym (ap (λ (c : Bool). if c then record (line_at s a).urgent { base = a.base + 1 } else (line_at s a).urgent) test) i;
-            shown = a.shown ++ [];
-          },
-        );
-        fits = record {
-          window = f.window;
-          first = f.first;
-          acknowledged = f.acknowledged;
-          normal = f.normal;
-          pieces = f.pieces;
-          base = at;
-          answered = f.answered ++ take 1 s.urgent.units;
-          expedited = f.expedited ∙ sym (first_gone s.urgent.units f.answered some);
-          answers = omega (arith, f.answers, length-append f.answered (take 1 s.urgent.units), first_count s.urgent.units some);
-          sent = f.sent;
-        };
-        rules = refl;
-        clock = refl;
-        gave = sym (append-nil a.submitted);
-        quiet = refl;
-        sent = λ theirs. tt;
-      }))
-      (λ other.
-      let test = not_done s s.urgent.out a.base m f.base other in
-      record {
-        around = record a { shown = a.shown ++ [] };
-        happenings = Expedites (Ea_comes m o.tick) ∷ [];
-        runs = (
-          (o, is, kind, body, refl),
-          λ i. record (line_at s a) {
-            urgent = sym (ap (λ (c : Bool). if c then record (line_at s a).urgent { base = a.base + 1 } else (line_at s a).urgent) test) i;
-            shown = a.shown ++ [];
-          },
-        );
-        fits = record {
-          window = f.window;
-          first = f.first;
-          acknowledged = f.acknowledged;
-          normal = f.normal;
-          pieces = f.pieces;
-          base = f.base;
-          answered = f.answered;
-          expedited = f.expedited;
-          answers = f.answers;
-          sent = f.sent;
-        };
-        rules = refl;
-        clock = refl;
-        gave = sym (append-nil a.submitted);
-        quiet = refl;
-        sent = λ theirs. tt;
-      })
+      let x : FlowSender = record s { urgent = record s.urgent { units = drop 1 s.urgent.units; out = None } } in
+      then_new s x a []
+      (goes_by t life taken s a (record a { base = a.base + 1; shown = a.shown ++ [] }) x [] (Expedites (Ea_comes m o.tick) ∷ []) []
+      ((o, is, kind, body, refl), tested s a true (nat_lt a.base s.urgent.next && (wire (block_in s) m == wire (block_in s) a.base)) test) (record {
+        window = f.window;
+        first = f.first;
+        acknowledged = f.acknowledged;
+        normal = f.normal;
+        pieces = f.pieces;
+        base = at;
+        answered = f.answered ++ take 1 s.urgent.units;
+        expedited = f.expedited ∙ sym (first_gone s.urgent.units f.answered some);
+        answers = omega (arith, f.answers, length-append f.answered (take 1 s.urgent.units), first_count s.urgent.units some);
+        sent = f.sent;
+      }) refl refl (sym (append-nil a.submitted)) refl))
+      (λ other. goes_by t life taken s a (record a { shown = a.shown ++ [] }) s [] (Expedites (Ea_comes m o.tick) ∷ []) []
+      ((o, is, kind, body, refl), tested s a false (nat_lt a.base s.urgent.next && (wire (block_in s) m == wire (block_in s) a.base)) (not_done s s.urgent.out a.base m f.base other))
+      f refl refl (sym (append-nil a.submitted)) refl)
 
   -- the credit of a CC
   credit_goes : (s : FlowSender) (a : Around) (credit : ℕ) → Fits s a → s.numbers.blocks.high ≡ 0 → credit < block_in s
       → Goes t life taken s a (quietly (record s { numbers = record s.numbers { credit = credit } })) []
-  credit_goes s a credit f none low = record {
-    around = record a { shown = a.shown ++ [] };
-    happenings = Flows (Open credit) ∷ [];
-    runs = ((none, low), refl);
-    fits = record {
-      window = f.window;
-      first = f.first;
-      acknowledged = f.acknowledged;
-      normal = f.normal;
-      pieces = f.pieces;
-      base = f.base;
-      answered = f.answered;
-      expedited = f.expedited;
-      answers = f.answers;
-      sent = f.sent;
-    };
-    rules = refl;
-    clock = refl;
-    gave = sym (append-nil a.submitted);
-    quiet = refl;
-    sent = λ theirs. tt;
-  }
+  credit_goes s a credit f none low =
+      goes_by t life taken s a (record a { shown = a.shown ++ [] }) (record s { numbers = record s.numbers { credit = credit } }) [] (Flows (Open credit) ∷ []) []
+      ((none, low), refl) f refl refl (sym (append-nil a.submitted)) refl
 
   -- and all that may go then
   pub credit_opens : (s : FlowSender) (a : Around) (credit : ℕ) → Fits s a → s.numbers.blocks.high ≡ 0 → credit < block_in s

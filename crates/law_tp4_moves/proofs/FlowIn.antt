@@ -5,7 +5,7 @@ use Rattle.std.proofs.Math.Nat.{mod-add-mod}
 use Rattle.std.proofs.lemmas.List.Elements.{Contains-push}
 use Rattle.tpdu.specs.declared.tpdu.Format.{Format}
 use Rattle.tpdu.specs.declared.tpdu.Format.TheVariants as formats
-use Rattle.osi_journal.specs.Lawful.{Marked, Expedited, expediteds}
+use Rattle.script_journal.specs.Lawful.{Marked, Expedited, expediteds}
 use Rattle.tp4_number.specs.declared.blocks.Blocks.{Blocks}
 use Rattle.tp4_number.specs.declared.got.Got.{Got}
 use Rattle.tp4_number.specs.declared.got.Got.TheVariants.{Kept, Old, Outside, TooLarge}
@@ -18,12 +18,13 @@ use Rattle.tp4_number.specs.Expedited.{Urgent, Ed_comes}
 use Rattle.tp4_flow.specs.Half.{Half, Received, block_in, ak, aks, ea, dt_arrival, half_after, taken_dt, taken_ed, is_next, is_before, allowed, half_granted}
 use Rattle.tp4_flow.specs.Told.{gots}
 use Rattle.tp4_flow.specs.declared.rules.FlowRules.{FlowRules}
-use Rattle.tp4_flow.specs.declared.step.What.TheVariants as tells
+use Rattle.tp4_flow.specs.declared.step.What.TheVariants as whats
 use Rattle.law_tp4_history.specs.Ends.{Offer, Flow, Dt, Ed}
 use Rattle.law_tp4_history.specs.Line.{Line, Happening, Flows, Expedites, all_normal}
 use Rattle.law_tp4_history.specs.Tracks.{Track, CanIn, RunsBy}
 use Rattle.law_tp4_moves.specs.Lines.{AreSentIn, shown_in}
 use Rattle.law_tp4_moves.proofs.FlowLines.{at_line}
+use Rattle.tpdu.specs.declared.service.EndTold.TheVariants as tells
 
 -- what of a line is no part of the receiving half
 pub record Beside : Type 0 where
@@ -156,7 +157,7 @@ module _ (t : Track) (begun : t.is_begun ≡ true) (taken : Option Offer) (now :
     abbrev ed_by : Bool → Bool → Received
     ed_by c d = record {
       half = if c then record h { receiver = record h.receiver { urgent = h.receiver.urgent + 1 } } else h;
-      events = if c then record { reference = h.rules.own; what = tells.Urgent octets } ∷ [] else [];
+      events = if c then record { reference = h.rules.own; what = whats.End (tells.Urgent octets) } ∷ [] else [];
       tpdus = if c || d then ea h (wire (block_in h) n) ∷ [] else [];
     }
 

@@ -6,7 +6,7 @@ use Rattle.tpdu.specs.declared.tpdu.Format.TheVariants as formats
 use Rattle.tpdu.specs.declared.tpdu.Tpdu.{Tpdu}
 use Rattle.tpdu.specs.declared.tpdu.Tpdu.TheVariants.{Cr}
 use Rattle.tpdu.specs.Writing.{IsAllowed}
-use Rattle.osi_journal.specs.Lawful.{Marked, normals, expediteds}
+use Rattle.script_journal.specs.Lawful.{Marked, normals, expediteds}
 use Rattle.tp4_number.specs.Receiver.{Receiver}
 use Rattle.tp4_number.specs.Traffic.{Rules}
 use Rattle.tp4_flow.specs.Half.{Half}

@@ -6,7 +6,7 @@ use Rattle.std.proofs.lemmas.Option.{none-some}
 use Rattle.tpdu.specs.declared.tpdu.Format.{Format}
 use Rattle.tpdu.specs.declared.tpdu.Tpdu.{Tpdu}
 use Rattle.tpdu.specs.declared.tpdu.Tpdu.TheVariants.{Cr, Cc, Dr, Dc, Dt, Ed, Ak, Ea, Er}
-use Rattle.osi_journal.specs.Lawful.{Marked}
+use Rattle.script_journal.specs.Lawful.{Marked}
 use Rattle.tp4_number.specs.declared.got.Got.{Got}
 use Rattle.tp4_number.specs.declared.got.Got.TheVariants.{Kept, Old, Outside, TooLarge}
 use Rattle.tp4_number.specs.Formats.{block_of}
@@ -16,7 +16,7 @@ use Rattle.tp4_number.proofs.Past.{if_kept}
 use Rattle.tp4_flow.specs.Half.{Half, Received, dt_arrival, half_granted, block_in as block_there}
 use Rattle.tp4_flow.specs.declared.rules.Life.{Life}
 use Rattle.tp4_flow.specs.declared.rules.Life.TheVariants.{Goes, Exhausted}
-use Rattle.tp4_flow.specs.declared.rules.Options.{Options}
+use Rattle.tpdu.specs.declared.service.Options.{Options}
 use Rattle.tp4_flow.specs.declared.rules.SubmitRefusal.TheVariants as submits
 use Rattle.tp4_flow.specs.declared.step.EndEvent.{EndEvent}
 use Rattle.tp4_sending.specs.FlowSender.{FlowSender, Sendings, at, block_in, opened, life_of, refusal}

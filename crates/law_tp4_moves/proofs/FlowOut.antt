@@ -5,12 +5,13 @@ use Rattle.std.specs.List.{sum_by}
 use Rattle.tp4_number.specs.Formats.{block_of}
 use Rattle.tp4_number.specs.Receiver.{Receiver}
 use Rattle.tp4_number.specs.Traffic.{Answer}
-use Rattle.osi_journal.specs.Lawful.{Marked, normals, expediteds}
+use Rattle.script_journal.specs.Lawful.{Marked, normals, expediteds}
 use Rattle.tp4_flow.specs.declared.rules.FlowRules.{FlowRules}
 use Rattle.tp4_flow.specs.declared.step.EndEvent.{EndEvent}
-use Rattle.tp4_sending.specs.FlowSender.{FlowSender, Sendings, nothing, then_sends}
+use Rattle.tp4_sending.specs.FlowSender.{FlowSender, Sendings, UrgentSender, nothing, then_sends}
 use Rattle.tp4_sending.specs.Kept.{urgent_base}
-use Rattle.tp4_sending.specs.Pieces.{count_in}
+use Rattle.tp4_sending.specs.Pieces.{Queue, count_in}
+use Rattle.tp4_sending.specs.declared.tries.Tries.{Tries}
 use Rattle.law_tp4_history.specs.Ends.{Offer}
 use Rattle.law_tp4_history.specs.Line.{Line, Happening}
 use Rattle.law_tp4_history.specs.Tracks.{Track, CanOut, RunsBy}
@@ -49,17 +50,52 @@ line_at s a = record {
 abbrev pub track_at : Track → ℕ → FlowRules → Track
 track_at t life rules = record t { rules = record { block = block_of rules.format; life = life; limit = rules.limit }; size = rules.piece }
 
-pub record Fits (s : FlowSender) (a : Around) : Type 0 where
-  pub window : length s.window + s.numbers.base ≡ s.numbers.next
-  pub first : s.queue.first ≤ s.numbers.base
+-- by what it speaks of alone, so that it holds on where that stays
+pub record FitsBy (tries : List Tries) (low next piece : ℕ) (queue : Queue) (urgent : UrgentSender) (done : ℕ) (submitted : List Marked) : Type 0 where
+  pub window : length tries + low ≡ next
+  pub first : queue.first ≤ low
   pub acknowledged : List (List ℕ)
-  pub normal : normals a.submitted ≡ acknowledged ++ s.queue.units
-  pub pieces : s.queue.first ≡ sum_by (count_in s.rules.piece) acknowledged
-  pub base : urgent_base s.urgent s.urgent.out a.base
+  pub normal : normals submitted ≡ acknowledged ++ queue.units
+  pub pieces : queue.first ≡ sum_by (count_in piece) acknowledged
+  pub base : urgent_base urgent urgent.out done
   pub answered : List (List ℕ)
-  pub expedited : expediteds a.submitted ≡ answered ++ s.urgent.units
-  pub answers : length answered ≡ a.base
-  pub sent : s.urgent.next ≤ length (expediteds a.submitted)
+  pub expedited : expediteds submitted ≡ answered ++ urgent.units
+  pub answers : length answered ≡ done
+  pub sent : urgent.next ≤ length (expediteds submitted)
+
+abbrev pub Fits : FlowSender → Around → Type 0
+Fits s a = FitsBy s.window s.numbers.base s.numbers.next s.rules.piece s.queue s.urgent a.base a.submitted
+
+-- with another window, or other tries of the ED
+pub of_window : (s x : FlowSender) (a : Around) → Fits s a → length x.window + s.numbers.base ≡ x.numbers.next
+    → FitsBy x.window s.numbers.base x.numbers.next s.rules.piece s.queue s.urgent a.base a.submitted
+of_window s x a f window = record {
+  window = window;
+  first = f.first;
+  acknowledged = f.acknowledged;
+  normal = f.normal;
+  pieces = f.pieces;
+  base = f.base;
+  answered = f.answered;
+  expedited = f.expedited;
+  answers = f.answers;
+  sent = f.sent;
+}
+
+pub of_urgent : (s : FlowSender) (a : Around) (urgent : UrgentSender) → Fits s a → urgent_base urgent urgent.out a.base → urgent.units ≡ s.urgent.units
+    → urgent.next ≤ length (expediteds a.submitted) → Fits (record s { urgent = urgent }) a
+of_urgent s a urgent f base units sent = record {
+  window = f.window;
+  first = f.first;
+  acknowledged = f.acknowledged;
+  normal = f.normal;
+  pieces = f.pieces;
+  base = base;
+  answered = f.answered;
+  expedited = f.expedited ∙ ap (λ (us : List (List ℕ)). f.answered ++ us) (sym units);
+  answers = f.answers;
+  sent = sent;
+}
 
 pub shown-append : (xs ys : List EndEvent) → shown_in (xs ++ ys) ≡ shown_in xs ++ shown_in ys
 shown-append [] ys = refl
@@ -78,18 +114,24 @@ module _ (t : Track) (life : ℕ) (taken : Option Offer) where
     pub quiet : shown_in x.events ≡ []
     pub sent : (theirs : Track) → AreSentIn (at_line (track_at t life s.rules) (line_at x.sender around)) theirs s.clock x.tpdus
 
-  pub goes_nothing : (s : FlowSender) (a : Around) → Fits s a → Goes s a (nothing s) []
-  goes_nothing s a f = record {
-    around = a;
-    happenings = [];
-    runs = refl;
+  -- a call that sends nothing
+  pub goes_by : (s : FlowSender) (a b : Around) (x : FlowSender) (events : List EndEvent) (happenings : List Happening) (given : List Marked)
+      → RunsBy (CanOut taken) (track_at t life s.rules) (line_at s a) happenings (line_at x b) → Fits x b → x.rules ≡ s.rules → x.clock ≡ s.clock
+      → b.submitted ≡ a.submitted ++ given → shown_in events ≡ [] → Goes s a (record { sender = x; events = events; tpdus = [] }) given
+  goes_by s a b x events happenings given runs f rules clock gave quiet = record {
+    around = b;
+    happenings = happenings;
+    runs = runs;
     fits = f;
-    rules = refl;
-    clock = refl;
-    gave = sym (append-nil a.submitted);
-    quiet = refl;
+    rules = rules;
+    clock = clock;
+    gave = gave;
+    quiet = quiet;
     sent = λ theirs. tt;
   }
+
+  pub goes_nothing : (s : FlowSender) (a : Around) → Fits s a → Goes s a (nothing s) []
+  goes_nothing s a f = goes_by s a a s [] [] [] refl f refl refl (sym (append-nil a.submitted)) refl
 
   pub then_goes : (s : FlowSender) (a : Around) (x : Sendings) (given more : List Marked) (next : FlowSender → Sendings)
       → Goes s a x given → ((b : Around) → Fits x.sender b → Goes x.sender b (next x.sender) more) → Goes s a (then_sends x next) (given ++ more)

@@ -1,6 +1,6 @@
 -- The calls of a receiving half, at the track in which it stands.
 use Rattle.std.proofs.Common.{◌≡◌, ℕ, List, [], ◌∷◌, ◌++◌, get_or, Option, Some, refl, sym, ◌∙◌, ap, subst}
-use Rattle.osi_journal.specs.Lawful.{expediteds}
+use Rattle.script_journal.specs.Lawful.{expediteds}
 use Rattle.tp4_number.specs.declared.piece.Piece.{Piece}
 use Rattle.tp4_number.specs.Formats.{block_of}
 use Rattle.tp4_number.specs.Number.{whole, wire}

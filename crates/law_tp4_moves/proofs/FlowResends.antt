@@ -16,7 +16,7 @@ use Rattle.tp4_sending.specs.declared.tries.Tries.{Tries}
 use Rattle.law_tp4_history.specs.Ends.{Offer}
 use Rattle.law_tp4_history.specs.Line.{Flows, Expedites}
 use Rattle.law_tp4_history.specs.Tracks.{Track}
-use Rattle.law_tp4_moves.proofs.FlowOut.{Around, line_at, Fits, Goes, goes_nothing, then_goes}
+use Rattle.law_tp4_moves.proofs.FlowOut.{Around, line_at, Fits, Goes, goes_nothing, of_urgent, of_window, then_goes}
 use Rattle.law_tp4_moves.proofs.FlowSends.{piece_of_all, dt_sent_in, ed_sent_in, new_goes}
 
 -- numbers that are not acknowledged
@@ -43,18 +43,7 @@ module _ (t : Track) (begun : t.is_begun ≡ true) (life : ℕ) (taken : Option 
         around = c;
         happenings = Flows (Resend n) ∷ [];
         runs = ((low, high), refl);
-        fits = record {
-          window = f.window;
-          first = f.first;
-          acknowledged = f.acknowledged;
-          normal = f.normal;
-          pieces = f.pieces;
-          base = f.base;
-          answered = f.answered;
-          expedited = f.expedited;
-          answers = f.answers;
-          sent = f.sent;
-        };
+        fits = f;
         rules = refl;
         clock = refl;
         gave = sym (append-nil a.submitted);
@@ -81,18 +70,8 @@ module _ (t : Track) (begun : t.is_begun ≡ true) (life : ℕ) (taken : Option 
         around = g.around;
         happenings = g.happenings;
         runs = g.runs;
-        fits = record {
-          window = omega (arith, length-map s.window (λ tries. if is_due s.rules.t1 s.clock tries then again s.clock tries else tries), f.window);
-          first = g.fits.first;
-          acknowledged = g.fits.acknowledged;
-          normal = g.fits.normal;
-          pieces = g.fits.pieces;
-          base = g.fits.base;
-          answered = g.fits.answered;
-          expedited = g.fits.expedited;
-          answers = g.fits.answers;
-          sent = g.fits.sent;
-        };
+        fits = of_window (marked_half s (marked_all (block_in s) s.clock s.numbers.blocks (due_numbers s))) (resends s).sender g.around g.fits
+            (omega (arith, length-map s.window (λ tries. if is_due s.rules.t1 s.clock tries then again s.clock tries else tries), f.window));
         rules = refl;
         clock = refl;
         gave = g.gave;
@@ -115,18 +94,7 @@ module _ (t : Track) (begun : t.is_begun ≡ true) (life : ℕ) (taken : Option 
             urgent = record (line_at s c).urgent { blocks = marked (block_in s) s.urgent.blocks (sym at i) s.clock; sends = a.eds ++ (sym at i, s.clock) ∷ [] };
           },
         );
-        fits = record {
-          window = f.window;
-          first = f.first;
-          acknowledged = f.acknowledged;
-          normal = f.normal;
-          pieces = f.pieces;
-          base = is;
-          answered = f.answered;
-          expedited = f.expedited;
-          answers = f.answers;
-          sent = f.sent;
-        };
+        fits = of_urgent s a (retried_urgent s tries).urgent f is refl f.sent;
         rules = refl;
         clock = refl;
         gave = sym (append-nil a.submitted);

@@ -8,13 +8,13 @@ use Rattle.tpdu.specs.declared.tpdu.Format.TheVariants as formats
 use Rattle.tpdu.specs.declared.tpdu.Tpdu.{Tpdu}
 use Rattle.tpdu.specs.declared.tpdu.Tpdu.TheVariants.{Cr, Cc, Dr, Dc, Dt, Ed, Ak, Ea, Er}
 use Rattle.tpdu.specs.Writing.{IsAllowed}
-use Rattle.osi_journal.specs.Lawful.{Marked}
+use Rattle.script_journal.specs.Lawful.{Marked}
 use Rattle.tp4_number.specs.Formats.{block_of, most_of}
 use Rattle.tp4_number.specs.Number.{whole}
 use Rattle.tp4_number.specs.Traffic.{Rules}
 use Rattle.tp4_number.proofs.Past.{if_kept}
 use Rattle.tp4_flow.specs.Half.{empty, ak}
-use Rattle.tp4_flow.specs.declared.rules.Options.{Options}
+use Rattle.tpdu.specs.declared.service.Options.{Options}
 use Rattle.tp4_sending.specs.FlowSender.{at, fresh, opened}
 use Rattle.tp4_conn.specs.declared.end_record.EndRecord.{EndRecord}
 use Rattle.tp4_conn.specs.declared.call.UserCall.{UserCall}

@@ -1,6 +1,6 @@
 -- The calls of a sending half, at the track in which it stands.
 use Rattle.std.proofs.Common.{◌≡◌, ℕ, ◌<◌, List, [], ◌∷◌, ◌++◌, length, Option, Some, refl, sym, ◌∙◌, ap, subst}
-use Rattle.osi_journal.specs.Lawful.{Marked, Normal, Expedited}
+use Rattle.script_journal.specs.Lawful.{Marked, Normal, Expedited}
 use Rattle.tp4_number.specs.Formats.{block_of}
 use Rattle.tp4_number.specs.Number.{wire}
 use Rattle.tp4_flow.specs.declared.rules.FlowRules.{FlowRules}

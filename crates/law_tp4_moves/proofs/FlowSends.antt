@@ -4,12 +4,12 @@ use Rattle.std.specs.Prelude.{not, is_some}
 use Rattle.std.proofs.Math.Seq.{get_or-append_seam}
 use Rattle.std.proofs.lemmas.Bool.{and_parts, or_parts, ltb-true, eqb-true, eqb-false, not-false}
 use Rattle.std.proofs.lemmas.List.Elements.{Contains-push}
-use Rattle.tp4_flow.specs.declared.step.HeldKind.TheVariants.{Dt, Ed}
+use Rattle.tpdu.specs.declared.service.HeldKind.TheVariants.{Dt, Ed}
 use Rattle.tp4_number.specs.declared.piece.Piece.{Piece}
 use Rattle.tp4_number.proofs.Past.{if_kept}
 use Rattle.tp4_number.specs.Traffic.{Send}
 use Rattle.tp4_number.specs.Expedited.{Sends_ed}
-use Rattle.osi_journal.specs.Lawful.{normals as normals_of, expediteds}
+use Rattle.script_journal.specs.Lawful.{normals as normals_of, expediteds}
 use Rattle.tp4_sending.specs.FlowSender.{FlowSender, Sendings, rule_allows, dts, dts_of, eds, is_noted, holds, sent_urgent, one_urgent, sent_normal, one_normal, held_normal, has_next, normals, is_urgent, normals_where, new_sends}
 use Rattle.tp4_sending.specs.Kept.{urgent_base}
 use Rattle.tp4_sending.specs.Pieces.{cut_at, end_of, once}
@@ -20,7 +20,7 @@ use Rattle.law_tp4_history.specs.Line.{Flows, Expedites}
 use Rattle.law_tp4_history.specs.Tracks.{Track}
 use Rattle.law_tp4_moves.specs.Lines.{AreSentIn}
 use Rattle.law_tp4_moves.proofs.FlowLines.{at_line}
-use Rattle.law_tp4_moves.proofs.FlowOut.{Around, line_at, track_at, Fits, Goes, goes_nothing, then_goes}
+use Rattle.law_tp4_moves.proofs.FlowOut.{Around, line_at, track_at, Fits, Goes, goes_by, goes_nothing, of_urgent, of_window, then_goes}
 use Rattle.law_tp4_moves.proofs.FlowUnits.{cut_behind}
 
 -- the piece of a number of the half is that of all units
@@ -84,18 +84,7 @@ module _ (t : Track) (begun : t.is_begun ≡ true) (life : ℕ) (taken : Option 
         around = b;
         happenings = Flows Send ∷ [];
         runs = (((ltb-true _ _ both.0, allowed), (some_piece (cut_at s.rules.piece (normals_of a.submitted) s.numbers.next) there, all)), refl);
-        fits = record {
-          window = omega (arith, f.window, length-append s.window (once s.clock ∷ []));
-          first = f.first;
-          acknowledged = f.acknowledged;
-          normal = f.normal;
-          pieces = f.pieces;
-          base = f.base;
-          answered = f.answered;
-          expedited = f.expedited;
-          answers = f.answers;
-          sent = f.sent;
-        };
+        fits = of_window s (sent_normal s) a f (omega (arith, f.window, length-append s.window (once s.clock ∷ [])));
         rules = refl;
         clock = refl;
         gave = sym (append-nil a.submitted);
@@ -109,28 +98,7 @@ module _ (t : Track) (begun : t.is_begun ≡ true) (life : ℕ) (taken : Option 
 
   -- what is only told
   noted_goes : (s : FlowSender) (a : Around) (n : ℕ) → Fits s a → Goes t life taken s a (record { sender = record s { noted = Some n }; events = holds s Dt n ∷ []; tpdus = [] }) []
-  noted_goes s a n f = record {
-    around = a;
-    happenings = [];
-    runs = refl;
-    fits = record {
-      window = f.window;
-      first = f.first;
-      acknowledged = f.acknowledged;
-      normal = f.normal;
-      pieces = f.pieces;
-      base = f.base;
-      answered = f.answered;
-      expedited = f.expedited;
-      answers = f.answers;
-      sent = f.sent;
-    };
-    rules = refl;
-    clock = refl;
-    gave = sym (append-nil a.submitted);
-    quiet = refl;
-    sent = λ theirs. tt;
-  }
+  noted_goes s a n f = goes_by t life taken s a a (record s { noted = Some n }) (holds s Dt n ∷ []) [] [] refl f refl refl (sym (append-nil a.submitted)) refl
 
   held_goes : (s : FlowSender) (a : Around) → Fits s a → Goes t life taken s a (held_normal s) []
   held_goes s a f = if_kept (λ (x : Sendings). Goes t life taken s a x []) (is_noted s.noted s.numbers.next) _ _ (λ _. goes_nothing t life taken s a f) (λ _. noted_goes s a s.numbers.next f)
@@ -152,28 +120,9 @@ module _ (t : Track) (begun : t.is_begun ≡ true) (life : ℕ) (taken : Option 
   -- the next ED
   urgent_noted_goes : (s : FlowSender) (a : Around) (n : ℕ) → Fits s a
       → Goes t life taken s a (record { sender = record s { urgent = record s.urgent { noted = Some n } }; events = holds s Ed n ∷ []; tpdus = [] }) []
-  urgent_noted_goes s a n f = record {
-    around = a;
-    happenings = [];
-    runs = refl;
-    fits = record {
-      window = f.window;
-      first = f.first;
-      acknowledged = f.acknowledged;
-      normal = f.normal;
-      pieces = f.pieces;
-      base = urgent_same s.urgent.out f.base;
-      answered = f.answered;
-      expedited = f.expedited;
-      answers = f.answers;
-      sent = f.sent;
-    };
-    rules = refl;
-    clock = refl;
-    gave = sym (append-nil a.submitted);
-    quiet = refl;
-    sent = λ theirs. tt;
-  }
+  urgent_noted_goes s a n f =
+      goes_by t life taken s a a (record s { urgent = record s.urgent { noted = Some n } }) (holds s Ed n ∷ []) [] [] refl
+      (of_urgent s a (record s.urgent { noted = Some n }) f (urgent_same s.urgent.out f.base) refl f.sent) refl refl (sym (append-nil a.submitted)) refl
     where
       urgent_same : (out : Option Tries) → urgent_base s.urgent out a.base → urgent_base (record s.urgent { noted = Some n }) out a.base
       urgent_same None b = b
@@ -190,18 +139,7 @@ module _ (t : Track) (begun : t.is_begun ≡ true) (life : ℕ) (taken : Option 
         around = b;
         happenings = Expedites Sends_ed ∷ [];
         runs = (((sym at, allowed), more), refl);
-        fits = record {
-          window = f.window;
-          first = f.first;
-          acknowledged = f.acknowledged;
-          normal = f.normal;
-          pieces = f.pieces;
-          base = ap (λ (k : ℕ). k + 1) at;
-          answered = f.answered;
-          expedited = f.expedited;
-          answers = f.answers;
-          sent = omega (arith, more);
-        };
+        fits = of_urgent s a (sent_urgent s).urgent f (ap (λ (k : ℕ). k + 1) at) refl (omega (arith, more));
         rules = refl;
         clock = refl;
         gave = sym (append-nil a.submitted);

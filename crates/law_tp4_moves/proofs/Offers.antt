@@ -1,13 +1,13 @@
 -- What an end sends may be offered, kind by kind: a CR, a CC, a DR with its reference or with source 0, the DC to a DR, and what the halves
 -- send.
-use Rattle.std.proofs.Common.{◌≡◌, ◌≢◌, inl, inr, ℕ, ◌+◌, ◌≤◌, Bool, true, false, List, [], ◌∷◌, ◌++◌, Some, Contains, if◌then◌else◌, refl, sym, ◌∙◌, ap, subst, arith}
+use Rattle.std.proofs.Common.{◌≡◌, ◌≢◌, inl, inr, ℕ, ◌+◌, ◌≤◌, true, false, List, [], ◌∷◌, ◌++◌, Some, Contains, refl, sym, ◌∙◌, ap, subst, arith}
 use Rattle.std.proofs.lemmas.List.Elements.{Contains-append_cases, Contains-push_cases}
 use Rattle.tpdu.specs.declared.tpdu.Format.{Format}
 use Rattle.tpdu.specs.declared.tpdu.Tpdu.TheVariants as wires
-use Rattle.tp4_flow.specs.declared.rules.Options.{Options}
+use Rattle.tpdu.specs.declared.service.Options.{Options}
 use Rattle.tp4_flow.specs.declared.step.Sent.{Sent}
 use Rattle.tp4_conn.specs.declared.end_record.EndRecord.{EndRecord}
-use Rattle.tp4_conn.specs.Agreeing.{options_in, is_extended, flow_rules, request, confirm}
+use Rattle.tp4_conn.specs.Agreeing.{is_extended, flow_rules, request, confirm}
 use Rattle.tp4_conn.specs.End.{IsSized, send, release}
 use Rattle.tp4_conn.proofs.Agreed.{options_back}
 use Rattle.tp4_conn.specs.UserWait.{refusing}

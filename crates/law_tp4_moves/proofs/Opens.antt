@@ -6,7 +6,7 @@ use Rattle.tp4_number.specs.declared.got.Got.{Got}
 use Rattle.tp4_number.specs.declared.got.Got.TheVariants as gots
 use Rattle.tp4_number.specs.declared.piece.Piece.{Piece}
 use Rattle.tp4_flow.specs.Half.{Half, Received, ak, aks, dt_arrival, taken_dt, half_granted}
-use Rattle.tp4_flow.specs.declared.rules.Options.{Options}
+use Rattle.tpdu.specs.declared.service.Options.{Options}
 use Rattle.tp4_flow.specs.declared.rules.Life.{Life}
 use Rattle.tp4_flow.specs.declared.rules.Life.TheVariants.{Goes, Exhausted}
 use Rattle.tp4_flow.specs.declared.step.EndEvent.{EndEvent}

@@ -2,7 +2,7 @@
 use Rattle.std.proofs.Common.{◌≡◌, ◌≢◌, ◌⊎◌, inl, inr, ℕ, ◌+◌, ◌*◌, ◌≤◌, ◌==◌, Bool, true, false, List, [], ◌∷◌, ◌++◌, Option, Some, None, option_map, refl, sym, ◌∙◌, ap, subst, arith}
 use Rattle.std.proofs.Math.Nat.{mul-le-mul_right}
 use Rattle.std.proofs.lemmas.Bool.{eqb-false}
-use Rattle.tp4_flow.specs.declared.rules.Options.{Options}
+use Rattle.tpdu.specs.declared.service.Options.{Options}
 use Rattle.tp4_flow.specs.declared.step.EndEvent.{EndEvent}
 use Rattle.tp4_flow.specs.declared.step.Sent.{Sent}
 use Rattle.tp4_sending.specs.Pieces.{again}
@@ -157,22 +157,30 @@ module _ (times : Times) (h : End) (b : EndRecord) (stage : StateData) (s : Sees
     };
   }
 
-  -- it freezes
-  pub freezes : (events : List EndEvent) (tpdus : List Sent) → AreOfferable times b.clock cause h (new_end b.partner b.agreed (stages.Frozen b.clock) h.latest h.is_parted) tpdus
-      → Moves times b.clock cause h (frozen b events tpdus)
-  freezes events tpdus offers = by_row b.partner b.credit b.agreed (stages.Frozen b.clock) h.latest h.is_parted events tpdus (record {
+  -- it is in that state, with the same partner and terms, and acts as late as before
+  pub goes_to : (to : StateData) (events : List EndEvent) (tpdus : List Sent) → StopsAt b.clock to → IsPartedIn to h.is_parted → Hears cause h to
+      → IsSeenIn h.birth (took_by cause h.took b.clock) h.latest b to → IsInTime (acts_by b to) b.clock
+      → AreOfferable times b.clock cause h (new_end b.partner b.agreed to h.latest h.is_parted) tpdus
+      → Moves times b.clock cause h (record { base = b; stage = to; events = events; tpdus = tpdus })
+  goes_to to events tpdus stops parted hears state timely offers = by_row b.partner b.credit b.agreed to h.latest h.is_parted events tpdus (record {
     known = inl refl;
     agrees = inl refl;
-    stops = refl;
+    stops = stops;
     now_low = low;
     latest_low = inl (omega arith);
     parted_on = λ e. e;
-    parted_in = tt;
-    hears = record { refused = λ _ _ _. refl; closed = λ _ _ _ _. refl; opens = λ _ e. absurd cc };
-    state = tt;
-    timely = tt;
+    parted_in = parted;
+    hears = hears;
+    state = state;
+    timely = timely;
     offers = offers;
   })
+
+  -- it freezes
+  pub freezes : (events : List EndEvent) (tpdus : List Sent) → AreOfferable times b.clock cause h (new_end b.partner b.agreed (stages.Frozen b.clock) h.latest h.is_parted) tpdus
+      → Moves times b.clock cause h (frozen b events tpdus)
+  freezes events tpdus offers =
+      goes_to (stages.Frozen b.clock) events tpdus refl tt (record { refused = λ _ _ _. refl; closed = λ _ _ _ _. refl; opens = λ _ e. absurd cc }) tt tt offers
 
   -- a DR is sent, with the time from that tick on; these TPDUs come first
   pub closes : (partner from reason : ℕ) (octets : List ℕ) (first events : List EndEvent) (tpdus : List Sent) → IsKnown partner → partner ≢ 0 → b.clock ≤ from + span b.timers
@@ -226,19 +234,8 @@ goes_on now (stages.Frozen when) e = absurd cc
 
 pub rests : (times : Times) (h : End) (b : EndRecord) (stage : StateData) (s : Sees times b.clock h (record { base = b; stage = stage })) → h.stop ≡ None → b.clock ≤ h.latest
     → Moves times b.clock Alone h (stays b stage)
-rests times h b stage s going low = by_row times h b stage s going low Alone b.partner b.credit b.agreed stage h.latest h.is_parted [] [] (record {
-  known = inl refl;
-  agrees = inl refl;
-  stops = goes_on b.clock stage (sym s.stop ∙ going);
-  now_low = low;
-  latest_low = inl (omega arith);
-  parted_on = λ e. e;
-  parted_in = s.parted;
-  hears = alone_hears h stage (λ e. s.phase ∙ e);
-  state = s.state;
-  timely = s.timely;
-  offers = tt;
-})
+rests times h b stage s going low =
+    goes_to times h b stage s going low Alone stage [] [] (goes_on b.clock stage (sym s.stop ∙ going)) s.parted (alone_hears h stage (λ e. s.phase ∙ e)) s.state s.timely tt
 
 -- the DC to a DR
 pub dc_back : (times : Times) (now : ℕ) (h new : End) (b : EndRecord) (source : ℕ) (dr : Tpdu) → h.birth.partner ≡ b.to → dr.kind ≡ Dr → dr.source ≡ source

@@ -5,14 +5,14 @@ use Rattle.std.specs.List.{sum_by}
 use Rattle.tpdu.specs.declared.tpdu.Format.{Format}
 use Rattle.tpdu.specs.declared.tpdu.Tpdu.{Tpdu as WireTpdu}
 use Rattle.tpdu.specs.declared.tpdu.Tpdu.TheVariants as wires
-use Rattle.osi_journal.specs.Lawful.{Marked, Normal, Expedited, normals, expediteds}
+use Rattle.script_journal.specs.Lawful.{Marked, Normal, Expedited, normals, expediteds}
 use Rattle.tp4_number.specs.Formats.{block_of}
 use Rattle.tp4_flow.specs.Half.{Half, empty, block_in as block_there}
-use Rattle.tp4_flow.specs.declared.rules.Options.{Options}
+use Rattle.tpdu.specs.declared.service.Options.{Options}
 use Rattle.tp4_flow.specs.declared.step.EndEvent.{EndEvent}
 use Rattle.tp4_flow.specs.declared.step.Sent.{Sent}
 use Rattle.tp4_flow.specs.declared.step.What.{What}
-use Rattle.tp4_flow.specs.declared.step.What.TheVariants as tells
+use Rattle.tp4_flow.specs.declared.step.What.TheVariants as whats
 use Rattle.tp4_sending.specs.FlowSender.{FlowSender, fresh, block_in}
 use Rattle.tp4_sending.specs.Kept.{urgent_base}
 use Rattle.tp4_sending.specs.Pieces.{count_in, cut_at}
@@ -27,6 +27,7 @@ use Rattle.tp4_conn.specs.Table.{Event, Called, Took, Ticked}
 use Rattle.law_tp4_history.specs.Ends.{Times, Terms, Body, Plain, Dt, Ed, Ak, Ea, Offer}
 use Rattle.law_tp4_history.specs.Tracks.{Track, Starts, CanOut, CanIn, GoesOn}
 use Rattle.law_tp4_moves.specs.Seen.{terms_of, seen, IsNumbered, AreOffersOf}
+use Rattle.tpdu.specs.declared.service.EndTold.TheVariants as tells
 
 -- ---- where halves stand
 
@@ -135,8 +136,8 @@ given other = []
 
 -- the units that events show
 abbrev pub shown_as : What → List Marked
-shown_as (tells.Got unit) = Normal unit ∷ []
-shown_as (tells.Urgent unit) = Expedited unit ∷ []
+shown_as (whats.End (tells.Got unit)) = Normal unit ∷ []
+shown_as (whats.End (tells.Urgent unit)) = Expedited unit ∷ []
 shown_as other = []
 
 abbrev pub shown_in : List EndEvent → List Marked

@@ -5,7 +5,7 @@ use Rattle.tpdu.specs.declared.tpdu.Tpdu.{Tpdu as WireTpdu}
 use Rattle.tpdu.specs.declared.tpdu.Tpdu.TheVariants as wires
 use Rattle.tp4_number.specs.Formats.{block_of}
 use Rattle.tp4_number.specs.Number.{wire}
-use Rattle.tp4_flow.specs.declared.rules.Options.{Options}
+use Rattle.tpdu.specs.declared.service.Options.{Options}
 use Rattle.tp4_flow.specs.declared.step.Sent.{Sent}
 use Rattle.tp4_conn.specs.Agreeing.{is_extended, options_in}
 use Rattle.law_tp4_history.specs.Ends.{Cr, Cc, Dr, Dc, Er, Flow, Words, Terms, Plain, Dt, Ed, Ak, Ea, Tpdu, Offer, Sent as SentBy}

@@ -5,11 +5,12 @@ use Rattle.std.proofs.lemmas.Bool.{eq-eqb}
 use Rattle.tp4_flow.specs.Half.{Half, Received, is_next, is_before, taken_ed, ea}
 use Rattle.tp4_number.specs.Formats.{block_of}
 use Rattle.tp4_number.specs.Number.{whole, wire}
-use Rattle.tp4_flow.specs.declared.step.What.TheVariants.{Urgent}
+use Rattle.tp4_flow.specs.declared.step.What.TheVariants as whats
+use Rattle.tpdu.specs.declared.service.EndTold.TheVariants.{Urgent}
 use Rattle.tp4_sending.specs.FlowSender.{FlowSender, block_in, is_outstanding, urgent_done, new_sends, nothing}
 use Rattle.tp4_sending.specs.declared.tries.Tries.{Tries}
 use Rattle.tp4_number.specs.declared.piece.Piece.{Piece}
-use Rattle.osi_journal.specs.Lawful.{Marked}
+use Rattle.script_journal.specs.Lawful.{Marked}
 use Rattle.law_tp4_moves.specs.Lines.{shown_in}
 use Rattle.law_tp4_pair.specs.steps.Carrying.{Carries}
 use Rattle.law_tp4_pair.proofs.Carried.{done_carry, ed_carry, empty_by}
@@ -100,7 +101,7 @@ ed_taken s h dts w rest aks eas octets c =
     let is : is_next h w ≡ true = eq-eqb _ _ same in
     subst (λ (b : Bool). TakesEd s h dts rest aks eas octets (record {
       half = if b then record h { receiver = record h.receiver { urgent = h.receiver.urgent + 1 } } else h;
-      events = if b then record { reference = h.rules.own; what = Urgent octets } ∷ [] else [];
+      events = if b then record { reference = h.rules.own; what = whats.End (Urgent octets) } ∷ [] else [];
       tpdus = if b || is_before h w then ea h w ∷ [] else [];
     })) (sym is) (record {
       carried = λ pieces units gave showed u k. ed_carry s h (record h { receiver = record h.receiver { urgent = h.receiver.urgent + 1 } }) x.0 octets pieces units gave showed x.1 (empty_by units rest u e.alone) refl refl k;

@@ -3,7 +3,7 @@ use Rattle.std.proofs.Common.{ℕ, List, [], ◌∷◌, ◌++◌, length-append,
 use Rattle.tp4_flow.specs.Half.{Half}
 use Rattle.tp4_sending.specs.FlowSender.{FlowSender, submitted, urged}
 use Rattle.tp4_sending.specs.declared.tries.Tries.{Tries}
-use Rattle.osi_journal.specs.Lawful.{Normal, Expedited}
+use Rattle.script_journal.specs.Lawful.{Normal, Expedited}
 use Rattle.law_tp4_pair.proofs.Carried.{submit_carry, urge_carry}
 use Rattle.law_tp4_pair.specs.steps.Flowing.{HasUnit, IsCalm}
 use Rattle.law_tp4_pair.proofs.Going.{level_there}

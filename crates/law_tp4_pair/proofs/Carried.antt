@@ -7,7 +7,7 @@ use Rattle.std.proofs.lemmas.List.Sums.{sum_by-append}
 use Rattle.std.proofs.lemmas.Bool.{and_parts, or_parts, not-false}
 use Rattle.tpdu.specs.declared.tpdu.Tpdu.{Tpdu}
 use Rattle.tpdu.specs.declared.tpdu.Tpdu.TheVariants.{Dt, Ed}
-use Rattle.osi_journal.specs.Lawful.{Marked, Normal, Expedited, expediteds, normals as normal_units}
+use Rattle.script_journal.specs.Lawful.{Marked, Normal, Expedited, expediteds, normals as normal_units}
 use Rattle.tp4_flow.specs.Half.{Half, empty}
 use Rattle.tp4_flow.specs.Told.{gots}
 use Rattle.tp4_flow.specs.declared.rules.FlowRules.{FlowRules}

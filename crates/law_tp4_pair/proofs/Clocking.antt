@@ -12,7 +12,7 @@ use Rattle.tp4_conn.specs.declared.states.InOpened.{InOpened}
 use Rattle.tp4_conn.specs.declared.states.StateData.TheVariants.{Opened}
 use Rattle.tp4_conn.specs.End.{Moved, stays}
 use Rattle.tp4_conn.specs.Opened.{opened_as, opened_goes, opened_tick}
-use Rattle.osi_journal.specs.Lawful.{Marked}
+use Rattle.script_journal.specs.Lawful.{Marked}
 use Rattle.tp4_flow.specs.declared.step.EndEvent.{EndEvent}
 use Rattle.law_tp4_moves.specs.Lines.{shown_in}
 use Rattle.law_tp4_pair.specs.Pair.{Account}

@@ -4,10 +4,11 @@ use Rattle.std.proofs.Common.{Option, ◌≡◌, ℕ, ◌+◌, ◌-◌, ◌/◌,
 use Rattle.std.specs.List.{list_any}
 use Rattle.tp4_flow.specs.Half.{Half, ak, empty}
 use Rattle.tp4_flow.specs.declared.rules.FlowRules.{FlowRules}
-use Rattle.tp4_flow.specs.declared.rules.Options.{Options}
-use Rattle.tp4_flow.specs.declared.step.GoneCause.TheVariants.{Protocol}
+use Rattle.tpdu.specs.declared.service.Options.{Options}
+use Rattle.tpdu.specs.declared.service.GoneCause.TheVariants.{Protocol}
 use Rattle.tp4_flow.specs.declared.step.Sent.{Sent}
-use Rattle.tp4_flow.specs.declared.step.What.TheVariants.{Accept as Accept_told}
+use Rattle.tp4_flow.specs.declared.step.What.TheVariants as whats
+use Rattle.tpdu.specs.declared.service.EndTold.TheVariants.{Accept as Accept_told}
 use Rattle.tp4_number.specs.Number.{near, whole}
 use Rattle.tp4_sending.specs.FlowSender.{FlowSender, acknowledged, acknowledged_to, at, block_in, fresh, is_taken, new_sends, normals, nothing, opened}
 use Rattle.tp4_sending.specs.Pieces.{once}
@@ -112,7 +113,7 @@ waits_for_cc p b c r asked octets = record {
   calling_showed = p.calling_showed;
   called_showed = p.called_showed ++ [];
   calling_told = p.calling_told;
-  called_told = p.called_told ++ record { reference = c.own; what = Accept_told (agreed_by c.proposed asked) octets } ∷ [];
+  called_told = p.called_told ++ record { reference = c.own; what = whats.End (Accept_told (agreed_by c.proposed asked) octets) } ∷ [];
 }
 
 -- by the CC and the first AK

@@ -4,7 +4,7 @@ use Rattle.tpdu.specs.declared.tpdu.Format.{Format}
 use Rattle.tpdu.specs.declared.tpdu.Format.TheVariants.{Normal, Extended}
 use Rattle.tp4_flow.specs.Half.{ak, empty}
 use Rattle.tp4_flow.specs.declared.rules.FlowRules.{FlowRules}
-use Rattle.tp4_flow.specs.declared.rules.Options.{Options}
+use Rattle.tpdu.specs.declared.service.Options.{Options}
 use Rattle.tp4_flow.specs.declared.step.EndEvent.{EndEvent}
 use Rattle.tp4_flow.specs.declared.step.Sent.{Sent}
 use Rattle.tp4_number.specs.Formats.{most_of}
@@ -26,7 +26,7 @@ use Rattle.tp4_conn.specs.End.{IsSized, Moved, agreed_sum, closing, gone, led_by
 use Rattle.tp4_conn.specs.Matching.{wants_sum}
 use Rattle.tp4_conn.specs.Opened.{opened_tpdu}
 use Rattle.tp4_conn.specs.Table.{at as now_at, on_tpdu, takes, untaken}
-use Rattle.tp4_flow.specs.declared.step.GoneCause.TheVariants.{Protocol}
+use Rattle.tpdu.specs.declared.service.GoneCause.TheVariants.{Protocol}
 use Rattle.law_tp4_moves.specs.Lines.{shown_in}
 use Rattle.law_tp4_pair.specs.Pair.{Account}
 use Rattle.law_tp4_pair.proofs.Carried.{fresh_carries}

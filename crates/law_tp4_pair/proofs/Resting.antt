@@ -6,7 +6,7 @@ use Rattle.std.proofs.Math.Nat.{suc-mul, mul-le-mul_right}
 use Rattle.std.proofs.lemmas.List.Sums.{sum_by-append, sum_by-cons}
 use Rattle.std.proofs.lemmas.Bool.{cases_eq, cases_lt, ltb-false, eqb-true}
 use Rattle.tp4_flow.specs.Half.{Half}
-use Rattle.tp4_flow.specs.declared.rules.Options.{Options}
+use Rattle.tpdu.specs.declared.service.Options.{Options}
 use Rattle.tp4_sending.specs.FlowSender.{FlowSender}
 use Rattle.tp4_sending.specs.Pieces.{count_in, end_of}
 use Rattle.tp4_sending.specs.Settled.{IsSettled, waits_normal}
@@ -25,7 +25,7 @@ use Rattle.tp4_sending.specs.Pieces.{once}
 use Rattle.law_tp4_moves.specs.Lines.{given, shown_in}
 use Rattle.tp4_conn.specs.Table.{Called, at, on_call}
 use Rattle.tp4_conn.specs.UserWait.{user_wait_accept}
-use Rattle.osi_journal.specs.Lawful.{expediteds, normals}
+use Rattle.script_journal.specs.Lawful.{expediteds, normals}
 use Rattle.law_tp4_history.proofs.Complete.{Complete}
 use Rattle.law_tp4_pair.specs.steps.Carrying.{AreLeft, Carries}
 use Rattle.law_tp4_pair.specs.steps.Flowing.{IsCalm}

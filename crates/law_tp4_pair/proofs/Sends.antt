@@ -14,7 +14,7 @@ use Rattle.tp4_sending.specs.FlowSender.{FlowSender, UrgentSender, Sendings, not
 use Rattle.tp4_sending.specs.Pieces.{cut_at, end_of, once}
 use Rattle.tp4_sending.specs.declared.tries.Tries.{Tries}
 use Rattle.tp4_sending.proofs.Goings.{piece_there}
-use Rattle.osi_journal.specs.Lawful.{Marked}
+use Rattle.script_journal.specs.Lawful.{Marked}
 use Rattle.law_tp4_moves.specs.Lines.{shown_in}
 use Rattle.law_tp4_pair.specs.steps.Waiting.{AreData, View, dts_in, eds_in, aks_in, eas_in, wires}
 use Rattle.law_tp4_pair.specs.steps.Flowing.{IsOrdered}

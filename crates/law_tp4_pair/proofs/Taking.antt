@@ -13,7 +13,7 @@ use Rattle.tp4_number.specs.Receiver.{Inbox, Arrived, arrived, arrived_as, kept}
 use Rattle.tp4_number.specs.Window.{Held, Joined, joined, joined_by, begun_by, is_larger}
 use Rattle.tp4_number.proofs.Numbers.{near_is}
 use Rattle.tp4_sending.specs.FlowSender.{FlowSender, block_in}
-use Rattle.osi_journal.specs.Lawful.{Marked}
+use Rattle.script_journal.specs.Lawful.{Marked}
 use Rattle.law_tp4_moves.specs.Lines.{shown_in}
 use Rattle.law_tp4_pair.specs.steps.Carrying.{Carries}
 use Rattle.law_tp4_pair.proofs.Carried.{dt_carry}

@@ -7,10 +7,10 @@ use Rattle.tp4_flow.specs.Half.{Half, dt_arrival, half_granted, taken_dt, taken_
 use Rattle.tp4_flow.specs.declared.rules.FlowRules.{FlowRules}
 use Rattle.tp4_flow.specs.declared.rules.Life.{Life}
 use Rattle.tp4_flow.specs.declared.rules.Life.TheVariants.{Goes, Exhausted}
-use Rattle.tp4_flow.specs.declared.rules.Options.{Options}
+use Rattle.tpdu.specs.declared.service.Options.{Options}
 use Rattle.tp4_flow.specs.declared.step.EndEvent.{EndEvent}
 use Rattle.tp4_flow.specs.declared.step.Sent.{Sent}
-use Rattle.tp4_flow.specs.declared.step.What.TheVariants.{Confirm}
+use Rattle.tpdu.specs.declared.service.EndTold.TheVariants.{Confirm}
 use Rattle.tp4_number.specs.declared.got.Got.{Got}
 use Rattle.tp4_number.specs.declared.got.Got.TheVariants.{Kept, Old, Outside, TooLarge}
 use Rattle.tp4_number.specs.Number.{whole}

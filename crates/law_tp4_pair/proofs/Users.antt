@@ -3,7 +3,7 @@ use Rattle.std.proofs.Common.{◌≡◌, ℕ, ◌==◌, Bool, true, false, if◌
 use Rattle.std.proofs.lemmas.Bool.{eqb-false, eqb-true}
 use Rattle.tp4_flow.specs.Half.{Half, ak, half_granted}
 use Rattle.tp4_flow.specs.declared.step.Sent.{Sent}
-use Rattle.tp4_flow.specs.declared.step.What.TheVariants.{Window as WindowTold}
+use Rattle.tpdu.specs.declared.service.EndTold.TheVariants.{Window as WindowTold}
 use Rattle.tp4_sending.specs.FlowSender.{Sendings, at, submitted, urged}
 use Rattle.tp4_conn.specs.declared.end_record.EndRecord.{EndRecord}
 use Rattle.tp4_conn.specs.declared.call.UserCall.{UserCall}
@@ -14,7 +14,7 @@ use Rattle.tp4_conn.specs.declared.states.StateData.TheVariants.{Opened}
 use Rattle.tp4_conn.specs.End.{tell}
 use Rattle.tp4_conn.specs.Opened.{sending, receiving, acking}
 use Rattle.tp4_conn.specs.Table.{Called, on_call}
-use Rattle.osi_journal.specs.Lawful.{Marked, normals, Normal as NormalUnit, Expedited as ExpeditedUnit}
+use Rattle.script_journal.specs.Lawful.{Marked, normals, Normal as NormalUnit, Expedited as ExpeditedUnit}
 use Rattle.tp4_flow.specs.declared.rules.SubmitRefusal.{SubmitRefusal}
 use Rattle.tp4_flow.specs.declared.rules.SubmitRefusal.TheVariants.{EmptyUnit}
 use Rattle.tp4_conn.specs.Calls.{call_refusal, unit_refusal}

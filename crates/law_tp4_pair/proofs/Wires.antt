@@ -3,7 +3,7 @@ use Rattle.std.proofs.Common.{◌≡◌, ℕ, zero, suc, ◌+◌, ◌≤◌, Lis
 use Rattle.tp4_flow.specs.declared.rules.FlowRules.{FlowRules}
 use Rattle.tp4_flow.specs.declared.step.Sent.{Sent}
 use Rattle.tp4_number.specs.Number.{wire}
-use Rattle.osi_journal.specs.Lawful.{Marked}
+use Rattle.script_journal.specs.Lawful.{Marked}
 use Rattle.tp4_flow.specs.declared.step.EndEvent.{EndEvent}
 use Rattle.law_tp4_moves.specs.Lines.{shown_as, shown_in}
 use Rattle.law_tp4_pair.specs.steps.Waiting.{AreData, View, dt_in, dts_in, ed_in, eds_in, ak_in, aks_in, ea_in, eas_in, wires, views}

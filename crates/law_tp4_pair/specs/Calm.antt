@@ -2,8 +2,8 @@
 -- PDU function; X.214, queue model). Over the lines of a script alone.
 use Rattle.std.specs.Prelude.{◌≡◌, ℕ, ◌≤◌, true, List, [], ◌∷◌, ◌++◌, length, Contains}
 use Rattle.nsap.specs.Address.{covers, system_part}
-use Rattle.osi_script.specs.declared.line.Line.{Line}
-use Rattle.osi_script.specs.declared.line.Line.TheVariants as lines
+use Rattle.script_lines.specs.declared.line.Line.{Line}
+use Rattle.script_lines.specs.declared.line.Line.TheVariants as lines
 
 -- the titles of the end systems, in the order of their lines
 abbrev pub end_systems : List Line → List (List ℕ)

@@ -1,10 +1,10 @@
 -- What a calm run promises (X.214, queue model): after each `settle` that delivered all, while nothing was dropped, each of two Opened partner
 -- ends has shown all that the other submitted, as far as credit and the number rule allow at that tick (`AllShown`).
 use Rattle.std.specs.Prelude.{◌≡◌, ◌⊎◌, ℕ, true, false, List, Option, Some, Contains}
-use Rattle.osi_journal.specs.Lawful.{AreEnds, expediteds, normals, shown, submitted}
-use Rattle.osi_journal.specs.declared.cause.Settled.TheVariants.{Stopped}
-use Rattle.osi_journal.specs.declared.event.Event.{Event}
-use Rattle.osi_journal.specs.declared.event.Event.TheVariants as events
+use Rattle.script_journal.specs.Lawful.{AreEnds, expediteds, normals, shown, submitted}
+use Rattle.script_journal.specs.declared.cause.Settled.TheVariants.{Stopped}
+use Rattle.script_journal.specs.declared.event.Event.{Event}
+use Rattle.script_journal.specs.declared.event.Event.TheVariants as events
 use Rattle.tp4_flow.specs.Half.{Half}
 use Rattle.tp4_number.specs.Sender.{may_send}
 use Rattle.tp4_sending.specs.FlowSender.{FlowSender, block_in}
@@ -12,6 +12,9 @@ use Rattle.tp4_sending.specs.Settled.{IsHeld, waits_normal, waits_urgent}
 use Rattle.tp4_conn.specs.declared.states.InOpened.{InOpened}
 use Rattle.tp4_conn.specs.declared.states.StateData.TheVariants.{Opened}
 use Rattle.tp4_conn.specs.End.{End}
+use Rattle.tpdu.specs.declared.service.EndTold.TheVariants as tells
+use Rattle.tpdu.specs.declared.service.HeldKind.TheVariants as helds
+use Rattle.osi_base.specs.declared.note.Note.TheVariants as notes
 
 -- an ED, a DT is next, the number rule holds it back up to some tick, and that was told
 pub record HoldsEd (s : FlowSender) : Type 0 where
@@ -28,12 +31,12 @@ pub record HoldsDt (s : FlowSender) : Type 0 where
 pub record TellsEd (now : ℕ) (journal : List Event) (end : ℕ) (s : FlowSender) : Type 0 where
   pub holds : HoldsEd s
   pub rule : may_send (block_in s) s.rules.limit s.urgent.blocks s.urgent.next now ≡ false
-  pub told : Contains journal (events.Held end true s.urgent.next)
+  pub told : Contains journal (events.End end (tells.Held helds.Ed s.urgent.next))
 
 pub record TellsDt (now : ℕ) (journal : List Event) (end : ℕ) (s : FlowSender) : Type 0 where
   pub holds : HoldsDt s
   pub rule : may_send (block_in s) s.rules.limit s.numbers.blocks s.numbers.next now ≡ false
-  pub told : Contains journal (events.Held end false s.numbers.next)
+  pub told : Contains journal (events.End end (tells.Held helds.Dt s.numbers.next))
 
 -- one end has shown what the other submitted, for expedited and for normal units each
 pub record HasShown (now : ℕ) (journal : List Event) (from to : ℕ) (s : FlowSender) (h : Half) : Type 0 where
@@ -48,7 +51,7 @@ AllShown now journal end_of = (calling called : ℕ) (x y : End) (o q : InOpened
 
 -- nothing was dropped, and no settling stopped at its number
 abbrev pub IsUndropped : Event → Type 0
-IsUndropped (events.DropFrame system) = ⊥
+IsUndropped (events.Net (notes.DropFrame system)) = ⊥
 IsUndropped (events.Dropped system cause) = ⊥
 IsUndropped (events.Settle (Stopped count)) = ⊥
 IsUndropped event = Prim.Unit {0}

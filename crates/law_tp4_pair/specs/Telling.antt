@@ -1,7 +1,7 @@
 -- What an end told of the numbers that the number rule holds back (X.224, frozen references and numbers).
 use Rattle.std.specs.Prelude.{◌≡◌, ℕ, true, List, Contains}
 use Rattle.tp4_flow.specs.declared.step.EndEvent.{EndEvent}
-use Rattle.tp4_flow.specs.declared.step.HeldKind.TheVariants.{Dt, Ed}
+use Rattle.tpdu.specs.declared.service.HeldKind.TheVariants.{Dt, Ed}
 use Rattle.tp4_sending.specs.FlowSender.{FlowSender, holds, is_noted}
 use Rattle.tp4_conn.specs.declared.states.StateData.{StateData}
 use Rattle.tp4_conn.specs.declared.states.StateData.TheVariants.{AkWait, Opened}

@@ -5,7 +5,7 @@ ghost use Rattle.std.specs.Prelude.{◌≡◌, ◌⊎◌, ℕ, List, [], ◌∷�
 ghost use Rattle.std.specs.List.{list_any};
 ghost use Rattle.tp4_flow.specs.Half.{Half, ak, dt_arrival, half_granted, taken_dt, taken_ed};
 ghost use Rattle.tp4_flow.specs.declared.rules.Life.TheVariants.{Goes};
-ghost use Rattle.tp4_flow.specs.declared.rules.Options.{Options};
+ghost use Rattle.tpdu.specs.declared.service.Options.{Options};
 ghost use Rattle.tp4_number.specs.declared.got.Got.TheVariants.{TooLarge};
 ghost use Rattle.tp4_number.specs.declared.piece.Piece.{Piece};
 ghost use Rattle.tp4_number.specs.Number.{whole};
@@ -29,7 +29,7 @@ ghost use Rattle.tp4_entity.specs.Association.{is_called, is_registered, met};
 ghost use Rattle.tp4_entity.specs.Entity.{Entity, moved};
 ghost use Rattle.tp4_entity.specs.References.{least_free};
 ghost use Rattle.law_tp4_pair.specs.steps.Flowing.{IsCalm, IsCalmOn};
-ghost use Rattle.osi_journal.specs.declared.event.Event.{Event as JournalEvent};
+ghost use Rattle.script_journal.specs.declared.event.Event.{Event as JournalEvent};
 ghost use Rattle.law_tp4_pair.specs.Claim.{AllShown};
 ghost use Rattle.law_tp4_pair.specs.Meeting.{IsMet};
 ghost use Rattle.law_tp4_pair.specs.Pair.{Accepts, AreOpened, Asks_called, Comes_back, Comes_forth, Happening, IsIdle, Leads, May, Pair, next};

@@ -7,8 +7,8 @@ use Rattle.osi_base.specs.declared.unit.Offered.{Offered}
 use Rattle.osi_base.specs.Link.{Link}
 use Rattle.osi_base.specs.Calls.{Call, Offer}
 use Rattle.osi_base.specs.Gathering.{Gathers}
-use Rattle.osi_journal.specs.RawLawful.{raw_address}
-use Rattle.osi_journal.specs.declared.event.Event.{Event}
+use Rattle.script_journal.specs.RawLawful.{raw_address}
+use Rattle.script_journal.specs.declared.event.Event.{Event}
 use Rattle.law_carrier_answers.specs.Answers.{OneStep, OneGathering, asked_of}
 use Rattle.net_world.specs.Told.{told, sent_event}
 use Rattle.net_world.specs.Run.{raw_unit, Passes, SendsUnit}

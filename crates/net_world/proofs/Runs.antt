@@ -6,10 +6,10 @@ use Rattle.osi_base.specs.declared.unit.Wish.{Wish}
 use Rattle.osi_base.specs.Link.{Link}
 use Rattle.osi_base.specs.Calls.{Call, Offer, Keeps}
 use Rattle.osi_base.specs.Gathering.{Gathers}
-use Rattle.osi_journal.specs.RawLawful.{raw_address}
-use Rattle.osi_journal.specs.declared.event.Event.{Event}
-use Rattle.osi_journal.specs.declared.event.Event.TheVariants as events
-use Rattle.osi_journal.specs.declared.cause.Refused.TheVariants.{EmptyUnit}
+use Rattle.script_journal.specs.RawLawful.{raw_address}
+use Rattle.script_journal.specs.declared.event.Event.{Event}
+use Rattle.script_journal.specs.declared.event.Event.TheVariants as events
+use Rattle.script_journal.specs.declared.cause.Refused.TheVariants.{EmptyUnit}
 use Rattle.net_world.specs.First.{IsFirst}
 use Rattle.net_world.specs.Told.{told, sent_event}
 use Rattle.net_world.specs.Run.{raw_unit, SendsUnit, Starts}

@@ -12,13 +12,12 @@ use Rattle.osi_base.specs.declared.unit.Offered.TheVariants.{Taken as WasTaken, 
 use Rattle.osi_base.specs.declared.unit.Picked.{Picked}
 use Rattle.osi_base.specs.declared.unit.Picked.TheVariants as picks
 use Rattle.osi_base.specs.declared.note.Note.{Note}
-use Rattle.osi_base.specs.declared.note.Note.TheVariants as notes
 use Rattle.osi_base.specs.Link.{Link, IsNote, IsLawful}
-use Rattle.osi_journal.specs.declared.event.Event.{Event}
-use Rattle.osi_journal.specs.declared.event.Event.TheVariants as events
-use Rattle.osi_journal.specs.RawLawful.{clock_after, clock_from, tick_after, WasSent}
+use Rattle.script_journal.specs.declared.event.Event.{Event}
+use Rattle.script_journal.specs.declared.event.Event.TheVariants as events
+use Rattle.script_journal.specs.RawLawful.{clock_after, clock_from, tick_after, WasSent}
 use Rattle.net_world.specs.First.{IsAtHome}
-use Rattle.net_world.specs.Told.{note_event, shown_at, told, sent_event, picked_event}
+use Rattle.net_world.specs.Told.{shown_at, told, sent_event, picked_event}
 use Rattle.net_world.proofs.Journals.{clock_from-append, IsOther}
 use Rattle.net_world.proofs.Units.{AllSent, entry_later, was_sent, NewSent, none_new, one_new, both_new}
 
@@ -27,16 +26,8 @@ pub record IsStill (event : Event) : Type 0 where
   pub other : IsOther event
   pub clock : (now : ℕ) → clock_after now event ≡ now
 
-pub note_still : (note : Note) → IsStill (note_event note)
-note_still (notes.Frame number lan system snpa length) = record { other = tt; clock = λ now. refl }
-note_still (notes.DropFrame system) = record { other = tt; clock = λ now. refl }
-note_still (notes.Discard system reason place) = record { other = tt; clock = λ now. refl }
-note_still (notes.Report system reason place) = record { other = tt; clock = λ now. refl }
-note_still (notes.Alien system) = record { other = tt; clock = λ now. refl }
-note_still (notes.BadHello system cause) = record { other = tt; clock = λ now. refl }
-note_still (notes.HelloFull system) = record { other = tt; clock = λ now. refl }
-note_still (notes.Hello system kind snpa) = record { other = tt; clock = λ now. refl }
-note_still (notes.Redirect system address snpa) = record { other = tt; clock = λ now. refl }
+pub note_still : (note : Note) → IsStill (events.Net note)
+note_still note = record { other = tt; clock = λ now. refl }
 
 pub sent_still : (system : ℕ) (to octets : List ℕ) (answer : Offered) → IsStill (sent_event system to octets answer)
 sent_still system to octets WasTaken = record { other = tt; clock = λ now. refl }
@@ -94,10 +85,10 @@ module _ (life : ℕ) (titles : List (List ℕ)) (link : Link (List ℕ)) (bound
   told_sent [] journal sent clock all = none_new life titles journal [] tt
   told_sent (Noted note ∷ ups) journal sent clock all =
       let still = note_still note in
-      let next : List Event = journal ++ note_event note ∷ [] in
-      let sent_next : AllSent titles link.floating next = record { each = λ entry c s. entry_later titles journal (note_event note ∷ []) entry (sent.each entry c s) } in
-      let clock_next : tick_after next ≡ link.clock = clock_from-append 0 journal (note_event note ∷ []) ∙ still.clock (tick_after journal) ∙ clock in
-      both_new life titles journal (note_event note ∷ []) (told ups) (none_new life titles journal (note_event note ∷ []) (still.other, tt))
+      let next : List Event = journal ++ events.Net note ∷ [] in
+      let sent_next : AllSent titles link.floating next = record { each = λ entry c s. entry_later titles journal (events.Net note ∷ []) entry (sent.each entry c s) } in
+      let clock_next : tick_after next ≡ link.clock = clock_from-append 0 journal (events.Net note ∷ []) ∙ still.clock (tick_after journal) ∙ clock in
+      both_new life titles journal (events.Net note ∷ []) (told ups) (none_new life titles journal (events.Net note ∷ []) (still.other, tt))
       (told_sent ups next sent_next clock_next (All-tail (IsLawful link) (Noted note) ups all))
   told_sent (Came arrival ∷ ups) journal sent clock all =
       let made : List Event = shown_at arrival.system arrival.unit in

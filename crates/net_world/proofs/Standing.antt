@@ -11,9 +11,9 @@ use Rattle.osi_base.specs.Link.{Link, IsNote, IsLawful}
 use Rattle.osi_base.specs.Calls.{IsSameLink, NothingNew, Offers, Chooses, Ticks}
 use Rattle.osi_base.specs.Gathering.{Stands}
 use Rattle.osi_base.proofs.Chains.{same_on}
-use Rattle.osi_journal.specs.declared.event.Event.{Event}
-use Rattle.osi_journal.specs.declared.event.Event.TheVariants as events
-use Rattle.osi_journal.specs.RawLawful.{raw_address, clock_from, tick_after, RawLawful}
+use Rattle.script_journal.specs.declared.event.Event.{Event}
+use Rattle.script_journal.specs.declared.event.Event.TheVariants as events
+use Rattle.script_journal.specs.RawLawful.{raw_address, clock_from, tick_after, RawLawful}
 use Rattle.net_world.specs.First.{IsAtHome, IsFirst}
 use Rattle.net_world.specs.Run.{raw_unit}
 use Rattle.net_world.specs.Told.{told, sent_event, picked_event}

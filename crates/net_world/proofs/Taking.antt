@@ -5,7 +5,7 @@ use Rattle.osi_base.specs.declared.unit.Up.{Up}
 use Rattle.osi_base.specs.Link.{Link}
 use Rattle.osi_base.specs.Calls.{Call, NextUp, TakesUp}
 use Rattle.osi_base.proofs.Gatherings.{Gathering, gathering_next, gathered}
-use Rattle.osi_journal.specs.declared.event.Event.{Event}
+use Rattle.script_journal.specs.declared.event.Event.{Event}
 use Rattle.net_world.specs.Told.{told, up_events}
 use Rattle.net_world.specs.steps.TakingUp.{TakesUpAll}
 

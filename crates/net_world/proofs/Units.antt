@@ -7,9 +7,9 @@ use Rattle.std.proofs.lemmas.List.{append-nil}
 use Rattle.nsap.specs.Address.{is_same_system, selector_of, system_part}
 use Rattle.nsap.proofs.AddressLemmas.{is_same_system-Decides, system_part-append}
 use Rattle.osi_base.specs.declared.unit.Unit.{Unit as CarriedUnit}
-use Rattle.osi_journal.specs.declared.event.Event.{Event}
-use Rattle.osi_journal.specs.declared.event.Event.TheVariants as events
-use Rattle.osi_journal.specs.RawLawful.{raw_address, tick_after, WasSent, RawLawful}
+use Rattle.script_journal.specs.declared.event.Event.{Event}
+use Rattle.script_journal.specs.declared.event.Event.TheVariants as events
+use Rattle.script_journal.specs.RawLawful.{raw_address, tick_after, WasSent, RawLawful}
 use Rattle.net_world.proofs.Journals.{split_at, IsOther, no_unit}
 
 -- a unit was sent by an event of the journal, at its tick, from the address of the sender to that of a title

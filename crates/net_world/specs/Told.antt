@@ -10,31 +10,17 @@ use Rattle.osi_base.specs.declared.unit.Offered.{Offered}
 use Rattle.osi_base.specs.declared.unit.Offered.TheVariants.{Taken as WasTaken, Dropped}
 use Rattle.osi_base.specs.declared.unit.Picked.{Picked}
 use Rattle.osi_base.specs.declared.unit.Picked.TheVariants as picks
-use Rattle.osi_base.specs.declared.note.Note.{Note}
-use Rattle.osi_base.specs.declared.note.Note.TheVariants as notes
-use Rattle.osi_journal.specs.declared.cause.Refused.{Refused}
-use Rattle.osi_journal.specs.declared.cause.Refused.TheVariants as refusals
-use Rattle.osi_journal.specs.declared.event.Event.{Event}
-use Rattle.osi_journal.specs.declared.event.Event.TheVariants as events
-
--- each note is an event of its own
-abbrev pub note_event : Note → Event
-note_event (notes.Frame number lan system snpa length) = events.Frame number lan system snpa length
-note_event (notes.DropFrame system) = events.DropFrame system
-note_event (notes.Discard system reason place) = events.Discard system reason place
-note_event (notes.Report system reason place) = events.Report system reason place
-note_event (notes.Alien system) = events.Alien system
-note_event (notes.BadHello system cause) = events.BadHello system cause
-note_event (notes.HelloFull system) = events.HelloFull system
-note_event (notes.Hello system kind snpa) = events.Hello system kind snpa
-note_event (notes.Redirect system address snpa) = events.Redirect system address snpa
+use Rattle.script_journal.specs.declared.cause.Refused.{Refused}
+use Rattle.script_journal.specs.declared.cause.Refused.TheVariants as refusals
+use Rattle.script_journal.specs.declared.event.Event.{Event}
+use Rattle.script_journal.specs.declared.event.Event.TheVariants as events
 
 -- a raw unit is shown: one whose destination has the selector 02
 abbrev pub shown_at : ℕ → CarriedUnit (List ℕ) → List Event
 shown_at system unit = if selector_of unit.to == 2 then events.Unit system unit.from unit.octets ∷ [] else []
 
 abbrev pub up_events : Up (List ℕ) → List Event
-up_events (Noted note) = note_event note ∷ []
+up_events (Noted note) = events.Net note ∷ []
 up_events (Came arrival) = shown_at arrival.system arrival.unit
 
 -- what came up, in order

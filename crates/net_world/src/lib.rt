@@ -5,5 +5,5 @@
 mod telling;
 mod world;
 
-pub use telling::{address, picked_event, tell};
+pub use telling::{address, picked_event, refusal, tell};
 pub use world::{send_unit, take_up};

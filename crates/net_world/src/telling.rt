@@ -1,48 +1,25 @@
 //! What a transcript tells of what a network hands up (X.213, connectionless-mode network service).
 
 ghost use Rattle.std.specs.Prelude.{◌≡◌, ◌++◌, ◌∷◌, [], OnOk};
-ghost use Rattle.net_world.specs.Told.{note_event, picked_event, refusal, sent_event, shown_at, up_events};
+ghost use Rattle.net_world.specs.Told.{picked_event, refusal, sent_event, shown_at, up_events};
 
 use nsap::{Nsap, RAW};
-use osi_base::{Address, Arrival, Bytes, DropCause, NoMemory, Note, Offered, Picked, Up};
-use osi_journal::{Event, Refused};
+use osi_base::{Address, Arrival, Bytes, DropCause, NoMemory, Offered, Picked, Up};
+use script_journal::{Event, Refused};
 
 /// Tells what came up: a note, or a raw unit. Units for other selectors are not shown.
-// Inlined, with an arm of its own for frames: most notes are frames, and the event of one is then written in its place in the list.
+// Inlined: most notes are frames, and the event of one is then written in its place in the list.
 #[inline(always)]
 pub fn tell(up: Up<Nsap>, events: &mut Vec<Event>) -> Result<(), NoMemory>
     ensures { OnOk result (events.new.items ≡ events.old.items ++ up_events up) }
 {
     match up {
         Up::Unit(arrival) => show(arrival, events),
-        Up::Note(
-            Note::Frame {
-                number,
-                lan,
-                system,
-                snpa,
-                length,
-            },
-        ) => {
-            events.push(Event::Frame {
-                number,
-                lan,
-                system,
-                snpa,
-                length,
-            })?;
+        Up::Note(note) => {
+            events.push(Event::Net(note))?;
             Ok(())
         }
-        Up::Note(note) => tell_note(note, events),
     }
-}
-
-/// Tells a note.
-fn tell_note(note: Note, events: &mut Vec<Event>) -> Result<(), NoMemory>
-    ensures { OnOk result (events.new.items ≡ events.old.items ++ note_event note ∷ []) }
-{
-    events.push(note_event(note))?;
-    Ok(())
 }
 
 /// Shows a raw unit that came to a system.
@@ -61,58 +38,6 @@ fn show(arrival: Arrival<Nsap>, events: &mut Vec<Event>) -> Result<(), NoMemory>
     Ok(())
 }
 
-fn note_event(note: Note) -> Event
-    ensures { result ≡ note_event note }
-{
-    match note {
-        Note::Frame {
-            number,
-            lan,
-            system,
-            snpa,
-            length,
-        } => Event::Frame {
-            number,
-            lan,
-            system,
-            snpa,
-            length,
-        },
-        Note::DropFrame { system } => Event::DropFrame { system },
-        Note::Discard {
-            system,
-            reason,
-            place,
-        } => Event::Discard {
-            system,
-            reason,
-            place,
-        },
-        Note::Report {
-            system,
-            reason,
-            place,
-        } => Event::Report {
-            system,
-            reason,
-            place,
-        },
-        Note::Alien { system } => Event::Alien { system },
-        Note::BadHello { system, cause } => Event::BadHello { system, cause },
-        Note::HelloFull { system } => Event::HelloFull { system },
-        Note::Hello { system, kind, snpa } => Event::Hello { system, kind, snpa },
-        Note::Redirect {
-            system,
-            address,
-            snpa,
-        } => Event::Redirect {
-            system,
-            address,
-            snpa,
-        },
-    }
-}
-
 /// The line of a raw unit that a system sent to an address, by the network's answer.
 pub(crate) fn sent_event(system: u8, to: &Nsap, octets: Vec<u8>, answer: Offered) -> Event
     ensures { result ≡ sent_event system to.now octets.items answer }
@@ -129,8 +54,8 @@ pub(crate) fn sent_event(system: u8, to: &Nsap, octets: Vec<u8>, answer: Offered
     }
 }
 
-/// Why a raw unit is refused.
-fn refusal(cause: DropCause) -> Refused
+/// Why a unit is refused that the network does not take.
+pub fn refusal(cause: DropCause) -> Refused
     ensures { result ≡ refusal cause }
 {
     match cause {

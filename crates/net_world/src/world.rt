@@ -7,7 +7,7 @@ ghost use Rattle.net_world.specs.steps.TakingUp.{TakesUpAll};
 use crate::telling::{sent_event, tell};
 use nsap::{Nsap, RAW};
 use osi_base::{Bytes, Carrier, NoMemory, Unit, Wish};
-use osi_journal::{Event, Refused};
+use script_journal::{Event, Refused};
 use std::alloc::Global;
 
 /// A raw unit is offered to a carrier, from the one title's address for raw units to the other's; without octets it is refused

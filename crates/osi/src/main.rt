@@ -1,50 +1,95 @@
 //! The program `osi`: networks of OSI end and intermediate systems, run from a script.
 #![tactic(auto)]
 
-ghost use Rattle.std.specs.Prelude.{◌≡◌, ◌≢◌, ◌⊎◌, [], map, string_bytes, IfErr};
+ghost use Rattle.std.specs.Prelude.{◌≡◌, ◌≢◌, ◌⊎◌, [], drop, map, string_bytes, IfErr, IfOk};
 ghost use Rattle.std.specs.IoError.{error_kind};
 ghost use Rattle.std.specs.declared.io.ErrorKind.TheVariants.{OutOfMemory};
 ghost use Rattle.osi_base.specs.declared.status.Status.TheVariants.{NoMemory, RefusedWords, WriteFault};
+ghost use Rattle.osi.specs.Program.{IsCall};
 
-use osi_base::{Status, StdSink, StdSource};
-use osi_bench::osi;
+use osi_base::Status;
+use osi_commands::osi;
+use osi_streams::{ReaderSource, SteadyReader, SteadyWriter, WriterSink};
+use std::alloc::Global;
 use std::process::ExitCode;
 use std::rt::Env;
 use std::{env, io};
 
 fn main(rt: HostRuntime) -> ExitCode {
-    ExitCode::from(status(&rt, words(&rt)).code())
+    let ended = answer(rt.alloc(), arguments(&rt), rt.stdin(), rt.stdout());
+    ExitCode::from(ended.status.code())
 }
 
-/// How the call with these words ends.
-fn status(rt: &HostRuntime, words: io::Result<Vec<String>>) -> Status
+/// The arguments of the program, its name among them.
+fn arguments(rt: &(impl Env + AllocGlobal)) -> io::Result<Vec<String>> {
+    Ok(env::args(rt)?.collect(rt.alloc())?)
+}
+
+/// How a call ended, and what it read from and wrote to.
+#[derive(Drop)]
+struct Ended<R: Drop, W: Drop> {
+    status: Status,
+    reader: R,
+    writer: W,
+}
+
+/// Makes the call whose words are the arguments after the first, which is the program's name.
+fn answer<R: SteadyReader + Drop, W: SteadyWriter + Drop>(
+    alloc: Global,
+    arguments: io::Result<Vec<String>>,
+    reader: R,
+    writer: W,
+) -> Ended<R, W>
+    ensures made { IfOk arguments (λ all. IsCall (drop 1 (map string_bytes all.items))
+        (R.remaining reader) (W.contents writer) (R.remaining result.reader) (W.contents result.writer) result.status) }
     // Memory ran out as they were read: no call is made.
-    ensures memory { IfErr words (λ error. error_kind error ≡ OutOfMemory → result ≡ NoMemory) }
-    // A word that is no text is none of the program's: the usage line, unless a write or memory fails.
-    ensures no_text { IfErr words (λ error. error_kind error ≢ OutOfMemory → (result ≡ RefusedWords) ⊎ (result ≡ WriteFault) ⊎ (result ≡ NoMemory)) }
+    ensures memory { IfErr arguments (λ error. error_kind error ≡ OutOfMemory
+        → (result.status ≡ NoMemory) × (result.reader ≡ reader) × (result.writer ≡ writer)) }
+    // An argument that is no text is none of the program's words: the usage line, unless a write or memory fails.
+    ensures no_text { IfErr arguments (λ error. error_kind error ≢ OutOfMemory
+        → (result.status ≡ RefusedWords) ⊎ (result.status ≡ WriteFault) ⊎ (result.status ≡ NoMemory)) }
+    ensures no_text_call { IfErr arguments (λ error. error_kind error ≢ OutOfMemory → IsCall []
+        (R.remaining reader) (W.contents writer) (R.remaining result.reader) (W.contents result.writer) result.status) }
 {
-    match words {
-        Ok(words) => run(rt, &words),
-        Err(error) if error.kind() == io::ErrorKind::OutOfMemory => Status::NoMemory,
-        Err(_) => run(rt, &[]),
+    match arguments {
+        Ok(arguments) => call(alloc, after_name(&arguments), reader, writer),
+        Err(error) if error.kind() == io::ErrorKind::OutOfMemory => Ended {
+            status: Status::NoMemory,
+            reader,
+            writer,
+        },
+        Err(_) => call(alloc, &[], reader, writer),
     }
 }
 
-/// The words of the call, after the program's name.
-fn words(rt: &(impl Env + AllocGlobal)) -> io::Result<Vec<String>> {
-    let mut words = Vec::new(rt.alloc());
-    for word in env::args(rt)?.skip(1) {
-        words.push(word)?;
+/// The words of the call: the arguments after the program's name.
+fn after_name(arguments: &[String]) -> &[String]
+    ensures { map string_bytes result.now ≡ drop 1 (map string_bytes arguments.now) }
+{
+    match arguments {
+        [_, words @ ..] => words,
+        [] => &[],
     }
-    Ok(words)
 }
 
-/// Makes the call over standard input and output.
-fn run(rt: &HostRuntime, words: &[String]) -> Status
+/// Makes the call over a reader and a writer.
+fn call<R: SteadyReader + Drop, W: SteadyWriter + Drop>(
+    alloc: Global,
+    words: &[String],
+    reader: R,
+    writer: W,
+) -> Ended<R, W>
+    ensures made { IsCall (map string_bytes words.now)
+        (R.remaining reader) (W.contents writer) (R.remaining result.reader) (W.contents result.writer) result.status }
     // Without words the usage line is written, unless a write or memory fails.
-    ensures { map string_bytes words.now ≡ [] → (result ≡ RefusedWords) ⊎ (result ≡ WriteFault) ⊎ (result ≡ NoMemory) }
+    ensures no_words { map string_bytes words.now ≡ [] → (result.status ≡ RefusedWords) ⊎ (result.status ≡ WriteFault) ⊎ (result.status ≡ NoMemory) }
 {
-    let mut source = StdSource::new(rt.stdin());
-    let mut sink = StdSink::new(rt.stdout());
-    osi(rt.alloc(), words, &mut source, &mut sink)
+    let mut source = ReaderSource::new(reader);
+    let mut sink = WriterSink::new(writer);
+    let status = osi(alloc, words, &mut source, &mut sink);
+    Ended {
+        status,
+        reader: source.into_inner(),
+        writer: sink.into_inner(),
+    }
 }

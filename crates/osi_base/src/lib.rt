@@ -28,7 +28,7 @@ pub use lists::{Bytes, Items};
 pub use memory::{MemSink, MemSource, PlainSink, PlainSource};
 pub use note::{HelloCause, HelloKind, Note};
 pub use octets::Octets;
-pub use refusal::{Failed, HeaderRefusal, NoMemory, WriteRefusal};
+pub use refusal::{Failed, HeaderRefusal, NoMemory, WriteRefusal, go_on};
 pub use runs::gather;
 pub use sink::Sink;
 pub use source::Source;

@@ -1,6 +1,6 @@
 //! Why a call could not do its work.
 
-ghost use Rattle.std.specs.Prelude.{◌≡◌};
+ghost use Rattle.std.specs.Prelude.{◌≡◌, false, OnOk};
 ghost use Rattle.osi_base.specs.declared.refusal.WriteRefusal.TheVariants.{NoMemory as WriteNoMemory};
 ghost use Rattle.osi_base.specs.declared.refusal.HeaderRefusal.TheVariants.{NoMemory as HeaderNoMemory};
 
@@ -24,6 +24,16 @@ impl<T: Drop> From<AllocFailed<T>> for NoMemory {
     fn from(_: AllocFailed<T>) -> NoMemory {
         NoMemory
     }
+}
+
+/// After a call that ended for want of memory each further one wants it again: what that one left half done is not known.
+pub fn go_on(stopped: bool) -> Result<(), NoMemory>
+    ensures { OnOk result (stopped ≡ false) }
+{
+    if stopped {
+        return Err(NoMemory);
+    }
+    Ok(())
 }
 
 /// Why a piece was not written.

@@ -3,8 +3,8 @@ use Rattle.std.proofs.Common.{◌≡◌, ℕ, ◌-◌, List, [], ◌∷◌, ◌+
 use Rattle.std.proofs.lemmas.List.{append-nil, take-append-drop}
 use Rattle.line_loop.specs.Course.{IsOver, Runs}
 use Rattle.line_loop.specs.Lines.{open_line, last_line, without_return}
-use Rattle.osi_journal.specs.declared.event.Event.{Event}
-use Rattle.osi_script.specs.declared.line.Line.{Line}
+use Rattle.script_journal.specs.declared.event.Event.{Event}
+use Rattle.script_lines.specs.declared.line.Line.{Line}
 use Rattle.script_bench.specs.Acts.{Acts}
 use Rattle.script_bench.specs.Bench.{Bench, FillsJournal, bench_meaning, first_bench, most_events}
 use Rattle.script_bench.specs.Claims.{AllLines, IsLaw, IsRun, Shows, ToLimit, ToLimitAtEnd, WholeLines, lines_handled, lines_over, lines_run, texts_in}

@@ -5,11 +5,11 @@ use Rattle.line_loop.specs.Lines.{most_lines}
 use Rattle.line_loop.specs.Course.{HasCourse}
 use Rattle.line_loop.specs.Laws.{AsksSomething}
 use Rattle.line_loop.proofs.Totality.{asks_something}
-use Rattle.osi_journal.specs.declared.event.Event.{Event}
-use Rattle.osi_script.specs.declared.cause.LineFault.{LineFault}
-use Rattle.osi_script.specs.declared.line.Line.{Line}
-use Rattle.osi_script.specs.Grammar.{Reading, line_read}
-use Rattle.osi_script.specs.Known.{Declared}
+use Rattle.script_journal.specs.declared.event.Event.{Event}
+use Rattle.script_lines.specs.declared.cause.LineFault.{LineFault}
+use Rattle.script_lines.specs.declared.line.Line.{Line}
+use Rattle.script_lines.specs.Grammar.{Reading, line_read}
+use Rattle.script_lines.specs.Known.{Declared}
 use Rattle.script_bench.specs.Acts.{Acts, HasStep, Keeping, StageLaws}
 use Rattle.script_bench.specs.Bench.{Bench, RunsText, bench_meaning, first_bench, most_events}
 use Rattle.script_bench.specs.steps.BenchLaws.{bench_laws}

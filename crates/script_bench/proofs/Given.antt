@@ -12,8 +12,8 @@ use Rattle.line_loop.specs.Limits.{most_octets, most_read}
 use Rattle.line_loop.specs.Lines.{open_line, last_line, without_return}
 use Rattle.line_loop.proofs.Driving.{cut_of, Ran as RanOver}
 use Rattle.line_loop.proofs.Exclusion.{ran_exact, ran_accepted, complete}
-use Rattle.osi_journal.specs.declared.event.Event.{Event}
-use Rattle.osi_script.specs.declared.cause.LineFault.{LineFault}
+use Rattle.script_journal.specs.declared.event.Event.{Event}
+use Rattle.script_lines.specs.declared.cause.LineFault.{LineFault}
 use Rattle.script_bench.specs.Acts.{Acts, Keeping, StageLaws}
 use Rattle.script_bench.specs.Bench.{Bench, FillsJournal, bench_meaning, first_bench}
 use Rattle.script_bench.specs.Claims.{AllLines, IsRun, ToLimit, ToLimitAtEnd, WholeLines, texts_in}

@@ -4,8 +4,8 @@ use Rattle.osi_base.specs.declared.status.Status.{Status}
 use Rattle.osi_base.specs.Ends.{IsAtEnd, Put, Took}
 use Rattle.line_loop.specs.Limits.{most_octets, most_read}
 use Rattle.line_loop.specs.Outcome.{Outcome}
-use Rattle.osi_journal.specs.declared.event.Event.{Event}
-use Rattle.osi_script.specs.declared.line.Line.{Line}
+use Rattle.script_journal.specs.declared.event.Event.{Event}
+use Rattle.script_lines.specs.declared.line.Line.{Line}
 use Rattle.script_bench.specs.Acts.{Acts}
 use Rattle.script_bench.specs.Bench.{bench_meaning, first_bench}
 use Rattle.script_bench.specs.Claims.{IsLaw}

@@ -2,11 +2,11 @@
 -- names declared.
 use Rattle.std.specs.Prelude.{◌≡◌, ℕ, ◌+◌, ◌<◌, false, List, [], ◌∷◌, ◌++◌, Option, Ok}
 use Rattle.line_loop.specs.Lines.{most_lines}
-use Rattle.osi_journal.specs.declared.event.Event.{Event}
-use Rattle.osi_script.specs.declared.words.Dialect.{Dialect}
-use Rattle.osi_script.specs.declared.line.Line.{Line}
-use Rattle.osi_script.specs.Grammar.{line_read}
-use Rattle.osi_script.specs.Known.{Declared, nothing_declared}
+use Rattle.script_journal.specs.declared.event.Event.{Event}
+use Rattle.script_lines.specs.declared.words.Dialect.{Dialect}
+use Rattle.script_lines.specs.declared.line.Line.{Line}
+use Rattle.script_lines.specs.Grammar.{line_read}
+use Rattle.script_lines.specs.Known.{Declared, nothing_declared}
 use Rattle.script_bench.specs.Script.{IsPlaced, is_start}
 
 -- what is set up and run, in its states

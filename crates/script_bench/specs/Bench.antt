@@ -1,13 +1,13 @@
 -- The machine of scripts: what a line does to the names declared, to the stage and to the journal.
 use Rattle.std.specs.Prelude.{◌≡◌, ℕ, ◌+◌, ◌-◌, ◌<◌, ◌≤◌, false, List, [], length, take, Ok, Err}
-use Rattle.osi_script.specs.declared.cause.LineFault.{LineFault}
-use Rattle.osi_script.specs.declared.cause.LineCause.TheVariants as causes
-use Rattle.osi_script.specs.declared.line.Line.{Line}
-use Rattle.osi_script.specs.Grammar.{line_read, fault}
-use Rattle.osi_script.specs.Known.{Declared, nothing_declared}
-use Rattle.osi_script.specs.Tags.{tags_of}
-use Rattle.osi_journal.specs.declared.event.Event.{Event}
-use Rattle.osi_journal.specs.Told.{journal_text}
+use Rattle.script_lines.specs.declared.cause.LineFault.{LineFault}
+use Rattle.script_lines.specs.declared.cause.LineCause.TheVariants as causes
+use Rattle.script_lines.specs.declared.line.Line.{Line}
+use Rattle.script_lines.specs.Grammar.{line_read, fault}
+use Rattle.script_lines.specs.Known.{Declared, nothing_declared}
+use Rattle.script_lines.specs.Tags.{tags_of}
+use Rattle.script_journal.specs.declared.event.Event.{Event}
+use Rattle.script_journal.specs.Told.{journal_text}
 use Rattle.line_loop.specs.Meaning.{Meaning}
 use Rattle.script_bench.specs.Acts.{Acts}
 use Rattle.script_bench.specs.Text.{done_lines, refused_line, toomuch_line}

@@ -4,10 +4,10 @@ use Rattle.std.proofs.Common.{inl, inr}
 use Rattle.line_loop.specs.Course.{Runs, IsRead, IsWhole, IsOver, IsTooMuch, IsTooMuchAtEnd}
 use Rattle.line_loop.specs.Lines.{whole_lines, open_line, without_return, last_line}
 use Rattle.line_loop.specs.Writing.{IsPrefix}
-use Rattle.osi_journal.specs.declared.event.Event.{Event}
-use Rattle.osi_script.specs.declared.line.Line.{Line}
-use Rattle.osi_script.specs.Known.{Declared, nothing_declared}
-use Rattle.osi_script.specs.Script.{Says}
+use Rattle.script_journal.specs.declared.event.Event.{Event}
+use Rattle.script_lines.specs.declared.line.Line.{Line}
+use Rattle.script_lines.specs.Known.{Declared, nothing_declared}
+use Rattle.script_lines.specs.Script.{Says}
 use Rattle.script_bench.specs.Acts.{Acts, RunsScript}
 use Rattle.script_bench.specs.Bench.{Bench, RunsText, bench_meaning, first_bench}
 

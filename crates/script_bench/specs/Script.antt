@@ -1,7 +1,7 @@
 -- Where each line of a script may stand.
 use Rattle.std.specs.Prelude.{◌≡◌, Bool, true, false}
-use Rattle.osi_script.specs.declared.line.Line.{Line}
-use Rattle.osi_script.specs.declared.line.Line.TheVariants as lines
+use Rattle.script_lines.specs.declared.line.Line.{Line}
+use Rattle.script_lines.specs.declared.line.Line.TheVariants as lines
 
 -- `start` ends the set-up
 abbrev pub is_start : Line → Bool

@@ -1,9 +1,9 @@
 -- The closing lines of a transcript.
 use Rattle.std.specs.Prelude.{ℕ, List, [], ◌∷◌, ◌++◌, Option, Some, None, codes}
 use Rattle.std.specs.Fmt.{decimal}
-use Rattle.osi_script.specs.declared.cause.LineFault.{LineFault}
-use Rattle.osi_script.specs.Causes.{cause_text}
-use Rattle.osi_journal.specs.Told.{line}
+use Rattle.script_lines.specs.declared.cause.LineFault.{LineFault}
+use Rattle.script_lines.specs.Causes.{cause_text}
+use Rattle.script_journal.specs.Told.{line}
 
 -- the line at the end of an input that was handled
 abbrev pub done_line : List ℕ

@@ -6,11 +6,11 @@ use Rattle.osi_base.specs.declared.status.Status.TheVariants.{Done, RefusedLine,
 use Rattle.line_loop.specs.Course.{IsOver, IsTooMuch, IsTooMuchAtEnd, IsRefusedAt, IsRefusedAtEnd}
 use Rattle.line_loop.specs.Lines.{open_line, without_return, last_line}
 use Rattle.line_loop.specs.Outcome.{Asks, Outcome}
-use Rattle.osi_journal.specs.declared.event.Event.{Event}
-use Rattle.osi_script.specs.declared.cause.LineFault.{LineFault}
-use Rattle.osi_script.specs.declared.line.Line.{Line}
-use Rattle.osi_script.specs.Known.{nothing_declared}
-use Rattle.osi_script.specs.Script.{Says}
+use Rattle.script_journal.specs.declared.event.Event.{Event}
+use Rattle.script_lines.specs.declared.cause.LineFault.{LineFault}
+use Rattle.script_lines.specs.declared.line.Line.{Line}
+use Rattle.script_lines.specs.Known.{nothing_declared}
+use Rattle.script_lines.specs.Script.{Says}
 use Rattle.script_bench.specs.Acts.{Acts, RunsScript}
 use Rattle.script_bench.specs.Bench.{Bench, bench_meaning, first_bench, most_events}
 use Rattle.script_bench.specs.Claims.{AllLines, IsRun, ToLimit, ToLimitAtEnd, WholeLines, texts_in}

@@ -2,8 +2,8 @@
 
 ghost use Rattle.std.specs.Prelude.{◌≡◌, ◌<◌, ◌++◌, OnErr, OnOk, IsErrOf};
 ghost use Rattle.line_loop.specs.Lines.{most_lines};
-ghost use Rattle.osi_journal.specs.Told.{journal_text};
-ghost use Rattle.osi_script.specs.Tags.{tags_of};
+ghost use Rattle.script_journal.specs.Told.{journal_text};
+ghost use Rattle.script_lines.specs.Tags.{tags_of};
 ghost use Rattle.script_bench.specs.Bench.{FillsJournal, RefusesLine, RunsText};
 
 use crate::event_limit::told_of;
@@ -11,8 +11,8 @@ use crate::stage::Stage;
 use crate::text::{push_done, push_events, push_refusal, push_strays, push_too_much};
 use line_loop::{LineError, Machine};
 use osi_base::NoMemory;
-use osi_journal::Event;
-use osi_script::{LineCause, LineFault, LineRefusal, Names};
+use script_journal::Event;
+use script_lines::{LineCause, LineFault, LineRefusal, Names};
 use std::alloc::Global;
 use std::marker::Model;
 use std::mem;

@@ -1,7 +1,7 @@
 //! The machine of scripts: a script in, the transcript of what it sets up and runs out.
 //!
-//! `stage` is what a script sets up and runs; `bench` is the machine over it that `line_loop` drives: `osi_script` reads a line, the
-//! stage does what it says, `event_limit` says how many of its events have room, and `osi_journal` tells them. `run` drives it from a source to a sink, `text` has the
+//! `stage` is what a script sets up and runs; `bench` is the machine over it that `line_loop` drives: `script_lines` reads a line, the
+//! stage does what it says, `event_limit` says how many of its events have room, and `script_journal` tells them. `run` drives it from a source to a sink, `text` has the
 //! closing lines, and `laws` what holds of every script.
 #![tactic(auto)]
 

@@ -3,13 +3,13 @@
 ghost use Rattle.std.specs.Prelude.{◌≡◌, [], OnOk};
 
 use osi_base::NoMemory;
-use osi_journal::Event;
-use osi_script::{Line, Names};
+use script_journal::Event;
+use script_lines::{Line, Names};
 use std::alloc::Global;
 
 /// What a script sets up and runs: each line that is read has its events.
 pub trait Stage: Sized {
-    ghost use Rattle.osi_script.specs.Known.{nothing_declared};
+    ghost use Rattle.script_lines.specs.Known.{nothing_declared};
     ghost use Rattle.script_bench.specs.Acts.{Acts, Keeping, StageLaws};
 
     /// The command that reads the script, how it begins, what a line does, and how many arrivals were strays.

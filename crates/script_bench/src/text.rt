@@ -2,13 +2,13 @@
 
 ghost use Rattle.std.specs.Prelude.{◌≡◌, ◌++◌, ◌∷◌, [], OnOk};
 ghost use Rattle.std.specs.Fmt.{decimal};
-ghost use Rattle.osi_script.specs.Tags.{tags_of};
-ghost use Rattle.osi_journal.specs.Told.{journal_text};
+ghost use Rattle.script_lines.specs.Tags.{tags_of};
+ghost use Rattle.script_journal.specs.Told.{journal_text};
 ghost use Rattle.script_bench.specs.Text.{done_line, refused_line, strays_line, toomuch_line};
 
 use osi_base::NoMemory;
-use osi_journal::{Event, write_event};
-use osi_script::{LineFault, Names};
+use script_journal::{Event, write_event};
+use script_lines::{LineFault, Names};
 use text_parts::{push, push_number};
 
 /// Appends the lines of events, one after another. After `NoMemory`, `out` ends in a part of them.

@@ -3,15 +3,15 @@ use Rattle.std.proofs.Common.{◌≡◌, ℕ, ◌+◌, ◌-◌, cond, List, [], 
 use Rattle.std.specs.List.{AllByRecursion, count_by}
 use Rattle.std.proofs.lemmas.List.{append-nil, take-append-drop}
 use Rattle.std.proofs.lemmas.List.Sums.{sum_by-cons}
-use Rattle.frame_capture.specs.Written.{IsWritable, SentFrame, record_of}
-use Rattle.frame_capture.proofs.Records.{writes_capture}
+use Rattle.capture_write.specs.Written.{IsWritable, SentFrame, record_of}
+use Rattle.capture_write.proofs.Records.{writes_capture}
 use Rattle.line_loop.specs.Course.{IsOver, IsTooMuch, IsTooMuchAtEnd, Runs}
 use Rattle.line_loop.specs.Lines.{open_line, whole_lines, without_return}
 use Rattle.lan_bag.specs.declared.setup.PortRow.{PortRow}
-use Rattle.osi_journal.specs.RawLawful.{clock_after, clock_from}
-use Rattle.osi_journal.specs.declared.event.Event.{Event}
-use Rattle.osi_journal.specs.declared.event.Event.TheVariants as events
-use Rattle.osi_storm.specs.Counted.{is_frame}
+use Rattle.script_journal.specs.RawLawful.{clock_after, clock_from}
+use Rattle.script_journal.specs.declared.event.Event.{Event}
+use Rattle.script_journal.specs.declared.event.Event.TheVariants as events
+use Rattle.script_storm.specs.Counted.{is_frame}
 use Rattle.tp4_world.proofs.Addressees.{all_append}
 use Rattle.law_run.specs.Bench.{Bench, FillsJournal, bench_meaning, first_bench, most_events}
 use Rattle.law_run.specs.World.{World}
@@ -20,6 +20,7 @@ use Rattle.script_frames.specs.Frames.{AreTold, FillsWithFrames, IsCaptureOf, Is
 use Rattle.script_frames.specs.Laws.{CapturesTooMuch}
 use Rattle.script_frames.proofs.ToldFrames.{told_append, told_from-append}
 use Rattle.script_frames.proofs.ToldLines.{HasPorts, IsQuietWorld, WorldTells, clock_in, world_tells}
+use Rattle.osi_base.specs.declared.note.Note.TheVariants as notes
 
 record Framed (ports : List PortRow) (first : Bench) (texts : List (List ℕ)) (frames : List SentFrame) (last : Bench) : Type 0 where
   journal : List Event
@@ -112,7 +113,7 @@ frames_of texts frames last h =
 
 -- as many are told as there are frames among the events
 one_told : (now : ℕ) (event : Event) → length (told_by now event) ≡ cond (is_frame event) 1 0
-one_told now (events.Frame number lan system snpa size) = refl
+one_told now (events.Net (notes.Frame number lan system snpa size)) = refl
 one_told now event = refl
 
 told_count : (now : ℕ) (made : List Event) → length (told_from now made) ≡ count_by is_frame made

@@ -11,7 +11,7 @@ use Rattle.line_loop.specs.Writing.{IsPrefix, IsBroken, IsWritten}
 use Rattle.line_loop.proofs.Driving.{Ran}
 use Rattle.line_loop.proofs.Exclusion.{asks_once, ran_accepted, ran_exact}
 use Rattle.line_loop.proofs.Reading.{read_none}
-use Rattle.frame_capture.specs.Written.{SentFrame, header_octets}
+use Rattle.capture_write.specs.Written.{SentFrame, header_octets}
 use Rattle.law_run.specs.Bench.{Bench, first_bench}
 use Rattle.script_frames.specs.Frames.{AsksCapture, AsksForCapture, CaptureOutcome, IsCutCapture, IsFramesRun, frames_meaning}
 use Rattle.script_frames.specs.Laws.{AsksOneCapture}

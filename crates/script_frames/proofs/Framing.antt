@@ -3,13 +3,13 @@ use Rattle.std.proofs.Common.{◌≡◌, ◌⊎◌, ℕ, zero, suc, ◌+◌, ◌
 use Rattle.std.proofs.lemmas.List.{append-nil, length-drop, take_all}
 use Rattle.std.specs.List.{AllByRecursion}
 use Rattle.std.specs.Prelude.{OnOk, Result}
-use Rattle.frame_capture.specs.Written.{IsWritable, SentFrame, records_octets}
+use Rattle.capture_write.specs.Written.{IsWritable, SentFrame, records_octets}
 use Rattle.lan_bag.specs.Frames.{Frame, frame_of, kept}
 use Rattle.line_loop.proofs.Calls.{on_ok}
 use Rattle.line_loop.specs.Meaning.{HasRun}
 use Rattle.line_loop.specs.declared.machine.LineError.{LineError}
-use Rattle.osi_script.specs.declared.cause.LineFault.{LineFault}
-use Rattle.osi_journal.specs.declared.event.Event.{Event}
+use Rattle.script_lines.specs.declared.cause.LineFault.{LineFault}
+use Rattle.script_journal.specs.declared.event.Event.{Event}
 use Rattle.tp4_world.proofs.Addressees.{all_append}
 use Rattle.law_run.specs.Bench.{Bench, RunsText}
 use Rattle.script_frames.specs.Frames.{AreMade, frames_meaning, sent_in, sent_of, slots_of}

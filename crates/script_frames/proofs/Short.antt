@@ -19,7 +19,7 @@ use Rattle.osi_base.specs.declared.unit.Up.{Up}
 use Rattle.osi_base.specs.declared.unit.Up.TheVariants.{Unit as Came, Note as Noted}
 use Rattle.osi_base.specs.declared.unit.Wish.{Wish}
 use Rattle.osi_base.specs.Calls.{Call, Chain, Choose, Inject, NextUp, Offer, Tick}
-use Rattle.frame_capture.specs.Written.{IsWritable, SentFrame, header_octets}
+use Rattle.capture_write.specs.Written.{IsWritable, SentFrame, header_octets}
 use Rattle.lan_frame.specs.Frame.{whole_frame}
 use Rattle.lan_bag.specs.declared.setup.Lan.{Lan}
 use Rattle.lan_bag.specs.declared.setup.PortRow.{PortRow}
@@ -38,14 +38,14 @@ use Rattle.line_loop.specs.Lines.{most_lines}
 use Rattle.line_loop.specs.Laws.{AsksSomething}
 use Rattle.line_loop.specs.Course.{HasCourse}
 use Rattle.line_loop.proofs.Totality.{asks_something}
-use Rattle.osi_journal.specs.declared.event.Event.{Event}
-use Rattle.osi_storm.specs.Counted.{is_frame}
-use Rattle.osi_script.specs.declared.line.Line.{Line}
-use Rattle.osi_script.specs.declared.cause.LineFault.{LineFault}
-use Rattle.osi_script.specs.Grammar.{Reading, line_read}
-use Rattle.osi_script.specs.Known.{Declared}
-use Rattle.osi_setup.specs.Fitting.{IsWell}
-use Rattle.osi_setup.specs.SetUp.{SetUp, nodes_of, set_up, titles_of as titles_said}
+use Rattle.script_journal.specs.declared.event.Event.{Event}
+use Rattle.script_storm.specs.Counted.{is_frame}
+use Rattle.script_lines.specs.declared.line.Line.{Line}
+use Rattle.script_lines.specs.declared.cause.LineFault.{LineFault}
+use Rattle.script_lines.specs.Grammar.{Reading, line_read}
+use Rattle.script_lines.specs.Known.{Declared}
+use Rattle.script_setup.specs.Fitting.{IsWell}
+use Rattle.script_setup.specs.SetUp.{SetUp, nodes_of, set_up, titles_of as titles_said}
 use Rattle.script_world.specs.Entities.{entities_of}
 use Rattle.law_setup.specs.Lines.{IsInOctets}
 use Rattle.law_setup.proofs.Octets.{may_begin, nodes_are}

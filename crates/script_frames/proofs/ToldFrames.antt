@@ -11,14 +11,14 @@ use Rattle.osi_base.specs.declared.note.Note.TheVariants as notes
 use Rattle.osi_base.specs.declared.unit.Unit.{Unit as CarriedUnit}
 use Rattle.osi_base.specs.declared.unit.Up.{Up}
 use Rattle.osi_base.specs.declared.unit.Up.TheVariants.{Unit as Came, Note as Noted}
-use Rattle.frame_capture.specs.Written.{SentFrame}
+use Rattle.capture_write.specs.Written.{SentFrame}
 use Rattle.lan_frame.specs.Frame.{whole_frame}
 use Rattle.lan_bag.specs.Bag.{Bag}
 use Rattle.lan_bag.specs.Frames.{Frame, kept, marked, marked_at, marked_frame}
 use Rattle.lan_bag.specs.Rows.{sender_of}
 use Rattle.lan_bag.specs.declared.setup.PortRow.{PortRow}
-use Rattle.osi_journal.specs.RawLawful.{clock_after, clock_from}
-use Rattle.osi_journal.specs.declared.event.Event.{Event}
+use Rattle.script_journal.specs.RawLawful.{clock_after, clock_from}
+use Rattle.script_journal.specs.declared.event.Event.{Event}
 use Rattle.script_frames.specs.Frames.{AreTold, ToldFrame, sent_in, told_by, told_from}
 
 -- ---- what is told

@@ -20,16 +20,15 @@ use Rattle.osi_base.specs.Calls.{Call}
 use Rattle.lan_bag.specs.Bag.{Bag, new_bag}
 use Rattle.lan_bag.specs.Frames.{kept_at}
 use Rattle.lan_bag.specs.declared.setup.PortRow.{PortRow}
-use Rattle.osi_journal.specs.RawLawful.{clock_after, clock_from, raw_address}
-use Rattle.osi_journal.specs.declared.cause.Refused.{Refused}
-use Rattle.osi_journal.specs.declared.cause.Refused.TheVariants as refusals
-use Rattle.osi_journal.specs.declared.cause.Standing.TheVariants.{Ended}
-use Rattle.osi_journal.specs.declared.event.Event.{Event}
-use Rattle.osi_journal.specs.declared.event.Event.TheVariants as events
-use Rattle.osi_script.specs.declared.line.Line.{Line}
-use Rattle.osi_script.specs.declared.line.Line.TheVariants as lines
+use Rattle.script_journal.specs.RawLawful.{clock_after, clock_from, raw_address}
+use Rattle.script_journal.specs.declared.cause.Refused.{Refused}
+use Rattle.script_journal.specs.declared.cause.Refused.TheVariants as refusals
+use Rattle.script_journal.specs.declared.event.Event.{Event}
+use Rattle.script_journal.specs.declared.event.Event.TheVariants as events
+use Rattle.script_lines.specs.declared.line.Line.{Line}
+use Rattle.script_lines.specs.declared.line.Line.TheVariants as lines
 use Rattle.net_world.specs.Run.{SendsUnit}
-use Rattle.net_world.specs.Told.{note_event, picked_event, sent_event, shown_at, told}
+use Rattle.net_world.specs.Told.{picked_event, sent_event, shown_at, told}
 use Rattle.tp4_conn.specs.declared.call.ConnectRequest.{ConnectRequest}
 use Rattle.tp4_conn.specs.declared.call.UserCall.{UserCall}
 use Rattle.tp4_conn.specs.declared.call.UserCall.TheVariants as asks
@@ -43,10 +42,10 @@ use Rattle.tp4_flow.specs.declared.step.Sent.{Sent}
 use Rattle.tp4_flow.specs.declared.step.What.{What}
 use Rattle.tp4_flow.specs.declared.step.What.TheVariants as whats
 use Rattle.tp4_number.specs.Number.{wire}
-use Rattle.osi_setup.specs.SetUp.{SetUp, nodes_of, set_up, timers_of, titles_of as titles_said}
+use Rattle.script_setup.specs.SetUp.{SetUp, nodes_of, set_up, timers_of, titles_of as titles_said}
 use Rattle.script_world.specs.Entities.{entities_of}
 use Rattle.tp4_world.specs.Run.{Acts, Arrives, BeginsAt, Calls, CallsAt, CallsBy, CallsEnd, ConnectsBy, HearsAll, HearsIf, IsRefused, NoneDue, NoneLeft, OneDue, OneMore, RunsLine, SendsTpdus, Settles, Ticks, TicksAll, TicksEntity, TooMany, clock_of, has_ended, is_for}
-use Rattle.tp4_world.specs.Telling.{asked_options, call_events, connect_event, drop_events, ends_with, event_for, events_after, inject_event}
+use Rattle.tp4_world.specs.Telling.{call_events, connect_event, drop_events, ends_with, event_for, events_after, inject_event}
 use Rattle.tp4_world.specs.World.{end_numbered, entity_at, latest}
 use Rattle.tp4_world.specs.declared.place.EndAt.{EndAt}
 use Rattle.tp4_world.specs.declared.place.Placed.{Placed}
@@ -62,7 +61,7 @@ use Rattle.tp4_conn.specs.declared.timers.Timers.{Timers}
 -- ---- events
 
 -- an event that is no tick and no frame
-note_told : (note : Note) → (now : ℕ) → (told_by now (note_event note) ≡ noted_by now note) × (clock_after now (note_event note) ≡ now)
+note_told : (note : Note) → (now : ℕ) → (told_by now (events.Net note) ≡ noted_by now note) × (clock_after now (events.Net note) ≡ now)
 note_told (notes.Frame number lan system snpa size) now = (refl, refl)
 note_told (notes.DropFrame system) now = (refl, refl)
 note_told (notes.Discard system reason place) now = (refl, refl)
@@ -83,7 +82,7 @@ ups_told [] now = (refl, refl)
 ups_told (Noted note ∷ ups) now =
     let one = note_told note now in
     let rest = ups_told ups now in (
-      ap (λ (n : ℕ). told_by now (note_event note) ++ told_from n (told ups)) one.1 ∙ ap (λ (fs : List ToldFrame). fs ++ told_from now (told ups)) one.0
+      ap (λ (n : ℕ). told_by now (events.Net note) ++ told_from n (told ups)) one.1 ∙ ap (λ (fs : List ToldFrame). fs ++ told_from now (told ups)) one.0
           ∙ ap (λ (fs : List ToldFrame). noted_by now note ++ fs) rest.0,
       ap (λ (n : ℕ). clock_from n (told ups)) one.1 ∙ rest.1,
     )
@@ -126,13 +125,7 @@ call_plain number (asks.Disconnect octets) = (record { none = λ now. refl; cloc
 
 event_plain : (system : ℕ) (own : List ℕ) (number reference : ℕ) (what : What) → IsPlain (event_for system own number reference what)
 event_plain system own number reference (whats.Incoming from partner calling called options octets) = record { none = λ now. refl; clock = λ now. refl }
-event_plain system own number reference (whats.Accept options octets) = record { none = λ now. refl; clock = λ now. refl }
-event_plain system own number reference (whats.Confirm options octets) = record { none = λ now. refl; clock = λ now. refl }
-event_plain system own number reference (whats.Got octets) = record { none = λ now. refl; clock = λ now. refl }
-event_plain system own number reference (whats.Urgent octets) = record { none = λ now. refl; clock = λ now. refl }
-event_plain system own number reference (whats.Window credit) = record { none = λ now. refl; clock = λ now. refl }
-event_plain system own number reference (whats.Held kind held) = record { none = λ now. refl; clock = λ now. refl }
-event_plain system own number reference (whats.Gone cause octets) = record { none = λ now. refl; clock = λ now. refl }
+event_plain system own number reference (whats.End what) = record { none = λ now. refl; clock = λ now. refl }
 event_plain system own number reference (whats.BadTpdu cause place) = record { none = λ now. refl; clock = λ now. refl }
 event_plain system own number reference (whats.Unknown kind) = record { none = λ now. refl; clock = λ now. refl }
 event_plain system own number reference whats.Silent = record { none = λ now. refl; clock = λ now. refl }
@@ -236,7 +229,7 @@ call_by old new number end entity call None made quiet h =
 
 call_end : (old new : TransportNet) (number : ℕ) (end : EndAt) (entity : Entity) (call : UserCall) (ended : Bool) (made : List Event) → IsQuiet old.carrier
     → CallsEnd link_of_net NetDoes wire old number end entity call ended made new → Tells old.carrier new.carrier made
-call_end old new number end entity call true made quiet h = refused_tells old new (Some (refusals.WrongState Ended)) made quiet h
+call_end old new number end entity call true made quiet h = refused_tells old new (Some refusals.Ended) made quiet h
 call_end old new number end entity call false made quiet h = call_by old new number end entity call (user_refusal entity end.reference call) made quiet h
 
 call_at : (old new : TransportNet) (number : ℕ) (call : UserCall) (end : Option EndAt) (made : List Event) → IsQuiet old.carrier → CallsAt link_of_net NetDoes wire old number call end made new
@@ -351,7 +344,7 @@ line_tells titles lines.Nothing old new made quiet h = at_once old.carrier new.c
 line_tells titles (lines.Connect system selector to called options octets) old new made quiet h =
     let c = h.4.4 in
     at_once old.carrier new.carrier made (connect_tells old new system c.0 h.1 (connect_refusal (clock_of link_of_net NetDoes old) c.0 h.1.octets) made quiet c.2)
-line_tells titles (lines.Accept end options octets) old new made quiet h = at_once old.carrier new.carrier made (called_tell old new end (asks.Accept (asked_options options) octets) made quiet h)
+line_tells titles (lines.Accept end options octets) old new made quiet h = at_once old.carrier new.carrier made (called_tell old new end (asks.Accept options octets) made quiet h)
 line_tells titles (lines.Refuse end octets) old new made quiet h = at_once old.carrier new.carrier made (called_tell old new end (asks.Refuse octets) made quiet h)
 line_tells titles (lines.Disconnect end octets) old new made quiet h = at_once old.carrier new.carrier made (called_tell old new end (asks.Disconnect octets) made quiet h)
 line_tells titles (lines.Data end octets) old new made quiet h = at_once old.carrier new.carrier made (called_tell old new end (asks.Normal octets) made quiet h)

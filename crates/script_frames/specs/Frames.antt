@@ -7,26 +7,27 @@ use Rattle.lan_bag.specs.Bag.{Bag}
 use Rattle.lan_bag.specs.Frames.{Frame}
 use Rattle.lan_bag.specs.Rows.{sender_of}
 use Rattle.lan_bag.specs.declared.setup.PortRow.{PortRow}
-use Rattle.frame_capture.specs.Written.{IsWritable, SentFrame, capture_of, header_octets, record_of, records_octets}
+use Rattle.capture_write.specs.Written.{IsWritable, SentFrame, capture_of, header_octets, record_of, records_octets}
 use Rattle.line_loop.specs.Course.{Runs}
 use Rattle.line_loop.specs.Limits.{most_octets, most_read}
 use Rattle.line_loop.specs.Meaning.{Meaning}
 use Rattle.line_loop.specs.Outcome.{Asks}
 use Rattle.octet_loop.specs.ByStatus as by_status
-use Rattle.osi_capture.specs.Capture.{IsCapture}
-use Rattle.osi_capture.specs.Course.{Finishes}
-use Rattle.osi_capture.specs.Show.{Shows, done_line}
-use Rattle.osi_script.specs.declared.cause.LineFault.{LineFault}
-use Rattle.osi_script.specs.declared.cause.LineCause.TheVariants as causes
-use Rattle.osi_script.specs.Grammar.{fault}
-use Rattle.osi_journal.specs.RawLawful.{clock_after}
-use Rattle.osi_journal.specs.declared.event.Event.{Event}
-use Rattle.osi_journal.specs.declared.event.Event.TheVariants as events
-use Rattle.osi_storm.specs.Counted.{is_frame}
+use Rattle.capture_decode.specs.Capture.{IsCapture}
+use Rattle.capture_decode.specs.Course.{Finishes}
+use Rattle.capture_decode.specs.Show.{Shows, done_line}
+use Rattle.script_lines.specs.declared.cause.LineFault.{LineFault}
+use Rattle.script_lines.specs.declared.cause.LineCause.TheVariants as causes
+use Rattle.script_lines.specs.Grammar.{fault}
+use Rattle.script_journal.specs.RawLawful.{clock_after}
+use Rattle.script_journal.specs.declared.event.Event.{Event}
+use Rattle.script_journal.specs.declared.event.Event.TheVariants as events
+use Rattle.script_storm.specs.Counted.{is_frame}
 use Rattle.law_run.specs.Bench.{Bench, RunsText, RefusesLine, FillsJournal, bench_meaning, first_bench}
 use Rattle.law_run.specs.Transcript.{ShowsSentUnits, ShowsSilence, ShowsWhatWasSubmitted}
 use Rattle.law_run.specs.World.{World}
 use Rattle.script_world.specs.declared.play.World.TheVariants.{SettingUp, Running}
+use Rattle.osi_base.specs.declared.note.Note.TheVariants as notes
 
 -- the LANs of a network that runs
 abbrev pub bag_of : World → Option Bag
@@ -127,7 +128,7 @@ pub record ToldFrame : Type 0 where
 
 -- by an event at that tick
 abbrev pub told_by : ℕ → Event → List ToldFrame
-told_by now (events.Frame number lan system snpa size) = record { tick = now; number = number; lan = lan; system = system; snpa = snpa; size = size } ∷ []
+told_by now (events.Net (notes.Frame number lan system snpa size)) = record { tick = now; number = number; lan = lan; system = system; snpa = snpa; size = size } ∷ []
 told_by now event = []
 
 -- the frames that events tell, in order, from a tick on

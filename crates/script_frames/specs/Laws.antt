@@ -1,9 +1,9 @@
 -- What holds of every capture of a script.
 use Rattle.std.specs.Prelude.{ℕ, List}
-use Rattle.frame_capture.specs.Written.{SentFrame}
+use Rattle.capture_write.specs.Written.{SentFrame}
 use Rattle.line_loop.specs.Course.{Runs, IsTooMuch, IsTooMuchAtEnd}
 use Rattle.octet_loop.specs.ByStatus as by_status
-use Rattle.osi_journal.specs.declared.event.Event.{Event}
+use Rattle.script_journal.specs.declared.event.Event.{Event}
 use Rattle.law_run.specs.Bench.{Bench, bench_meaning, first_bench}
 use Rattle.script_frames.specs.Frames.{frames_meaning, AsksCapture, IsCaptureOf, IsFramesOf}
 

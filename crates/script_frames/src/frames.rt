@@ -2,7 +2,7 @@
 
 ghost use Rattle.std.specs.Prelude.{◌≡◌, ◌≢◌, ◌⊎◌, ◌+◌, ◌<◌, ◌≤◌, ◌++◌, ℕ, List, Some, length, drop, max, take, option_copied, OnErr, OnOk, IsErrOf};
 ghost use Rattle.std.specs.List.{AllByRecursion, count_by};
-ghost use Rattle.frame_capture.specs.Written.{IsWritable, SentFrame, header_octets, records_octets};
+ghost use Rattle.capture_write.specs.Written.{IsWritable, SentFrame, header_octets, records_octets};
 ghost use Rattle.line_loop.specs.Outcome.{IsAccepted};
 ghost use Rattle.octet_loop.specs.ByStatus.{IsFailure};
 ghost use Rattle.line_loop.specs.Limits.{most_read};
@@ -10,16 +10,16 @@ ghost use Rattle.line_loop.specs.Writing.{IsWritten};
 ghost use Rattle.osi_base.specs.Ends.{HasRisen, IsAtEnd, Put, Took};
 ghost use Rattle.law_run.specs.Bench.{first_bench};
 ghost use Rattle.script_frames.specs.Frames.{AreMade, AsksForCapture, IsFramesRun, bag_of, frames_meaning, sent_of, slots_of};
-ghost use Rattle.osi_storm.specs.Counted.{is_frame};
+ghost use Rattle.script_storm.specs.Counted.{is_frame};
 
-use frame_capture::{push_frame, push_header};
+use capture_write::{push_frame, push_header};
 use lan_bag::{LanBag, Sent};
 use law_run::{Bench, NetWorld, ends_are_lawful, systems_are_silent};
 use line_loop::{LineError, Machine, drive, write_all};
 use osi_base::{Bytes, NoMemory, Sink, Source, Status, Tick};
-use osi_journal::Event;
-use osi_script::LineFault;
-use osi_storm::Counts;
+use script_journal::Event;
+use script_lines::LineFault;
+use script_storm::Counts;
 use script_world::World;
 use std::alloc::Global;
 use std::marker::Model;
@@ -32,7 +32,7 @@ pub struct Frame {
 }
 
 impl Model for Frame {
-    ghost use Rattle.frame_capture.specs.Written.{SentFrame};
+    ghost use Rattle.capture_write.specs.Written.{SentFrame};
 
     ghost Value = { SentFrame };
 

@@ -4,10 +4,10 @@ use Rattle.osi_base.specs.Link.{Link}
 use Rattle.osi_base.specs.Calls.{Call}
 use Rattle.tp4_number.specs.Number.{wire}
 use Rattle.tp4_world.specs.Run.{RunsLines}
-use Rattle.osi_journal.specs.declared.event.Event.{Event}
-use Rattle.osi_script.specs.declared.words.Dialect.{Dialect}
-use Rattle.osi_script.specs.declared.line.Line.{Line}
-use Rattle.osi_setup.specs.SetUp.{SetUp}
+use Rattle.script_journal.specs.declared.event.Event.{Event}
+use Rattle.script_lines.specs.declared.words.Dialect.{Dialect}
+use Rattle.script_lines.specs.declared.line.Line.{Line}
+use Rattle.script_setup.specs.SetUp.{SetUp}
 use Rattle.script_world.specs.Transports.{TransportRun, tp_play}
 use Rattle.script_world.proofs.Went.{PlayRuns}
 

@@ -13,20 +13,20 @@ use Rattle.tp4_number.specs.Number.{wire}
 use Rattle.tp4_world.specs.First.{IsFirst}
 use Rattle.tp4_world.proofs.Lined.{lines_alike}
 use Rattle.tp4_world.proofs.Shown.{first_honest}
-use Rattle.osi_journal.specs.declared.event.Event.{Event}
-use Rattle.osi_journal.specs.declared.event.Event.TheVariants as events
-use Rattle.osi_journal.specs.Lawful.{IsLawful, KeepsSilence, Lawful}
-use Rattle.osi_script.specs.declared.line.Line.{Line}
-use Rattle.osi_script.specs.Injecting.{HasNoInject, IsNoInjection}
-use Rattle.osi_script.specs.Known.{Declared, nothing_declared}
-use Rattle.osi_script.specs.Script.{Says}
-use Rattle.osi_script.specs.declared.words.Dialect.{Dialect}
+use Rattle.script_journal.specs.declared.event.Event.{Event}
+use Rattle.script_journal.specs.declared.event.Event.TheVariants as events
+use Rattle.script_journal.specs.Lawful.{IsLawful, KeepsSilence, Lawful}
+use Rattle.script_lines.specs.declared.line.Line.{Line}
+use Rattle.script_lines.specs.Injecting.{HasNoInject, IsNoInjection}
+use Rattle.script_lines.specs.Known.{Declared, nothing_declared}
+use Rattle.script_lines.specs.Script.{Says}
+use Rattle.script_lines.specs.declared.words.Dialect.{Dialect}
 use Rattle.law_tp4_lawful.specs.First.{AreDistinct, IsUntouched}
 use Rattle.law_tp4_lawful.specs.Laws.{ReceivesWhatWasSubmitted, StaysSilent}
-use Rattle.osi_setup.specs.Fitting.{AreTitlesApart, IsWell}
-use Rattle.osi_setup.specs.SetUp.{SetUp, timers_of, titles_of as titles_said}
+use Rattle.script_setup.specs.Fitting.{AreTitlesApart, IsWell}
+use Rattle.script_setup.specs.SetUp.{SetUp, timers_of, titles_of as titles_said}
 use Rattle.script_world.specs.Entities.{entities_of}
-use Rattle.osi_setup.proofs.Entities.{are_timed}
+use Rattle.script_setup.proofs.Entities.{are_timed}
 use Rattle.law_setup.proofs.Proper.{script_proper}
 use Rattle.script_bench.specs.Acts.{RunsScript}
 use Rattle.script_world.specs.Networks.{NetworkLaws}

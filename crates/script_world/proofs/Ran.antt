@@ -7,8 +7,8 @@ use Rattle.tp4_conn.specs.declared.timers.Timers.{Timers}
 use Rattle.tp4_number.specs.Number.{wire}
 use Rattle.tp4_world.specs.Run.{RunsLine}
 use Rattle.tp4_world.specs.World.{World}
-use Rattle.osi_journal.specs.declared.event.Event.{Event}
-use Rattle.osi_script.specs.declared.line.Line.{Line}
+use Rattle.script_journal.specs.declared.event.Event.{Event}
+use Rattle.script_lines.specs.declared.line.Line.{Line}
 use Rattle.script_world.specs.Transports.{RunsEnds, TransportRun}
 
 pub runs_ends : {N E : Type 0} (link : N → Link (List ℕ)) (steps : N → Call (List ℕ) → N → Type 0) (old : TransportRun N) (titles given : List (List ℕ)) (timers : Timers) (before new : World N) (line : Line)

@@ -1,14 +1,14 @@
 -- A script that was run is still set up and told nothing; or it was set up, what was set up started, and its other lines ran.
 use Rattle.std.proofs.Common.{◌≡◌, ◌⊎◌, ℕ, Bool, true, false, List, [], ◌∷◌, ◌++◌, inl, inr, refl, sym, ◌∙◌, ap, subst}
-use Rattle.osi_journal.specs.declared.event.Event.{Event}
-use Rattle.osi_script.proofs.CommandLines.{line_stays}
-use Rattle.osi_script.specs.declared.line.Line.{Line}
-use Rattle.osi_script.specs.declared.line.Line.TheVariants as lines
-use Rattle.osi_script.specs.Known.{Declared, nothing_declared}
-use Rattle.osi_script.specs.Script.{Says}
-use Rattle.osi_setup.specs.Fitting.{Fits, IsWell}
-use Rattle.osi_setup.specs.SetUp.{SetUp, nothing_said, set_up}
-use Rattle.osi_setup.proofs.Wellness.{nothing_well, well_after}
+use Rattle.script_journal.specs.declared.event.Event.{Event}
+use Rattle.script_lines.proofs.CommandLines.{line_stays}
+use Rattle.script_lines.specs.declared.line.Line.{Line}
+use Rattle.script_lines.specs.declared.line.Line.TheVariants as lines
+use Rattle.script_lines.specs.Known.{Declared, nothing_declared}
+use Rattle.script_lines.specs.Script.{Says}
+use Rattle.script_setup.specs.Fitting.{Fits, IsWell}
+use Rattle.script_setup.specs.SetUp.{SetUp, nothing_said, set_up}
+use Rattle.script_setup.proofs.Wellness.{nothing_well, well_after}
 use Rattle.law_setup.specs.Agreeing.{AreOne}
 use Rattle.law_setup.specs.Lines.{IsInOctets, Kept}
 use Rattle.law_setup.proofs.Kept.{line_kept}

@@ -7,7 +7,7 @@ use Rattle.lan_bag.specs.Bag.{Bag, BagStep, link_of, new_bag}
 use Rattle.clnp_system.specs.Tables.{rows_tables}
 use Rattle.law_clnp_step.specs.Network.{Network, net_link}
 use Rattle.law_clnp_step.specs.Step.{Begins, NetStep}
-use Rattle.osi_setup.specs.SetUp.{SetUp, nodes_of}
+use Rattle.script_setup.specs.SetUp.{SetUp, nodes_of}
 
 -- the systems of a script over its LANs: what users of the network see, and what each call does
 abbrev pub Net : Type 0

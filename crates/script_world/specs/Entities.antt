@@ -1,7 +1,7 @@
 -- The transport entities that a set-up makes (X.224, class 4: timers, frozen references).
 use Rattle.std.specs.Prelude.{ℕ, ◌+◌, if◌then◌else◌, List, [], ◌∷◌, ◌++◌}
-use Rattle.osi_setup.specs.SetUp.{System, SetUp, entity_with, timers_of}
-use Rattle.osi_setup.specs.declared.transport.Limits.{Limits}
+use Rattle.script_setup.specs.SetUp.{System, SetUp, entity_with, timers_of}
+use Rattle.script_setup.specs.declared.transport.Limits.{Limits}
 use Rattle.tp4_world.specs.declared.place.Placed.{Placed}
 
 -- an end system has a transport entity, and another system has none

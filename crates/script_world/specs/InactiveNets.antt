@@ -6,8 +6,8 @@ use Rattle.osi_base.specs.Calls.{Call}
 use Rattle.lan_bag.specs.Bag.{Bag, BagStep, link_of, new_bag}
 use Rattle.inactive_step.specs.Network.{Inactive, inactive_link, new_inactive}
 use Rattle.inactive_step.specs.Step.{InactiveStep}
-use Rattle.osi_setup.specs.Inactive.{inactive_rows}
-use Rattle.osi_setup.specs.SetUp.{SetUp}
+use Rattle.script_setup.specs.Inactive.{inactive_rows}
+use Rattle.script_setup.specs.SetUp.{SetUp}
 
 -- what users of the network see, and what each call does
 abbrev pub link_of_inactive : Inactive Bag → Link (List ℕ)

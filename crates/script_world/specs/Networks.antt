@@ -6,12 +6,12 @@ use Rattle.law_carrier_answers.specs.Answers.{OneStep}
 use Rattle.law_clnp_answers.specs.Standing.{is_nsap}
 use Rattle.net_world.specs.First.{IsFirst}
 use Rattle.tp4_world.specs.Total.{ServesOn}
-use Rattle.osi_script.specs.Commands.{HasLine}
-use Rattle.osi_script.specs.declared.words.Dialect.{Dialect}
-use Rattle.osi_script.specs.declared.line.Line.{Line}
-use Rattle.osi_script.specs.declared.line.Line.TheVariants as lines
-use Rattle.osi_setup.specs.Fitting.{Fits, IsWell}
-use Rattle.osi_setup.specs.SetUp.{SetUp, titles_of}
+use Rattle.script_lines.specs.Commands.{HasLine}
+use Rattle.script_lines.specs.declared.words.Dialect.{Dialect}
+use Rattle.script_lines.specs.declared.line.Line.{Line}
+use Rattle.script_lines.specs.declared.line.Line.TheVariants as lines
+use Rattle.script_setup.specs.Fitting.{Fits, IsWell}
+use Rattle.script_setup.specs.SetUp.{SetUp, titles_of}
 use Rattle.law_setup.specs.Lines.{IsInOctets}
 
 -- a network is made of the set-up

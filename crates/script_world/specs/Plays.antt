@@ -1,14 +1,14 @@
 -- What a script sets up and then runs: until its start what its lines say is kept, and then anything runs that starts of what was said.
 use Rattle.std.specs.Prelude.{◌≡◌, ℕ, ◌+◌, ◌<◌, Bool, true, false, List, [], Option, None, Ok}
 use Rattle.line_loop.specs.Lines.{most_lines}
-use Rattle.osi_journal.specs.declared.event.Event.{Event}
-use Rattle.osi_script.specs.declared.words.Dialect.{Dialect}
-use Rattle.osi_script.specs.declared.line.Line.{Line}
-use Rattle.osi_script.specs.declared.line.Line.TheVariants as lines
-use Rattle.osi_script.specs.Grammar.{line_read}
-use Rattle.osi_script.specs.Known.{Declared}
-use Rattle.osi_setup.specs.Fitting.{Fits, IsWell}
-use Rattle.osi_setup.specs.SetUp.{SetUp, nothing_said, set_up}
+use Rattle.script_journal.specs.declared.event.Event.{Event}
+use Rattle.script_lines.specs.declared.words.Dialect.{Dialect}
+use Rattle.script_lines.specs.declared.line.Line.{Line}
+use Rattle.script_lines.specs.declared.line.Line.TheVariants as lines
+use Rattle.script_lines.specs.Grammar.{line_read}
+use Rattle.script_lines.specs.Known.{Declared}
+use Rattle.script_setup.specs.Fitting.{Fits, IsWell}
+use Rattle.script_setup.specs.SetUp.{SetUp, nothing_said, set_up}
 use Rattle.law_setup.specs.Agreeing.{AreOne}
 use Rattle.law_setup.specs.Lines.{IsInOctets}
 use Rattle.script_bench.specs.Acts.{Acts, Keeping}

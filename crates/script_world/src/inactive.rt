@@ -5,8 +5,8 @@ use inactive_net::InactiveNet;
 use lan_bag::LanBag;
 use nsap::Nsap;
 use osi_base::{Carrier, Injected, NoMemory, Offered, Picked, Tick, Unit, Up, Wish};
-use osi_script::Names;
-use osi_setup::SetUp;
+use script_lines::Names;
+use script_setup::SetUp;
 use std::alloc::Global;
 use std::marker::Model;
 
@@ -99,7 +99,7 @@ impl Carrier for SubsetNet {
 }
 
 impl Network for SubsetNet {
-    ghost use Rattle.osi_script.specs.declared.words.Dialect.TheVariants.{Inactive as OfInactive};
+    ghost use Rattle.script_lines.specs.declared.words.Dialect.TheVariants.{Inactive as OfInactive};
     ghost use Rattle.script_world.specs.InactiveNets.{MakesInactive};
     ghost use Rattle.script_world.specs.steps.MadeInactive.{inactive_laws, none_sent};
 

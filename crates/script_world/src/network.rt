@@ -4,15 +4,15 @@ ghost use Rattle.std.specs.Prelude.{◌≡◌, IfOk};
 
 use nsap::Nsap;
 use osi_base::{Carrier, NoMemory};
-use osi_script::Names;
-use osi_setup::SetUp;
+use script_lines::Names;
+use script_setup::SetUp;
 use std::alloc::Global;
 
 /// A carrier that a set-up makes.
 pub trait Network: Carrier<Addr = Nsap> + Sized {
-    ghost use Rattle.osi_script.specs.declared.words.Dialect.{Dialect};
-    ghost use Rattle.osi_script.specs.Known.{nothing_declared};
-    ghost use Rattle.osi_setup.specs.SetUp.{SetUp as Said};
+    ghost use Rattle.script_lines.specs.declared.words.Dialect.{Dialect};
+    ghost use Rattle.script_lines.specs.Known.{nothing_declared};
+    ghost use Rattle.script_setup.specs.SetUp.{SetUp as Said};
     ghost use Rattle.script_world.specs.Networks.{NetworkLaws, SendsNoDatagrams};
 
     /// The command that runs transport entities over it.

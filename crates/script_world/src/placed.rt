@@ -2,11 +2,11 @@
 
 ghost use Rattle.std.specs.Prelude.{◌≡◌, ◌≤◌, ◌++◌, [], length, IfOk, OnOk};
 ghost use Rattle.std.specs.List.{AllByRecursion};
-ghost use Rattle.osi_setup.specs.Fitting.{AreLimits, AreSelectorsApart};
+ghost use Rattle.script_setup.specs.Fitting.{AreLimits, AreSelectorsApart};
 ghost use Rattle.script_world.specs.Entities.{entities_from, entities_of, placed_at};
 
 use osi_base::NoMemory;
-use osi_setup::{Limits, SetUp, System};
+use script_setup::{Limits, SetUp, System};
 use std::alloc::Global;
 use tp4_world::Placed;
 

@@ -1,21 +1,21 @@
 //! What a script sets up, and what then runs.
 
 ghost use Rattle.std.specs.Prelude.{◌≡◌, [], IfOk, OnOk};
-ghost use Rattle.osi_setup.specs.SetUp.{SetUp as Said};
+ghost use Rattle.script_setup.specs.SetUp.{SetUp as Said};
 ghost use Rattle.script_world.specs.Plays.{CanRun, StartsUp, WorldStep, is_start};
 ghost use Rattle.script_world.specs.declared.play.World.TheVariants.{SettingUp};
 
 use osi_base::NoMemory;
-use osi_journal::Event;
-use osi_script::{Line, Names};
-use osi_setup::SetUp;
 use script_bench::Stage;
+use script_journal::Event;
+use script_lines::{Line, Names};
+use script_setup::SetUp;
 use std::alloc::Global;
 use std::mem;
 
 /// What a script runs once it is set up.
 pub trait Play: Sized {
-    ghost use Rattle.osi_script.specs.Known.{nothing_declared};
+    ghost use Rattle.script_lines.specs.Known.{nothing_declared};
     ghost use Rattle.script_world.specs.Plays.{Going, PlayLaws, Playing};
 
     /// How it starts, what a line does, and how many arrivals were strays.

@@ -7,8 +7,8 @@ use clnp_net::ClnpNet;
 use lan_bag::LanBag;
 use nsap::Nsap;
 use osi_base::{Carrier, Injected, NoMemory, Offered, Picked, Tick, Unit, Up, Wish};
-use osi_script::Names;
-use osi_setup::SetUp;
+use script_lines::Names;
+use script_setup::SetUp;
 use std::alloc::Global;
 use std::marker::Model;
 
@@ -111,7 +111,7 @@ impl Carrier for RoutedNet {
 }
 
 impl Network for RoutedNet {
-    ghost use Rattle.osi_script.specs.declared.words.Dialect.TheVariants.{Run};
+    ghost use Rattle.script_lines.specs.declared.words.Dialect.TheVariants.{Run};
     ghost use Rattle.script_world.specs.ClnpNets.{MakesNet};
     ghost use Rattle.script_world.specs.steps.Made.{net_laws, none_sent};
 

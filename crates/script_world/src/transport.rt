@@ -14,13 +14,13 @@ use crate::placed::entities;
 use crate::play::Play;
 use nsap::Nsap;
 use osi_base::{Items, NoMemory};
-use osi_journal::Event;
-use osi_script::{Line, Names};
-use osi_setup::SetUp;
+use script_journal::Event;
+use script_lines::{Line, Names};
+use script_setup::SetUp;
 use std::alloc::Global;
 use std::marker::Model;
 use tp4_conn::{Timers, UserCall};
-use tp4_world::{TpWorld, asked_options};
+use tp4_world::TpWorld;
 
 /// A network with its transport entities, the titles of its systems, and the times of its entities.
 pub struct TpPlay<N: Network + Drop> {
@@ -133,11 +133,7 @@ pub fn run_line<N: Network + Drop>(
             end,
             options,
             octets,
-        } => ends.call(
-            end,
-            UserCall::Accept(asked_options(options), octets),
-            events,
-        ),
+        } => ends.call(end, UserCall::Accept(options, octets), events),
         Line::Refuse { end, octets } => ends.call(end, UserCall::Refuse(octets), events),
         Line::Disconnect { end, octets } => ends.call(end, UserCall::Disconnect(octets), events),
         Line::Data { end, octets } => ends.call(end, UserCall::Normal(octets), events),

@@ -69,7 +69,8 @@ where
         }
         "up" => told(alloc, carrier.next_up()),
         "gather" => gathered(alloc, carrier),
-        "tick" => pass(alloc, carrier),
+        "tick" => pass(alloc, carrier, 1),
+        "ticks" => pass(alloc, carrier, word(&words, 1).parse()?),
         _ => look(alloc, carrier, &words),
     }
 }
@@ -115,10 +116,12 @@ where
     Ok(format!(in alloc; "{:?}", Offered::Taken)?)
 }
 
-/// One tick passes: the clock behind it.
-fn pass<C: Carrier>(alloc: Global, carrier: &mut C) -> Result<String, Fail> {
-    if carrier.now() < 4_000_000_000 {
-        carrier.tick()?;
+/// So many ticks pass: the clock behind them.
+fn pass<C: Carrier>(alloc: Global, carrier: &mut C, count: u32) -> Result<String, Fail> {
+    for _ in 0..count {
+        if carrier.now() < 4_000_000_000 {
+            carrier.tick()?;
+        }
     }
     Ok(format!(in alloc; "{}", carrier.now())?)
 }

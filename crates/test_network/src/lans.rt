@@ -103,6 +103,20 @@ tick = 3
 fresh = None
 offer 0/02000000000b 0/02000000000c 81 = Taken
 fresh = Some((3, 2))
+# At ticks that no script of 100,000 lines comes to, on both sides of 2^17, a frame keeps its bound.
+ticks 131071 = 131071
+offer 0/02000000000b 0/02000000000c 81 = Taken
+tick = 131072
+fresh = Some((1, 2))
+choose 1 2 = Taken
+tick = 131073
+choose 1 2 = Late
+offer 1/020000000021 1/02000000000e 81 = Taken
+ticks 2 = 131075
+choose 2 4 = Taken
+tick = 131076
+fresh = None
+choose 2 4 = Late
 # What is injected is a frame or alien, and a stray where nothing equal is afloat.
 inject 1 2 02000000000c02000000000b0005fefe038178 = NotThere
 honest = true

@@ -1,7 +1,7 @@
 //! Input that comes in parts, and reads and writes that fail. What is expected was written by hand.
 
 use osi_base::{MemSink, MemSource, Source, Status};
-use osi_bench::osi;
+use osi_commands::osi;
 use std::alloc::Global;
 use std::process::Abort;
 use std::test::Fail;

@@ -1,7 +1,7 @@
 //! The words of a call: what is written for them, and what they leave unread.
 
 use osi_base::{MemSink, MemSource, PlainSink, PlainSource, Source, Status};
-use osi_bench::{osi, run_in_memory};
+use osi_commands::{osi, run_in_memory};
 use std::alloc::Global;
 use std::test::Fail;
 

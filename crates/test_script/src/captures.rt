@@ -1,7 +1,7 @@
 //! A capture of one frame and a part of another, which was written by hand, and what is shown of it.
 
+use capture_decode::decode;
 use osi_base::{MemSink, MemSource, Status};
-use osi_capture::decode;
 use std::test::Fail;
 
 /// A little-endian capture of one DT PDU with the data `hello`, and ten octets of another record.

@@ -1,14 +1,13 @@
 //! The lines of events that no script comes to, or none of a few lines, as the format of the transcript states them. All others stand in `examples/`, in
 //! `examples/rows` those that no example has (`connection-lines.rows`, `network-lines.rows`, `datagram-words.rows`).
 
-use osi_base::{Address, Bytes, DropCause};
-use osi_journal::{
-    Boxed, Event, Indication, Journal, Refused, Settled, TpduKind, UdCause, write_event,
-};
-use osi_script::{Names, Options};
+use osi_base::{Address, Bytes, DropCause, Note};
+use script_journal::{Boxed, Event, Indication, Journal, Refused, Settled, UdCause, write_event};
+use script_lines::Names;
 use std::alloc::Global;
 use std::process::Abort;
 use std::test::Fail;
+use tpdu::{EndTold, Format, HeldKind, Kind, Options};
 
 const LINES: &str = "drop frame b
 stopped 65536
@@ -31,7 +30,7 @@ incoming 2 b 3 490a01 9 aa 490b01 - normal 1024 exp sum 00ff
 ";
 
 const NORMAL: Options = Options {
-    extended: false,
+    format: Format::Normal,
     size: 1024,
     preferred: false,
     expedited: true,
@@ -63,19 +62,18 @@ fn indication(alloc: Global) -> Result<Event, Fail> {
 /// The event of a line, where `a` and `b` are the systems 0 and 1.
 fn event_of(alloc: Global, line: &str) -> Result<Event, Fail> {
     match line {
-        "drop frame b" => Ok(Event::DropFrame { system: 1 }),
+        "drop frame b" => Ok(Event::Net(Note::DropFrame { system: 1 })),
         "stopped 65536" => {
             let answer = Settled::Stopped(65_536);
             Ok(Event::Settle { answer })
         }
         "unknown a cr" => {
-            let kind = TpduKind::Cr;
+            let kind = Kind::Cr;
             Ok(Event::Unknown { system: 0, kind })
         }
-        "held 1 ed 4294967296" => Ok(Event::Held {
-            end: 1,
-            expedited: true,
-            number: 4_294_967_296,
+        "held 1 ed 4294967296" => Ok(Event::End {
+            number: 1,
+            what: EndTold::Held(HeldKind::Ed, 4_294_967_296),
         }),
         "data 3 -" => Ok(Event::Data {
             end: 3,
@@ -138,11 +136,14 @@ fn told(alloc: Global, names: &Names, event: &Event) -> Result<Vec<u8>, Fail> {
 fn a_journal_has_its_events_in_order(rt: HostRuntime) {
     let mut journal = Journal::new(rt.alloc());
     assert!(rt; journal.add(Event::Tick { now: 0 }).is_ok());
-    assert!(rt; journal.add(Event::Alien { system: 3 }).is_ok());
+    assert!(rt; journal.add(Event::Net(Note::Alien { system: 3 })).is_ok());
     assert!(rt;
         matches!(
             journal.events(),
-            [Event::Tick { now: 0 }, Event::Alien { system: 3 }]
+            [
+                Event::Tick { now: 0 },
+                Event::Net(Note::Alien { system: 3 })
+            ]
         )
     );
 }

@@ -6,10 +6,11 @@ mod rows;
 use self::commands::{DATAGRAMS, INACTIVE, RELAY, RUN};
 use self::rows::{CONTROLS, LINES, VERSION_1, VERSION_2};
 use osi_base::Wish;
-use osi_script::{Line, LineRefusal, Names, Options};
+use script_lines::{Line, LineRefusal, Names};
 use std::alloc::Global;
 use std::process::Abort;
 use std::test::Fail;
+use tpdu::{Format, Options};
 
 /// The numbers of a line, in the order of its fields; a word that is chosen is 1, and one that is not is 0.
 fn numbers_of(line: &Line) -> (&'static str, [u32; 6]) {
@@ -87,7 +88,7 @@ fn agreed(first: u32, second: u32, options: Options) -> [u32; 6] {
     [
         first,
         second,
-        u32::from(options.extended),
+        u32::from(options.format == Format::Extended),
         u32::from(options.size),
         u32::from(options.expedited),
         u32::from(options.sum),

@@ -1,7 +1,7 @@
 //! Which ends are kept. The lines of PDUs stand in `examples/rows` (`pdus.frames`, `tpdus.frames`, `hellos.frames` and others).
 
+use capture_show::{End, ExtendedEnds, show_nsap};
 use nsap::Nsap;
-use osi_show::{End, ExtendedEnds, show_nsap};
 use std::test::Fail;
 
 /// 1,024 ends, and which one goes: the oldest, where naming makes young again.

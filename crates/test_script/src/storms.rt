@@ -1,12 +1,13 @@
 //! Lines that were made by hand, and words that were made by a program of its own.
 
-use osi_base::{Address, Bytes};
-use osi_journal::{Boxed, Event, GoneCause, Indication, Request};
-use osi_script::{Names, Options};
-use osi_storm::{Counts, Storm, Words, push_line, push_summary, set_up};
+use osi_base::{Address, Bytes, Note};
+use script_journal::{Boxed, Event, Indication, Request};
+use script_lines::Names;
+use script_storm::{Counts, Storm, Words, push_line, push_summary, set_up};
 use std::alloc::Global;
 use std::process::Abort;
 use std::test::Fail;
+use tpdu::{EndTold, Format, GoneCause, Options};
 
 const fn storm(seed: u32, count: u32) -> Storm {
     Storm { seed, count }
@@ -156,7 +157,7 @@ fn two_ends(alloc: Global) -> Result<[Event; 2], Fail> {
         called: Address::of(&[0x49, 0x0b, 1]),
         called_selector: nothing(alloc),
         options: Options {
-            extended: false,
+            format: Format::Normal,
             size: 128,
             preferred: false,
             expedited: true,
@@ -172,20 +173,19 @@ fn two_ends(alloc: Global) -> Result<[Event; 2], Fail> {
 /// Adds so many units that were shown, an expedited one, and four ends that are gone.
 fn show(alloc: Global, counts: &mut Counts, units: u32) {
     for _ in 0..units {
-        counts.count(&Event::Got {
-            end: 2,
-            octets: nothing(alloc),
+        counts.count(&Event::End {
+            number: 2,
+            what: EndTold::Got(nothing(alloc)),
         });
     }
-    counts.count(&Event::Urgent {
-        end: 2,
-        octets: nothing(alloc),
+    counts.count(&Event::End {
+        number: 2,
+        what: EndTold::Urgent(nothing(alloc)),
     });
     for end in 1..5 {
-        counts.count(&Event::Gone {
-            end,
-            cause: GoneCause::Inactive,
-            octets: nothing(alloc),
+        counts.count(&Event::End {
+            number: end,
+            what: EndTold::Gone(GoneCause::Inactive, nothing(alloc)),
         });
     }
 }
@@ -200,14 +200,14 @@ fn a_summary_has_the_counts_of_the_events(rt: HostRuntime) -> Result<(), Fail> {
     counts.count_all(&two_ends(alloc)?);
     counts.count_all(&[
         Event::Tick { now: 7 },
-        Event::Frame {
+        Event::Net(Note::Frame {
             number: 1,
             lan: 0,
             system: 0,
             snpa: [2, 0, 0, 0, 0, 9],
             length: 60,
-        },
-        Event::DropFrame { system: 0 },
+        }),
+        Event::Net(Note::DropFrame { system: 0 }),
         Event::Data {
             end: 1,
             octets: nothing(alloc),

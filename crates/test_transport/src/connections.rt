@@ -24,9 +24,9 @@ use script::SCRIPT;
 use std::alloc::Global;
 use std::process::Abort;
 use std::test::Fail;
-use tp4_conn::{ConnectCall, ConnectRequest, Connection, Options, Timers, UserCall};
+use tp4_conn::{ConnectCall, ConnectRequest, Connection, Timers, UserCall};
 use tp4_flow::{Sent, Step};
-use tpdu::{Format, TpduRef};
+use tpdu::{Format, Options, TpduRef};
 use tpdus::tpdu;
 use words::{Sizes, options};
 

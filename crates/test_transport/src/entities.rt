@@ -15,10 +15,10 @@ use script::SCRIPT;
 use std::alloc::Global;
 use std::process::Abort;
 use std::test::Fail;
-use tp4_conn::{ConnectRequest, Options, Timers, UserCall};
+use tp4_conn::{ConnectRequest, Timers, UserCall};
 use tp4_entity::TpEntity;
 use tp4_flow::{Sent, Step};
-use tpdu::{Format, write_tpdu};
+use tpdu::{Format, Options, write_tpdu};
 
 /// A lifetime of 32 ticks, T1 of 8, 4 sendings, W of 20, I of 60 and a credit of 8: a reference is frozen for 156 ticks.
 const TIMERS: Timers = Timers {

@@ -8,9 +8,10 @@ ghost use Rattle.tp4_entity.specs.Dues.{AreFrom};
 use osi_base::{NoMemory, Tick};
 use std::marker::Brand;
 use std::sync::ledger::{Blank, Ledger};
-use tp4_conn::{Connection, State, Steps};
+use tp4_conn::{Connection, Steps};
 use tp4_entity::TpEntity;
 use tp4_flow::Step;
+use tpdu::State;
 
 /// The state of an end.
 pub fn state_of(end: &Connection) -> State {

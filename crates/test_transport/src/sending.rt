@@ -96,8 +96,9 @@ impl Play {
     fn ticks(&mut self, count: u16) -> Result<String, Fail> {
         let mut answer = String::new(self.alloc);
         for _ in 0..count {
-            if self.tick()? == Life::Exhausted {
-                answer.push_str("Exhausted ")?;
+            match self.tick()? {
+                Life::Goes => {}
+                Life::Exhausted => answer.push_str("Exhausted ")?,
             }
         }
         Ok(answer)

@@ -64,6 +64,7 @@ fn what_debug(alloc: Global, what: &What) -> Result<String, Fail> {
         } => Ok(format!(in alloc;
             "Incoming {partner} {calling:?} {called:?} {options:?} {octets:?}"
         )?),
+        What::End(told) => Ok(format!(in alloc; "{told:?}")?),
         _ => Ok(format!(in alloc; "{what:?}")?),
     }
 }

@@ -3,7 +3,7 @@
 ghost use Rattle.std.specs.Prelude.{◌≡◌, ◌≤◌, ◌++◌, List, ℕ, [], ◌∷◌, length, true, IfOk};
 ghost use Rattle.std.specs.List.{AllByRecursion};
 ghost use Rattle.lan_bag.specs.Bag.{new_bag};
-ghost use Rattle.osi_journal.specs.Lawful.{Lawful};
+ghost use Rattle.script_journal.specs.Lawful.{Lawful};
 ghost use Rattle.tp4_conn.specs.End.{IsSized, IsTimed, frozen_for};
 ghost use Rattle.tp4_conn.specs.declared.timers.Timers.{Timers as Times};
 ghost use Rattle.tp4_entity.specs.Dues.{AreLater};
@@ -16,14 +16,14 @@ use lan_bag::{Lan, LanBag, PortRow};
 use law_tp4_lawful::over_calls;
 use nsap::{Nsap, Port, Snpa};
 use osi_base::{Bytes, Carrier, NoMemory};
-use osi_journal::Event;
+use script_journal::Event;
 use std::alloc::Global;
 use std::process::Abort;
 use std::test::Fail;
-use tp4_conn::{ConnectRequest, Options, Timers, UserCall};
+use tp4_conn::{ConnectRequest, Timers, UserCall};
 use tp4_entity::{TpEntity, TsapRefusal};
 use tp4_world::{Placed, TpWorld, calls_stay_honest};
-use tpdu::Format;
+use tpdu::{EndTold, Format, Options};
 
 /// A lifetime of 4 ticks, T1 of 8, 4 sendings, W of 20, I of 60 and a credit of 8.
 const TIMERS: Timers = Timers {
@@ -195,8 +195,11 @@ fn placed(alloc: Global, system: u8, own: Nsap, selector: &[u8]) -> Result<Place
 /// Whether the events show the unit at an end.
 fn shows(events: &[Event], at: u32, unit: &[u8]) -> bool {
     for event in events {
-        if let Event::Got { end, octets } = event
-            && *end == at
+        if let Event::End {
+            number,
+            what: EndTold::Got(octets),
+        } = event
+            && *number == at
             && octets.as_slice() == unit
         {
             return true;

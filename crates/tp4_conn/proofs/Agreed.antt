@@ -6,7 +6,7 @@ use Rattle.std.proofs.lemmas.Bool.{leb-true, le-leb}
 use Rattle.tpdu.specs.declared.tpdu.Format.{Format}
 use Rattle.tpdu.specs.declared.tpdu.Format.TheVariants.{Normal, Extended}
 use Rattle.tp4_number.proofs.Past.{if_kept}
-use Rattle.tp4_flow.specs.declared.rules.Options.{Options}
+use Rattle.tpdu.specs.declared.service.Options.{Options}
 use Rattle.tp4_conn.specs.declared.proposed.Proposed.{Proposed}
 use Rattle.tp4_conn.specs.Agreeing.{agreed_by, confirmed_size, extra_of, format_of_both, greatest, is_confirmed, is_extended, listed_of, number_of, options_in, proposed_by, proposed_in, size_in, within_by}
 use Rattle.tp4_conn.specs.End.{IsProposal, IsSized, IsSizedBy}

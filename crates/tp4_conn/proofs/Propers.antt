@@ -15,7 +15,7 @@ use Rattle.tp4_number.specs.Number.{wire, ahead}
 use Rattle.tp4_flow.specs.Half.{Half, Received, ak, block_in, dt_arrival, half_after, taken_dt, taken_ed, is_next, half_granted}
 use Rattle.tp4_flow.specs.declared.rules.Life.{Life as Ends}
 use Rattle.tp4_flow.specs.declared.rules.Life.TheVariants.{Goes, Exhausted}
-use Rattle.tp4_flow.specs.declared.rules.Options.{Options}
+use Rattle.tpdu.specs.declared.service.Options.{Options}
 use Rattle.tp4_flow.specs.declared.rules.SubmitRefusal.TheVariants as submits
 use Rattle.tp4_flow.specs.declared.step.EndEvent.{EndEvent}
 use Rattle.tp4_flow.specs.declared.step.Sent.{Sent}

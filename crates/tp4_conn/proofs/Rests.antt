@@ -13,7 +13,7 @@ use Rattle.tp4_flow.specs.Told.{Told}
 use Rattle.tp4_number.specs.Number.{wire}
 use Rattle.tp4_flow.specs.declared.rules.Life.{Life as Ends}
 use Rattle.tp4_flow.specs.declared.rules.Life.TheVariants.{Goes, Exhausted}
-use Rattle.tp4_flow.specs.declared.rules.Options.{Options}
+use Rattle.tpdu.specs.declared.service.Options.{Options}
 use Rattle.tp4_flow.specs.declared.step.EndEvent.{EndEvent}
 use Rattle.tp4_flow.specs.declared.step.Sent.{Sent}
 use Rattle.tp4_sending.specs.FlowSender.{FlowSender, Sendings, at, due_of, life_of, new_sends, normals_where, nothing, one_urgent, opened, then_sends}

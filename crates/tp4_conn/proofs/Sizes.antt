@@ -6,7 +6,7 @@ use Rattle.tpdu.specs.Parameters.{Size, sizes}
 use Rattle.tpdu.specs.Writing.{IsKnownSize, IsOctet, IsPreferred, code_in}
 use Rattle.tpdu.specs.declared.tpdu.Format.{Format}
 use Rattle.tp4_number.proofs.Past.{if_kept}
-use Rattle.tp4_flow.specs.declared.rules.Options.{Options}
+use Rattle.tpdu.specs.declared.service.Options.{Options}
 use Rattle.tp4_conn.specs.declared.proposed.Proposed.{Proposed}
 use Rattle.tp4_conn.specs.Agreeing.{agreed_by, confirmed_size, greatest, listed_of, number_of, options_in, proposed_by, proposed_in}
 use Rattle.tp4_conn.specs.End.{IsProposal, IsSize, IsSized, IsSizedBy}

@@ -13,9 +13,9 @@ use Rattle.tp4_flow.specs.Half.{Half, Received, IsOnWire, on_wire, dt_arrival, t
 use Rattle.tp4_flow.specs.declared.rules.FlowRules.{FlowRules}
 use Rattle.tp4_flow.specs.declared.rules.Life.{Life as Ends}
 use Rattle.tp4_flow.specs.declared.rules.Life.TheVariants.{Goes, Exhausted as Spent}
-use Rattle.tp4_flow.specs.declared.rules.Options.{Options}
+use Rattle.tpdu.specs.declared.service.Options.{Options}
 use Rattle.tp4_flow.specs.declared.step.EndEvent.{EndEvent}
-use Rattle.tp4_flow.specs.declared.step.GoneCause.TheVariants.{Protocol, Exhausted, Inactive, AnswerTime}
+use Rattle.tpdu.specs.declared.service.GoneCause.TheVariants.{Protocol, Exhausted, Inactive, AnswerTime}
 use Rattle.tp4_flow.specs.declared.step.Sent.{Sent}
 use Rattle.tp4_flow.proofs.Wires.{ak_on, arrival_on, dt_on, ed_on}
 use Rattle.tp4_sending.specs.FlowSender.{at, opened, ticked, life_of, fresh}

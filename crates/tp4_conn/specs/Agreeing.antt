@@ -5,7 +5,7 @@ use Rattle.tpdu.specs.declared.tpdu.Format.TheVariants.{Normal, Extended}
 use Rattle.tpdu.specs.declared.tpdu.Tpdu.TheVariants.{Cr, Cc}
 use Rattle.tp4_flow.specs.Half.{empty}
 use Rattle.tp4_flow.specs.declared.rules.FlowRules.{FlowRules}
-use Rattle.tp4_flow.specs.declared.rules.Options.{Options}
+use Rattle.tpdu.specs.declared.service.Options.{Options}
 use Rattle.tp4_flow.specs.declared.step.Sent.{Sent}
 use Rattle.tp4_sending.specs.FlowSender.{fresh}
 use Rattle.tp4_conn.specs.declared.end_record.EndRecord.{EndRecord}

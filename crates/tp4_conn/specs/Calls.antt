@@ -10,8 +10,8 @@ use Rattle.tp4_conn.specs.declared.call.UserCall.{UserCall}
 use Rattle.tp4_conn.specs.declared.call.UserCall.TheVariants.{Accept, Refuse, Normal, Urgent, Window, Disconnect}
 use Rattle.tp4_conn.specs.declared.states.StateData.{StateData}
 use Rattle.tp4_conn.specs.declared.states.StateData.TheVariants.{CrWait, WaitBeforeClose, UserWait, AkWait, Opened, Closing, Frozen}
-use Rattle.tp4_conn.specs.declared.states.State.{State}
-use Rattle.tp4_conn.specs.declared.states.State.TheVariants as states
+use Rattle.tpdu.specs.declared.service.State.{State}
+use Rattle.tpdu.specs.declared.service.State.TheVariants as states
 use Rattle.tp4_conn.specs.End.{IsSized}
 use Rattle.tp4_conn.specs.Opened.{is_expedited}
 

@@ -3,9 +3,9 @@ use Rattle.std.specs.Prelude.{ℕ, ◌+◌, nat_lt, List, [], ◌∷◌, ◌++�
 use Rattle.tpdu.specs.declared.tpdu.Tpdu.{Tpdu}
 use Rattle.tpdu.specs.declared.tpdu.Tpdu.TheVariants.{Cc, Dr}
 use Rattle.tp4_flow.specs.Half.{ak}
-use Rattle.tp4_flow.specs.declared.rules.Options.{Options}
-use Rattle.tp4_flow.specs.declared.step.GoneCause.TheVariants.{Reason, Protocol, Exhausted}
-use Rattle.tp4_flow.specs.declared.step.What.TheVariants.{Confirm}
+use Rattle.tpdu.specs.declared.service.Options.{Options}
+use Rattle.tpdu.specs.declared.service.GoneCause.TheVariants.{Reason, Protocol, Exhausted}
+use Rattle.tpdu.specs.declared.service.EndTold.TheVariants.{Confirm}
 use Rattle.tp4_sending.specs.FlowSender.{at, opened}
 use Rattle.tp4_sending.specs.Pieces.{again}
 use Rattle.tp4_conn.specs.declared.end_record.EndRecord.{EndRecord}

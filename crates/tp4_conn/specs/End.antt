@@ -7,12 +7,13 @@ use Rattle.tpdu.specs.declared.tpdu.Format.TheVariants.{Normal}
 use Rattle.tpdu.specs.declared.tpdu.Tpdu.{Tpdu}
 use Rattle.tpdu.specs.declared.tpdu.Tpdu.TheVariants.{Dr, Dc}
 use Rattle.tp4_flow.specs.Told.{Told, Grows}
-use Rattle.tp4_flow.specs.declared.rules.Options.{Options}
+use Rattle.tpdu.specs.declared.service.Options.{Options}
 use Rattle.tp4_flow.specs.declared.step.EndEvent.{EndEvent}
-use Rattle.tp4_flow.specs.declared.step.GoneCause.{GoneCause}
+use Rattle.tpdu.specs.declared.service.GoneCause.{GoneCause}
 use Rattle.tp4_flow.specs.declared.step.Sent.{Sent}
-use Rattle.tp4_flow.specs.declared.step.What.{What}
-use Rattle.tp4_flow.specs.declared.step.What.TheVariants.{Gone}
+use Rattle.tp4_flow.specs.declared.step.What.TheVariants as whats
+use Rattle.tpdu.specs.declared.service.EndTold.{EndTold}
+use Rattle.tpdu.specs.declared.service.EndTold.TheVariants.{Gone}
 use Rattle.tp4_conn.specs.declared.end_record.EndRecord.{EndRecord}
 use Rattle.tp4_conn.specs.declared.proposed.Proposed.{Proposed}
 use Rattle.tp4_conn.specs.declared.states.StateData.{StateData}
@@ -63,9 +64,9 @@ abbrev pub agreed_sum : Option Options → Bool
 agreed_sum None = true
 agreed_sum (Some options) = options.sum
 
--- an event of this end
-abbrev pub tell : EndRecord → What → EndEvent
-tell b what = record { reference = b.own; what = what }
+-- what this end tells
+abbrev pub tell : EndRecord → EndTold → EndEvent
+tell b told = record { reference = b.own; what = whats.End told }
 
 -- a TPDU to its partner
 abbrev pub send : EndRecord → Tpdu → Sent

@@ -10,7 +10,7 @@ use Rattle.tp4_conn.specs.declared.call.ConnectCall.{ConnectCall}
 use Rattle.tp4_conn.specs.declared.states.StateData.TheVariants.{CrWait, UserWait}
 use Rattle.tp4_conn.specs.declared.timers.Timers.{Timers}
 use Rattle.tp4_conn.specs.Agreeing.{proposed_by, proposed_in, request}
-use Rattle.tp4_conn.specs.End.{Moved, tell}
+use Rattle.tp4_conn.specs.End.{Moved}
 
 -- connect: CR, its first sending
 abbrev pub caller : ℕ → ConnectCall → EndRecord
@@ -41,7 +41,7 @@ abbrev pub indicated : EndRecord → List ℕ → Moved
 indicated b text = record {
   base = b;
   stage = UserWait b.clock;
-  events = tell b (Incoming b.to b.partner b.calling b.called b.proposed.options text) ∷ [];
+  events = record { reference = b.own; what = Incoming b.to b.partner b.calling b.called b.proposed.options text } ∷ [];
   tpdus = [];
 }
 

@@ -2,7 +2,7 @@
 -- encoding of TPDUs), and its sending half waits for something at each tick.
 use Rattle.std.specs.Prelude.{◌≡◌, ◌≤◌, ℕ, true, List, [], ◌∷◌, length, Option, Some, None}
 use Rattle.tpdu.specs.Writing.{IsPlain, IsAllowed, IsCredit}
-use Rattle.tp4_flow.specs.declared.rules.Options.{Options}
+use Rattle.tpdu.specs.declared.service.Options.{Options}
 use Rattle.tp4_flow.specs.declared.step.Sent.{Sent}
 use Rattle.tp4_sending.specs.Settled.{IsSettled}
 use Rattle.tp4_conn.specs.declared.end_record.EndRecord.{EndRecord}

@@ -1,10 +1,10 @@
 -- UserWait: a CR came, and the user has not answered (X.224, class 4 state tables).
 use Rattle.std.specs.Prelude.{ℕ, ◌+◌, nat_lt, List, [], ◌∷◌, Some, None, if◌then◌else◌}
 use Rattle.tpdu.specs.declared.tpdu.Tpdu.TheVariants.{Dr}
-use Rattle.tp4_flow.specs.declared.rules.Options.{Options}
-use Rattle.tp4_flow.specs.declared.step.GoneCause.TheVariants.{AnswerTime}
+use Rattle.tpdu.specs.declared.service.Options.{Options}
+use Rattle.tpdu.specs.declared.service.GoneCause.TheVariants.{AnswerTime}
 use Rattle.tp4_flow.specs.declared.step.Sent.{Sent}
-use Rattle.tp4_flow.specs.declared.step.What.TheVariants.{Accept}
+use Rattle.tpdu.specs.declared.service.EndTold.TheVariants.{Accept}
 use Rattle.tp4_sending.specs.Pieces.{once}
 use Rattle.tp4_conn.specs.declared.end_record.EndRecord.{EndRecord}
 use Rattle.tp4_conn.specs.declared.states.StateData.TheVariants.{UserWait, AkWait}

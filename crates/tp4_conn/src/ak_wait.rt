@@ -15,8 +15,8 @@ use crate::end_record::{EndRecord, PROTOCOL_ERROR, copied};
 use crate::{InAkWait, InOpened, StateData, UserCall, opened};
 use osi_base::NoMemory;
 use std::alloc::Global;
-use tp4_flow::{GoneCause, Step};
-use tpdu::TpduRef;
+use tp4_flow::Step;
+use tpdu::{GoneCause, TpduRef};
 
 /// A TPDU came.
 #[tactic(auto, unfolding(crate::specs::AkWait::ak_wait_tpdu))]

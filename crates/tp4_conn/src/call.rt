@@ -1,11 +1,12 @@
 //! The calls of a user of an end (X.214, service primitives).
 
-use crate::{Options, State, Timers};
+use crate::Timers;
 use nsap::Nsap;
 use osi_base::Bytes;
+use tpdu::{Options, State};
 
 /// What a user asks of its end.
-#[derive(Drop, Debug)]
+#[derive(Drop)]
 pub enum UserCall {
     /// A connect response, with octets for the CC.
     Accept(Options, Bytes),
@@ -22,7 +23,7 @@ pub enum UserCall {
 }
 
 /// Why a call was refused, in this order.
-#[derive(Clone, Copy, Debug, PartialEq, Eq)]
+#[derive(Clone, Copy, Debug)]
 pub enum CallRefusal {
     /// The state has no row for the call.
     WrongState(State),
@@ -39,7 +40,7 @@ pub enum CallRefusal {
 }
 
 /// What a user asks for who wants a connection.
-#[derive(Drop, Debug)]
+#[derive(Drop)]
 pub struct ConnectRequest {
     /// The calling selector, of 1 to 32 octets.
     pub from_selector: Bytes,
@@ -54,7 +55,7 @@ pub struct ConnectRequest {
 }
 
 /// What an end that calls is made by.
-#[derive(Drop, Debug)]
+#[derive(Drop)]
 pub struct ConnectCall {
     /// The reference of the new end.
     pub own: u16,

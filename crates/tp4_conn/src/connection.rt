@@ -21,9 +21,7 @@ use crate::end_record::{EndRecord, copied};
 use crate::matching::{fits, has_sum, wants_sum};
 use crate::proposed::{proposed_by, proposed_in};
 use crate::refusal::refusal;
-use crate::{
-    CallRefusal, ConnectCall, InCrWait, State, StateData, Steps, Timers, UserCall, state_table,
-};
+use crate::{CallRefusal, ConnectCall, InCrWait, StateData, Steps, Timers, UserCall, state_table};
 use nsap::Nsap;
 use osi_base::{NoMemory, Tick};
 use std::alloc::Global;
@@ -32,14 +30,24 @@ use std::mem;
 use std::sync::ledger::Ledger;
 use tp4_flow::{EndEvent, Step, What};
 use tp4_sending::{Tries, sooner};
-use tpdu::{Format, TpduCause, TpduRef};
+use tpdu::{Format, State, TpduCause, TpduRef};
 
 /// One end of a connection.
-#[derive(Drop)]
 pub struct Connection {
     alloc: Global,
     base: EndRecord,
     stage: StateData,
+}
+
+// By hand, so that it is proved here alone: what is derived is proved again in each crate that lets one go.
+impl Drop for Connection {
+    fn drop(self) {
+        let Connection {
+            alloc: _,
+            base: _,
+            stage: _,
+        } = self;
+    }
 }
 
 // The timers are in their ranges, and no tick is ahead of the clock; where a CC was sent and not answered, its sendings are at most T1 apart.

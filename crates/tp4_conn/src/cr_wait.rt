@@ -10,11 +10,11 @@ ghost use Rattle.tp4_conn.specs.steps.Kept.{IsEnd, IsKept, IsSound};
 
 use crate::end_record::{EndRecord, PROTOCOL_ERROR, copied};
 use crate::proposed::{is_within, options_in};
-use crate::{InCrWait, InOpened, Options, StateData};
+use crate::{InCrWait, InOpened, StateData};
 use osi_base::NoMemory;
 use std::alloc::Global;
-use tp4_flow::{GoneCause, Step, What};
-use tpdu::TpduRef;
+use tp4_flow::Step;
+use tpdu::{EndTold, GoneCause, Options, TpduRef};
 
 /// A TPDU came.
 #[tactic(auto, using(crate::proofs::Sizes::read_sized), unfolding(crate::specs::CrWait::cr_wait_tpdu))]
@@ -85,7 +85,7 @@ fn open(
 {
     let mut halves = base.halves(alloc, options)?;
     let octets = copied(alloc, octets)?;
-    base.tell(What::Confirm { options, octets }, out)?;
+    base.tell(EndTold::Confirm { options, octets }, out)?;
     halves.get_mut().sending.open(base.clock, out)?;
     halves.get().receiving.acknowledge(out)?;
     Ok(StateData::Opened(InOpened {

@@ -2,7 +2,7 @@
 
 ghost use Rattle.std.specs.Prelude.{◌≡◌, ◌≤◌, ◌∷◌, ◌++◌, [], IfOk, OnOk};
 ghost use Rattle.tp4_flow.specs.Told.{Grows};
-ghost use Rattle.tp4_flow.specs.declared.step.GoneCause.TheVariants.{Reason};
+ghost use Rattle.tpdu.specs.declared.service.GoneCause.TheVariants.{Reason};
 ghost use Rattle.tp4_conn.specs.declared.states.StateData.TheVariants.{Closing, Frozen};
 ghost use Rattle.tp4_conn.specs.Agreeing.{extra_of, request, confirm};
 ghost use Rattle.tp4_conn.specs.End.{Does, agreed_format, agreed_sum, tell, send, release, gone, confirms, closing};
@@ -10,12 +10,12 @@ ghost use Rattle.tp4_conn.specs.Making.{indicated};
 ghost use Rattle.tp4_conn.specs.Opened.{is_expedited};
 
 use crate::proposed::{Proposed, confirmed_size, number_of};
-use crate::{InClosing, Options, StateData, Timers};
+use crate::{InClosing, StateData, Timers};
 use nsap::Nsap;
 use osi_base::{Bytes, NoMemory, Tick};
 use std::alloc::Global;
-use tp4_flow::{EndEvent, GoneCause, Sent, Step, What};
-use tpdu::{Format, Tpdu};
+use tp4_flow::{EndEvent, Sent, Step, What};
+use tpdu::{EndTold, Format, GoneCause, Options, Tpdu};
 
 /// The reason of a DR by which the user, or the end itself, disconnects: normal disconnect (X.224, DR TPDU).
 pub(crate) const NORMAL: u8 = 128;
@@ -105,13 +105,13 @@ impl EndRecord {
         })
     }
 
-    /// Tells an event of this end.
-    pub(crate) fn tell(&self, what: What, out: &mut Step) -> Result<(), NoMemory>
-        ensures { OnOk result (out.new ≡ record out.old { events = out.old.events ++ tell self.now what ∷ [] }) }
+    /// Tells what this end tells.
+    pub(crate) fn tell(&self, told: EndTold, out: &mut Step) -> Result<(), NoMemory>
+        ensures { OnOk result (out.new ≡ record out.old { events = out.old.events ++ tell self.now told ∷ [] }) }
     {
         out.event(EndEvent {
             reference: self.own,
-            what,
+            what: What::End(told),
         })
     }
 
@@ -124,7 +124,7 @@ impl EndRecord {
     ) -> Result<(), NoMemory>
         ensures { OnOk result (out.new ≡ record out.old { events = out.old.events ++ gone self.now cause [] }) }
     {
-        self.tell(What::Gone(cause, Bytes::of(Vec::new(alloc))), out)
+        self.tell(EndTold::Gone(cause, Bytes::of(Vec::new(alloc))), out)
     }
 
     /// The connect indication of a called end.
@@ -144,7 +144,10 @@ impl EndRecord {
             options: self.proposed.options,
             octets: copied(alloc, octets)?,
         };
-        self.tell(what, out)
+        out.event(EndEvent {
+            reference: self.own,
+            what,
+        })
     }
 
     /// The CR.
@@ -299,7 +302,7 @@ impl EndRecord {
         ensures stage { IfOk result (λ stage. stage ≡ Frozen self.now.clock) }
         ensures told { OnOk result (Grows out.old (gone self.now (Reason reason) octets) (confirms self.now source) out.new) }
     {
-        self.tell(What::Gone(GoneCause::Reason(reason), octets), out)?;
+        self.tell(EndTold::Gone(GoneCause::Reason(reason), octets), out)?;
         self.send_dc(source, out)?;
         Ok(StateData::Frozen { at: self.clock })
     }

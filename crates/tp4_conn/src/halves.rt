@@ -8,13 +8,13 @@ ghost use Rattle.tp4_sending.specs.FlowSender.{Keeps, Sends, at, refusal, submit
 ghost use Rattle.tp4_conn.specs.Agreeing.{flow_rules, halves_of};
 ghost use Rattle.tp4_conn.specs.End.{IsTimed, IsSized};
 
-use crate::{EndRecord, Options};
+use crate::EndRecord;
 use osi_base::{Bytes, NoMemory, Tick};
 use std::alloc::Global;
 use std::marker::Model;
 use tp4_flow::{FlowRules, Receiving, Step};
 use tp4_sending::Sending;
-use tpdu::Format;
+use tpdu::{Format, Options};
 
 /// What an end sends, and what it receives.
 #[derive(Drop)]

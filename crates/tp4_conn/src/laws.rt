@@ -4,7 +4,7 @@ ghost use Rattle.std.specs.Prelude.{◌≡◌, ◌≤◌, ◌+◌, ℕ, true, Li
 ghost use Rattle.tpdu.specs.declared.tpdu.Format.TheVariants.{Normal};
 ghost use Rattle.tpdu.specs.declared.tpdu.Tpdu.{Tpdu};
 ghost use Rattle.tpdu.specs.Writing.{IsAllowed};
-ghost use Rattle.tp4_flow.specs.declared.rules.Options.{Options};
+ghost use Rattle.tpdu.specs.declared.service.Options.{Options};
 ghost use Rattle.tp4_flow.specs.declared.step.EndEvent.{EndEvent};
 ghost use Rattle.tp4_flow.specs.declared.step.Sent.{Sent};
 ghost use Rattle.tp4_number.specs.Number.{whole, wire};

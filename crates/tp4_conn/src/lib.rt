@@ -27,7 +27,6 @@ pub use end_record::EndRecord;
 pub use halves::{BoxedHalves, Halves};
 pub use laws::{over_dues, over_lives, over_sendings, over_sizes, over_wires, worked_rows};
 pub use proposed::Proposed;
-pub use states::{InAkWait, InClosing, InCrWait, InOpened, InWaitBeforeClose, State, StateData};
+pub use states::{InAkWait, InClosing, InCrWait, InOpened, InWaitBeforeClose, StateData};
 pub use steps::Steps;
 pub use timers::Timers;
-pub use tp4_flow::Options;

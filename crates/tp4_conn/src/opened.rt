@@ -17,10 +17,10 @@ use crate::inactivity::is_inactive;
 use crate::{InOpened, StateData, UserCall};
 use osi_base::NoMemory;
 use std::alloc::Global;
-use tp4_flow::{GoneCause, Life, Step, What};
+use tp4_flow::{Life, Step};
 use tp4_number::Got;
 use tp4_sending::is_past;
-use tpdu::TpduRef;
+use tpdu::{EndTold, GoneCause, TpduRef};
 
 /// A TPDU came, which counts as taken now.
 #[tactic(auto, using(crate::proofs::Credits::granted_any), unfolding(crate::specs::Opened::opened_tpdu))]
@@ -174,7 +174,7 @@ fn grant(
 {
     let before = flow.halves.get().receiving.credit();
     let after = flow.halves.get_mut().receiving.grant(credit);
-    base.tell(What::Window(after), out)?;
+    base.tell(EndTold::Window(after), out)?;
     if after != before {
         flow.halves.get().receiving.acknowledge(out)?;
         flow.acked = base.clock;

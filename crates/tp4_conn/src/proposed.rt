@@ -4,8 +4,7 @@ ghost use Rattle.std.specs.Prelude.{◌≡◌};
 ghost use Rattle.tp4_conn.specs.Agreeing.{agreed_by, confirmed_size, greatest, is_within, listed_of, number_of, options_in, proposed_by, proposed_in, size_in, within_by};
 ghost use Rattle.tp4_conn.specs.End.{IsSized};
 
-use crate::Options;
-use tpdu::Format;
+use tpdu::{Format, Options};
 
 /// The size in octets where a TPDU names none.
 const DEFAULT_SIZE: u16 = 128;
@@ -14,7 +13,7 @@ const DEFAULT_SIZE: u16 = 128;
 const MOST_PREFERRED: u32 = 128;
 
 /// What a CR proposes.
-#[derive(Clone, Copy, Debug)]
+#[derive(Clone, Copy)]
 pub struct Proposed {
     pub options: Options,
     /// The size that counts where no preferred one is agreed on, in octets.

@@ -8,6 +8,12 @@ use osi_base::Bytes;
 use tp4_flow::SubmitRefusal;
 use tp4_sending::Sending;
 
+/// The most octets of the user in a CC.
+const MOST_IN_CC: usize = 32;
+
+/// The most octets of the user in a DR.
+const MOST_IN_DR: usize = 64;
+
 /// Why a call is refused, the first that applies.
 pub(crate) fn refusal(base: &EndRecord, stage: &StateData, call: &UserCall) -> Option<CallRefusal>
     ensures { result ≡ call_refusal base.now stage.now call.now }
@@ -16,9 +22,8 @@ pub(crate) fn refusal(base: &EndRecord, stage: &StateData, call: &UserCall) -> O
         return Some(CallRefusal::WrongState(stage.state()));
     }
     match call {
-        UserCall::Accept(_, octets) => too_long(32, octets),
-        UserCall::Refuse(octets) => too_long(64, octets),
-        UserCall::Disconnect(octets) => too_long(64, octets),
+        UserCall::Accept(_, octets) => too_long(MOST_IN_CC, octets),
+        UserCall::Refuse(octets) | UserCall::Disconnect(octets) => too_long(MOST_IN_DR, octets),
         UserCall::Normal(unit) => {
             let sending = sending_of(stage)?;
             unit_refusal(sending.refusal(unit.as_slice().len()))

@@ -6,25 +6,7 @@ ghost use Rattle.tp4_conn.specs.Calls.{state_of};
 use crate::BoxedHalves;
 use osi_base::{Bytes, Tick};
 use tp4_sending::Tries;
-
-/// A state of an end.
-#[derive(Clone, Copy, Debug, PartialEq, Eq)]
-pub enum State {
-    /// A CR was sent.
-    CrWait,
-    /// A CR was sent, and the user disconnected.
-    WaitBeforeClose,
-    /// A CR came, and the user has not answered.
-    UserWait,
-    /// A CC was sent.
-    AkWait,
-    /// Data flow both ways.
-    Opened,
-    /// A DR was sent.
-    Closing,
-    /// The end is over, and its reference is kept from use.
-    Frozen,
-}
+use tpdu::State;
 
 /// The octets of a CR, and its sendings.
 #[derive(Drop)]

@@ -4,7 +4,7 @@ ghost use Rattle.std.specs.Prelude.{◌≡◌};
 ghost use Rattle.tp4_conn.specs.End.{IsTimed, span, in_use, frozen_for};
 
 /// The times and counts of an end, the times in ticks.
-#[derive(Clone, Copy, Debug)]
+#[derive(Clone, Copy)]
 pub struct Timers {
     /// M, the longest that a TPDU is under way: 1 to 255.
     pub life: u32,

@@ -9,12 +9,12 @@ ghost use Rattle.tp4_conn.specs.steps.Kept.{IsEnd, IsKept, IsSound};
 use crate::end_record::{EndRecord, NORMAL, copied};
 use crate::inactivity::is_inactive;
 use crate::proposed::agreed_by;
-use crate::{InAkWait, Options, StateData};
+use crate::{InAkWait, StateData};
 use osi_base::{Bytes, NoMemory, Tick};
 use std::alloc::Global;
-use tp4_flow::{GoneCause, Step, What};
+use tp4_flow::Step;
 use tp4_sending::Tries;
-use tpdu::Tpdu;
+use tpdu::{EndTold, GoneCause, Options, Tpdu};
 
 /// The user accepts.
 #[tactic(auto, using(crate::proofs::Sizes::agreed_sized), unfolding(crate::specs::UserWait::user_wait_accept))]
@@ -35,7 +35,7 @@ pub(crate) fn accept(
     base.agreed = Some(options);
     let told = copied(alloc, octets.as_slice())?;
     base.tell(
-        What::Accept {
+        EndTold::Accept {
             options,
             octets: told,
         },

@@ -10,7 +10,7 @@ use Rattle.tpdu.specs.declared.tpdu.Tpdu.{Tpdu}
 use Rattle.tpdu.specs.declared.tpdu.Tpdu.TheVariants.{Cr, Cc, Dr, Dc, Dt, Ed, Ak, Ea, Er}
 use Rattle.tp4_flow.specs.declared.rules.Life.{Life}
 use Rattle.tp4_flow.specs.declared.rules.Life.TheVariants.{Goes as GoesOn, Exhausted}
-use Rattle.tp4_flow.specs.declared.step.GoneCause.TheVariants.{Exhausted as Spent, AnswerTime}
+use Rattle.tpdu.specs.declared.service.GoneCause.TheVariants.{Exhausted as Spent, AnswerTime}
 use Rattle.tp4_flow.specs.declared.step.EndEvent.{EndEvent}
 use Rattle.tp4_flow.specs.declared.step.Sent.{Sent}
 use Rattle.tp4_sending.specs.FlowSender.{at as sender_at, due_of, life_of}

@@ -6,7 +6,7 @@ use Rattle.tp4_conn.specs.declared.call.CallRefusal.{CallRefusal}
 use Rattle.tp4_conn.specs.declared.call.ConnectCall.{ConnectCall}
 use Rattle.tp4_conn.specs.declared.call.ConnectRequest.{ConnectRequest}
 use Rattle.tp4_conn.specs.declared.call.UserCall.{UserCall}
-use Rattle.tp4_conn.specs.declared.states.State.{State}
+use Rattle.tpdu.specs.declared.service.State.{State}
 use Rattle.tp4_conn.specs.declared.timers.Timers.{Timers}
 use Rattle.tp4_conn.specs.Calls.{call_refusal, state_of}
 use Rattle.tp4_conn.specs.End.{End, Moved, end_of}

@@ -28,9 +28,9 @@ use due_links::Due;
 use nsap::Nsap;
 use osi_base::{Bytes, NoMemory, Tick};
 use std::alloc::Global;
-use tp4_conn::{Connection, State};
+use tp4_conn::Connection;
 use tp4_flow::{EndEvent, Sent, Step, What};
-use tpdu::{Format, Kind, Tpdu, TpduRef};
+use tpdu::{Format, Kind, State, Tpdu, TpduRef};
 
 /// A CR came again for an end that is frozen.
 const AGAIN: u8 = 131;

@@ -30,14 +30,14 @@ use osi_base::{Bytes, NoMemory, Tick};
 use std::alloc::Global;
 use std::marker::Model;
 use std::sync::ledger::Ledger;
-use tp4_conn::{ConnectRequest, Connection, State, Steps, Timers, UserCall};
+use tp4_conn::{ConnectRequest, Connection, Steps, Timers, UserCall};
 use tp4_flow::Step;
+use tpdu::State;
 
 /// The most octets of a connect request.
 const MOST_OCTETS: usize = 32;
 
 /// The ends of a system.
-#[derive(Drop)]
 pub struct TpEntity {
     pub(crate) alloc: Global,
     pub(crate) own: Nsap,
@@ -48,6 +48,22 @@ pub struct TpEntity {
     /// When each place is due, so that a tick goes over the due ends and over no others.
     pub(crate) due: Due,
     pub(crate) restarted: Option<Tick>,
+}
+
+// By hand, so that it is proved here alone: what is derived is proved again in each crate that lets one go.
+impl Drop for TpEntity {
+    fn drop(self) {
+        let TpEntity {
+            alloc: _,
+            own: _,
+            timers: _,
+            clock: _,
+            selectors: _,
+            ends: _,
+            due: _,
+            restarted: _,
+        } = self;
+    }
 }
 
 // The timers are in their ranges, there are 1 to 64 references, and each end has its reference, these timers and no later clock;

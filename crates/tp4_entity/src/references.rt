@@ -21,8 +21,9 @@ use osi_base::{NoMemory, Tick};
 use std::alloc::Global;
 use std::marker::Brand;
 use std::sync::ledger::{Blank, Ledger};
-use tp4_conn::{CallRefusal, Connection, State, Steps, UserCall};
+use tp4_conn::{CallRefusal, Connection, Steps, UserCall};
 use tp4_flow::Step;
+use tpdu::State;
 
 /// So many places without ends.
 pub(crate) fn no_ends(alloc: Global, count: usize) -> Result<Vec<Option<Connection>>, NoMemory>

@@ -3,7 +3,7 @@
 use tp4_conn::CallRefusal;
 
 /// Why a selector was not registered.
-#[derive(Clone, Copy, Debug, PartialEq, Eq)]
+#[derive(Clone, Copy, Debug)]
 pub enum TsapRefusal {
     /// It is registered.
     TsapTaken,
@@ -12,7 +12,7 @@ pub enum TsapRefusal {
 }
 
 /// Why a connection was not begun, in this order.
-#[derive(Clone, Copy, Debug, PartialEq, Eq)]
+#[derive(Clone, Copy, Debug)]
 pub enum ConnectRefusal {
     /// The entity began again, and is silent.
     Silent,
@@ -25,7 +25,7 @@ pub enum ConnectRefusal {
 }
 
 /// Why a call was refused, in this order.
-#[derive(Clone, Copy, Debug, PartialEq, Eq)]
+#[derive(Clone, Copy, Debug)]
 pub enum EntityRefusal {
     /// No end stands at the reference.
     NoSuchEnd,

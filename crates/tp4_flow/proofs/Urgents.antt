@@ -2,7 +2,8 @@
 use Rattle.std.proofs.Common.{◌≡◌, ℕ, ◌+◌, ◌*◌, ◌%◌, ◌<◌, ◌==◌, ◌||◌, Bool, true, false, if◌then◌else◌, List, [], ◌∷◌, ◌++◌, refl, sym, ◌∙◌, ap, subst, arith}
 use Rattle.std.proofs.lemmas.Bool.Decides.{nat_tests}
 use Rattle.tp4_number.specs.Number.{wire}
-use Rattle.tp4_flow.specs.declared.step.What.TheVariants.{Urgent}
+use Rattle.tp4_flow.specs.declared.step.What.TheVariants as whats
+use Rattle.tpdu.specs.declared.service.EndTold.TheVariants.{Urgent}
 use Rattle.tp4_flow.specs.Half.{Half, Received, Receives, block_in, taken_ed, is_next, is_before, ea}
 use Rattle.tp4_flow.specs.Told.{Told}
 use Rattle.tp4_flow.proofs.Joinings.{append_none}
@@ -20,7 +21,7 @@ pub record TakesUrgent (old : Half) (w : ℕ) (octets : List ℕ) (next : Bool) 
 abbrev ed_by : Half → ℕ → List ℕ → Bool → Bool → Received
 ed_by old w octets next before = record {
   half = if next then record old { receiver = record old.receiver { urgent = wire (block_in old) (old.receiver.urgent + 1) } } else old;
-  events = if next then record { reference = old.rules.own; what = Urgent octets } ∷ [] else [];
+  events = if next then record { reference = old.rules.own; what = whats.End (Urgent octets) } ∷ [] else [];
   tpdus = if next || before then ea old w ∷ [] else [];
 }
 
@@ -33,7 +34,7 @@ by_tests old w octets next before new was is n b r = record {
 }
 
 pub urgent_next : (old : Half) (w : ℕ) (octets : List ℕ) (was is : Told) → old.receiver.urgent < 4 * block_in old → w ≡ old.receiver.urgent
-    → is ≡ record { events = was.events ++ record { reference = old.rules.own; what = Urgent octets } ∷ []; tpdus = was.tpdus ++ ea old w ∷ [] }
+    → is ≡ record { events = was.events ++ record { reference = old.rules.own; what = whats.End (Urgent octets) } ∷ []; tpdus = was.tpdus ++ ea old w ∷ [] }
     → TakesUrgent old w octets true (record old { receiver = record old.receiver { urgent = (old.receiver.urgent + 1) % (4 * block_in old) } }) was is
 unfolding wire
 urgent_next old w octets was is low e t =

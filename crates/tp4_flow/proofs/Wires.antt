@@ -9,7 +9,8 @@ use Rattle.tp4_number.specs.declared.piece.Piece.{Piece}
 use Rattle.tp4_number.specs.Number.{whole, wire, ahead}
 use Rattle.tp4_number.specs.Receiver.{Arrived, arrived}
 use Rattle.tp4_flow.specs.declared.step.Sent.{Sent}
-use Rattle.tp4_flow.specs.declared.step.What.TheVariants.{Urgent}
+use Rattle.tp4_flow.specs.declared.step.What.TheVariants as whats
+use Rattle.tpdu.specs.declared.service.EndTold.TheVariants.{Urgent}
 use Rattle.tp4_flow.specs.Half.{Half, Received, IsOnWire, on_wire, block_in, ak, aks, ea, dt_arrival, half_after, taken_dt, taken_ed, is_next, half_granted}
 use Rattle.tp4_flow.specs.Told.{gots}
 
@@ -68,7 +69,7 @@ dt_on h w piece = subst (λ (a : Arrived). IsOnWire (taken_dt whole h w piece) (
 abbrev ed_at : Half → ℕ → List ℕ → ℕ → Received
 ed_at h w octets u = record {
   half = if w == u then record h { receiver = record h.receiver { expected = wire (block_in h) h.receiver.expected; urgent = wire (block_in h) (wire (block_in h) h.receiver.urgent + 1) } } else on_wire h;
-  events = if w == u then record { reference = h.rules.own; what = Urgent octets } ∷ [] else [];
+  events = if w == u then record { reference = h.rules.own; what = whats.End (Urgent octets) } ∷ [] else [];
   tpdus = if (w == u) || (wire (block_in h) (w + 1) == u) then ea h w ∷ [] else [];
 }
 

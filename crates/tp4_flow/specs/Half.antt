@@ -8,7 +8,8 @@ use Rattle.tp4_number.specs.declared.got.Got.TheVariants.{Kept, Old, Outside, To
 use Rattle.tp4_number.specs.declared.piece.Piece.{Piece}
 use Rattle.tp4_flow.specs.declared.step.EndEvent.{EndEvent}
 use Rattle.tp4_flow.specs.declared.step.Sent.{Sent}
-use Rattle.tp4_flow.specs.declared.step.What.TheVariants.{Urgent}
+use Rattle.tp4_flow.specs.declared.step.What.TheVariants as whats
+use Rattle.tpdu.specs.declared.service.EndTold.TheVariants.{Urgent}
 use Rattle.tp4_number.specs.Formats.{block_of, most_of}
 use Rattle.tp4_number.specs.Number.{wire}
 use Rattle.tp4_flow.specs.Told.{Told, Grows, gots}
@@ -90,7 +91,7 @@ is_before h w = wire (block_in h) (w + 1) == wire (block_in h) h.receiver.urgent
 abbrev pub taken_ed : (ℕ → ℕ → ℕ) → Half → ℕ → List ℕ → Received
 taken_ed wrap h w octets = record {
   half = if is_next h w then record h { receiver = record h.receiver { urgent = wrap (block_in h) (h.receiver.urgent + 1) } } else h;
-  events = if is_next h w then record { reference = h.rules.own; what = Urgent octets } ∷ [] else [];
+  events = if is_next h w then record { reference = h.rules.own; what = whats.End (Urgent octets) } ∷ [] else [];
   tpdus = if is_next h w || is_before h w then ea h w ∷ [] else [];
 }
 

@@ -1,7 +1,8 @@
 -- What an end tells and sends, in order.
 use Rattle.std.specs.Prelude.{◌≡◌, ℕ, List, [], ◌∷◌, ◌++◌}
 use Rattle.tp4_flow.specs.declared.step.EndEvent.{EndEvent}
-use Rattle.tp4_flow.specs.declared.step.What.TheVariants.{Got}
+use Rattle.tp4_flow.specs.declared.step.What.TheVariants as whats
+use Rattle.tpdu.specs.declared.service.EndTold.TheVariants.{Got}
 use Rattle.tp4_flow.specs.declared.step.Sent.{Sent}
 
 pub record Told : Type 0 where
@@ -15,4 +16,4 @@ Grows was events tpdus new = new ≡ record { events = was.events ++ events; tpd
 -- the events that show these units at the end of a reference
 abbrev pub gots : ℕ → List (List ℕ) → List EndEvent
 gots own [] = []
-gots own (unit ∷ units) = record { reference = own; what = Got unit } ∷ gots own units
+gots own (unit ∷ units) = record { reference = own; what = whats.End (Got unit) } ∷ gots own units

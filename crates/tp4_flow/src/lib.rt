@@ -10,5 +10,5 @@ mod step;
 
 pub use laws::over_wires;
 pub use receiving::Receiving;
-pub use rules::{FlowRules, Life, Options, SubmitRefusal};
-pub use step::{EndEvent, GoneCause, HeldKind, Sent, Step, What};
+pub use rules::{FlowRules, Life, SubmitRefusal};
+pub use step::{EndEvent, Sent, Step, What};

@@ -14,6 +14,7 @@ use std::alloc::Global;
 use std::marker::Model;
 use std::mem;
 use tp4_number::Piece;
+use tpdu::EndTold;
 
 /// The most octets of a unit.
 const MOST: usize = 16_384;
@@ -133,7 +134,7 @@ impl Window {
             let unit = mem::replace(&mut self.begun, Vec::new(self.alloc));
             out.event(EndEvent {
                 reference: own,
-                what: What::Got(Bytes::of(unit)),
+                what: What::End(EndTold::Got(Bytes::of(unit))),
             })?;
         }
         Ok(())

@@ -14,7 +14,7 @@ use osi_base::{Bytes, NoMemory};
 use std::alloc::Global;
 use std::marker::Model;
 use tp4_number::{Got, Piece, block, distance};
-use tpdu::{Format, Tpdu};
+use tpdu::{EndTold, Format, Tpdu};
 
 /// The numbers that a receiving half expects, as they stand on the wire, and what lies ahead of them.
 #[derive(Drop)]
@@ -164,7 +164,7 @@ impl Receiving {
         if wire == self.urgent {
             out.event(EndEvent {
                 reference: self.rules.own,
-                what: What::Urgent(Bytes::copy(self.alloc, octets)?),
+                what: What::End(EndTold::Urgent(Bytes::copy(self.alloc, octets)?)),
             })?;
             self.urgent = (self.urgent + 1) % turn;
             self.answer_ed(wire, out)?;

@@ -3,21 +3,8 @@
 use nsap::Nsap;
 use tpdu::Format;
 
-/// What two ends agree on.
-#[derive(Clone, Copy, Debug)]
-pub struct Options {
-    pub format: Format,
-    /// The most octets of a TPDU.
-    pub size: u16,
-    pub expedited: bool,
-    /// Each TPDU has a checksum.
-    pub sum: bool,
-    /// The size is a preferred one, some number of 128 octets.
-    pub preferred: bool,
-}
-
 /// The fixed terms of a connection, as its halves use them.
-#[derive(Clone, Copy, Debug)]
+#[derive(Clone, Copy)]
 pub struct FlowRules {
     /// The end's own reference.
     pub own: u16,
@@ -39,7 +26,7 @@ pub struct FlowRules {
 }
 
 /// Whether a sending half goes on.
-#[derive(Clone, Copy, Debug, PartialEq, Eq)]
+#[derive(Clone, Copy)]
 pub enum Life {
     Goes,
     /// A DT or an ED was sent as often as it may be, and was not acknowledged in time.
@@ -47,7 +34,7 @@ pub enum Life {
 }
 
 /// Why a unit was not taken, in this order.
-#[derive(Clone, Copy, Debug, PartialEq, Eq)]
+#[derive(Clone, Copy, Debug)]
 pub enum SubmitRefusal {
     /// It has no octets.
     EmptyUnit,

@@ -2,37 +2,14 @@
 
 ghost use Rattle.std.specs.Prelude.{◌≡◌, [], ◌∷◌, ◌++◌, OnOk, OnErr};
 
-use crate::Options;
 use nsap::Nsap;
 use osi_base::{Bytes, NoMemory};
 use std::alloc::Global;
 use std::marker::Model;
 use std::mem;
-use tpdu::{Format, Kind, Tpdu, TpduCause};
+use tpdu::{EndTold, Format, Kind, Options, Tpdu, TpduCause};
 
-/// Why an end is gone.
-#[derive(Clone, Copy, Debug, PartialEq, Eq)]
-pub enum GoneCause {
-    /// A DR with this reason came.
-    Reason(u8),
-    /// The partner broke a rule of the protocol.
-    Protocol,
-    /// A TPDU was sent as often as it may be.
-    Exhausted,
-    /// Nothing came from the partner for too long.
-    Inactive,
-    /// The user did not answer a connect indication in time.
-    AnswerTime,
-}
-
-/// Of what the number rule holds a number back.
-#[derive(Clone, Copy, Debug, PartialEq, Eq)]
-pub enum HeldKind {
-    Dt,
-    Ed,
-}
-
-/// What an end tells.
+/// What an entity tells.
 #[derive(Drop, Debug)]
 pub enum What {
     /// A connect indication: the calling address, the partner's reference, both selectors, what is proposed.
@@ -44,26 +21,8 @@ pub enum What {
         options: Options,
         octets: Bytes,
     },
-    /// A connect response, with what is agreed.
-    Accept {
-        options: Options,
-        octets: Bytes,
-    },
-    /// A connect confirm, with what is agreed.
-    Confirm {
-        options: Options,
-        octets: Bytes,
-    },
-    /// A normal unit is shown.
-    Got(Bytes),
-    /// An expedited unit is shown.
-    Urgent(Bytes),
-    /// The credit in force.
-    Window(u16),
-    /// The number rule alone holds this number back.
-    Held(HeldKind, u64),
-    /// The end is gone, with the octets of the DR.
-    Gone(GoneCause, Bytes),
+    /// What an end of its tells.
+    End(EndTold),
     /// A TPDU was not taken; the octet at fault from 1, or 0 for none.
     BadTpdu(TpduCause, u32),
     /// A TPDU of this kind matches no end.
@@ -73,14 +32,14 @@ pub enum What {
 }
 
 /// What the end of a reference tells; the reference is 0 where no end is concerned.
-#[derive(Drop, Debug)]
+#[derive(Drop)]
 pub struct EndEvent {
     pub reference: u16,
     pub what: What,
 }
 
 /// A TPDU on its way to an address, in a format, with a checksum or without.
-#[derive(Drop, Debug)]
+#[derive(Drop)]
 pub struct Sent {
     pub to: Nsap,
     pub tpdu: Tpdu,
@@ -89,7 +48,7 @@ pub struct Sent {
 }
 
 /// Events and TPDUs, each in order.
-#[derive(Drop, Debug)]
+#[derive(Drop)]
 pub struct Step {
     events: Vec<EndEvent>,
     tpdus: Vec<Sent>,

@@ -9,7 +9,7 @@ use osi_base::Tick;
 use tpdu::Format;
 
 /// What was sent of some numbers, for the first time or again.
-#[derive(Clone, Copy, Debug)]
+#[derive(Clone, Copy)]
 pub struct Blocks {
     /// One past the greatest number that was sent.
     pub high: u64,

@@ -1,7 +1,7 @@
 //! What a DT is to a receiving half (X.224, class 4: explicit flow control).
 
 /// What a DT was.
-#[derive(Clone, Copy, Debug, PartialEq, Eq)]
+#[derive(Clone, Copy, Debug)]
 pub enum Got {
     /// Its piece is kept.
     Kept,

@@ -3,7 +3,7 @@
 use osi_base::Bytes;
 
 /// A piece of a unit, as a DT carries it.
-#[derive(Drop, Debug)]
+#[derive(Drop)]
 pub struct Piece {
     /// The unit ends with it.
     pub last: bool,

@@ -4,9 +4,9 @@ use Rattle.std.specs.Prelude.{if◌then◌else◌}
 use Rattle.std.specs.List.{AllByRecursion}
 use Rattle.std.proofs.lemmas.Bool.{eq-eqb, ne_eqb}
 use Rattle.std.proofs.lemmas.Bool.Decides.{eqb_tells}
-use Rattle.osi_journal.specs.declared.event.Event.{Event}
-use Rattle.osi_journal.specs.declared.event.Event.TheVariants as events
-use Rattle.osi_journal.specs.Lawful.{Marked, shown, submitted}
+use Rattle.script_journal.specs.declared.event.Event.{Event}
+use Rattle.script_journal.specs.declared.event.Event.TheVariants as events
+use Rattle.script_journal.specs.Lawful.{Marked, shown, submitted}
 use Rattle.tp4_relay.specs.declared.pair.Heading.TheVariants.{On, Back}
 use Rattle.tp4_relay.specs.declared.pair.Pair.{Pair}
 use Rattle.tp4_relay.specs.declared.unit.MarkedUnit.{MarkedUnit}
@@ -14,6 +14,7 @@ use Rattle.tp4_relay.specs.declared.unit.MarkedUnit.TheVariants.{Normal, Expedit
 use Rattle.tp4_relay.specs.Allowed.{MayGive, MayShow, marked}
 use Rattle.tp4_relay.specs.Pairs.{Change, Opens, Accepts, Closes, Waits, Gives, Turns, inbound_changed, outbound_changed, pairs_after}
 use Rattle.tp4_relay.proofs.PairsHold.{PairHolds, accepts_by, aside, both_changes, closes_by, gives_by, if_changed, opens_by, shows_by, turns_by}
+use Rattle.tpdu.specs.declared.service.EndTold.TheVariants as tells
 
 pub turned_test : (a b : ℕ) → (a == b) ≡ (b == a)
 turned_test a b = elim (eqb_tells a b) [
@@ -80,22 +81,22 @@ module _ (journal : List Event) (pairs : List Pair) (all : AllByRecursion (PairH
 
   -- what of the rules of an event is about pairs
   abbrev pub MayAll : Event → Type 0
-  MayAll (events.Got end octets) = AllByRecursion (MayShow end) pairs
-  MayAll (events.Urgent end octets) = AllByRecursion (MayShow end) pairs
+  MayAll (events.End end (tells.Got octets)) = AllByRecursion (MayShow end) pairs
+  MayAll (events.End end (tells.Urgent octets)) = AllByRecursion (MayShow end) pairs
   MayAll (events.Data end octets) = AllByRecursion (MayGive end (Normal octets)) pairs
   MayAll (events.Expedite end octets) = AllByRecursion (MayGive end (Expedited octets)) pairs
   MayAll event = Prim.Unit {0}
 
   pub all_after : (event : Event) → MayAll event → AllByRecursion (PairHolds (journal ++ event ∷ [])) (pairs_after pairs event)
-  all_after (events.Got end octets) may = shown_holds (events.Got end octets) end (Normal octets) (λ at. refl) (λ at. refl) may
-  all_after (events.Urgent end octets) may = shown_holds (events.Urgent end octets) end (Expedited octets) (λ at. refl) (λ at. refl) may
+  all_after (events.End end (tells.Got octets)) may = shown_holds (events.End end (tells.Got octets)) end (Normal octets) (λ at. refl) (λ at. refl) may
+  all_after (events.End end (tells.Urgent octets)) may = shown_holds (events.End end (tells.Urgent octets)) end (Expedited octets) (λ at. refl) (λ at. refl) may
   all_after (events.Data end octets) may = given_holds (events.Data end octets) end (Normal octets) (λ at. refl) (λ at. refl) may
   all_after (events.Expedite end octets) may = given_holds (events.Expedite end octets) end (Expedited octets) (λ at. refl) (λ at. refl) may
   all_after (events.Disconnect end octets) may = closed_holds (events.Disconnect end octets) end (λ at. refl) (λ at. refl)
-  all_after (events.Gone end cause octets) may = closed_holds (events.Gone end cause octets) end (λ at. refl) (λ at. refl)
-  all_after (events.Window end credit) may = turned_holds (events.Window end credit) end (λ at. refl) (λ at. refl)
-  all_after (events.Accept end options octets) may =
-      alone journal (events.Accept end options octets) (inbound_changed end Accepts) pairs (λ pair h. accepts_by journal pair h (events.Accept end options octets) (λ at. refl) (λ at. refl) (pair.inbound == end)) all
-  all_after (events.Confirm end options octets) may =
-      alone journal (events.Confirm end options octets) (outbound_changed end Opens) pairs (λ pair h. opens_by journal pair h (events.Confirm end options octets) (λ at. refl) (λ at. refl) (pair.outbound == end)) all
+  all_after (events.End end (tells.Gone cause octets)) may = closed_holds (events.End end (tells.Gone cause octets)) end (λ at. refl) (λ at. refl)
+  all_after (events.End end (tells.Window credit)) may = turned_holds (events.End end (tells.Window credit)) end (λ at. refl) (λ at. refl)
+  all_after (events.End end (tells.Accept options octets)) may =
+      alone journal (events.End end (tells.Accept options octets)) (inbound_changed end Accepts) pairs (λ pair h. accepts_by journal pair h (events.End end (tells.Accept options octets)) (λ at. refl) (λ at. refl) (pair.inbound == end)) all
+  all_after (events.End end (tells.Confirm options octets)) may =
+      alone journal (events.End end (tells.Confirm options octets)) (outbound_changed end Opens) pairs (λ pair h. opens_by journal pair h (events.End end (tells.Confirm options octets)) (λ at. refl) (λ at. refl) (pair.outbound == end)) all
   all_after event may = as_before journal event pairs (λ at. refl) (λ at. refl) all

@@ -4,11 +4,11 @@ use Rattle.std.specs.Prelude.{if◌then◌else◌}
 use Rattle.std.specs.List.{AllByRecursion, list_any}
 use Rattle.std.proofs.lemmas.Bool.{eq-eqb, eqb-true}
 use Rattle.std.proofs.lemmas.List.{append-nil, get_or_append_left}
-use Rattle.osi_script.specs.declared.line.Options.{Options as ScriptOptions}
-use Rattle.osi_journal.specs.declared.event.Event.{Event}
-use Rattle.osi_journal.specs.declared.event.Event.TheVariants as events
-use Rattle.osi_journal.specs.declared.event.Indication.{Indication}
-use Rattle.osi_journal.specs.declared.event.Request.{Request}
+use Rattle.tpdu.specs.declared.service.Options.{Options}
+use Rattle.script_journal.specs.declared.event.Event.{Event}
+use Rattle.script_journal.specs.declared.event.Event.TheVariants as events
+use Rattle.script_journal.specs.declared.event.Indication.{Indication}
+use Rattle.script_journal.specs.declared.event.Request.{Request}
 use Rattle.tp4_conn.specs.declared.call.ConnectRequest.{ConnectRequest}
 use Rattle.tp4_conn.specs.declared.call.UserCall.{UserCall}
 use Rattle.tp4_conn.specs.declared.call.UserCall.TheVariants as asks
@@ -24,7 +24,7 @@ use Rattle.tp4_relay.specs.Allowed.{AreAllowed, AreLine, IsAllowed, IsLine, IsUn
 use Rattle.tp4_relay.specs.Kept.{Kept, claimed, is_at, kept_after, noted, owns, row_for}
 use Rattle.tp4_relay.specs.Pairs.{is_closed}
 use Rattle.tp4_relay.specs.Pump.{BeginsBy, Does, Reacts}
-use Rattle.tp4_relay.specs.Reaction.{asked_options, begins, confirms, goes, inbound_goes, inbound_pair, outbound_goes, outbound_pair, reaction}
+use Rattle.tp4_relay.specs.Reaction.{begins, confirms, goes, inbound_goes, inbound_pair, outbound_goes, outbound_pair, reaction}
 use Rattle.tp4_relay.specs.Service.{IsService, Tells}
 use Rattle.tp4_relay.specs.steps.Making.{AreMadeBy, HasSize, MayDo, Passes}
 use Rattle.tp4_relay.specs.steps.Serving.{CanDo, Did, IsIdle, Reacted, Reacting}
@@ -35,6 +35,7 @@ use Rattle.tp4_relay.proofs.Journals.{any_append, or_false}
 use Rattle.tp4_relay.proofs.Served.{drop_told, or_assoc, or_none, or_one, told_more}
 use Rattle.tp4_relay.proofs.Telling.{all_idle_same, asides_idle, idle_made, refusal_idle, rows_stay, told_made, told_named}
 use Rattle.tp4_relay.proofs.Tidy.{all_each, all_notable, allowed_notable, tidy_more}
+use Rattle.tpdu.specs.declared.service.EndTold.TheVariants as tells
 
 -- ---- ends that were indicated
 
@@ -85,7 +86,7 @@ row_in P (first ∷ rows) heard row all is = by (row_in P rows heard row all.1) 
 -- ---- what is to be done about an event may be done
 
 module _ (has : ℕ → Type 0) (kept : Kept) (tidy : IsTidy kept) (rows : AllByRecursion (λ (row : RelayRow). has row.system) kept.rows) where
-  to_begin : (heard : Indication) → Passes kept (events.Incoming heard) → IsSized (asked_options heard.options) → (row : Option RelayRow) → row_for kept.rows heard ≡ row
+  to_begin : (heard : Indication) → Passes kept (events.Incoming heard) → IsSized heard.options → (row : Option RelayRow) → row_for kept.rows heard ≡ row
       → MayDo has (noted kept (events.Incoming heard)) (begins heard row)
   to_begin heard may sized None is = tt
   to_begin heard may sized (Some row) is = (
@@ -99,12 +100,12 @@ module _ (has : ℕ → Type 0) (kept : Kept) (tidy : IsTidy kept) (rows : AllBy
     omega arith,
   )
 
-  to_accept : (end : ℕ) (options : ScriptOptions) (octets : List ℕ) → IsSized (asked_options options) → (pair : Option Pair) → outbound_pair kept.pairs end ≡ pair
-      → MayDo has (noted kept (events.Confirm end options octets)) (confirms options octets pair)
+  to_accept : (end : ℕ) (options : Options) (octets : List ℕ) → IsSized options → (pair : Option Pair) → outbound_pair kept.pairs end ≡ pair
+      → MayDo has (noted kept (events.End end (tells.Confirm options octets))) (confirms options octets pair)
   to_accept end options octets sized None is = tt
   to_accept end options octets sized (Some pair) is = by (is_closed pair.phase)
     where
-      by : (b : Bool) → MayDo has (noted kept (events.Confirm end options octets)) (if b then Nothing else Ask pair.inbound (asks.Accept (asked_options options) octets))
+      by : (b : Bool) → MayDo has (noted kept (events.End end (tells.Confirm options octets))) (if b then Nothing else Ask pair.inbound (asks.Accept options octets))
       by true = tt
       by false = (sized, tt, (let low = (found_out (IsWithin kept.named) kept.pairs end pair (all_within kept tidy) is).0 in omega (arith, low)))
 
@@ -133,8 +134,8 @@ module _ (has : ℕ → Type 0) (kept : Kept) (tidy : IsTidy kept) (rows : AllBy
 
   pub may_do : (event : Event) → Passes kept event → HasSize event → MayDo has (noted kept event) (reaction kept event)
   may_do (events.Incoming heard) may sized = to_begin heard may sized (row_for kept.rows heard) refl
-  may_do (events.Confirm end options octets) may sized = to_accept end options octets sized (outbound_pair kept.pairs end) refl
-  may_do (events.Gone end cause octets) may sized = to_part (noted kept (events.Gone end cause octets)) (omega arith) end (inbound_pair kept.pairs end) refl
+  may_do (events.End end (tells.Confirm options octets)) may sized = to_accept end options octets sized (outbound_pair kept.pairs end) refl
+  may_do (events.End end (tells.Gone cause octets)) may sized = to_part (noted kept (events.End end (tells.Gone cause octets))) (omega arith) end (inbound_pair kept.pairs end) refl
   may_do event may sized = tt
 
 pub can_do : (has : ℕ → Type 0) (kept : Kept) (to_do : Reaction) → MayDo has kept to_do → CanDo has to_do
@@ -146,7 +147,7 @@ can_do has kept (Ask end call) may = may.0
 
 pub line_sized : (kept : Kept) (event : Event) → IsLine kept event → HasSize event
 line_sized kept (events.Incoming heard) is = is.1
-line_sized kept (events.Confirm end options octets) is = is
+line_sized kept (events.End end (tells.Confirm options octets)) is = is
 line_sized kept event is = tt
 
 none_each : {X : Type 0} (test : X → Bool) (xs : List X) → list_any test xs ≡ false → AllByRecursion (λ (x : X). test x ≡ false) xs
@@ -185,8 +186,8 @@ module _ (kept : Kept) (tidy : IsTidy kept) where
 
   line_allowed_one : (event : Event) → IsLine kept event → IsAllowed kept event
   line_allowed_one (events.Incoming heard) is = is.0
-  line_allowed_one (events.Got end octets) is = is
-  line_allowed_one (events.Urgent end octets) is = is
+  line_allowed_one (events.End end (tells.Got octets)) is = is
+  line_allowed_one (events.End end (tells.Urgent octets)) is = is
   line_allowed_one (events.Data end octets) is = gives_other end (Normal octets) is
   line_allowed_one (events.Expedite end octets) is = gives_other end (Expedited octets) is
   line_allowed_one (events.Joined inbound outbound) is = absurd is

@@ -5,10 +5,10 @@ use Rattle.std.specs.List.{AllByRecursion, list_any}
 use Rattle.std.proofs.lemmas.Bool.{eq-eqb, eqb-true, ne_eqb}
 use Rattle.std.proofs.lemmas.List.{append-nil, map-append}
 use Rattle.osi_base.proofs.Young.{all_last}
-use Rattle.osi_journal.specs.declared.event.Indication.{Indication}
+use Rattle.script_journal.specs.declared.event.Indication.{Indication}
 use Rattle.tp4_relay.specs.declared.row.RelayRow.{RelayRow}
-use Rattle.osi_journal.specs.declared.event.Event.{Event}
-use Rattle.osi_journal.specs.declared.event.Event.TheVariants as events
+use Rattle.script_journal.specs.declared.event.Event.{Event}
+use Rattle.script_journal.specs.declared.event.Event.TheVariants as events
 use Rattle.tp4_relay.specs.declared.claim.Claim.{Claim}
 use Rattle.tp4_relay.specs.declared.pair.Heading.TheVariants.{On, Back}
 use Rattle.tp4_relay.specs.declared.pair.Pair.{Pair}
@@ -24,6 +24,7 @@ use Rattle.tp4_relay.specs.steps.Tables.{IsNotable, IsTidy, is_claimed}
 use Rattle.tp4_relay.proofs.Journals.{any_append, claims_lost, inbound_same, inbounds_kept, or_false, outbound_same}
 use Rattle.tp4_relay.proofs.PairsHold.{ends_stay}
 use Rattle.tp4_relay.proofs.Tidy.{all_map, allowed_notable}
+use Rattle.tpdu.specs.declared.service.EndTold.TheVariants as tells
 
 -- ---- one pair
 
@@ -124,7 +125,7 @@ pairs_swapped pairs event free is =
 -- what a pump tells of an event, but that it joined two ends
 abbrev pub IsMade : Event → Type 0
 IsMade (events.Incoming heard) = ⊥
-IsMade (events.Gone end cause octets) = ⊥
+IsMade (events.End end (tells.Gone cause octets)) = ⊥
 IsMade (events.Joined inbound outbound) = ⊥
 IsMade event = IsFreeEvent event
 
@@ -135,7 +136,7 @@ JoinsNone event = Prim.Unit {0}
 
 made_claims : (kept : Kept) (free : Event) → IsMade free → (claims : List Claim) → claims_after kept.rows claims free ≡ claims
 made_claims kept (events.Incoming heard) is claims = absurd is
-made_claims kept (events.Gone end cause octets) is claims = absurd is
+made_claims kept (events.End end (tells.Gone cause octets)) is claims = absurd is
 made_claims kept free is claims = refl
 
 made_pairs : (free : Event) → IsMade free → (claims : List Claim) (pairs : List Pair) → all_pairs_after claims pairs free ≡ pairs_after pairs free
@@ -144,7 +145,7 @@ made_pairs free is claims pairs = refl
 
 made_free : (free : Event) → IsMade free → IsFreeEvent free
 made_free (events.Incoming heard) is = absurd is
-made_free (events.Gone end cause octets) is = absurd is
+made_free (events.End end (tells.Gone cause octets)) is = absurd is
 made_free (events.Joined inbound outbound) is = absurd is
 made_free free is = is
 
@@ -287,14 +288,14 @@ module _ (kept : Kept) (i o ends : ℕ) (j : Joins kept i o) (above : ends < o) 
 
   same_new : (event : Event) → Passes kept event → named_by event ≤ ends → Same event
   same_new (events.Incoming heard) may low = sym (ap (λ (b : Bool). new_pair i o (first_phase b)) (lost_new i heard (row_for kept.rows heard) kept.claims))
-  same_new (events.Gone x cause octets) may low = gone_by x low (i == x) refl
-  same_new (events.Accept x options octets) may low = stays_in kept i o (events.Joined i o) x Accepts new (unclaimed_other x may)
-  same_new (events.Confirm x options octets) may low = stays_out kept i o (events.Joined i o) x Opens new (late x low)
-  same_new (events.Got x octets) may low = untouched x (Waits On (Normal octets)) (Waits Back (Normal octets)) (shown_other x may) (late x low)
-  same_new (events.Urgent x octets) may low = untouched x (Waits On (Expedited octets)) (Waits Back (Expedited octets)) (shown_other x may) (late x low)
+  same_new (events.End x (tells.Gone cause octets)) may low = gone_by x low (i == x) refl
+  same_new (events.End x (tells.Accept options octets)) may low = stays_in kept i o (events.Joined i o) x Accepts new (unclaimed_other x may)
+  same_new (events.End x (tells.Confirm options octets)) may low = stays_out kept i o (events.Joined i o) x Opens new (late x low)
+  same_new (events.End x (tells.Got octets)) may low = untouched x (Waits On (Normal octets)) (Waits Back (Normal octets)) (shown_other x may) (late x low)
+  same_new (events.End x (tells.Urgent octets)) may low = untouched x (Waits On (Expedited octets)) (Waits Back (Expedited octets)) (shown_other x may) (late x low)
   same_new (events.Data x octets) may low = untouched x (Gives Back) (Gives On) (unclaimed_other x may) (late x low)
   same_new (events.Expedite x octets) may low = untouched x (Gives Back) (Gives On) (unclaimed_other x may) (late x low)
-  same_new (events.Window x credit) may low = untouched x (Turns On) (Turns Back) (unclaimed_other x may) (late x low)
+  same_new (events.End x (tells.Window credit)) may low = untouched x (Turns On) (Turns Back) (unclaimed_other x may) (late x low)
   same_new (events.Disconnect x octets) may low = untouched x Closes Closes (unclaimed_other x may) (late x low)
   same_new (events.Joined a b) may low = absurd may
   same_new event may low = refl
@@ -323,7 +324,7 @@ passes_no_join kept event may = tt
 made_swapped : (ends : ℕ) (kept : Kept) (event made : Event) → IsMadeBy ends kept made → Passes kept event → named_by event ≤ ends → noted (noted kept event) made ≡ noted (noted kept made) event
 made_swapped ends kept event (events.Joined i o) is may low = joined_swapped kept i o ends is.0 is.1 event may low
 made_swapped ends kept event (events.Incoming heard) is may low = absurd is
-made_swapped ends kept event (events.Gone end cause octets) is may low = absurd is
+made_swapped ends kept event (events.End end (tells.Gone cause octets)) is may low = absurd is
 made_swapped ends kept event made is may low = noted_swapped kept event made (passes_no_join kept event may) is
 
 still_claimed : (kept : Kept) (event : Event) (i : ℕ) → is_claimed kept.claims i ≡ true → is_claimed (claims_after kept.rows kept.claims event) i ≡ true
@@ -332,7 +333,7 @@ still_claimed kept (events.Incoming heard) i is = by (row_for kept.rows heard)
     by : (row : Option RelayRow) → is_claimed (kept.claims ++ claimed heard.end row) i ≡ true
     by None = ap (λ (cs : List Claim). is_claimed cs i) (append-nil kept.claims) ∙ is
     by (Some row) = any_append (λ (c : Claim). c.end == i) kept.claims (record { end = heard.end; gone = false }) ∙ ap (λ (b : Bool). b || (heard.end == i)) is
-still_claimed kept (events.Gone end cause octets) i is = claims_lost end i kept.claims ∙ is
+still_claimed kept (events.End end (tells.Gone cause octets)) i is = claims_lost end i kept.claims ∙ is
 still_claimed kept event i is = is
 
 below_in : (i : ℕ) (at : AtEnd) (pairs : List Pair) → AllByRecursion (λ (pair : Pair). pair.inbound < i) pairs → AllByRecursion (λ (pair : Pair). pair.inbound < i) (change_inbound at pairs)
@@ -362,7 +363,7 @@ made_still ends kept event (events.Joined i o) is may low =
     (below_out i (outbound_change event) (change_inbound (inbound_change event) kept.pairs) (below_in i (inbound_change event) kept.pairs (is.0).later)) in
     (record { indicated = still_claimed kept event i (is.0).indicated; later = later; unnamed = (let a = (is.0).unnamed in let b = is.1 in omega (arith, a, b, low)) }, is.1)
 made_still ends kept event (events.Incoming heard) is may low = absurd is
-made_still ends kept event (events.Gone end cause octets) is may low = absurd is
+made_still ends kept event (events.End end (tells.Gone cause octets)) is may low = absurd is
 made_still ends kept event made is may low = is
 
 -- behind what is told the event still passes
@@ -374,13 +375,13 @@ module _ (ends : ℕ) (kept : Kept) (i o : ℕ) (j : Joins kept i o) (above : en
   passes_joined : (event : Event) → Passes kept event → named_by event ≤ ends → Passes (noted kept (events.Joined i o)) event
   passes_joined (events.Incoming heard) may low =
       (may.0, all_last (λ (pair : Pair). pair.outbound ≢ heard.end) kept.pairs (joined kept.claims i o) may.1 (λ same. omega (arith, low, same, above)))
-  passes_joined (events.Accept x options octets) may low = may
+  passes_joined (events.End x (tells.Accept options octets)) may low = may
   passes_joined (events.Data x octets) may low = may
   passes_joined (events.Expedite x octets) may low = may
-  passes_joined (events.Window x credit) may low = may
+  passes_joined (events.End x (tells.Window credit)) may low = may
   passes_joined (events.Disconnect x octets) may low = may
-  passes_joined (events.Got x octets) may low = unjoined_before x may
-  passes_joined (events.Urgent x octets) may low = unjoined_before x may
+  passes_joined (events.End x (tells.Got octets)) may low = unjoined_before x may
+  passes_joined (events.End x (tells.Urgent octets)) may low = unjoined_before x may
   passes_joined (events.Joined a b) may low = absurd may
   passes_joined event may low = tt
 
@@ -407,20 +408,20 @@ module _ (kept : Kept) (free : Event) (is : IsMade free) where
     subst (AllByRecursion (λ (pair : Pair). pair.outbound ≢ heard.end)) (sym pairs_same)
         (other_out heard.end (outbound_change free) (change_inbound (inbound_change free) kept.pairs) (other_in heard.end (inbound_change free) kept.pairs may.1)),
   )
-  passes_free (events.Accept x options octets) may = unclaimed_still x may
+  passes_free (events.End x (tells.Accept options octets)) may = unclaimed_still x may
   passes_free (events.Data x octets) may = unclaimed_still x may
   passes_free (events.Expedite x octets) may = unclaimed_still x may
-  passes_free (events.Window x credit) may = unclaimed_still x may
+  passes_free (events.End x (tells.Window credit)) may = unclaimed_still x may
   passes_free (events.Disconnect x octets) may = unclaimed_still x may
-  passes_free (events.Got x octets) may = shown_still x may
-  passes_free (events.Urgent x octets) may = shown_still x may
+  passes_free (events.End x (tells.Got octets)) may = shown_still x may
+  passes_free (events.End x (tells.Urgent octets)) may = shown_still x may
   passes_free (events.Joined a b) may = absurd may
   passes_free event may = tt
 
 passes_still : (ends : ℕ) (kept : Kept) (event made : Event) → IsMadeBy ends kept made → Passes kept event → named_by event ≤ ends → Passes (noted kept made) event
 passes_still ends kept event (events.Joined i o) is may low = passes_joined ends kept i o is.0 is.1 event may low
 passes_still ends kept event (events.Incoming heard) is may low = absurd is
-passes_still ends kept event (events.Gone end cause octets) is may low = absurd is
+passes_still ends kept event (events.End end (tells.Gone cause octets)) is may low = absurd is
 passes_still ends kept event made is may low = passes_free kept made is event may
 
 -- what was told, noted before an event of the line or behind it
@@ -458,15 +459,15 @@ made_allowed ends kept (events.Joined i o ∷ made) all = ((all.0).0, made_allow
 made_allowed ends kept (events.Incoming heard ∷ made) all = absurd all.0
 made_allowed ends kept (events.Data end octets ∷ made) all = absurd (all.0).0
 made_allowed ends kept (events.Expedite end octets ∷ made) all = absurd (all.0).0
-made_allowed ends kept (events.Got end octets ∷ made) all = absurd (all.0).0
-made_allowed ends kept (events.Urgent end octets ∷ made) all = absurd (all.0).0
+made_allowed ends kept (events.End end (tells.Got octets) ∷ made) all = absurd (all.0).0
+made_allowed ends kept (events.End end (tells.Urgent octets) ∷ made) all = absurd (all.0).0
 made_allowed ends kept (event ∷ made) all = (tt, made_allowed ends (noted kept event) made all.1)
 
 pub made_fewer : (more ends : ℕ) (kept : Kept) (made : List Event) → ends ≤ more → AreMadeBy more kept made → AreMadeBy ends kept made
 made_fewer more ends kept [] le all = tt
 made_fewer more ends kept (events.Joined i o ∷ made) le all = (((all.0).0, (let h = (all.0).1 in omega (arith, h, le))), made_fewer more ends (noted kept (events.Joined i o)) made le all.1)
 made_fewer more ends kept (events.Incoming heard ∷ made) le all = absurd all.0
-made_fewer more ends kept (events.Gone end cause octets ∷ made) le all = absurd all.0
+made_fewer more ends kept (events.End end (tells.Gone cause octets) ∷ made) le all = absurd all.0
 made_fewer more ends kept (event ∷ made) le all = (all.0, made_fewer more ends (noted kept event) made le all.1)
 
 -- ---- the events of a line
@@ -477,13 +478,13 @@ module _ (kept : Kept) (t : IsTidy kept) where
 
   pub line_passes : (event : Event) → IsLine kept event → Passes kept event
   line_passes (events.Incoming heard) is = allowed_notable kept (events.Incoming heard) t is.0
-  line_passes (events.Accept end options octets) is = other_unclaimed end is
+  line_passes (events.End end (tells.Accept options octets)) is = other_unclaimed end is
   line_passes (events.Data end octets) is = other_unclaimed end is
   line_passes (events.Expedite end octets) is = other_unclaimed end is
-  line_passes (events.Window end credit) is = other_unclaimed end is
+  line_passes (events.End end (tells.Window credit)) is = other_unclaimed end is
   line_passes (events.Disconnect end octets) is = other_unclaimed end is
-  line_passes (events.Got end octets) is = is.0
-  line_passes (events.Urgent end octets) is = is.0
+  line_passes (events.End end (tells.Got octets)) is = is.0
+  line_passes (events.End end (tells.Urgent octets)) is = is.0
   line_passes (events.Joined inbound outbound) is = absurd is
   line_passes event is = tt
 

@@ -3,7 +3,7 @@ use Rattle.std.proofs.Common.{◌≡◌, ◌≢◌, ℕ, zero, suc, ◌+◌, ◌
 use Rattle.std.specs.Prelude.{if◌then◌else◌}
 use Rattle.std.specs.Cmp.Lexicographic.{pointwise}
 use Rattle.std.proofs.lemmas.Bool.{eq-eqb, ne_eqb}
-use Rattle.osi_journal.specs.declared.event.Indication.{Indication}
+use Rattle.script_journal.specs.declared.event.Indication.{Indication}
 use Rattle.tp4_relay.specs.declared.row.RelayRow.{RelayRow}
 use Rattle.tp4_relay.specs.Kept.{is_at, row_for}
 

@@ -3,15 +3,16 @@
 use Rattle.std.proofs.Common.{◌≡◌, ◌≢◌, ℕ, ◌==◌, Bool, true, false, List, [], ◌∷◌, ◌++◌, map, drop, refl, sym, ◌∙◌, ap, subst, append_assoc}
 use Rattle.std.specs.Prelude.{if◌then◌else◌}
 use Rattle.std.proofs.lemmas.List.{append-nil}
-use Rattle.osi_journal.specs.declared.event.Event.{Event}
-use Rattle.osi_journal.specs.declared.event.Event.TheVariants as events
-use Rattle.osi_journal.specs.Lawful.{Marked, Normal, Expedited, shown, submitted}
+use Rattle.script_journal.specs.declared.event.Event.{Event}
+use Rattle.script_journal.specs.declared.event.Event.TheVariants as events
+use Rattle.script_journal.specs.Lawful.{Marked, Normal, Expedited, shown, submitted}
 use Rattle.tp4_relay.specs.declared.pair.Phase.{Phase}
 use Rattle.tp4_relay.specs.declared.pair.Phase.TheVariants.{Begun, Open, Closed}
 use Rattle.tp4_relay.specs.declared.unit.MarkedUnit.{MarkedUnit}
 use Rattle.tp4_relay.specs.Allowed.{IsFirst, marked}
 use Rattle.tp4_relay.specs.Pairs.{kept, opened}
 use Rattle.tp4_relay.specs.Relaying.{IsMarkedFront}
+use Rattle.tpdu.specs.declared.service.EndTold.TheVariants as tells
 
 pub record Holds (given got : List Marked) (phase : Phase) (waiting : List Marked) : Type 0 where
   pub front : IsMarkedFront given got
@@ -91,14 +92,14 @@ submitted_more end (first ∷ journal) event = submitted_more end journal event
 
 pub shown_more : (end : ℕ) (journal : List Event) (event : Event) → shown end (journal ++ event ∷ []) ≡ shown end journal ++ shown end (event ∷ [])
 shown_more end [] event = refl
-shown_more end (events.Got at octets ∷ journal) event = by (at == end) (shown_more end journal event)
+shown_more end (events.End at (tells.Got octets) ∷ journal) event = by (at == end) (shown_more end journal event)
   where
     by : (b : Bool) → shown end (journal ++ event ∷ []) ≡ shown end journal ++ shown end (event ∷ [])
         → (if b then Normal octets ∷ shown end (journal ++ event ∷ []) else shown end (journal ++ event ∷ []))
         ≡ (if b then Normal octets ∷ shown end journal else shown end journal) ++ shown end (event ∷ [])
     by true rest = ap (λ (us : List Marked). Normal octets ∷ us) rest
     by false rest = rest
-shown_more end (events.Urgent at octets ∷ journal) event = by (at == end) (shown_more end journal event)
+shown_more end (events.End at (tells.Urgent octets) ∷ journal) event = by (at == end) (shown_more end journal event)
   where
     by : (b : Bool) → shown end (journal ++ event ∷ []) ≡ shown end journal ++ shown end (event ∷ [])
         → (if b then Expedited octets ∷ shown end (journal ++ event ∷ []) else shown end (journal ++ event ∷ []))

@@ -5,11 +5,11 @@ use Rattle.std.specs.List.{AllByRecursion, Contains, list_any}
 use Rattle.std.proofs.lemmas.Bool.{ne_eqb, eqb-true}
 use Rattle.std.proofs.lemmas.List.{append-nil}
 use Rattle.std.proofs.lemmas.List.Elements.{Contains-append_cases}
-use Rattle.osi_journal.specs.declared.event.Event.{Event}
-use Rattle.osi_journal.specs.declared.event.Event.TheVariants as events
-use Rattle.osi_journal.specs.declared.event.Indication.{Indication}
-use Rattle.osi_journal.specs.Lawful.{Marked, shown, submitted}
-use Rattle.osi_journal.specs.Lawful.{Normal as NormalUnit, Expedited as ExpeditedUnit}
+use Rattle.script_journal.specs.declared.event.Event.{Event}
+use Rattle.script_journal.specs.declared.event.Event.TheVariants as events
+use Rattle.script_journal.specs.declared.event.Indication.{Indication}
+use Rattle.script_journal.specs.Lawful.{Marked, shown, submitted}
+use Rattle.script_journal.specs.Lawful.{Normal as NormalUnit, Expedited as ExpeditedUnit}
 use Rattle.tp4_conn.specs.declared.timers.Timers.{Timers}
 use Rattle.tp4_relay.specs.declared.claim.Claim.{Claim}
 use Rattle.tp4_relay.specs.declared.pair.Pair.{Pair}
@@ -22,6 +22,7 @@ use Rattle.tp4_relay.specs.Relaying.{IsMarkedFront, RelaysUnits}
 use Rattle.tp4_relay.proofs.AllHold.{MayAll, all_after}
 use Rattle.tp4_relay.proofs.Holding.{Holds, shown_more, submitted_more}
 use Rattle.tp4_relay.proofs.PairsHold.{PairHolds, aside, ends_stay}
+use Rattle.tpdu.specs.declared.service.EndTold.TheVariants as tells
 
 pub record IsUnused (journal : List Event) (end : ℕ) : Type 0 where
   pub shown_none : shown end journal ≡ []
@@ -43,8 +44,8 @@ none_if at end unit other = ap (λ (b : Bool). if b then unit ∷ [] else []) (n
 
 -- an event is quiet at each end that it does not name
 quiet_at : (end : ℕ) (event : Event) → named_by event ≢ end → Quiet end event
-quiet_at end (events.Got at octets) other = (none_if at end (NormalUnit octets) other, refl)
-quiet_at end (events.Urgent at octets) other = (none_if at end (ExpeditedUnit octets) other, refl)
+quiet_at end (events.End at (tells.Got octets)) other = (none_if at end (NormalUnit octets) other, refl)
+quiet_at end (events.End at (tells.Urgent octets)) other = (none_if at end (ExpeditedUnit octets) other, refl)
 quiet_at end (events.Data at octets) other = (refl, none_if at end (NormalUnit octets) other)
 quiet_at end (events.Expedite at octets) other = (refl, none_if at end (ExpeditedUnit octets) other)
 quiet_at end event other = (refl, refl)
@@ -124,7 +125,7 @@ claimed_before rows claims (events.Incoming heard) end is = by (row_for rows hea
       | inl before ↦ inl before
       | inr now ↦ inr (heard, refl, eqb-true heard.end end now)
     ]
-claimed_before rows claims (events.Gone at cause octets) end is = inl (sym (claims_lost at end claims) ∙ is)
+claimed_before rows claims (events.End at (tells.Gone cause octets)) end is = inl (sym (claims_lost at end claims) ∙ is)
 claimed_before rows claims event end is = inl is
 
 -- ---- pairs that were joined
@@ -241,10 +242,10 @@ module _ (done : List Event) (kept : Kept) (s : Stands done kept) where
     where
       heard_is : (heard other : Indication) → events.Incoming heard ≡ events.Incoming other → heard.end ≡ other.end
       heard_is heard other is = let same : heard ≡ other = cc in ap (λ (h : Indication). h.end) same
-  stands_more (events.Got at octets) may =
-      other_step (events.Got at octets) refl (λ i o is. absurd (cc)) may.1 (λ end u. quiet_at end (events.Got at octets) (not_unjoined at end may.0 u)) (λ other is. absurd (cc))
-  stands_more (events.Urgent at octets) may =
-      other_step (events.Urgent at octets) refl (λ i o is. absurd (cc)) may.1 (λ end u. quiet_at end (events.Urgent at octets) (not_unjoined at end may.0 u)) (λ other is. absurd (cc))
+  stands_more (events.End at (tells.Got octets)) may =
+      other_step (events.End at (tells.Got octets)) refl (λ i o is. absurd (cc)) may.1 (λ end u. quiet_at end (events.End at (tells.Got octets)) (not_unjoined at end may.0 u)) (λ other is. absurd (cc))
+  stands_more (events.End at (tells.Urgent octets)) may =
+      other_step (events.End at (tells.Urgent octets)) refl (λ i o is. absurd (cc)) may.1 (λ end u. quiet_at end (events.End at (tells.Urgent octets)) (not_unjoined at end may.0 u)) (λ other is. absurd (cc))
   stands_more (events.Data at octets) may =
       other_step (events.Data at octets) refl (λ i o is. absurd (cc)) may.1 (λ end u. quiet_at end (events.Data at octets) (not_unjoined at end may.0 u)) (λ other is. absurd (cc))
   stands_more (events.Expedite at octets) may =

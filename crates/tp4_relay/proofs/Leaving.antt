@@ -7,9 +7,9 @@ use Rattle.std.proofs.lemmas.Bool.{cases_lt, eq-eqb, ne_eqb}
 use Rattle.std.proofs.lemmas.List.{append-nil}
 use Rattle.std.proofs.lemmas.List.Elements.{All-from_recursion, recursion_from_All}
 use Rattle.std.proofs.lemmas.Option.{get_or_from_slice_get, slice_get-get_or, slice_get-map, slice_get_within}
-use Rattle.osi_script.specs.declared.line.Options.{Options}
-use Rattle.osi_journal.specs.declared.event.Event.{Event}
-use Rattle.osi_journal.specs.declared.event.Event.TheVariants as events
+use Rattle.tpdu.specs.declared.service.Options.{Options}
+use Rattle.script_journal.specs.declared.event.Event.{Event}
+use Rattle.script_journal.specs.declared.event.Event.TheVariants as events
 use Rattle.tp4_conn.specs.declared.call.ConnectRequest.{ConnectRequest}
 use Rattle.tp4_conn.specs.declared.call.UserCall.{UserCall}
 use Rattle.tp4_conn.specs.declared.call.UserCall.TheVariants as asks
@@ -23,7 +23,7 @@ use Rattle.tp4_relay.specs.declared.unit.MarkedUnit.{MarkedUnit}
 use Rattle.tp4_relay.specs.declared.unit.MarkedUnit.TheVariants.{Normal, Expedited}
 use Rattle.tp4_relay.specs.Kept.{Kept, kept_after, noted}
 use Rattle.tp4_relay.specs.Leaving.{GivesAll, IsServed, LeavesNone, RefusesNext}
-use Rattle.osi_journal.specs.Lawful.{Marked, shown, submitted}
+use Rattle.script_journal.specs.Lawful.{Marked, shown, submitted}
 use Rattle.tp4_relay.specs.Allowed.{marked}
 use Rattle.std.proofs.lemmas.Grind.{get_or_default_zero}
 use Rattle.tp4_relay.proofs.Served.{open_bound, pairs_grow}
@@ -39,6 +39,7 @@ use Rattle.tp4_relay.proofs.Giving.{changed_at, ends_differ, first_gone, inbound
 use Rattle.tp4_relay.proofs.PairsHold.{PairHolds, if_changed}
 use Rattle.tp4_relay.proofs.Telling.{told_allowed, told_done, told_refused}
 use Rattle.tp4_relay.proofs.Tidy.{all_each, all_notable, tidy_all}
+use Rattle.tpdu.specs.declared.service.EndTold.TheVariants as tells
 
 -- ---- other pairs
 
@@ -221,7 +222,7 @@ module _ {S : Type 0} (has : S → ℕ → Type 0) (ends : S → ℕ) (honest : 
       is = first_gone kept tidy place pair is heading unit made told;
     }
 
-    turned_is : (heading : Heading) (own : Event) (granted : ℕ) → own ≡ events.Window (near_end heading pair) granted → slice_get (noted kept own).pairs place ≡ Some (changed pair (Turns heading))
+    turned_is : (heading : Heading) (own : Event) (granted : ℕ) → own ≡ events.End (near_end heading pair) (tells.Window granted) → slice_get (noted kept own).pairs place ≡ Some (changed pair (Turns heading))
     turned_is On own granted e = ap (λ (x : Event). slice_get (noted kept x).pairs place) e ∙ at_inbound kept tidy place pair is (Turns On) (Turns Back)
     turned_is Back own granted e = ap (λ (x : Event). slice_get (noted kept x).pairs place) e ∙ at_outbound kept tidy place pair is (Turns On) (Turns Back)
 

@@ -2,11 +2,9 @@
 use Rattle.std.proofs.Common.{◌≡◌, ◌⊎◌, inl, inr, ℕ, suc, max, Bool, true, false, List, [], ◌∷◌, ◌++◌, Some, None, Result, Ok, Err, refl, sym, ◌∙◌, ap, subst, arith}
 use Rattle.std.specs.Prelude.{if◌then◌else◌}
 use Rattle.std.specs.Result.{OnErr, OnOk}
-use Rattle.osi_script.specs.declared.line.Options.{Options}
-use Rattle.osi_journal.specs.declared.cause.GoneCause.{GoneCause}
-use Rattle.osi_journal.specs.declared.event.Event.{Event}
-use Rattle.osi_journal.specs.declared.event.Event.TheVariants as events
-use Rattle.osi_journal.specs.declared.event.Indication.{Indication}
+use Rattle.script_journal.specs.declared.event.Event.{Event}
+use Rattle.script_journal.specs.declared.event.Event.TheVariants as events
+use Rattle.script_journal.specs.declared.event.Indication.{Indication}
 use Rattle.tp4_relay.specs.declared.claim.Claim.{Claim}
 use Rattle.tp4_relay.specs.declared.pair.Heading.TheVariants.{On, Back}
 use Rattle.tp4_relay.specs.declared.pair.Pair.{Pair}
@@ -19,6 +17,7 @@ use Rattle.tp4_relay.specs.Reaction.{reaction}
 use Rattle.tp4_relay.specs.steps.Tables.{IsNotable, IsTidy, IsTidyBy}
 use Rattle.tp4_relay.proofs.OpenPlaces.{places_both, places_inbound}
 use Rattle.tp4_relay.proofs.Tidy.{tidy_in, tidy_more, tidy_named}
+use Rattle.tpdu.specs.declared.service.EndTold.{EndTold}
 
 pub on_ok : {A E : Type 0} (r : Result A E) (P Q : Type 0) → (P → Q) → OnOk r P → OnOk r Q
 on_ok (Ok x) P Q f h = f h
@@ -47,12 +46,12 @@ pub tidy_part : (kept : Kept) (event : Event) (named : ℕ) (claims : List Claim
 tidy_part kept event named claims pairs tidy n part =
     subst (λ (ps : List Pair). IsTidyBy claims ps named) (sym part.1) (tidy_in part.0 kept.pairs claims named (tidy_named claims kept.pairs kept.named named (omega (arith, n)) tidy))
 
--- an event that neither makes an end nor makes one go
-pub claims_stay : (rows : List RelayRow) (claims : List Claim) (event : Event) → ((heard : Indication) → event ≡ events.Incoming heard → ⊥) → ((end : ℕ) (cause : GoneCause) (octets : List ℕ) → event ≡ events.Gone end cause octets → ⊥)
+-- an event that neither makes an end nor is told by one
+pub claims_stay : (rows : List RelayRow) (claims : List Claim) (event : Event) → ((heard : Indication) → event ≡ events.Incoming heard → ⊥) → ((end : ℕ) (what : EndTold) → event ≡ events.End end what → ⊥)
     → claims ≡ claims_after rows claims event
-claims_stay rows claims (events.Incoming heard) none_in none_gone = absurd (none_in heard refl)
-claims_stay rows claims (events.Gone end cause octets) none_in none_gone = absurd (none_gone end cause octets refl)
-claims_stay rows claims event none_in none_gone = refl
+claims_stay rows claims (events.Incoming heard) not_incoming not_end = absurd (not_incoming heard refl)
+claims_stay rows claims (events.End end what) not_incoming not_end = absurd (not_end end what refl)
+claims_stay rows claims event not_incoming not_end = refl
 
 pub pairs_change : (claims : List Claim) (pairs : List Pair) (event : Event) → ((inbound outbound : ℕ) → event ≡ events.Joined inbound outbound → ⊥) → pairs_after pairs event ≡ all_pairs_after claims pairs event
 pairs_change claims pairs (events.Joined inbound outbound) none = absurd (none inbound outbound refl)
@@ -71,40 +70,30 @@ pub joined_places : (claims : List Claim) (pairs : List Pair) (inbound outbound 
 joined_places claims pairs inbound outbound = places_last 0 pairs (joined claims inbound outbound) (first_shut (is_lost claims inbound))
 
 -- another event names no end
-pub named_none : (event : Event) → ((heard : Indication) → event ≡ events.Incoming heard → ⊥) → ((inbound outbound : ℕ) → event ≡ events.Joined inbound outbound → ⊥) → ((end : ℕ) (options : Options) (octets : List ℕ) → event ≡ events.Accept end options octets → ⊥) → ((end : ℕ) (options : Options) (octets : List ℕ) → event ≡ events.Confirm end options octets → ⊥) → ((end : ℕ) (octets : List ℕ) → event ≡ events.Data end octets → ⊥) → ((end : ℕ) (octets : List ℕ) → event ≡ events.Got end octets → ⊥) → ((end : ℕ) (octets : List ℕ) → event ≡ events.Expedite end octets → ⊥) → ((end : ℕ) (octets : List ℕ) → event ≡ events.Urgent end octets → ⊥) → ((end : ℕ) (octets : List ℕ) → event ≡ events.Refuse end octets → ⊥) → ((end : ℕ) (octets : List ℕ) → event ≡ events.Disconnect end octets → ⊥) → ((end : ℕ) (cause : GoneCause) (octets : List ℕ) → event ≡ events.Gone end cause octets → ⊥) → ((end credit : ℕ) → event ≡ events.Window end credit → ⊥) → 0 ≡ named_by event
-named_none (events.Incoming heard) not_incoming not_joined not_accept not_confirm not_data not_got not_expedite not_urgent not_refuse not_disconnect not_gone not_window = absurd (not_incoming heard refl)
-named_none (events.Joined inbound outbound) not_incoming not_joined not_accept not_confirm not_data not_got not_expedite not_urgent not_refuse not_disconnect not_gone not_window = absurd (not_joined inbound outbound refl)
-named_none (events.Accept end options octets) not_incoming not_joined not_accept not_confirm not_data not_got not_expedite not_urgent not_refuse not_disconnect not_gone not_window = absurd (not_accept end options octets refl)
-named_none (events.Confirm end options octets) not_incoming not_joined not_accept not_confirm not_data not_got not_expedite not_urgent not_refuse not_disconnect not_gone not_window = absurd (not_confirm end options octets refl)
-named_none (events.Data end octets) not_incoming not_joined not_accept not_confirm not_data not_got not_expedite not_urgent not_refuse not_disconnect not_gone not_window = absurd (not_data end octets refl)
-named_none (events.Got end octets) not_incoming not_joined not_accept not_confirm not_data not_got not_expedite not_urgent not_refuse not_disconnect not_gone not_window = absurd (not_got end octets refl)
-named_none (events.Expedite end octets) not_incoming not_joined not_accept not_confirm not_data not_got not_expedite not_urgent not_refuse not_disconnect not_gone not_window = absurd (not_expedite end octets refl)
-named_none (events.Urgent end octets) not_incoming not_joined not_accept not_confirm not_data not_got not_expedite not_urgent not_refuse not_disconnect not_gone not_window = absurd (not_urgent end octets refl)
-named_none (events.Refuse end octets) not_incoming not_joined not_accept not_confirm not_data not_got not_expedite not_urgent not_refuse not_disconnect not_gone not_window = absurd (not_refuse end octets refl)
-named_none (events.Disconnect end octets) not_incoming not_joined not_accept not_confirm not_data not_got not_expedite not_urgent not_refuse not_disconnect not_gone not_window = absurd (not_disconnect end octets refl)
-named_none (events.Gone end cause octets) not_incoming not_joined not_accept not_confirm not_data not_got not_expedite not_urgent not_refuse not_disconnect not_gone not_window = absurd (not_gone end cause octets refl)
-named_none (events.Window end credit) not_incoming not_joined not_accept not_confirm not_data not_got not_expedite not_urgent not_refuse not_disconnect not_gone not_window = absurd (not_window end credit refl)
-named_none event not_incoming not_joined not_accept not_confirm not_data not_got not_expedite not_urgent not_refuse not_disconnect not_gone not_window = refl
+pub named_none : (event : Event) → ((heard : Indication) → event ≡ events.Incoming heard → ⊥) → ((inbound outbound : ℕ) → event ≡ events.Joined inbound outbound → ⊥) → ((end : ℕ) (what : EndTold) → event ≡ events.End end what → ⊥)
+    → ((end : ℕ) (octets : List ℕ) → event ≡ events.Data end octets → ⊥) → ((end : ℕ) (octets : List ℕ) → event ≡ events.Expedite end octets → ⊥) → ((end : ℕ) (octets : List ℕ) → event ≡ events.Refuse end octets → ⊥) → ((end : ℕ) (octets : List ℕ) → event ≡ events.Disconnect end octets → ⊥) → 0 ≡ named_by event
+named_none (events.Incoming heard) not_incoming not_joined not_end not_data not_expedite not_refuse not_disconnect = absurd (not_incoming heard refl)
+named_none (events.Joined inbound outbound) not_incoming not_joined not_end not_data not_expedite not_refuse not_disconnect = absurd (not_joined inbound outbound refl)
+named_none (events.End end what) not_incoming not_joined not_end not_data not_expedite not_refuse not_disconnect = absurd (not_end end what refl)
+named_none (events.Data end octets) not_incoming not_joined not_end not_data not_expedite not_refuse not_disconnect = absurd (not_data end octets refl)
+named_none (events.Expedite end octets) not_incoming not_joined not_end not_data not_expedite not_refuse not_disconnect = absurd (not_expedite end octets refl)
+named_none (events.Refuse end octets) not_incoming not_joined not_end not_data not_expedite not_refuse not_disconnect = absurd (not_refuse end octets refl)
+named_none (events.Disconnect end octets) not_incoming not_joined not_end not_data not_expedite not_refuse not_disconnect = absurd (not_disconnect end octets refl)
+named_none event not_incoming not_joined not_end not_data not_expedite not_refuse not_disconnect = refl
 
 -- another event changes no pair
-pub pairs_none : (pairs : List Pair) (event : Event) → ((end : ℕ) (options : Options) (octets : List ℕ) → event ≡ events.Accept end options octets → ⊥) → ((end : ℕ) (options : Options) (octets : List ℕ) → event ≡ events.Confirm end options octets → ⊥) → ((end : ℕ) (octets : List ℕ) → event ≡ events.Got end octets → ⊥) → ((end : ℕ) (octets : List ℕ) → event ≡ events.Urgent end octets → ⊥) → ((end : ℕ) (octets : List ℕ) → event ≡ events.Data end octets → ⊥) → ((end : ℕ) (octets : List ℕ) → event ≡ events.Expedite end octets → ⊥) → ((end credit : ℕ) → event ≡ events.Window end credit → ⊥) → ((end : ℕ) (octets : List ℕ) → event ≡ events.Disconnect end octets → ⊥) → ((end : ℕ) (cause : GoneCause) (octets : List ℕ) → event ≡ events.Gone end cause octets → ⊥) → pairs ≡ pairs_after pairs event
-pairs_none pairs (events.Accept end options octets) not_accept not_confirm not_got not_urgent not_data not_expedite not_window not_disconnect not_gone = absurd (not_accept end options octets refl)
-pairs_none pairs (events.Confirm end options octets) not_accept not_confirm not_got not_urgent not_data not_expedite not_window not_disconnect not_gone = absurd (not_confirm end options octets refl)
-pairs_none pairs (events.Got end octets) not_accept not_confirm not_got not_urgent not_data not_expedite not_window not_disconnect not_gone = absurd (not_got end octets refl)
-pairs_none pairs (events.Urgent end octets) not_accept not_confirm not_got not_urgent not_data not_expedite not_window not_disconnect not_gone = absurd (not_urgent end octets refl)
-pairs_none pairs (events.Data end octets) not_accept not_confirm not_got not_urgent not_data not_expedite not_window not_disconnect not_gone = absurd (not_data end octets refl)
-pairs_none pairs (events.Expedite end octets) not_accept not_confirm not_got not_urgent not_data not_expedite not_window not_disconnect not_gone = absurd (not_expedite end octets refl)
-pairs_none pairs (events.Window end credit) not_accept not_confirm not_got not_urgent not_data not_expedite not_window not_disconnect not_gone = absurd (not_window end credit refl)
-pairs_none pairs (events.Disconnect end octets) not_accept not_confirm not_got not_urgent not_data not_expedite not_window not_disconnect not_gone = absurd (not_disconnect end octets refl)
-pairs_none pairs (events.Gone end cause octets) not_accept not_confirm not_got not_urgent not_data not_expedite not_window not_disconnect not_gone = absurd (not_gone end cause octets refl)
-pairs_none pairs event not_accept not_confirm not_got not_urgent not_data not_expedite not_window not_disconnect not_gone = refl
+pub pairs_none : (pairs : List Pair) (event : Event) → ((end : ℕ) (what : EndTold) → event ≡ events.End end what → ⊥) → ((end : ℕ) (octets : List ℕ) → event ≡ events.Data end octets → ⊥) → ((end : ℕ) (octets : List ℕ) → event ≡ events.Expedite end octets → ⊥) → ((end : ℕ) (octets : List ℕ) → event ≡ events.Disconnect end octets → ⊥) → pairs ≡ pairs_after pairs event
+pairs_none pairs (events.End end what) not_end not_data not_expedite not_disconnect = absurd (not_end end what refl)
+pairs_none pairs (events.Data end octets) not_end not_data not_expedite not_disconnect = absurd (not_data end octets refl)
+pairs_none pairs (events.Expedite end octets) not_end not_data not_expedite not_disconnect = absurd (not_expedite end octets refl)
+pairs_none pairs (events.Disconnect end octets) not_end not_data not_expedite not_disconnect = absurd (not_disconnect end octets refl)
+pairs_none pairs event not_end not_data not_expedite not_disconnect = refl
 
 -- about another event nothing is done
-pub nothing_done : (kept : Kept) (event : Event) → ((heard : Indication) → event ≡ events.Incoming heard → ⊥) → ((end : ℕ) (options : Options) (octets : List ℕ) → event ≡ events.Confirm end options octets → ⊥) → ((end : ℕ) (cause : GoneCause) (octets : List ℕ) → event ≡ events.Gone end cause octets → ⊥) → Nothing ≡ reaction kept event
-nothing_done kept (events.Incoming heard) not_incoming not_confirm not_gone = absurd (not_incoming heard refl)
-nothing_done kept (events.Confirm end options octets) not_incoming not_confirm not_gone = absurd (not_confirm end options octets refl)
-nothing_done kept (events.Gone end cause octets) not_incoming not_confirm not_gone = absurd (not_gone end cause octets refl)
-nothing_done kept event not_incoming not_confirm not_gone = refl
+pub nothing_done : (kept : Kept) (event : Event) → ((heard : Indication) → event ≡ events.Incoming heard → ⊥) → ((end : ℕ) (what : EndTold) → event ≡ events.End end what → ⊥) → Nothing ≡ reaction kept event
+nothing_done kept (events.Incoming heard) not_incoming not_end = absurd (not_incoming heard refl)
+nothing_done kept (events.End end what) not_incoming not_end = absurd (not_end end what refl)
+nothing_done kept event not_incoming not_end = refl
 
 -- ---- a unit comes to wait, or there is no memory for it
 

@@ -1,8 +1,8 @@
 -- Each pair holds, after each event that may come.
 use Rattle.std.proofs.Common.{◌≡◌, ◌≢◌, ℕ, ◌==◌, Bool, true, false, List, [], ◌∷◌, ◌++◌, refl, ap}
 use Rattle.std.specs.Prelude.{if◌then◌else◌}
-use Rattle.osi_journal.specs.declared.event.Event.{Event}
-use Rattle.osi_journal.specs.Lawful.{shown, submitted}
+use Rattle.script_journal.specs.declared.event.Event.{Event}
+use Rattle.script_journal.specs.Lawful.{shown, submitted}
 use Rattle.tp4_relay.specs.declared.pair.Heading.TheVariants.{On, Back}
 use Rattle.tp4_relay.specs.declared.pair.Pair.{Pair}
 use Rattle.tp4_relay.specs.declared.pair.Phase.TheVariants.{Begun}

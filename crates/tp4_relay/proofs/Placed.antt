@@ -5,7 +5,7 @@ use Rattle.std.specs.List.{list_any}
 use Rattle.std.specs.Option.{is_some}
 use Rattle.std.specs.Result.{OnErr}
 use Rattle.std.proofs.lemmas.Bool.{eq-eqb, ne_eqb}
-use Rattle.osi_script.specs.declared.line.Options.{Options as ScriptOptions}
+use Rattle.tpdu.specs.declared.service.Options.{Options}
 use Rattle.tp4_conn.specs.declared.call.UserCall.TheVariants as asks
 use Rattle.tp4_relay.specs.declared.claim.Claim.{Claim}
 use Rattle.tp4_relay.specs.declared.reaction.Reaction.TheVariants.{Nothing, Ask}
@@ -13,7 +13,7 @@ use Rattle.tp4_relay.specs.declared.pair.Pair.{Pair}
 use Rattle.tp4_relay.specs.declared.pair.Phase.TheVariants.{Begun}
 use Rattle.tp4_relay.specs.Kept.{is_lost, lost}
 use Rattle.tp4_relay.specs.Pairs.{AtEnd, Change, change_inbound, change_outbound, changed, inbound_changed, is_closed, new_pair}
-use Rattle.tp4_relay.specs.Reaction.{asked_options, confirms, inbound_pair, outbound_pair}
+use Rattle.tp4_relay.specs.Reaction.{confirms, inbound_pair, outbound_pair}
 use Rattle.tp4_relay.specs.steps.Rising.{IsMissedBy, IsPlaceBy, IsRisingBy, claim_of, inbound_of, outbound_of}
 use Rattle.tp4_relay.specs.steps.Tables.{is_claimed}
 use Rattle.tp4_relay.proofs.Columns.{inbound_first, missed_any, missed_change, missed_first, outbound_first, placed_any, placed_change, placed_first}
@@ -100,14 +100,14 @@ loss_at end (claim ∷ claims) (suc place) d rises low is =
 
 -- ---- what is done about the pair of an outbound end that is confirmed
 
-module _ (options : ScriptOptions) (octets : List ℕ) (pairs : List Pair) (end place : ℕ) (d : Pair) (rises : IsRisingBy outbound_of pairs) (p : IsPlaceBy outbound_of end place pairs) where
+module _ (options : Options) (octets : List ℕ) (pairs : List Pair) (end place : ℕ) (d : Pair) (rises : IsRisingBy outbound_of pairs) (p : IsPlaceBy outbound_of end place pairs) where
   confirms_by : (b : Bool) → is_closed (get_or pairs place d).phase ≡ b
-      → (if b then Nothing else Ask (get_or pairs place d).inbound (asks.Accept (asked_options options) octets)) ≡ confirms options octets (outbound_pair pairs end)
+      → (if b then Nothing else Ask (get_or pairs place d).inbound (asks.Accept options octets)) ≡ confirms options octets (outbound_pair pairs end)
   confirms_by b is =
-      sym (ap (confirms options octets) (outbound_there pairs end place d rises p) ∙ ap (λ (x : Bool). if x then Nothing else Ask (get_or pairs place d).inbound (asks.Accept (asked_options options) octets)) is)
+      sym (ap (confirms options octets) (outbound_there pairs end place d rises p) ∙ ap (λ (x : Bool). if x then Nothing else Ask (get_or pairs place d).inbound (asks.Accept options octets)) is)
 
   pub confirms_closed : is_closed (get_or pairs place d).phase ≡ true → Nothing ≡ confirms options octets (outbound_pair pairs end)
   confirms_closed is = confirms_by true is
 
-  pub confirms_open : is_closed (get_or pairs place d).phase ≡ false → Ask (get_or pairs place d).inbound (asks.Accept (asked_options options) octets) ≡ confirms options octets (outbound_pair pairs end)
+  pub confirms_open : is_closed (get_or pairs place d).phase ≡ false → Ask (get_or pairs place d).inbound (asks.Accept options octets) ≡ confirms options octets (outbound_pair pairs end)
   confirms_open is = confirms_by false is

@@ -1,8 +1,8 @@
 -- What a call tells, and what is kept then: its own event is noted, and what is told beside it changes nothing.
 use Rattle.std.proofs.Common.{◌≡◌, ◌≢◌, ℕ, ◌≤◌, max, Bool, true, false, List, [], ◌∷◌, length, Some, None, refl, sym, ◌∙◌, ap, subst, arith}
 use Rattle.std.specs.List.{AllByRecursion}
-use Rattle.osi_journal.specs.declared.event.Event.{Event}
-use Rattle.osi_journal.specs.declared.event.Event.TheVariants as events
+use Rattle.script_journal.specs.declared.event.Event.{Event}
+use Rattle.script_journal.specs.declared.event.Event.TheVariants as events
 use Rattle.tp4_conn.specs.declared.call.UserCall.{UserCall}
 use Rattle.tp4_conn.specs.declared.call.UserCall.TheVariants as asks
 use Rattle.tp4_relay.specs.declared.unit.MarkedUnit.{MarkedUnit}
@@ -12,6 +12,7 @@ use Rattle.tp4_relay.specs.Pump.{credit_now}
 use Rattle.tp4_relay.specs.Service.{IsAside, IsOwn, IsRefusal, ToldBy}
 use Rattle.tp4_relay.specs.steps.Making.{AreMadeBy, IsMadeBy, MayAsk, SubmitsNone}
 use Rattle.tp4_relay.specs.steps.Serving.{IsIdle}
+use Rattle.tpdu.specs.declared.service.EndTold.TheVariants as tells
 
 -- ---- events that change nothing
 
@@ -20,16 +21,16 @@ same_kept kept = let e : max kept.named 0 ≡ kept.named = omega arith in λ i. 
 
 pub idle_same : (kept : Kept) (event : Event) → IsIdle event → noted kept event ≡ kept
 idle_same kept (events.Incoming heard) is = absurd is
-idle_same kept (events.Accept end options octets) is = absurd is
-idle_same kept (events.Confirm end options octets) is = absurd is
+idle_same kept (events.End end (tells.Accept options octets)) is = absurd is
+idle_same kept (events.End end (tells.Confirm options octets)) is = absurd is
 idle_same kept (events.Data end octets) is = absurd is
-idle_same kept (events.Got end octets) is = absurd is
+idle_same kept (events.End end (tells.Got octets)) is = absurd is
 idle_same kept (events.Expedite end octets) is = absurd is
-idle_same kept (events.Urgent end octets) is = absurd is
+idle_same kept (events.End end (tells.Urgent octets)) is = absurd is
 idle_same kept (events.Refuse end octets) is = absurd is
 idle_same kept (events.Disconnect end octets) is = absurd is
-idle_same kept (events.Gone end cause octets) is = absurd is
-idle_same kept (events.Window end credit) is = absurd is
+idle_same kept (events.End end (tells.Gone cause octets)) is = absurd is
+idle_same kept (events.End end (tells.Window credit)) is = absurd is
 idle_same kept (events.Joined inbound outbound) is = absurd is
 idle_same kept event is = same_kept kept
 
@@ -48,8 +49,8 @@ asides_idle (event ∷ made) all = (aside_idle event all.0, asides_idle made all
 
 idle_allowed_one : (kept : Kept) (event : Event) → IsIdle event → IsAllowed kept event
 idle_allowed_one kept (events.Incoming heard) is = absurd is
-idle_allowed_one kept (events.Got end octets) is = absurd is
-idle_allowed_one kept (events.Urgent end octets) is = absurd is
+idle_allowed_one kept (events.End end (tells.Got octets)) is = absurd is
+idle_allowed_one kept (events.End end (tells.Urgent octets)) is = absurd is
 idle_allowed_one kept (events.Data end octets) is = absurd is
 idle_allowed_one kept (events.Expedite end octets) is = absurd is
 idle_allowed_one kept (events.Joined inbound outbound) is = absurd is
@@ -61,15 +62,15 @@ idle_allowed kept (event ∷ made) all = (idle_allowed_one kept event all.0, idl
 
 idle_made_one : (ends : ℕ) (kept : Kept) (event : Event) → IsIdle event → IsMadeBy ends kept event
 idle_made_one ends kept (events.Incoming heard) is = absurd is
-idle_made_one ends kept (events.Accept end options octets) is = absurd is
-idle_made_one ends kept (events.Confirm end options octets) is = absurd is
+idle_made_one ends kept (events.End end (tells.Accept options octets)) is = absurd is
+idle_made_one ends kept (events.End end (tells.Confirm options octets)) is = absurd is
 idle_made_one ends kept (events.Data end octets) is = absurd is
-idle_made_one ends kept (events.Got end octets) is = absurd is
+idle_made_one ends kept (events.End end (tells.Got octets)) is = absurd is
 idle_made_one ends kept (events.Expedite end octets) is = absurd is
-idle_made_one ends kept (events.Urgent end octets) is = absurd is
+idle_made_one ends kept (events.End end (tells.Urgent octets)) is = absurd is
 idle_made_one ends kept (events.Disconnect end octets) is = absurd is
-idle_made_one ends kept (events.Gone end cause octets) is = absurd is
-idle_made_one ends kept (events.Window end credit) is = absurd is
+idle_made_one ends kept (events.End end (tells.Gone cause octets)) is = absurd is
+idle_made_one ends kept (events.End end (tells.Window credit)) is = absurd is
 idle_made_one ends kept (events.Joined inbound outbound) is = absurd is
 idle_made_one ends kept event is = (tt, tt)
 

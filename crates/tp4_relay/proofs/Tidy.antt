@@ -5,17 +5,19 @@ use Rattle.std.specs.List.{AllByRecursion}
 use Rattle.std.proofs.lemmas.Bool.{ne_eqb}
 use Rattle.std.proofs.lemmas.List.{append-nil, length-map}
 use Rattle.osi_base.proofs.Young.{all_last}
-use Rattle.osi_journal.specs.declared.event.Event.{Event}
-use Rattle.osi_journal.specs.declared.event.Event.TheVariants as events
+use Rattle.script_journal.specs.declared.event.Event.{Event}
+use Rattle.script_journal.specs.declared.event.Event.TheVariants as events
 use Rattle.tp4_relay.specs.declared.claim.Claim.{Claim}
 use Rattle.tp4_relay.specs.declared.pair.Pair.{Pair}
 use Rattle.tp4_relay.specs.declared.row.RelayRow.{RelayRow}
 use Rattle.tp4_relay.specs.Allowed.{AreAllowed, IsAllowed}
-use Rattle.tp4_relay.specs.Kept.{Kept, claimed, joined, kept_after, lost, named_by, noted, row_for}
+use Rattle.tp4_relay.specs.Kept.{Kept, claimed, claims_told, joined, kept_after, lost, named_by, noted, row_for}
 use Rattle.tp4_relay.specs.Pairs.{AtEnd, change_inbound, change_outbound, inbound_change, inbound_changed, outbound_change, outbound_changed, pairs_after}
 use Rattle.tp4_relay.specs.steps.Rising.{IsRisingBy, claim_of, inbound_of, outbound_of}
 use Rattle.tp4_relay.specs.steps.Tables.{AreNotable, IsNotable, IsTidy, IsTidyBy, is_claimed}
 use Rattle.tp4_relay.proofs.Journals.{any_append, claims_lost, inbound_same, outbound_same}
+use Rattle.tpdu.specs.declared.service.EndTold.{EndTold}
+use Rattle.tpdu.specs.declared.service.EndTold.TheVariants as tells
 
 -- ---- all of a list
 
@@ -121,7 +123,7 @@ lost_end end claim = by (claim.end == end)
     by true = refl
     by false = refl
 
-pub tidy_lost : (end : ℕ) (claims : List Claim) (pairs : List Pair) (named : ℕ) → IsTidyBy claims pairs named → IsTidyBy (map (lost end) claims) pairs named
+tidy_lost : (end : ℕ) (claims : List Claim) (pairs : List Pair) (named : ℕ) → IsTidyBy claims pairs named → IsTidyBy (map (lost end) claims) pairs named
 tidy_lost end claims pairs named t = record {
   rise = rises_map claim_of (lost end) (lost_end end) claims t.rise;
   inbounds = t.inbounds;
@@ -133,6 +135,11 @@ tidy_lost end claims pairs named t = record {
   claims_named = all_map (λ (claim : Claim). claim.end ≤ named) (λ (claim : Claim). claim.end ≤ named) (lost end) claims (λ claim is. subst (λ (n : ℕ). n ≤ named) (sym (lost_end end claim)) is) t.claims_named;
   outbounds_named = t.outbounds_named;
 }
+
+-- what an end tells has its claim lost, or changes none
+pub tidy_told : (end : ℕ) (what : EndTold) (claims : List Claim) (pairs : List Pair) (named : ℕ) → IsTidyBy claims pairs named → IsTidyBy (claims_told end what claims) pairs named
+tidy_told end (tells.Gone cause octets) claims pairs named t = tidy_lost end claims pairs named t
+tidy_told end what claims pairs named t = t
 
 tidy_claimed : (end : ℕ) (row : Option RelayRow) (claims : List Claim) (pairs : List Pair) (named : ℕ) → end ≤ named → AllByRecursion (λ (claim : Claim). claim.end < end) claims
     → AllByRecursion (λ (pair : Pair). pair.outbound ≢ end) pairs → IsTidyBy claims pairs named → IsTidyBy (claims ++ claimed end row) pairs named
@@ -179,9 +186,9 @@ tidy_more kept (events.Incoming heard) t may =
     tidy_claimed heard.end (row_for kept.rows heard) kept.claims kept.pairs (max kept.named heard.end) (omega arith) may.0 may.1 (tidy_named kept.claims kept.pairs kept.named (max kept.named heard.end) (omega arith) t)
 tidy_more kept (events.Joined i o) t may =
     tidy_joined i o (joined kept.claims i o) kept.claims kept.pairs (max kept.named o) refl refl (omega arith) may.0 may.1 may.2 may.3 (tidy_named kept.claims kept.pairs kept.named (max kept.named o) (omega arith) t)
-tidy_more kept (events.Gone end cause octets) t may =
-    tidy_lost end kept.claims (pairs_after kept.pairs (events.Gone end cause octets)) (max kept.named end)
-    (tidy_named kept.claims (pairs_after kept.pairs (events.Gone end cause octets)) kept.named (max kept.named end) (omega arith) (tidy_after (events.Gone end cause octets) kept.pairs kept.claims kept.named t))
+tidy_more kept (events.End end (tells.Gone cause octets)) t may =
+    tidy_lost end kept.claims (pairs_after kept.pairs (events.End end (tells.Gone cause octets))) (max kept.named end)
+    (tidy_named kept.claims (pairs_after kept.pairs (events.End end (tells.Gone cause octets))) kept.named (max kept.named end) (omega arith) (tidy_after (events.End end (tells.Gone cause octets)) kept.pairs kept.claims kept.named t))
 tidy_more kept event t may =
     tidy_named kept.claims (pairs_after kept.pairs event) kept.named (max kept.named (named_by event)) (omega arith) (tidy_after event kept.pairs kept.claims kept.named t)
 

@@ -1,10 +1,10 @@
 -- What may come in a journal in which a relay takes part.
 use Rattle.std.specs.Prelude.{◌≡◌, ◌≢◌, ℕ, ◌<◌, ◌≤◌, ◌==◌, true, false, List, [], ◌∷◌}
 use Rattle.std.specs.List.{AllByRecursion, list_any}
-use Rattle.osi_journal.specs.Lawful.{Marked}
-use Rattle.osi_journal.specs.Lawful.{Normal as NormalUnit, Expedited as ExpeditedUnit}
-use Rattle.osi_journal.specs.declared.event.Event.{Event}
-use Rattle.osi_journal.specs.declared.event.Event.TheVariants as events
+use Rattle.script_journal.specs.Lawful.{Marked}
+use Rattle.script_journal.specs.Lawful.{Normal as NormalUnit, Expedited as ExpeditedUnit}
+use Rattle.script_journal.specs.declared.event.Event.{Event}
+use Rattle.script_journal.specs.declared.event.Event.TheVariants as events
 use Rattle.tp4_conn.specs.End.{IsSized}
 use Rattle.tp4_relay.specs.declared.pair.Pair.{Pair}
 use Rattle.tp4_relay.specs.declared.pair.Phase.{Phase}
@@ -12,7 +12,7 @@ use Rattle.tp4_relay.specs.declared.pair.Phase.TheVariants.{Begun, Open}
 use Rattle.tp4_relay.specs.declared.unit.MarkedUnit.{MarkedUnit}
 use Rattle.tp4_relay.specs.declared.unit.MarkedUnit.TheVariants.{Normal, Expedited}
 use Rattle.tp4_relay.specs.Kept.{Kept, noted, named_by, owns}
-use Rattle.tp4_relay.specs.Reaction.{asked_options}
+use Rattle.tpdu.specs.declared.service.EndTold.TheVariants as tells
 
 -- ---- units, as a journal has them
 
@@ -54,8 +54,8 @@ pub record Joins (kept : Kept) (inbound outbound : ℕ) : Type 0 where
 -- what waits is submitted in order
 abbrev pub IsAllowed : Kept → Event → Type 0
 IsAllowed kept (events.Incoming heard) = kept.named < heard.end
-IsAllowed kept (events.Got end octets) = Shows kept end
-IsAllowed kept (events.Urgent end octets) = Shows kept end
+IsAllowed kept (events.End end (tells.Got octets)) = Shows kept end
+IsAllowed kept (events.End end (tells.Urgent octets)) = Shows kept end
 IsAllowed kept (events.Data end octets) = GivesUnit kept end (Normal octets)
 IsAllowed kept (events.Expedite end octets) = GivesUnit kept end (Expedited octets)
 IsAllowed kept (events.Joined inbound outbound) = Joins kept inbound outbound
@@ -75,16 +75,16 @@ IsOther kept end = owns kept end ≡ false
 -- of the events of a line: none is a note of a relay, none is a call on an end of the relay, an indication names an end that was named by none, an
 -- end of a pair shows units only after it was opened, and options have a listed size
 abbrev pub IsLine : Kept → Event → Type 0
-IsLine kept (events.Incoming heard) = (kept.named < heard.end) × IsSized (asked_options heard.options)
-IsLine kept (events.Confirm end options octets) = IsSized (asked_options options)
-IsLine kept (events.Accept end options octets) = IsOther kept end
+IsLine kept (events.Incoming heard) = (kept.named < heard.end) × IsSized heard.options
+IsLine kept (events.End end (tells.Confirm options octets)) = IsSized options
+IsLine kept (events.End end (tells.Accept options octets)) = IsOther kept end
 IsLine kept (events.Refuse end octets) = IsOther kept end
 IsLine kept (events.Data end octets) = IsOther kept end
 IsLine kept (events.Expedite end octets) = IsOther kept end
-IsLine kept (events.Window end credit) = IsOther kept end
+IsLine kept (events.End end (tells.Window credit)) = IsOther kept end
 IsLine kept (events.Disconnect end octets) = IsOther kept end
-IsLine kept (events.Got end octets) = Shows kept end
-IsLine kept (events.Urgent end octets) = Shows kept end
+IsLine kept (events.End end (tells.Got octets)) = Shows kept end
+IsLine kept (events.End end (tells.Urgent octets)) = Shows kept end
 IsLine kept (events.Joined inbound outbound) = ⊥
 IsLine kept event = Unit {0}
 

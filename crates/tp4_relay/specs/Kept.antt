@@ -2,9 +2,9 @@
 use Rattle.std.specs.Prelude.{ℕ, max, ◌==◌, ◌&&◌, ◌||◌, Bool, true, false, nat_eq, if◌then◌else◌, List, [], ◌∷◌, ◌++◌, map, Option, Some, None}
 use Rattle.std.specs.List.{list_any}
 use Rattle.std.specs.Cmp.Lexicographic.{pointwise}
-use Rattle.osi_journal.specs.declared.event.Event.{Event}
-use Rattle.osi_journal.specs.declared.event.Event.TheVariants as events
-use Rattle.osi_journal.specs.declared.event.Indication.{Indication}
+use Rattle.script_journal.specs.declared.event.Event.{Event}
+use Rattle.script_journal.specs.declared.event.Event.TheVariants as events
+use Rattle.script_journal.specs.declared.event.Indication.{Indication}
 use Rattle.tp4_conn.specs.declared.timers.Timers.{Timers}
 use Rattle.tp4_relay.specs.declared.claim.Claim.{Claim}
 use Rattle.tp4_relay.specs.declared.pair.Pair.{Pair}
@@ -12,6 +12,8 @@ use Rattle.tp4_relay.specs.declared.pair.Phase.{Phase}
 use Rattle.tp4_relay.specs.declared.pair.Phase.TheVariants.{Begun, Closed}
 use Rattle.tp4_relay.specs.declared.row.RelayRow.{RelayRow}
 use Rattle.tp4_relay.specs.Pairs.{new_pair, pairs_after}
+use Rattle.tpdu.specs.declared.service.EndTold.{EndTold}
+use Rattle.tpdu.specs.declared.service.EndTold.TheVariants as tells
 
 pub record Kept : Type 0 where
   pub rows : List RelayRow
@@ -39,9 +41,14 @@ claimed end (Some row) = record { end = end; gone = false } ∷ []
 abbrev pub lost : ℕ → Claim → Claim
 lost end claim = if claim.end == end then record claim { gone = true } else claim
 
+-- where an end is gone, its claim is lost
+abbrev pub claims_told : ℕ → EndTold → List Claim → List Claim
+claims_told end (tells.Gone cause octets) claims = map (lost end) claims
+claims_told end what claims = claims
+
 abbrev pub claims_after : List RelayRow → List Claim → Event → List Claim
 claims_after rows claims (events.Incoming heard) = claims ++ claimed heard.end (row_for rows heard)
-claims_after rows claims (events.Gone end cause octets) = map (lost end) claims
+claims_after rows claims (events.End end what) = claims_told end what claims
 claims_after rows claims event = claims
 
 -- the end was indicated at a row, and went
@@ -67,16 +74,16 @@ all_pairs_after claims pairs event = pairs_after pairs event
 -- the end that the event names
 abbrev pub named_by : Event → ℕ
 named_by (events.Incoming heard) = heard.end
-named_by (events.Accept end options octets) = end
-named_by (events.Confirm end options octets) = end
+named_by (events.End end (tells.Accept options octets)) = end
+named_by (events.End end (tells.Confirm options octets)) = end
 named_by (events.Data end octets) = end
-named_by (events.Got end octets) = end
+named_by (events.End end (tells.Got octets)) = end
 named_by (events.Expedite end octets) = end
-named_by (events.Urgent end octets) = end
+named_by (events.End end (tells.Urgent octets)) = end
 named_by (events.Refuse end octets) = end
 named_by (events.Disconnect end octets) = end
-named_by (events.Gone end cause octets) = end
-named_by (events.Window end credit) = end
+named_by (events.End end (tells.Gone cause octets)) = end
+named_by (events.End end (tells.Window credit)) = end
 named_by (events.Joined inbound outbound) = outbound
 named_by event = 0
 

@@ -1,8 +1,8 @@
 -- What a pump leaves that was not broken off: at an open pair nothing waits, unless its call for the next unit was refused. So what was submitted at the
 -- one end is all that the other end showed.
 use Rattle.std.specs.Prelude.{◌≡◌, ◌⊎◌, ℕ, Bool, false, List, [], ◌∷◌, ◌++◌}
-use Rattle.osi_journal.specs.Lawful.{shown, submitted}
-use Rattle.osi_journal.specs.declared.event.Event.{Event}
+use Rattle.script_journal.specs.Lawful.{shown, submitted}
+use Rattle.script_journal.specs.declared.event.Event.{Event}
 use Rattle.tp4_conn.specs.declared.call.UserCall.{UserCall}
 use Rattle.tp4_relay.specs.declared.pair.Pair.{Pair}
 use Rattle.tp4_relay.specs.declared.pair.Phase.TheVariants.{Open}

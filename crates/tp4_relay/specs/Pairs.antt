@@ -1,7 +1,7 @@
 -- What becomes of a pair of ends as its events come.
 use Rattle.std.specs.Prelude.{ℕ, suc, ◌==◌, Bool, true, false, not, if◌then◌else◌, List, [], ◌∷◌, ◌++◌, map, drop, Option, Some, None}
-use Rattle.osi_journal.specs.declared.event.Event.{Event}
-use Rattle.osi_journal.specs.declared.event.Event.TheVariants as events
+use Rattle.script_journal.specs.declared.event.Event.{Event}
+use Rattle.script_journal.specs.declared.event.Event.TheVariants as events
 use Rattle.tp4_relay.specs.declared.pair.Pair.{Pair}
 use Rattle.tp4_relay.specs.declared.pair.Way.{Way}
 use Rattle.tp4_relay.specs.declared.pair.Phase.{Phase}
@@ -10,6 +10,7 @@ use Rattle.tp4_relay.specs.declared.pair.Heading.{Heading}
 use Rattle.tp4_relay.specs.declared.pair.Heading.TheVariants.{On, Back}
 use Rattle.tp4_relay.specs.declared.unit.MarkedUnit.{MarkedUnit}
 use Rattle.tp4_relay.specs.declared.unit.MarkedUnit.TheVariants.{Normal, Expedited}
+use Rattle.tpdu.specs.declared.service.EndTold.TheVariants as tells
 
 -- a way on which nothing waits
 abbrev pub new_way : Way
@@ -68,26 +69,26 @@ AtEnd = Option (ℕ × Change)
 
 -- what an event does to the pair of which its end is the inbound one
 abbrev pub inbound_change : Event → AtEnd
-inbound_change (events.Accept end options octets) = Some (end, Accepts)
-inbound_change (events.Got end octets) = Some (end, Waits On (Normal octets))
-inbound_change (events.Urgent end octets) = Some (end, Waits On (Expedited octets))
+inbound_change (events.End end (tells.Accept options octets)) = Some (end, Accepts)
+inbound_change (events.End end (tells.Got octets)) = Some (end, Waits On (Normal octets))
+inbound_change (events.End end (tells.Urgent octets)) = Some (end, Waits On (Expedited octets))
 inbound_change (events.Data end octets) = Some (end, Gives Back)
 inbound_change (events.Expedite end octets) = Some (end, Gives Back)
-inbound_change (events.Window end credit) = Some (end, Turns On)
+inbound_change (events.End end (tells.Window credit)) = Some (end, Turns On)
 inbound_change (events.Disconnect end octets) = Some (end, Closes)
-inbound_change (events.Gone end cause octets) = Some (end, Closes)
+inbound_change (events.End end (tells.Gone cause octets)) = Some (end, Closes)
 inbound_change event = None
 
 -- what an event does to the pair of which its end is the outbound one
 abbrev pub outbound_change : Event → AtEnd
-outbound_change (events.Confirm end options octets) = Some (end, Opens)
-outbound_change (events.Got end octets) = Some (end, Waits Back (Normal octets))
-outbound_change (events.Urgent end octets) = Some (end, Waits Back (Expedited octets))
+outbound_change (events.End end (tells.Confirm options octets)) = Some (end, Opens)
+outbound_change (events.End end (tells.Got octets)) = Some (end, Waits Back (Normal octets))
+outbound_change (events.End end (tells.Urgent octets)) = Some (end, Waits Back (Expedited octets))
 outbound_change (events.Data end octets) = Some (end, Gives On)
 outbound_change (events.Expedite end octets) = Some (end, Gives On)
-outbound_change (events.Window end credit) = Some (end, Turns Back)
+outbound_change (events.End end (tells.Window credit)) = Some (end, Turns Back)
 outbound_change (events.Disconnect end octets) = Some (end, Closes)
-outbound_change (events.Gone end cause octets) = Some (end, Closes)
+outbound_change (events.End end (tells.Gone cause octets)) = Some (end, Closes)
 outbound_change event = None
 
 abbrev pub inbound_changed : ℕ → Change → Pair → Pair

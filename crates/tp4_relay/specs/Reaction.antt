@@ -1,11 +1,9 @@
 -- What a relay does about an event of a line (X.214, service primitives).
 use Rattle.std.specs.Prelude.{ℕ, ◌==◌, if◌then◌else◌, List, [], ◌∷◌, Option, Some, None}
-use Rattle.osi_script.specs.declared.line.Options.{Options as ScriptOptions}
-use Rattle.osi_journal.specs.declared.event.Event.{Event}
-use Rattle.osi_journal.specs.declared.event.Event.TheVariants as events
-use Rattle.osi_journal.specs.declared.event.Indication.{Indication}
-use Rattle.tpdu.specs.declared.tpdu.Format.TheVariants.{Normal, Extended}
-use Rattle.tp4_flow.specs.declared.rules.Options.{Options}
+use Rattle.tpdu.specs.declared.service.Options.{Options}
+use Rattle.script_journal.specs.declared.event.Event.{Event}
+use Rattle.script_journal.specs.declared.event.Event.TheVariants as events
+use Rattle.script_journal.specs.declared.event.Indication.{Indication}
 use Rattle.tp4_conn.specs.declared.call.ConnectRequest.{ConnectRequest}
 use Rattle.tp4_conn.specs.declared.call.UserCall.TheVariants as asks
 use Rattle.tp4_relay.specs.declared.pair.Pair.{Pair}
@@ -14,10 +12,7 @@ use Rattle.tp4_relay.specs.declared.reaction.Reaction.TheVariants.{Nothing, Begi
 use Rattle.tp4_relay.specs.declared.row.RelayRow.{RelayRow}
 use Rattle.tp4_relay.specs.Kept.{Kept, row_for}
 use Rattle.tp4_relay.specs.Pairs.{is_closed}
-
--- options of an event, as a user asks for them
-abbrev pub asked_options : ScriptOptions → Options
-asked_options o = record { format = if o.extended then Extended else Normal; size = o.size; preferred = o.preferred; expedited = o.expedited; sum = o.sum }
+use Rattle.tpdu.specs.declared.service.EndTold.TheVariants as tells
 
 -- the request for the second connection: from the row's selector, with the options and the octets of the first
 abbrev pub request_for : RelayRow → Indication → ConnectRequest
@@ -25,7 +20,7 @@ request_for row heard = record {
   from_selector = row.selector;
   to = row.to;
   to_selector = row.to_selector;
-  options = asked_options heard.options;
+  options = heard.options;
   octets = heard.octets;
 }
 
@@ -43,9 +38,9 @@ outbound_pair [] end = None
 outbound_pair (pair ∷ pairs) end = if pair.outbound == end then Some pair else outbound_pair pairs end
 
 -- a pair whose outbound end is confirmed has its inbound end accepted
-abbrev pub confirms : ScriptOptions → List ℕ → Option Pair → Reaction
+abbrev pub confirms : Options → List ℕ → Option Pair → Reaction
 confirms options octets None = Nothing
-confirms options octets (Some pair) = if is_closed pair.phase then Nothing else Ask pair.inbound (asks.Accept (asked_options options) octets)
+confirms options octets (Some pair) = if is_closed pair.phase then Nothing else Ask pair.inbound (asks.Accept options octets)
 
 -- an end that was not accepted is refused, and another one is disconnected
 abbrev pub ends_call : Pair → Reaction
@@ -66,6 +61,6 @@ goes pairs end (Some pair) = inbound_goes pair
 -- by what is kept of the events before
 abbrev pub reaction : Kept → Event → Reaction
 reaction kept (events.Incoming heard) = begins heard (row_for kept.rows heard)
-reaction kept (events.Confirm end options octets) = confirms options octets (outbound_pair kept.pairs end)
-reaction kept (events.Gone end cause octets) = goes kept.pairs end (inbound_pair kept.pairs end)
+reaction kept (events.End end (tells.Confirm options octets)) = confirms options octets (outbound_pair kept.pairs end)
+reaction kept (events.End end (tells.Gone cause octets)) = goes kept.pairs end (inbound_pair kept.pairs end)
 reaction kept event = Nothing

@@ -1,10 +1,10 @@
 -- What a relay does with units: what it submits at one end of a pair is a front of what the other end showed.
 use Rattle.std.specs.Prelude.{◌≡◌, ◌≢◌, ◌⊎◌, ℕ, List, ◌++◌, slice_get, Some}
 use Rattle.std.specs.List.{Contains}
-use Rattle.osi_journal.specs.Lawful.{AreEnds, Marked, shown, submitted}
-use Rattle.osi_journal.specs.declared.event.Event.{Event}
-use Rattle.osi_journal.specs.declared.event.Event.TheVariants as events
-use Rattle.osi_journal.specs.declared.event.Indication.{Indication}
+use Rattle.script_journal.specs.Lawful.{AreEnds, Marked, shown, submitted}
+use Rattle.script_journal.specs.declared.event.Event.{Event}
+use Rattle.script_journal.specs.declared.event.Event.TheVariants as events
+use Rattle.script_journal.specs.declared.event.Indication.{Indication}
 
 -- the one list of units, with their marks, is a front of the other
 abbrev pub IsMarkedFront : List Marked → List Marked → Type 0

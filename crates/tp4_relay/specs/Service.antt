@@ -1,14 +1,15 @@
 -- What each call of a transport service tells (X.214, service primitives).
 use Rattle.std.specs.Prelude.{◌≡◌, ℕ, ◌+◌, Bool, true, false, List, [], ◌∷◌, ◌++◌}
 use Rattle.std.specs.List.{AllByRecursion}
-use Rattle.osi_script.specs.declared.line.Options.{Options}
-use Rattle.osi_journal.specs.declared.cause.Refused.{Refused}
-use Rattle.osi_journal.specs.declared.event.Event.{Event}
-use Rattle.osi_journal.specs.declared.event.Event.TheVariants as events
-use Rattle.osi_journal.specs.declared.event.Request.{Request}
+use Rattle.tpdu.specs.declared.service.Options.{Options}
+use Rattle.script_journal.specs.declared.cause.Refused.{Refused}
+use Rattle.script_journal.specs.declared.event.Event.{Event}
+use Rattle.script_journal.specs.declared.event.Event.TheVariants as events
+use Rattle.script_journal.specs.declared.event.Request.{Request}
 use Rattle.tp4_conn.specs.declared.call.ConnectRequest.{ConnectRequest}
 use Rattle.tp4_conn.specs.declared.call.UserCall.{UserCall}
 use Rattle.tp4_conn.specs.declared.call.UserCall.TheVariants as asks
+use Rattle.tpdu.specs.declared.service.EndTold.TheVariants as tells
 
 -- what was told is followed by what was made
 abbrev pub Tells : List Event → List Event → (List Event → Type 0) → Type 0
@@ -16,26 +17,18 @@ Tells old new Made = (made : List Event) × (new ≡ old ++ made) × Made made
 
 -- the event is that of a call on the end; what an accept agrees on and which credit is in force may differ from what was asked
 abbrev pub IsOwn : ℕ → UserCall → Event → Type 0
-IsOwn end (asks.Accept asked octets) event = (agreed : Options) × (event ≡ events.Accept end agreed octets)
+IsOwn end (asks.Accept asked octets) event = (agreed : Options) × (event ≡ events.End end (tells.Accept agreed octets))
 IsOwn end (asks.Refuse octets) event = event ≡ events.Refuse end octets
 IsOwn end (asks.Normal octets) event = event ≡ events.Data end octets
 IsOwn end (asks.Urgent octets) event = event ≡ events.Expedite end octets
-IsOwn end (asks.Window credit) event = (granted : ℕ) × (event ≡ events.Window end granted)
+IsOwn end (asks.Window credit) event = (granted : ℕ) × (event ≡ events.End end (tells.Window granted))
 IsOwn end (asks.Disconnect octets) event = event ≡ events.Disconnect end octets
 
 -- the event is told beside a call: a number that is held back, a unit that the network does not take, and what the network tells of frames
 abbrev pub IsAside : Event → Type 0
-IsAside (events.Held end expedited number) = Unit {0}
+IsAside (events.End end (tells.Held kind number)) = Unit {0}
 IsAside (events.Dropped system cause) = Unit {0}
-IsAside (events.Frame number lan system snpa length) = Unit {0}
-IsAside (events.DropFrame system) = Unit {0}
-IsAside (events.Discard system reason place) = Unit {0}
-IsAside (events.Report system reason place) = Unit {0}
-IsAside (events.Alien system) = Unit {0}
-IsAside (events.BadHello system cause) = Unit {0}
-IsAside (events.HelloFull system) = Unit {0}
-IsAside (events.Hello system kind snpa) = Unit {0}
-IsAside (events.Redirect system address snpa) = Unit {0}
+IsAside (events.Net note) = Unit {0}
 IsAside event = ⊥
 
 -- nothing but a refusal

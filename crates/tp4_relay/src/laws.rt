@@ -2,7 +2,7 @@
 
 ghost use Rattle.std.specs.Prelude.{◌≡◌, ◌++◌, List};
 ghost use Rattle.std.specs.List.{AllByRecursion};
-ghost use Rattle.osi_journal.specs.declared.event.Event.{Event};
+ghost use Rattle.script_journal.specs.declared.event.Event.{Event};
 ghost use Rattle.tp4_conn.specs.declared.timers.Timers.{Timers as Times};
 ghost use Rattle.tp4_relay.specs.Allowed.{AreAllowed};
 ghost use Rattle.tp4_relay.specs.Kept.{nothing_kept, relay_after};

@@ -2,8 +2,8 @@
 
 ghost use Rattle.std.specs.Prelude.{◌≡◌, ◌≤◌, ◌<◌, length, slice_get, Some, IfOk, OnErr, OnOk};
 ghost use Rattle.std.specs.List.{AllByRecursion};
-ghost use Rattle.osi_journal.specs.declared.event.Event.TheVariants.{Connect};
-ghost use Rattle.osi_journal.specs.declared.event.Request.{Request as Requested};
+ghost use Rattle.script_journal.specs.declared.event.Event.TheVariants.{Connect};
+ghost use Rattle.script_journal.specs.declared.event.Request.{Request as Requested};
 ghost use Rattle.tp4_conn.specs.End.{IsSized};
 ghost use Rattle.tp4_relay.specs.Allowed.{AreAllowed, AreLine};
 ghost use Rattle.tp4_relay.specs.Kept.{kept_after, named_by, noted};
@@ -20,7 +20,7 @@ use crate::reaction::{Reaction, nothing, reaction_to};
 use crate::service::Service;
 use crate::table::{Table, note, note_from};
 use osi_base::NoMemory;
-use osi_journal::Event;
+use script_journal::Event;
 use std::alloc::Global;
 use tp4_conn::{ConnectRequest, UserCall};
 

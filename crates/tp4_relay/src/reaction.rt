@@ -1,8 +1,9 @@
 //! What a relay does about an event of a line (X.214, service primitives).
 
 ghost use Rattle.std.specs.Prelude.{◌≡◌, [], Some, IfOk};
+ghost use Rattle.script_journal.specs.declared.event.Event.TheVariants.{End};
 ghost use Rattle.tp4_relay.specs.Kept.{row_for};
-ghost use Rattle.tp4_relay.specs.Reaction.{asked_options, begins, confirms, goes, inbound_goes, inbound_pair, outbound_goes, outbound_pair, reaction, request_for};
+ghost use Rattle.tp4_relay.specs.Reaction.{begins, confirms, goes, inbound_goes, inbound_pair, outbound_goes, outbound_pair, reaction, request_for};
 ghost use Rattle.tp4_relay.specs.steps.Rising.{IsRisingBy, inbound_of, outbound_of};
 ghost use Rattle.tp4_relay.specs.steps.Tables.{IsTied, kept_of};
 
@@ -11,11 +12,10 @@ use crate::places::{inbound_place, outbound_place};
 use crate::row::{RelayRow, row_for};
 use crate::table::Table;
 use osi_base::{Bytes, NoMemory};
-use osi_journal::{Event, Indication};
-use osi_script::Options as ToldOptions;
+use script_journal::{Event, Indication};
 use std::alloc::Global;
-use tp4_conn::{ConnectRequest, Options, UserCall};
-use tpdu::Format;
+use tp4_conn::{ConnectRequest, UserCall};
+use tpdu::{EndTold, Options};
 
 /// What is to be done about an event.
 #[derive(Drop)]
@@ -41,13 +41,30 @@ pub fn reaction_to(table: &Table, event: &Event) -> Result<Reaction, NoMemory>
 {
     match event {
         Event::Incoming(heard) => beginning(table, heard.get()),
-        Event::Confirm {
-            end,
-            options,
-            octets,
-        } => acceptance(table.alloc, &table.pairs, *end, *options, octets),
-        Event::Gone { end, .. } => Ok(parting(table.alloc, &table.pairs, *end)),
+        Event::End { number, what } => reaction_told(table, *number, what),
         _ => Ok(Reaction::Nothing),
+    }
+}
+
+/// What is to be done about what an end tells.
+fn reaction_told(table: &Table, end: u32, told: &EndTold) -> Result<Reaction, NoMemory>
+    requires { IsTied table.now }
+    ensures { IfOk result (λ to_do. to_do ≡ reaction (kept_of table.now) (End end told.now)) }
+{
+    match told {
+        EndTold::Confirm { options, octets } => acceptance(
+            table.alloc,
+            &table.pairs,
+            end,
+            *options,
+            octets,
+        ),
+        EndTold::Gone(..) => Ok(parting(table.alloc, &table.pairs, end)),
+        EndTold::Accept { .. }
+        | EndTold::Got(_)
+        | EndTold::Urgent(_)
+        | EndTold::Window(_)
+        | EndTold::Held(..) => Ok(Reaction::Nothing),
     }
 }
 
@@ -71,7 +88,7 @@ fn acceptance(
     alloc: Global,
     pairs: &[Pair],
     end: u32,
-    options: ToldOptions,
+    options: Options,
     octets: &Bytes,
 ) -> Result<Reaction, NoMemory>
     requires { IsRisingBy outbound_of pairs.now }
@@ -86,7 +103,7 @@ fn acceptance(
     let octets = Bytes::copy(alloc, octets.as_slice())?;
     Ok(Reaction::Ask {
         end: pairs[place].inbound,
-        call: UserCall::Accept(asked_options(options), octets),
+        call: UserCall::Accept(options, octets),
     })
 }
 
@@ -155,24 +172,7 @@ fn request_for(
         from_selector: Bytes::copy(alloc, row.selector.as_slice())?,
         to: row.to,
         to_selector: Bytes::copy(alloc, row.to_selector.as_slice())?,
-        options: asked_options(heard.options),
+        options: heard.options,
         octets: Bytes::copy(alloc, heard.octets.as_slice())?,
     })
-}
-
-/// Options of an event, as a user asks for them.
-fn asked_options(options: ToldOptions) -> Options
-    ensures { result ≡ asked_options options }
-{
-    Options {
-        format: if options.extended {
-            Format::Extended
-        } else {
-            Format::Normal
-        },
-        size: options.size,
-        preferred: options.preferred,
-        expedited: options.expedited,
-        sum: options.sum,
-    }
 }

@@ -15,7 +15,7 @@ use crate::service::Service;
 use crate::serving::serve_all;
 use crate::table::{Table, owns};
 use osi_base::NoMemory;
-use osi_journal::Event;
+use script_journal::Event;
 use std::alloc::Global;
 use std::marker::Model;
 use tp4_conn::Timers;

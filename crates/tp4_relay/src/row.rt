@@ -5,7 +5,7 @@ ghost use Rattle.tp4_relay.specs.Kept.{row_for};
 
 use nsap::Nsap;
 use osi_base::Bytes;
-use osi_journal::Indication;
+use script_journal::Indication;
 
 /// A connection that is indicated at this system and selector is asked for again, from them, at another address and selector.
 #[derive(Drop)]

@@ -1,13 +1,13 @@
 //! Transport as a relay sees it (X.214, service primitives).
 
 use osi_base::NoMemory;
-use osi_journal::Event;
+use script_journal::Event;
 use tp4_conn::{ConnectRequest, UserCall};
 
 /// Transport, as its users see it. Each call appends its events, and answers whether it was done.
 pub trait Service {
     ghost use Rattle.std.specs.Prelude.{◌≡◌, ℕ, Bool, List, IfOk, OnErr};
-    ghost use Rattle.osi_journal.specs.declared.event.Event.{Event as Happened};
+    ghost use Rattle.script_journal.specs.declared.event.Event.{Event as Happened};
     ghost use Rattle.tp4_conn.specs.declared.call.ConnectRequest.{ConnectRequest as Requested};
     ghost use Rattle.tp4_conn.specs.declared.call.UserCall.{UserCall as Asked};
     ghost use Rattle.tp4_conn.specs.End.{IsSized};

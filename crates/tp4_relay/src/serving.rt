@@ -18,7 +18,7 @@ use crate::service::Service;
 use crate::table::{Table, note_from};
 use crate::unit::MarkedUnit;
 use osi_base::{Bytes, NoMemory};
-use osi_journal::Event;
+use script_journal::Event;
 use std::alloc::Global;
 use tp4_conn::UserCall;
 

@@ -1,7 +1,8 @@
 //! What a relay keeps: the ends that were indicated at its rows, and the pairs of ends that it joined.
 
 ghost use Rattle.std.specs.Prelude.{◌≡◌, ◌≤◌, ◌++◌, drop, length, max, OnErr, OnOk};
-ghost use Rattle.tp4_relay.specs.Kept.{claimed, joined, kept_after, named_by, noted, owns, row_for};
+ghost use Rattle.script_journal.specs.declared.event.Event.TheVariants.{End};
+ghost use Rattle.tp4_relay.specs.Kept.{claimed, claims_told, joined, kept_after, named_by, noted, owns, row_for};
 ghost use Rattle.tp4_relay.specs.Pairs.{AtEnd, change_inbound, open_places, pairs_after};
 ghost use Rattle.tp4_relay.specs.steps.Rising.{IsRisingBy, claim_of, inbound_of, outbound_of};
 ghost use Rattle.tp4_relay.specs.steps.Tables.{AreNotable, IsNotable, IsTied, kept_of};
@@ -12,9 +13,10 @@ use crate::places::{accept_at, close_at, give_at, is_outbound, open_at, turn_at,
 use crate::row::{RelayRow, row_for};
 use crate::unit::Mark;
 use osi_base::NoMemory;
-use osi_journal::{Event, Indication};
+use script_journal::{Event, Indication};
 use std::alloc::Global;
 use tp4_conn::Timers;
+use tpdu::EndTold;
 
 /// What a relay keeps of a journal.
 #[derive(Drop)]
@@ -55,8 +57,8 @@ pub fn note(table: &mut Table, event: &Event) -> Result<(), NoMemory>
             table.pairs.push(pair)?;
             Ok(())
         }
-        Event::Gone { end, .. } => {
-            lose_at(&mut table.claims, *end);
+        Event::End { number, what } => {
+            lose_told(&mut table.claims, *number, what);
             change_pairs(table.alloc, &mut table.pairs, &mut table.places, event)
         }
         _ => change_pairs(table.alloc, &mut table.pairs, &mut table.places, event),
@@ -92,17 +94,43 @@ fn named_by(event: &Event) -> u32
     match event {
         Event::Incoming(heard) => heard.get().end,
         Event::Joined { outbound, .. } => *outbound,
-        Event::Accept { end, .. }
-        | Event::Confirm { end, .. }
-        | Event::Data { end, .. }
-        | Event::Got { end, .. }
+        Event::End { number, what } => told_by(*number, what),
+        Event::Data { end, .. }
         | Event::Expedite { end, .. }
-        | Event::Urgent { end, .. }
         | Event::Refuse { end, .. }
-        | Event::Disconnect { end, .. }
-        | Event::Gone { end, .. }
-        | Event::Window { end, .. } => *end,
+        | Event::Disconnect { end, .. } => *end,
         _ => 0,
+    }
+}
+
+/// The end that what it tells names: a number that is held back names none.
+fn told_by(end: u32, told: &EndTold) -> u32
+    ensures { result ≡ named_by (End end told.now) }
+{
+    match told {
+        EndTold::Accept { .. }
+        | EndTold::Confirm { .. }
+        | EndTold::Got(_)
+        | EndTold::Urgent(_)
+        | EndTold::Window(_)
+        | EndTold::Gone(..) => end,
+        EndTold::Held(..) => 0,
+    }
+}
+
+/// Where an end is gone, its claim is lost.
+fn lose_told(claims: &mut [Claim], end: u32, told: &EndTold)
+    requires { IsRisingBy claim_of claims.old }
+    ensures { claims.new ≡ claims_told end told.now claims.old }
+{
+    match told {
+        EndTold::Gone(..) => lose_at(claims, end),
+        EndTold::Accept { .. }
+        | EndTold::Confirm { .. }
+        | EndTold::Got(_)
+        | EndTold::Urgent(_)
+        | EndTold::Window(_)
+        | EndTold::Held(..) => {}
     }
 }
 
@@ -148,25 +176,50 @@ fn change_pairs(
     ensures places { places.new.items ≡ open_places pairs.new }
 {
     match event {
-        Event::Accept { end, .. } => {
-            accept_at(pairs, *end);
-            Ok(())
-        }
-        Event::Confirm { end, .. } => open_at(pairs, places, *end),
-        Event::Got { end, octets } => wait_at(alloc, pairs, *end, Mark::Normal, octets),
-        Event::Urgent { end, octets } => wait_at(alloc, pairs, *end, Mark::Expedited, octets),
+        Event::End { number, what } => change_told(alloc, pairs, places, *number, what),
         Event::Data { end, .. } | Event::Expedite { end, .. } => {
             give_at(pairs, *end);
             Ok(())
         }
-        Event::Window { end, .. } => {
-            turn_at(pairs, *end);
-            Ok(())
-        }
-        Event::Disconnect { end, .. } | Event::Gone { end, .. } => {
+        Event::Disconnect { end, .. } => {
             close_at(pairs, places, *end);
             Ok(())
         }
         _ => Ok(()),
+    }
+}
+
+/// What an end tells does to pairs.
+fn change_told(
+    alloc: Global,
+    pairs: &mut [Pair],
+    places: &mut Vec<usize>,
+    end: u32,
+    told: &EndTold,
+) -> Result<(), NoMemory>
+    requires inbound { IsRisingBy inbound_of pairs.old }
+    requires outbound { IsRisingBy outbound_of pairs.old }
+    requires places { places.old.items ≡ open_places pairs.old }
+    ensures pairs { OnOk result (pairs.new ≡ pairs_after pairs.old (End end told.now)) }
+    ensures part { OnErr result ((at : AtEnd) × (pairs.new ≡ change_inbound at pairs.old)) }
+    ensures places { places.new.items ≡ open_places pairs.new }
+{
+    match told {
+        EndTold::Accept { .. } => {
+            accept_at(pairs, end);
+            Ok(())
+        }
+        EndTold::Confirm { .. } => open_at(pairs, places, end),
+        EndTold::Got(octets) => wait_at(alloc, pairs, end, Mark::Normal, octets),
+        EndTold::Urgent(octets) => wait_at(alloc, pairs, end, Mark::Expedited, octets),
+        EndTold::Window(_) => {
+            turn_at(pairs, end);
+            Ok(())
+        }
+        EndTold::Held(..) => Ok(()),
+        EndTold::Gone(..) => {
+            close_at(pairs, places, end);
+            Ok(())
+        }
     }
 }

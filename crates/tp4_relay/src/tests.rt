@@ -6,11 +6,11 @@ ghost use Rattle.tp4_relay.specs.Service.{IsOwn, IsRefusal, Tells};
 use crate::{Relay, Service};
 use nsap::Nsap;
 use osi_base::{Address, NoMemory};
-use osi_journal::{Boxed, Event, Refused, Request};
-use osi_script::Options as ToldOptions;
+use script_journal::{Boxed, Event, Refused, Request};
 use std::alloc::Global;
 use std::test::Fail;
 use tp4_conn::{ConnectRequest, Timers, UserCall};
+use tpdu::{EndTold, Format, Options};
 
 /// A service of one system.
 #[derive(Drop)]
@@ -82,15 +82,20 @@ fn own_event(end: u32, call: UserCall) -> Event
     ensures { IsOwn end call result }
 {
     match call {
-        UserCall::Accept(_, octets) => Event::Accept {
-            end,
-            options: options(),
-            octets,
+        UserCall::Accept(_, octets) => Event::End {
+            number: end,
+            what: EndTold::Accept {
+                options: options(),
+                octets,
+            },
         },
         UserCall::Refuse(octets) => Event::Refuse { end, octets },
         UserCall::Normal(octets) => Event::Data { end, octets },
         UserCall::Urgent(octets) => Event::Expedite { end, octets },
-        UserCall::Window(credit) => Event::Window { end, credit },
+        UserCall::Window(credit) => Event::End {
+            number: end,
+            what: EndTold::Window(credit),
+        },
         UserCall::Disconnect(octets) => Event::Disconnect { end, octets },
     }
 }
@@ -108,9 +113,9 @@ fn refuse(events: &mut Vec<Event>) -> Result<bool, NoMemory>
 }
 
 /// Normal formats, 1024 octets, expedited data and checksums.
-fn options() -> ToldOptions {
-    ToldOptions {
-        extended: false,
+fn options() -> Options {
+    Options {
+        format: Format::Normal,
         size: 1024,
         preferred: false,
         expedited: true,

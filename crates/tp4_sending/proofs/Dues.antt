@@ -6,7 +6,7 @@ use Rattle.std.proofs.lemmas.Bool.{lt-leb, lt-ltb, and_left, or_from, cases_Bool
 use Rattle.tp4_flow.specs.declared.rules.Life.{Life}
 use Rattle.tp4_flow.specs.declared.rules.Life.TheVariants.{Goes, Exhausted}
 use Rattle.tp4_flow.specs.declared.step.EndEvent.{EndEvent}
-use Rattle.tp4_flow.specs.declared.step.HeldKind.TheVariants.{Ed}
+use Rattle.tpdu.specs.declared.service.HeldKind.TheVariants.{Ed}
 use Rattle.tp4_number.specs.declared.blocks.Blocks.{Blocks}
 use Rattle.tp4_number.specs.Sender.{opens_at}
 use Rattle.tp4_sending.specs.declared.tries.Tries.{Tries}

@@ -5,7 +5,7 @@ use Rattle.std.specs.Prelude.{not, is_some}
 use Rattle.std.proofs.lemmas.Bool.{or_parts, and_parts, and_right, le-ltb, lt-ltb, leb-false, ltb-true, true≢false, false≢true}
 use Rattle.tp4_flow.specs.declared.rules.Life.{Life}
 use Rattle.tp4_flow.specs.declared.rules.Life.TheVariants.{Goes}
-use Rattle.tp4_flow.specs.declared.step.HeldKind.TheVariants.{Dt, Ed}
+use Rattle.tpdu.specs.declared.service.HeldKind.TheVariants.{Dt, Ed}
 use Rattle.tp4_number.specs.declared.blocks.Blocks.{Blocks}
 use Rattle.tp4_number.specs.Sender.{opens_at}
 use Rattle.tp4_sending.specs.declared.tries.Tries.{Tries}

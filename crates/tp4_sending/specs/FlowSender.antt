@@ -12,10 +12,11 @@ use Rattle.tp4_flow.specs.declared.rules.SubmitRefusal.TheVariants.{EmptyUnit, T
 use Rattle.tp4_number.specs.declared.piece.Piece.{Piece}
 use Rattle.tp4_sending.specs.declared.tries.Tries.{Tries}
 use Rattle.tp4_flow.specs.declared.step.EndEvent.{EndEvent}
-use Rattle.tp4_flow.specs.declared.step.HeldKind.{HeldKind}
-use Rattle.tp4_flow.specs.declared.step.HeldKind.TheVariants.{Dt, Ed}
+use Rattle.tpdu.specs.declared.service.HeldKind.{HeldKind}
+use Rattle.tpdu.specs.declared.service.HeldKind.TheVariants.{Dt, Ed}
 use Rattle.tp4_flow.specs.declared.step.Sent.{Sent}
-use Rattle.tp4_flow.specs.declared.step.What.TheVariants.{Held}
+use Rattle.tp4_flow.specs.declared.step.What.TheVariants as whats
+use Rattle.tpdu.specs.declared.service.EndTold.TheVariants.{Held}
 use Rattle.tp4_number.specs.Formats.{block_of}
 use Rattle.tp4_flow.specs.Told.{Told, Grows}
 use Rattle.tp4_number.specs.Number.{wire, near}
@@ -126,7 +127,7 @@ is_noted None n = false
 is_noted (Some noted) n = noted == n
 
 abbrev pub holds : FlowSender → HeldKind → ℕ → EndEvent
-holds s kind n = record { reference = s.rules.own; what = Held kind n }
+holds s kind n = record { reference = s.rules.own; what = whats.End (Held kind n) }
 
 -- the next ED
 abbrev pub sent_urgent : FlowSender → FlowSender

@@ -85,6 +85,18 @@ impl Model for Sending {
 /// The most units that wait, normal or expedited.
 const MOST_UNITS: usize = 64;
 
+/// The most octets of a unit.
+const MOST_OCTETS: usize = 16_384;
+
+/// The most octets of an expedited unit (X.224, structure of the ED TPDU).
+const MOST_URGENT_OCTETS: usize = 16;
+
+/// The most octets of the units that wait.
+const MOST_WAITING: u64 = 131_072;
+
+/// For how many DTs that are outstanding the window has room at first.
+const FIRST_WINDOW: usize = 16;
+
 impl Sending {
     /// Nothing is submitted yet.
     pub fn new(alloc: Global, rules: FlowRules, credit: u16) -> Result<Sending, NoMemory>
@@ -102,7 +114,7 @@ impl Sending {
             subsequence: 0,
             next: 0,
             blocks: Blocks::none(),
-            window: HeapCircularBuffer::with_capacity(alloc, 16)?,
+            window: HeapCircularBuffer::with_capacity(alloc, FIRST_WINDOW)?,
             due: Some(None),
             units: VecDeque::new(alloc),
             first: 0,
@@ -301,10 +313,10 @@ impl Sending {
         if octets == 0 {
             return Some(SubmitRefusal::EmptyUnit);
         }
-        if 16_384 < octets {
+        if MOST_OCTETS < octets {
             return Some(SubmitRefusal::TooLong);
         }
-        if MOST_UNITS <= self.units.len() || 131_072 < self.waiting + octets as u64 {
+        if MOST_UNITS <= self.units.len() || MOST_WAITING < self.waiting + octets as u64 {
             return Some(SubmitRefusal::QueueFull);
         }
         None
@@ -317,7 +329,7 @@ impl Sending {
         if octets == 0 {
             return Some(SubmitRefusal::EmptyUnit);
         }
-        if 16 < octets {
+        if MOST_URGENT_OCTETS < octets {
             return Some(SubmitRefusal::TooLong);
         }
         if MOST_UNITS <= self.urgent.units.len() {

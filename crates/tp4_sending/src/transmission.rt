@@ -13,7 +13,8 @@ use crate::tpdus::{dt_of, ed_of};
 use crate::tries::Tries;
 use circular_buffer::HeapCircularBuffer;
 use osi_base::{NoMemory, Tick};
-use tp4_flow::{EndEvent, HeldKind, Step, What};
+use tp4_flow::{EndEvent, Step, What};
+use tpdu::{EndTold, HeldKind};
 
 impl Sending {
     /// All that may go now goes: an ED, then DTs.
@@ -160,7 +161,7 @@ impl Sending {
     {
         EndEvent {
             reference: self.rules.own,
-            what: What::Held(kind, n),
+            what: What::End(EndTold::Held(kind, n)),
         }
     }
 }

@@ -10,9 +10,9 @@ use Rattle.tp4_number.specs.declared.got.Got.TheVariants.{Kept, Old, Outside, To
 use Rattle.tp4_number.specs.declared.piece.Piece.{Piece}
 use Rattle.tp4_flow.specs.declared.rules.Life.{Life}
 use Rattle.tp4_flow.specs.declared.rules.Life.TheVariants.{Goes, Exhausted as Spent}
-use Rattle.tp4_flow.specs.declared.rules.Options.{Options}
+use Rattle.tpdu.specs.declared.service.Options.{Options}
 use Rattle.tp4_flow.specs.declared.step.EndEvent.{EndEvent}
-use Rattle.tp4_flow.specs.declared.step.GoneCause.TheVariants.{Reason, Protocol, Inactive, Exhausted, AnswerTime}
+use Rattle.tpdu.specs.declared.service.GoneCause.TheVariants.{Reason, Protocol, Inactive, Exhausted, AnswerTime}
 use Rattle.tp4_flow.specs.declared.step.Sent.{Sent}
 use Rattle.tp4_flow.specs.Half.{Half, Received, ak, aks, dt_arrival, half_after, half_granted, is_before, is_next, taken_dt, taken_ed}
 use Rattle.tp4_sending.specs.declared.tries.Tries.{Tries}

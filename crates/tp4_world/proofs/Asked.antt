@@ -4,11 +4,10 @@ use Rattle.std.specs.Prelude.{◌≢◌}
 use Rattle.std.specs.List.{position}
 use Rattle.osi_base.specs.Link.{Link}
 use Rattle.osi_base.specs.Calls.{Call}
-use Rattle.osi_journal.specs.declared.cause.Refused.{Refused}
-use Rattle.osi_journal.specs.declared.cause.Refused.TheVariants as refusals
-use Rattle.osi_journal.specs.declared.cause.Standing.TheVariants.{Ended}
-use Rattle.osi_journal.specs.declared.event.Event.{Event}
-use Rattle.osi_journal.specs.declared.event.Event.TheVariants as events
+use Rattle.script_journal.specs.declared.cause.Refused.{Refused}
+use Rattle.script_journal.specs.declared.cause.Refused.TheVariants as refusals
+use Rattle.script_journal.specs.declared.event.Event.{Event}
+use Rattle.script_journal.specs.declared.event.Event.TheVariants as events
 use Rattle.tp4_flow.specs.Told.{Told}
 use Rattle.tp4_conn.specs.declared.call.ConnectRequest.{ConnectRequest}
 use Rattle.tp4_conn.specs.declared.call.UserCall.{UserCall}
@@ -140,14 +139,14 @@ module _ {C : Type 0} (link : C → Link (List ℕ)) (steps : C → Call (List �
 
     pub ended_refused : (carrier : C) (placed : List Placed) (ends : List EndAt) (place now number : ℕ) (end : EndAt) (call : UserCall) (cause : Refused) (made : List Event) → end_numbered ends number ≡ Some end
         → position (is_of end.system) placed ≡ Some place → (link carrier).clock ≡ now → ((one : Placed) → slice_get placed place ≡ Some one → true ≡ has_ended now ends number end one.entity)
-        → Some (refusals.WrongState Ended) ≡ Some cause → made ≡ events.No cause ∷ [] → Calls link steps wrap (world_of carrier placed ends) number call made (world_of carrier placed ends)
+        → Some refusals.Ended ≡ Some cause → made ≡ events.No cause ∷ [] → Calls link steps wrap (world_of carrier placed ends) number call made (world_of carrier placed ends)
     ended_refused carrier placed ends place now number end call cause made is found clock over same told =
         let there = first_is_some (is_of end.system) placed place found in
         let one = there.0 in
         let ended : has_ended now ends number end one.entity ≡ true = sym (over one there.1) in
         called_end (world_of carrier placed ends) (world_of carrier placed ends) number end call one.entity true made is (entity_there placed end.system place one found there.1)
         (subst (λ (n : ℕ). has_ended n ends number end one.entity ≡ true) (sym clock) ended)
-        (told ∙ ap (λ (r : Refused). events.No r ∷ []) (sym (some_same (refusals.WrongState Ended) cause same)), refl)
+        (told ∙ ap (λ (r : Refused). events.No r ∷ []) (sym (some_same refusals.Ended cause same)), refl)
 
     pub called_there : (carrier new : C) (placed changed : List Placed) (ends after : List EndAt) (place now number : ℕ) (end : EndAt) (call : UserCall) (made : List Event) → end_numbered ends number ≡ Some end
         → position (is_of end.system) placed ≡ Some place → (link carrier).clock ≡ now → ((one : Placed) → slice_get placed place ≡ Some one → false ≡ has_ended now ends number end one.entity)

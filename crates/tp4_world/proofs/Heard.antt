@@ -13,7 +13,7 @@ use Rattle.osi_base.specs.Gathering.{Gathers}
 use Rattle.osi_base.proofs.Gatherings.{Gathering, gathered, gathering_next}
 use Rattle.osi_base.proofs.Standings.{stands_same}
 use Rattle.std.proofs.lemmas.List.{append-nil}
-use Rattle.osi_journal.specs.declared.event.Event.{Event}
+use Rattle.script_journal.specs.declared.event.Event.{Event}
 use Rattle.net_world.specs.Told.{told, up_events}
 use Rattle.tp4_flow.specs.Told.{Told}
 use Rattle.tp4_entity.specs.Entity.{Entity, Acted}

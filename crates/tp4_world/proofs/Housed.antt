@@ -6,10 +6,9 @@ use Rattle.osi_base.specs.Calls.{Call}
 use Rattle.osi_base.specs.declared.unit.Arrival.{Arrival}
 use Rattle.osi_base.specs.declared.unit.Up.{Up}
 use Rattle.osi_base.specs.declared.unit.Up.TheVariants.{Unit as Came, Note as Noted}
-use Rattle.osi_journal.specs.declared.cause.Refused.{Refused}
-use Rattle.osi_journal.specs.declared.cause.Refused.TheVariants as refusals
-use Rattle.osi_journal.specs.declared.cause.Standing.TheVariants.{Ended}
-use Rattle.osi_journal.specs.declared.event.Event.{Event}
+use Rattle.script_journal.specs.declared.cause.Refused.{Refused}
+use Rattle.script_journal.specs.declared.cause.Refused.TheVariants as refusals
+use Rattle.script_journal.specs.declared.event.Event.{Event}
 use Rattle.tp4_conn.specs.declared.call.ConnectRequest.{ConnectRequest}
 use Rattle.tp4_conn.specs.declared.call.UserCall.{UserCall}
 use Rattle.tp4_entity.specs.declared.refusal.ConnectRefusal.{ConnectRefusal}
@@ -80,7 +79,7 @@ module _ {C : Type 0} (link : C → Link (List ℕ)) (steps : C → Call (List �
 
     called_end : (old : World C) (number : ℕ) (end : EndAt) (entity : Entity) (call : UserCall) (ended : Bool) (made : List Event) (new : World C)
         → CallsEnd link steps wrap old number end entity call ended made new → is_some (entity_at old.entities end.system) ≡ true → IsHoused old → IsHoused new
-    called_end old number end entity call true made new c some h = refused old (Some (refusals.WrongState Ended)) made new c h
+    called_end old number end entity call true made new c some h = refused old (Some refusals.Ended) made new c h
     called_end old number end entity call false made new c some h = called_by old number end entity call (user_refusal entity end.reference call) made new c some h
 
     called_at : (old : World C) (number : ℕ) (call : UserCall) (end : Option EndAt) (made : List Event) (new : World C) → CallsAt link steps wrap old number call end made new → IsHoused old → IsHoused new

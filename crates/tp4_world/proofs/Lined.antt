@@ -5,7 +5,6 @@ use Rattle.std.specs.Prelude.{◌≢◌, ◌==◌}
 use Rattle.std.specs.List.{AllByRecursion}
 use Rattle.nsap.specs.Address.{selector_of}
 use Rattle.osi_base.specs.declared.note.Note.{Note}
-use Rattle.osi_base.specs.declared.note.Note.TheVariants as notes
 use Rattle.osi_base.specs.declared.unit.Arrival.{Arrival}
 use Rattle.osi_base.specs.declared.unit.Injected.{Injected}
 use Rattle.osi_base.specs.declared.unit.Injected.TheVariants as injects
@@ -19,17 +18,16 @@ use Rattle.osi_base.specs.declared.unit.Up.TheVariants.{Unit as Came, Note as No
 use Rattle.osi_base.specs.declared.unit.Wish.{Wish}
 use Rattle.osi_base.specs.Link.{Link}
 use Rattle.osi_base.specs.Calls.{Call, Choose, Inject, Keeps, Offer, Tick}
-use Rattle.osi_journal.specs.RawLawful.{raw_address}
-use Rattle.osi_journal.specs.declared.cause.Refused.{Refused}
-use Rattle.osi_journal.specs.declared.cause.Refused.TheVariants as refusals
-use Rattle.osi_journal.specs.declared.cause.Standing.TheVariants.{Ended}
-use Rattle.osi_journal.specs.declared.event.Event.{Event}
-use Rattle.osi_journal.specs.declared.event.Event.TheVariants as events
-use Rattle.osi_script.specs.declared.line.Line.{Line}
-use Rattle.osi_script.specs.declared.line.Line.TheVariants as lines
-use Rattle.osi_script.specs.Injecting.{HasNoInject, IsNoInjection}
+use Rattle.script_journal.specs.RawLawful.{raw_address}
+use Rattle.script_journal.specs.declared.cause.Refused.{Refused}
+use Rattle.script_journal.specs.declared.cause.Refused.TheVariants as refusals
+use Rattle.script_journal.specs.declared.event.Event.{Event}
+use Rattle.script_journal.specs.declared.event.Event.TheVariants as events
+use Rattle.script_lines.specs.declared.line.Line.{Line}
+use Rattle.script_lines.specs.declared.line.Line.TheVariants as lines
+use Rattle.script_lines.specs.Injecting.{HasNoInject, IsNoInjection}
 use Rattle.net_world.specs.Run.{Passes, SendsUnit, raw_unit}
-use Rattle.net_world.specs.Told.{note_event, picked_event, sent_event, shown_at, told}
+use Rattle.net_world.specs.Told.{picked_event, sent_event, shown_at, told}
 use Rattle.tp4_flow.specs.declared.step.EndEvent.{EndEvent}
 use Rattle.tp4_flow.specs.declared.step.Sent.{Sent}
 use Rattle.tp4_flow.specs.declared.step.What.{What}
@@ -69,16 +67,8 @@ none_both xs ys made is none others = ap asked_in is ∙ asked-append xs ys ∙ 
 none_asked : (made : List Event) → made ≡ [] → asked_in made ≡ []
 none_asked made none = ap asked_in none
 
-note_none : (note : Note) (rest : List Event) → asked_in rest ≡ [] → asked_in (note_event note ∷ rest) ≡ []
-note_none (notes.Frame number lan system snpa size) rest none = none
-note_none (notes.DropFrame system) rest none = none
-note_none (notes.Discard system reason place) rest none = none
-note_none (notes.Report system reason place) rest none = none
-note_none (notes.Alien system) rest none = none
-note_none (notes.BadHello system cause) rest none = none
-note_none (notes.HelloFull system) rest none = none
-note_none (notes.Hello system kind snpa) rest none = none
-note_none (notes.Redirect system address snpa) rest none = none
+note_none : (note : Note) (rest : List Event) → asked_in rest ≡ [] → asked_in (events.Net note ∷ rest) ≡ []
+note_none note rest none = none
 
 shown_none : (raw : Bool) (system : ℕ) (from octets : List ℕ) → asked_in (if raw then events.Unit system from octets ∷ [] else []) ≡ []
 shown_none true system from octets = refl
@@ -93,13 +83,7 @@ told_none (Came arrival ∷ ups) =
 
 what_none : (system : ℕ) (own : List ℕ) (number reference : ℕ) (what : What) (rest : List Event) → asked_in rest ≡ [] → asked_in (event_for system own number reference what ∷ rest) ≡ []
 what_none system own number reference (whats.Incoming from partner calling called options octets) rest none = none
-what_none system own number reference (whats.Accept options octets) rest none = none
-what_none system own number reference (whats.Confirm options octets) rest none = none
-what_none system own number reference (whats.Got octets) rest none = none
-what_none system own number reference (whats.Urgent octets) rest none = none
-what_none system own number reference (whats.Window credit) rest none = none
-what_none system own number reference (whats.Held kind held) rest none = none
-what_none system own number reference (whats.Gone cause octets) rest none = none
+what_none system own number reference (whats.End what) rest none = none
 what_none system own number reference (whats.BadTpdu cause place) rest none = none
 what_none system own number reference (whats.Unknown kind) rest none = none
 what_none system own number reference whats.Silent rest none = none
@@ -192,7 +176,7 @@ module _ {C : Type 0} (link : C → Link (List ℕ)) (steps : C → Call (List �
 
   call_end : (wrap : ℕ → ℕ → ℕ) (old new : World C) (made : List Event) (number : ℕ) (end : EndAt) (entity : Entity) (call : UserCall) (ended : Bool)
       → CallsEnd link steps wrap old number end entity call ended made new → Answers old new made (call_events number call)
-  call_end wrap old new made number end entity call true h = refused old new made (call_events number call) (Some (refusals.WrongState Ended)) h
+  call_end wrap old new made number end entity call true h = refused old new made (call_events number call) (Some refusals.Ended) h
   call_end wrap old new made number end entity call false h = call_by wrap old new made number end entity call (user_refusal entity end.reference call) h
 
   call_at : (wrap : ℕ → ℕ → ℕ) (old new : World C) (made : List Event) (number : ℕ) (call : UserCall) (end : Option EndAt) → CallsAt link steps wrap old number call end made new

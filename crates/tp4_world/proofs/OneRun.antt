@@ -23,14 +23,13 @@ use Rattle.tp4_entity.specs.Entity.{Entity, Acted}
 use Rattle.tp4_entity.specs.References.{least_free}
 use Rattle.tp4_entity.specs.Step.{calling, connect_refusal, first_due, ticking, user_refusal, restarted}
 use Rattle.tp4_entity.specs.Unit.{TakesUnit}
-use Rattle.osi_journal.specs.declared.cause.Refused.{Refused}
-use Rattle.osi_journal.specs.declared.cause.Refused.TheVariants as refusals
-use Rattle.osi_journal.specs.declared.cause.Settled.TheVariants.{Settled, Stopped}
-use Rattle.osi_journal.specs.declared.cause.Standing.TheVariants.{Ended}
-use Rattle.osi_journal.specs.declared.event.Event.{Event}
-use Rattle.osi_journal.specs.declared.event.Event.TheVariants as events
-use Rattle.osi_script.specs.declared.line.Line.{Line}
-use Rattle.osi_script.specs.declared.line.Line.TheVariants as lines
+use Rattle.script_journal.specs.declared.cause.Refused.{Refused}
+use Rattle.script_journal.specs.declared.cause.Refused.TheVariants as refusals
+use Rattle.script_journal.specs.declared.cause.Settled.TheVariants.{Settled, Stopped}
+use Rattle.script_journal.specs.declared.event.Event.{Event}
+use Rattle.script_journal.specs.declared.event.Event.TheVariants as events
+use Rattle.script_lines.specs.declared.line.Line.{Line}
+use Rattle.script_lines.specs.declared.line.Line.TheVariants as lines
 use Rattle.law_carrier_answers.specs.Answers.{OneStep, OneGathering, Offering, asked_of}
 use Rattle.net_world.specs.Told.{picked_event, told}
 use Rattle.net_world.proofs.OneRun.{Same, one_pass, one_unit}
@@ -152,7 +151,7 @@ module _ {C : Type 0} (link : C → Link (List ℕ)) (steps : C → Call (List �
 
     one_call_end : (old : World C) (number : ℕ) (end : EndAt) (entity : Entity) (call : UserCall) (ended : Bool) (made other : List Event) (new next : World C)
         → CallsEnd link steps wrap old number end entity call ended made new → CallsEnd link steps wrap old number end entity call ended other next → Same made other new next
-    one_call_end old number end entity call true made other new next a b = one_refusal old (Some (refusals.WrongState Ended)) made other new next a b
+    one_call_end old number end entity call true made other new next a b = one_refusal old (Some refusals.Ended) made other new next a b
     one_call_end old number end entity call false made other new next a b = one_call_by old number end entity call (user_refusal entity end.reference call) made other new next a b
 
     one_call_at : (old : World C) (number : ℕ) (call : UserCall) (end : Option EndAt) (made other : List Event) (new next : World C)

@@ -16,14 +16,13 @@ use Rattle.osi_base.specs.declared.unit.Up.{Up}
 use Rattle.osi_base.specs.declared.unit.Up.TheVariants.{Unit as Came, Note as Noted}
 use Rattle.osi_base.specs.Link.{Link}
 use Rattle.osi_base.specs.Calls.{Call, Keeps}
-use Rattle.osi_journal.specs.declared.cause.Refused.{Refused}
-use Rattle.osi_journal.specs.declared.cause.Refused.TheVariants as refusals
-use Rattle.osi_journal.specs.declared.cause.Settled.TheVariants.{Settled, Stopped}
-use Rattle.osi_journal.specs.declared.cause.Standing.TheVariants.{Ended}
-use Rattle.osi_journal.specs.declared.event.Event.{Event}
-use Rattle.osi_journal.specs.declared.event.Event.TheVariants as events
-use Rattle.osi_script.specs.declared.line.Line.{Line}
-use Rattle.osi_script.specs.declared.line.Line.TheVariants as lines
+use Rattle.script_journal.specs.declared.cause.Refused.{Refused}
+use Rattle.script_journal.specs.declared.cause.Refused.TheVariants as refusals
+use Rattle.script_journal.specs.declared.cause.Settled.TheVariants.{Settled, Stopped}
+use Rattle.script_journal.specs.declared.event.Event.{Event}
+use Rattle.script_journal.specs.declared.event.Event.TheVariants as events
+use Rattle.script_lines.specs.declared.line.Line.{Line}
+use Rattle.script_lines.specs.declared.line.Line.TheVariants as lines
 use Rattle.net_world.specs.Told.{picked_event, told}
 use Rattle.net_world.proofs.Runs.{first_rests}
 use Rattle.tp4_conn.specs.End.{End}
@@ -135,7 +134,7 @@ module _ (life : ℕ) (titles : List (List ℕ)) {C : Type 0} (link : C → Link
 
     call_end : (old new : World C) (journal made : List Event) (number : ℕ) (end : EndAt) (entity : Entity) (call : UserCall) (ended : Bool) → Holds old journal → IsFine life titles link steps law entity
         → CallsEnd link steps wrap old number end entity call ended made new → Holds new (journal ++ made)
-    call_end old new journal made number end entity call true h fine step = refused old new journal made (Some (refusals.WrongState Ended)) h step
+    call_end old new journal made number end entity call true h fine step = refused old new journal made (Some refusals.Ended) h step
     call_end old new journal made number end entity call false h fine step = call_by old new journal made number end entity call (user_refusal entity end.reference call) h fine step
 
     call_at : (old new : World C) (journal made : List Event) (number : ℕ) (call : UserCall) (end : Option EndAt) → Holds old journal → CallsAt link steps wrap old number call end made new

@@ -7,14 +7,13 @@ use Rattle.std.proofs.lemmas.Option.{none-some}
 use Rattle.osi_base.specs.Link.{Link}
 use Rattle.osi_base.specs.Calls.{Call, Keeps}
 use Rattle.law_carrier_answers.specs.Answers.{AreOctets}
-use Rattle.osi_journal.specs.declared.event.Event.{Event}
-use Rattle.osi_journal.specs.declared.event.Event.TheVariants as events
-use Rattle.osi_journal.specs.declared.cause.Refused.{Refused}
-use Rattle.osi_journal.specs.declared.cause.Refused.TheVariants as refusals
-use Rattle.osi_journal.specs.declared.cause.Standing.TheVariants.{Ended}
-use Rattle.osi_script.specs.declared.line.Line.{Line}
-use Rattle.osi_script.specs.declared.line.Line.TheVariants as lines
-use Rattle.osi_script.specs.declared.line.Options.{Options as ScriptOptions}
+use Rattle.script_journal.specs.declared.event.Event.{Event}
+use Rattle.script_journal.specs.declared.event.Event.TheVariants as events
+use Rattle.script_journal.specs.declared.cause.Refused.{Refused}
+use Rattle.script_journal.specs.declared.cause.Refused.TheVariants as refusals
+use Rattle.script_lines.specs.declared.line.Line.{Line}
+use Rattle.script_lines.specs.declared.line.Line.TheVariants as lines
+use Rattle.tpdu.specs.declared.service.Options.{Options}
 use Rattle.tp4_conn.specs.Calls.{IsCall}
 use Rattle.tp4_conn.specs.Proper.{IsProperCall}
 use Rattle.tp4_conn.specs.declared.call.ConnectRequest.{ConnectRequest}
@@ -31,7 +30,7 @@ use Rattle.law_tp4_proper.proofs.Ends.{calling_rests, connecting_rests}
 use Rattle.law_tp4_proper.proofs.OctetEnds.{calling_in, connecting_in}
 use Rattle.law_tp4_proper.proofs.Octets.{all_both}
 use Rattle.tp4_world.specs.Run.{BeginsAt, Calls, CallsAt, CallsBy, CallsEnd, ConnectsBy, IsRefused, has_ended, transport_address}
-use Rattle.tp4_world.specs.Telling.{asked_options, call_events, connect_event, told_refusal}
+use Rattle.tp4_world.specs.Telling.{call_events, connect_event, told_refusal}
 use Rattle.tp4_world.specs.Total.{CanConnect, HasEntity, HasRun, IsReady, Serves}
 use Rattle.tp4_world.specs.World.{World, end_numbered, entity_at}
 use Rattle.tp4_world.specs.declared.place.EndAt.{EndAt}
@@ -103,7 +102,7 @@ module _ {C : Type 0} (link : C → Link (List ℕ)) (steps : C → Call (List �
   abbrev Runs : List (List ℕ) → World C → Line → Type 0
   Runs titles old line = HasRun is_address link steps Stands wrap titles old line
 
-  pub connect_runs : (titles : List (List ℕ)) (old : World C) (system : ℕ) (selector : List ℕ) (to : ℕ) (called : List ℕ) (options : ScriptOptions) (octets : List ℕ) → IsSo old
+  pub connect_runs : (titles : List (List ℕ)) (old : World C) (system : ℕ) (selector : List ℕ) (to : ℕ) (called : List ℕ) (options : Options) (octets : List ℕ) → IsSo old
       → CanConnect is_address titles old system to options selector called octets → Runs titles old (lines.Connect system selector to called options octets)
   connect_runs titles old system selector to called options octets r may =
       let e = may.entity in
@@ -111,7 +110,7 @@ module _ {C : Type 0} (link : C → Link (List ℕ)) (steps : C → Call (List �
         from_selector = selector;
         to = transport_address may.receiver;
         to_selector = called;
-        options = asked_options options;
+        options = options;
         octets = octets;
       } in
       let ready = r.entities system e may.entity_is in
@@ -139,7 +138,7 @@ module _ {C : Type 0} (link : C → Link (List ℕ)) (steps : C → Call (List �
 
   calls_end : (old : World C) (number : ℕ) (end : EndAt) (e : Entity) (call : UserCall) (over : Bool) → IsSo old → entity_at old.entities end.system ≡ Some e → IsCall call → CallInOctets is_address call
       → Makes (CallsEnd link steps wrap old number end e call over)
-  calls_end old number end e call true r is c octets = refusing old (refusals.WrongState Ended) r
+  calls_end old number end e call true r is c octets = refusing old refusals.Ended r
   calls_end old number end e call false r is c octets = calls_by old number end e call (user_refusal e end.reference call) refl r is c octets
 
   calls_at : (old : World C) (number : ℕ) (call : UserCall) (place : Option EndAt) → end_numbered old.ends number ≡ place → IsSo old → IsCall call → CallInOctets is_address call

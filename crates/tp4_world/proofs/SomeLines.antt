@@ -5,12 +5,12 @@ use Rattle.osi_base.specs.Link.{Link}
 use Rattle.osi_base.specs.Calls.{Call, Keeps}
 use Rattle.law_carrier_answers.specs.Answers.{MayBeOffered}
 use Rattle.law_carrier_answers.proofs.Gatherings.{some_gathering}
-use Rattle.osi_journal.specs.RawLawful.{raw_address}
-use Rattle.osi_journal.specs.declared.event.Event.{Event}
-use Rattle.osi_journal.specs.declared.event.Event.TheVariants as events
-use Rattle.osi_journal.specs.declared.cause.Refused.TheVariants as refusals
-use Rattle.osi_script.specs.declared.line.Line.{Line}
-use Rattle.osi_script.specs.declared.line.Line.TheVariants as lines
+use Rattle.script_journal.specs.RawLawful.{raw_address}
+use Rattle.script_journal.specs.declared.event.Event.{Event}
+use Rattle.script_journal.specs.declared.event.Event.TheVariants as events
+use Rattle.script_journal.specs.declared.cause.Refused.TheVariants as refusals
+use Rattle.script_lines.specs.declared.line.Line.{Line}
+use Rattle.script_lines.specs.declared.line.Line.TheVariants as lines
 use Rattle.net_world.specs.Run.{raw_unit}
 use Rattle.net_world.specs.Told.{sent_event, told}
 use Rattle.tp4_conn.specs.Calls.{IsCall}
@@ -18,7 +18,6 @@ use Rattle.tp4_conn.specs.declared.call.UserCall.{UserCall}
 use Rattle.tp4_conn.specs.declared.call.UserCall.TheVariants as asks
 use Rattle.law_tp4_proper.specs.Octets.{CallInOctets}
 use Rattle.tp4_world.specs.Run.{Calls, RunsLine}
-use Rattle.tp4_world.specs.Telling.{asked_options}
 use Rattle.tp4_world.specs.Total.{AreReady, CanRun, HasRun, HasStart, IsReady, IsReadyEntity, Serves}
 use Rattle.tp4_world.specs.World.{World, entity_at, with_entity}
 use Rattle.tp4_world.specs.declared.place.Placed.{Placed}
@@ -100,7 +99,7 @@ module _ {C : Type 0} (link : C → Link (List ℕ)) (steps : C → Call (List �
   some_line titles old lines.Nothing r may = record { made = []; new = old; runs = (refl, refl); ready = r }
   some_line titles old (lines.Connect system selector to called options octets) r may = connect_runs link steps keeps is_address Stands serves wrap titles old system selector to called options octets r may
   some_line titles old (lines.Accept end options octets) r may =
-      call_runs titles old (lines.Accept end options octets) end (asks.Accept (asked_options options) octets) (λ made new runs. runs) r may.0 may.1
+      call_runs titles old (lines.Accept end options octets) end (asks.Accept options octets) (λ made new runs. runs) r may.0 may.1
   some_line titles old (lines.Refuse end octets) r may = call_runs titles old (lines.Refuse end octets) end (asks.Refuse octets) (λ made new runs. runs) r tt may
   some_line titles old (lines.Disconnect end octets) r may = call_runs titles old (lines.Disconnect end octets) end (asks.Disconnect octets) (λ made new runs. runs) r tt may
   some_line titles old (lines.Data end octets) r may = call_runs titles old (lines.Data end octets) end (asks.Normal octets) (λ made new runs. runs) r tt may

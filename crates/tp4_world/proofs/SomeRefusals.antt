@@ -2,8 +2,8 @@
 use Rattle.std.proofs.Common.{◌≡◌, ℕ, ◌+◌, ◌==◌, ◌||◌, nat_lt, nat_le, Bool, true, false, List, length, Option, Some, None, refl, sym, ◌∙◌, ap}
 use Rattle.std.specs.List.{sum_by}
 use Rattle.std.proofs.lemmas.Option.{none-some}
-use Rattle.osi_journal.specs.declared.cause.Refused.{Refused}
-use Rattle.osi_journal.specs.declared.cause.Refused.TheVariants as refusals
+use Rattle.script_journal.specs.declared.cause.Refused.{Refused}
+use Rattle.script_journal.specs.declared.cause.Refused.TheVariants as refusals
 use Rattle.tp4_flow.specs.declared.rules.SubmitRefusal.{SubmitRefusal}
 use Rattle.tp4_flow.specs.declared.rules.SubmitRefusal.TheVariants as submits
 use Rattle.tp4_sending.specs.FlowSender.{FlowSender, refusal, urgent_refusal}

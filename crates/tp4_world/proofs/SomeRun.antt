@@ -13,7 +13,7 @@ use Rattle.osi_base.specs.Link.{Link}
 use Rattle.osi_base.specs.Calls.{Call, Choose, Inject, Keeps, NextUp, Offer, Tick}
 use Rattle.law_carrier_answers.specs.Answers.{CanBeAsked, Choosing, Injecting, MayBeOffered, Offering, Ticking, asked_of}
 use Rattle.law_carrier_answers.proofs.Gatherings.{some_gathering}
-use Rattle.osi_journal.specs.declared.event.Event.{Event}
+use Rattle.script_journal.specs.declared.event.Event.{Event}
 use Rattle.net_world.specs.Run.{Passes}
 use Rattle.net_world.specs.Told.{told}
 use Rattle.tp4_flow.specs.declared.step.EndEvent.{EndEvent}
@@ -91,13 +91,7 @@ tick_by steps old Tick new e s = s
 ends_more : (placed : List Placed) (ends : List EndAt) (system : ℕ) (telling : EndEvent) (what : What) → AllByRecursion (HasEntity placed) ends → is_some (entity_at placed system) ≡ true
     → AllByRecursion (HasEntity placed) (ends_with ends system telling what)
 ends_more placed ends system telling (whats.Incoming from partner calling called options octets) h some = all_both (HasEntity placed) ends (record { system = system; reference = telling.reference } ∷ []) h (some, tt)
-ends_more placed ends system telling (whats.Accept options octets) h some = h
-ends_more placed ends system telling (whats.Confirm options octets) h some = h
-ends_more placed ends system telling (whats.Got octets) h some = h
-ends_more placed ends system telling (whats.Urgent octets) h some = h
-ends_more placed ends system telling (whats.Window credit) h some = h
-ends_more placed ends system telling (whats.Held kind number) h some = h
-ends_more placed ends system telling (whats.Gone cause octets) h some = h
+ends_more placed ends system telling (whats.End what) h some = h
 ends_more placed ends system telling (whats.BadTpdu cause place) h some = h
 ends_more placed ends system telling (whats.Unknown kind) h some = h
 ends_more placed ends system telling whats.Silent h some = h

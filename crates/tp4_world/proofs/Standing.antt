@@ -20,9 +20,9 @@ use Rattle.osi_base.specs.declared.unit.Wish.{Wish}
 use Rattle.osi_base.specs.Link.{Link, IsLawful, IsNote}
 use Rattle.osi_base.specs.Calls.{Call, Choose, Inject, IsSameLink, Keeps, NothingNew, Offer, Tick}
 use Rattle.osi_base.proofs.Chains.{same_on}
-use Rattle.osi_journal.specs.RawLawful.{clock_from, raw_address}
-use Rattle.osi_journal.specs.declared.event.Event.{Event}
-use Rattle.osi_journal.specs.declared.event.Event.TheVariants as events
+use Rattle.script_journal.specs.RawLawful.{clock_from, raw_address}
+use Rattle.script_journal.specs.declared.event.Event.{Event}
+use Rattle.script_journal.specs.declared.event.Event.TheVariants as events
 use Rattle.net_world.specs.Run.{Passes, SendsUnit, raw_unit}
 use Rattle.net_world.specs.Told.{picked_event, told}
 use Rattle.net_world.proofs.Journals.{IsOther}
@@ -76,13 +76,7 @@ drop_still system (Dropped cause) = (record { other = tt; clock = λ now. refl }
 
 event_still : (system : ℕ) (own : List ℕ) (number reference : ℕ) (what : What) → IsStill (event_for system own number reference what)
 event_still system own number reference (whats.Incoming from partner calling called options octets) = record { other = tt; clock = λ now. refl }
-event_still system own number reference (whats.Accept options octets) = record { other = tt; clock = λ now. refl }
-event_still system own number reference (whats.Confirm options octets) = record { other = tt; clock = λ now. refl }
-event_still system own number reference (whats.Got octets) = record { other = tt; clock = λ now. refl }
-event_still system own number reference (whats.Urgent octets) = record { other = tt; clock = λ now. refl }
-event_still system own number reference (whats.Window credit) = record { other = tt; clock = λ now. refl }
-event_still system own number reference (whats.Held kind held) = record { other = tt; clock = λ now. refl }
-event_still system own number reference (whats.Gone cause octets) = record { other = tt; clock = λ now. refl }
+event_still system own number reference (whats.End what) = record { other = tt; clock = λ now. refl }
 event_still system own number reference (whats.BadTpdu cause place) = record { other = tt; clock = λ now. refl }
 event_still system own number reference (whats.Unknown kind) = record { other = tt; clock = λ now. refl }
 event_still system own number reference whats.Silent = record { other = tt; clock = λ now. refl }

@@ -8,12 +8,11 @@ use Rattle.osi_base.specs.declared.unit.Up.{Up}
 use Rattle.osi_base.specs.declared.unit.Up.TheVariants.{Unit as Came, Note as Noted}
 use Rattle.osi_base.specs.Link.{Link, IsLeastFresh}
 use Rattle.osi_base.specs.Calls.{Call, Choose, Inject}
-use Rattle.osi_journal.specs.declared.cause.Refused.{Refused}
-use Rattle.osi_journal.specs.declared.cause.Refused.TheVariants as refusals
-use Rattle.osi_journal.specs.declared.cause.Standing.TheVariants.{Ended}
-use Rattle.osi_journal.specs.declared.event.Event.{Event}
-use Rattle.osi_script.specs.declared.line.Line.{Line}
-use Rattle.osi_script.specs.declared.line.Line.TheVariants as lines
+use Rattle.script_journal.specs.declared.cause.Refused.{Refused}
+use Rattle.script_journal.specs.declared.cause.Refused.TheVariants as refusals
+use Rattle.script_journal.specs.declared.event.Event.{Event}
+use Rattle.script_lines.specs.declared.line.Line.{Line}
+use Rattle.script_lines.specs.declared.line.Line.TheVariants as lines
 use Rattle.net_world.specs.Told.{picked_event}
 use Rattle.tp4_number.specs.Number.{whole, wire}
 use Rattle.tp4_conn.specs.declared.call.ConnectRequest.{ConnectRequest}
@@ -148,7 +147,7 @@ module _ {C : Type 0} (link : C → Link (List ℕ)) (steps : C → Call (List �
 
   call_end_above : (old : World C) (number : ℕ) (end : EndAt) (entity : Entity) (call : UserCall) (ended : Bool) (made : List Event) (new : World C)
       → CallsEnd link steps wire (world_on_wire old) number end (entity_on_wire entity) call ended made new → Above (λ up. CallsEnd link steps whole old number end entity call ended made up) new
-  call_end_above old number end entity call true made new a = refused_above old (Some (refusals.WrongState Ended)) made new a
+  call_end_above old number end entity call true made new a = refused_above old (Some refusals.Ended) made new a
   call_end_above old number end entity call false made new a =
       call_by_above old number end entity call (user_refusal entity end.reference call) made new
       (subst (λ (why : Option EntityRefusal). CallsBy link steps wire (world_on_wire old) number end (entity_on_wire entity) call why made new) (user_refusal_on entity end.reference call) a)

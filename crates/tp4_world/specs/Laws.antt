@@ -4,10 +4,10 @@ use Rattle.std.specs.Prelude.{◌≡◌, ℕ, true, ◌++◌, List, Bool}
 use Rattle.std.specs.List.{AllByRecursion}
 use Rattle.osi_base.specs.Link.{Link}
 use Rattle.osi_base.specs.Calls.{Call}
-use Rattle.osi_journal.specs.RawLawful.{RawLawful}
-use Rattle.osi_journal.specs.declared.event.Event.{Event}
-use Rattle.osi_script.specs.declared.line.Line.{Line}
-use Rattle.osi_script.specs.Injecting.{HasNoInject}
+use Rattle.script_journal.specs.RawLawful.{RawLawful}
+use Rattle.script_journal.specs.declared.event.Event.{Event}
+use Rattle.script_lines.specs.declared.line.Line.{Line}
+use Rattle.script_lines.specs.Injecting.{HasNoInject}
 use Rattle.law_carrier_answers.specs.Answers.{OneStep}
 use Rattle.tp4_number.specs.Number.{whole, wire}
 use Rattle.tp4_world.specs.Run.{RunsLine, RunsLines, Starts}

@@ -26,17 +26,16 @@ use Rattle.tp4_entity.specs.Entity.{Entity, Acted, end_at}
 use Rattle.tp4_entity.specs.References.{is_free, least_free}
 use Rattle.tp4_entity.specs.Step.{calling, connect_refusal, connecting, first_due, restarted, ticking, user_refusal}
 use Rattle.tp4_entity.specs.Unit.{TakesUnit}
-use Rattle.osi_journal.specs.declared.cause.Refused.{Refused}
-use Rattle.osi_journal.specs.declared.cause.Refused.TheVariants as refusals
-use Rattle.osi_journal.specs.declared.cause.Settled.TheVariants.{Settled, Stopped}
-use Rattle.osi_journal.specs.declared.cause.Standing.TheVariants.{Ended}
-use Rattle.osi_journal.specs.declared.event.Event.{Event}
-use Rattle.osi_journal.specs.declared.event.Event.TheVariants as events
-use Rattle.osi_script.specs.declared.line.Line.{Line}
-use Rattle.osi_script.specs.declared.line.Line.TheVariants as lines
+use Rattle.script_journal.specs.declared.cause.Refused.{Refused}
+use Rattle.script_journal.specs.declared.cause.Refused.TheVariants as refusals
+use Rattle.script_journal.specs.declared.cause.Settled.TheVariants.{Settled, Stopped}
+use Rattle.script_journal.specs.declared.event.Event.{Event}
+use Rattle.script_journal.specs.declared.event.Event.TheVariants as events
+use Rattle.script_lines.specs.declared.line.Line.{Line}
+use Rattle.script_lines.specs.declared.line.Line.TheVariants as lines
 use Rattle.net_world.specs.Run.{Passes, SendsUnit}
 use Rattle.net_world.specs.Told.{picked_event, told}
-use Rattle.tp4_world.specs.Telling.{asked_options, call_events, drop_events, ends_after, events_after, inject_event, told_connect, told_refusal, connect_event}
+use Rattle.tp4_world.specs.Telling.{call_events, drop_events, ends_after, events_after, inject_event, told_connect, told_refusal, connect_event}
 use Rattle.tp4_world.specs.World.{World, end_numbered, entity_at, latest, with_entity}
 use Rattle.tp4_world.specs.declared.place.EndAt.{EndAt}
 use Rattle.tp4_world.specs.declared.place.Placed.{Placed}
@@ -145,7 +144,7 @@ module _ {C : Type 0} (link : C → Link (List ℕ)) (steps : C → Call (List �
         × (made ≡ call_events number call ++ later)
 
     abbrev pub CallsEnd : World C → ℕ → EndAt → Entity → UserCall → Bool → List Event → World C → Type 0
-    CallsEnd old number end entity call true made new = IsRefused old (Some (refusals.WrongState Ended)) made new
+    CallsEnd old number end entity call true made new = IsRefused old (Some refusals.Ended) made new
     CallsEnd old number end entity call false made new =
         CallsBy old number end entity call (user_refusal entity end.reference call) made new
 
@@ -246,9 +245,9 @@ module _ {C : Type 0} (link : C → Link (List ℕ)) (steps : C → Call (List �
     abbrev pub RunsLine : List (List ℕ) → World C → Line → List Event → World C → Type 0
     RunsLine titles old lines.Nothing made new = (made ≡ []) × (new ≡ old)
     RunsLine titles old (lines.Connect system selector to called options octets) made new =
-        (receiver : List ℕ) × (request : ConnectRequest) × (slice_get titles to ≡ Some receiver) × (request.options ≡ asked_options options)
+        (receiver : List ℕ) × (request : ConnectRequest) × (slice_get titles to ≡ Some receiver) × (request.options ≡ options)
         × ConnectsTo old system selector receiver called octets made new request
-    RunsLine titles old (lines.Accept end options octets) made new = Calls old end (asks.Accept (asked_options options) octets) made new
+    RunsLine titles old (lines.Accept end options octets) made new = Calls old end (asks.Accept options octets) made new
     RunsLine titles old (lines.Refuse end octets) made new = Calls old end (asks.Refuse octets) made new
     RunsLine titles old (lines.Disconnect end octets) made new = Calls old end (asks.Disconnect octets) made new
     RunsLine titles old (lines.Data end octets) made new = Calls old end (asks.Normal octets) made new

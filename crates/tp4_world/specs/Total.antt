@@ -11,13 +11,12 @@ use Rattle.tp4_conn.specs.End.{IsSized}
 use Rattle.tp4_entity.specs.Entity.{Entity}
 use Rattle.law_tp4_proper.specs.Octets.{EntityInOctets}
 use Rattle.law_tp4_proper.specs.Rest.{IsAtRest}
-use Rattle.osi_journal.specs.declared.event.Event.{Event}
-use Rattle.osi_script.specs.declared.line.Line.{Line}
-use Rattle.osi_script.specs.declared.line.Options.{Options}
-use Rattle.osi_script.specs.declared.line.Line.TheVariants as lines
+use Rattle.script_journal.specs.declared.event.Event.{Event}
+use Rattle.script_lines.specs.declared.line.Line.{Line}
+use Rattle.tpdu.specs.declared.service.Options.{Options}
+use Rattle.script_lines.specs.declared.line.Line.TheVariants as lines
 use Rattle.net_world.specs.Run.{raw_unit}
 use Rattle.tp4_world.specs.Run.{RunsLine, Starts, transport_address}
-use Rattle.tp4_world.specs.Telling.{asked_options}
 use Rattle.tp4_world.specs.World.{World, entity_at}
 use Rattle.tp4_world.specs.declared.place.EndAt.{EndAt}
 use Rattle.tp4_world.specs.declared.place.Placed.{Placed}
@@ -71,7 +70,7 @@ pub record CanConnect {C : Type 0} (is_address : List ℕ → Bool) (titles : Li
   pub address : is_address (transport_address receiver) ≡ true
   pub entity : Entity
   pub entity_is : entity_at world.entities system ≡ Some entity
-  pub size_known : IsSized (asked_options options)
+  pub size_known : IsSized options
   pub selector_short : length selector ≤ 32
   pub selector_octets : AreOctets selector
   pub called_short : length called ≤ 32
@@ -82,7 +81,7 @@ pub record CanConnect {C : Type 0} (is_address : List ℕ → Bool) (titles : Li
 abbrev pub CanRun : {C : Type 0} → (List ℕ → Bool) → List (List ℕ) → (C → Link (List ℕ)) → World C → Line → Type 0
 CanRun is_address titles link world lines.Nothing = Prim.Unit {0}
 CanRun is_address titles link world (lines.Connect system selector to called options octets) = CanConnect is_address titles world system to options selector called octets
-CanRun is_address titles link world (lines.Accept end options octets) = IsSized (asked_options options) × AreOctets octets
+CanRun is_address titles link world (lines.Accept end options octets) = IsSized options × AreOctets octets
 CanRun is_address titles link world (lines.Refuse end octets) = AreOctets octets
 CanRun is_address titles link world (lines.Disconnect end octets) = AreOctets octets
 CanRun is_address titles link world (lines.Data end octets) = AreOctets octets

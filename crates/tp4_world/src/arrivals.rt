@@ -14,7 +14,7 @@ use crate::transport::{Transport, hear_at, own_at, place_of};
 use net_world::tell;
 use nsap::{Nsap, TRANSPORT};
 use osi_base::{Arrival, Carrier, NoMemory, Tick, Up};
-use osi_journal::Event;
+use script_journal::Event;
 use std::collections::VecDeque;
 
 /// Tells what waits in the carrier, and then hands each unit for transport to its entity.

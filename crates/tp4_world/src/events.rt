@@ -2,17 +2,16 @@
 
 ghost use Rattle.std.specs.Prelude.{◌≡◌, ◌++◌, ◌∷◌, [], ℕ, IfOk, OnOk};
 ghost use Rattle.tp4_world.specs.Telling.{call_events, connect_event, drop_events, ends_after, ends_with, event_for, events_after, inject_event};
-ghost use Rattle.osi_journal.specs.declared.event.Event.TheVariants.{Connect};
+ghost use Rattle.script_journal.specs.declared.event.Event.TheVariants.{Connect};
 ghost use Rattle.tp4_world.specs.World.{latest};
 ghost use Rattle.tp4_world.specs.steps.Parts.{listed};
 
 use crate::EndAt;
 use crate::ends::Ends;
-use crate::event_words::{is_urgent, told_cause, told_fault, told_kind, told_options};
 use net_world::address;
 use nsap::Nsap;
 use osi_base::{Bytes, Injected, NoMemory, Offered};
-use osi_journal::{Boxed, Event, Indication, Request};
+use script_journal::{Boxed, Event, Indication, Request};
 use std::alloc::Global;
 use tp4_conn::{ConnectRequest, UserCall};
 use tp4_flow::{EndEvent, What};
@@ -72,16 +71,7 @@ fn note_end(ends: &mut Ends, system: u8, told: &EndEvent) -> Result<(), NoMemory
             })?;
             Ok(())
         }
-        What::Accept { .. }
-        | What::Confirm { .. }
-        | What::Got(_)
-        | What::Urgent(_)
-        | What::Window(_)
-        | What::Held(..)
-        | What::Gone(..)
-        | What::BadTpdu(..)
-        | What::Unknown(_)
-        | What::Silent => Ok(()),
+        What::End(_) | What::BadTpdu(..) | What::Unknown(_) | What::Silent => Ok(()),
     }
 }
 
@@ -114,52 +104,18 @@ fn event_for(
                 calling_selector: calling,
                 called: address(own),
                 called_selector: called,
-                options: told_options(&options),
+                options,
                 octets,
             };
             Ok(Event::Incoming(Boxed::new(alloc, indication)?))
         }
-        What::Accept { options, octets } => Ok(Event::Accept {
-            end: number,
-            options: told_options(&options),
-            octets,
-        }),
-        What::Confirm { options, octets } => Ok(Event::Confirm {
-            end: number,
-            options: told_options(&options),
-            octets,
-        }),
-        What::Got(octets) => Ok(Event::Got {
-            end: number,
-            octets,
-        }),
-        What::Urgent(octets) => Ok(Event::Urgent {
-            end: number,
-            octets,
-        }),
-        What::Window(credit) => Ok(Event::Window {
-            end: number,
-            credit,
-        }),
-        What::Held(kind, held) => Ok(Event::Held {
-            end: number,
-            expedited: is_urgent(kind),
-            number: held,
-        }),
-        What::Gone(cause, octets) => Ok(Event::Gone {
-            end: number,
-            cause: told_cause(cause),
-            octets,
-        }),
+        What::End(what) => Ok(Event::End { number, what }),
         What::BadTpdu(cause, place) => Ok(Event::BadTpdu {
             system,
-            cause: told_fault(cause),
+            cause,
             place,
         }),
-        What::Unknown(kind) => Ok(Event::Unknown {
-            system,
-            kind: told_kind(kind),
-        }),
+        What::Unknown(kind) => Ok(Event::Unknown { system, kind }),
         What::Silent => Ok(Event::Silent { system }),
     }
 }

@@ -4,17 +4,16 @@
 
 mod arrivals;
 mod ends;
-mod event_words;
 mod events;
 mod laws;
 mod place;
+mod refusals;
 mod sending;
 mod ticking;
 mod transport;
 mod user_calls;
 mod world;
 
-pub use event_words::asked_options;
 pub use laws::{
     calls_stay_honest, one_run, one_start, shows_sent, shows_sent_where_honest, some_run,
     some_start, stays_honest, tells_asked, whole_calls, whole_run,

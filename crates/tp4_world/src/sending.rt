@@ -10,7 +10,7 @@ use crate::events::{tell_all, tell_drop};
 use net_world::take_up;
 use nsap::Nsap;
 use osi_base::{Bytes, Carrier, NoMemory, Unit, Wish};
-use osi_journal::Event;
+use script_journal::Event;
 use std::alloc::Global;
 use tp4_flow::{Sent, Step};
 use tpdu::write_tpdu;

@@ -11,7 +11,7 @@ use crate::sending::follow;
 use crate::transport::{Transport, own_at, place_of, tick_at};
 use nsap::Nsap;
 use osi_base::{Carrier, NoMemory, Tick};
-use osi_journal::Event;
+use script_journal::Event;
 
 /// The due ends of each entity tick, in the order of the entities.
 pub fn tick_all<C: Carrier<Addr = Nsap>>(

@@ -4,8 +4,8 @@ ghost use Rattle.std.specs.Prelude.{◌≡◌, ◌≤◌, ◌∷◌, [], Some, I
 ghost use Rattle.tp4_number.specs.Number.{wire};
 ghost use Rattle.tp4_conn.specs.Calls.{IsCall};
 ghost use Rattle.tp4_conn.specs.End.{IsSized};
-ghost use Rattle.osi_journal.specs.declared.event.Event.TheVariants.{No, Restart};
-ghost use Rattle.osi_journal.specs.declared.cause.Refused.{Refused as Cause};
+ghost use Rattle.script_journal.specs.declared.event.Event.TheVariants.{No, Restart};
+ghost use Rattle.script_journal.specs.declared.cause.Refused.{Refused as Cause};
 ghost use Rattle.std.specs.List.{position};
 ghost use Rattle.tp4_entity.specs.Entity.{Entity};
 ghost use Rattle.tp4_entity.specs.Step.{restarted, user_refusal};
@@ -14,13 +14,13 @@ ghost use Rattle.tp4_world.specs.World.{entity_at, is_of, with_entity};
 ghost use Rattle.tp4_world.specs.steps.Parts.{AreBehind, AreHoused, AreLaterAll, world_of};
 
 use crate::EndAt;
-use crate::event_words::{told_connect, told_refusal};
 use crate::events::{call_event, connect_line, tell_some};
+use crate::refusals::{told_connect, told_refusal};
 use crate::sending::follow;
 use crate::transport::{Transport, connect_at, has_ended, own_at, place_of, restart_at, user_at};
 use nsap::Nsap;
 use osi_base::{Carrier, NoMemory, Tick};
-use osi_journal::{Boxed, Event, Refused, Request, Standing};
+use script_journal::{Boxed, Event, Refused, Request};
 use tp4_conn::{ConnectRequest, UserCall};
 
 /// A user of a system asks for a connection.
@@ -140,7 +140,7 @@ pub fn ask<C: Carrier<Addr = Nsap>>(
         unreachable!();
     };
     if has_ended(transport, place, now, number, end) {
-        refuse(Some(Refused::WrongState(Standing::Ended)), events)?;
+        refuse(Some(Refused::Ended), events)?;
         return Ok(());
     }
     ask_at(

@@ -20,8 +20,8 @@ use crate::transport::Transport;
 use crate::user_calls::{ask, begin, restart};
 use net_world::{picked_event, send_unit, take_up};
 use nsap::Nsap;
-use osi_base::{Bytes, Carrier, NoMemory, Picked, Tick, Wish};
-use osi_journal::{Event, Settled};
+use osi_base::{Bytes, Carrier, NoMemory, Picked, Tick, Wish, go_on};
+use script_journal::{Event, Settled};
 use std::alloc::Global;
 use std::collections::VecDeque;
 use std::marker::Model;
@@ -304,16 +304,6 @@ impl<C: Carrier<Addr = Nsap> + Drop> TpWorld<C> {
         self.stopped = false;
         Ok(())
     }
-}
-
-/// After a call that ended for want of memory each further one wants it again: what that one left half done is not known.
-fn go_on(stopped: bool) -> Result<(), NoMemory>
-    ensures { OnOk result (stopped ≡ false) }
-{
-    if stopped {
-        return Err(NoMemory);
-    }
-    Ok(())
 }
 
 /// A delivery, with the carrier's answer.

@@ -8,7 +8,6 @@ use Rattle.tpdu.specs.Kinds.{has_number, fixed_count}
 use Rattle.pdu_parts.specs.Number.{two_octets}
 use Rattle.pdu_parts.specs.Parameter.{Parameter, spelled}
 use Rattle.tpdu.specs.Values.{TpduAndSum, Parts, value_of, fields}
-use Rattle.pdu_parts.specs.Parameter.{Parameter, spelled}
 use Rattle.tpdu.specs.Grammar.{Spells, IsTpdu}
 use Rattle.tpdu.specs.declared.tpdu.Tpdu.TheVariants as tpdus
 use Rattle.tpdu.specs.Writing.{size_count, size_parameters, preferred_parameters, kind_for, IsAllowed, header_count, is_summed, parameters_for, connect_parameters, ack_parameters, parameter}

@@ -5,7 +5,7 @@ ghost use Rattle.std.specs.Prelude.{◌≡◌};
 /// What is wrong with a TPDU, in the order in which it is looked for.
 ///
 /// Param and Unknown are looked for together, parameter by parameter from left to right.
-#[derive(Clone, Copy, Debug, PartialEq, Eq)]
+#[derive(Clone, Copy, Debug)]
 pub enum TpduCause {
     /// There are fewer than two octets.
     Short,
@@ -28,7 +28,7 @@ pub enum TpduCause {
 }
 
 /// The first fault of a TPDU, and the number of its octet from 1; 0 for none.
-#[derive(Clone, Copy, Debug, PartialEq, Eq)]
+#[derive(Clone, Copy)]
 pub struct TpduFault {
     pub cause: TpduCause,
     pub place: u32,

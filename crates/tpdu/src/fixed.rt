@@ -29,7 +29,7 @@ const NORMAL_CLASS: u8 = 0x40;
 const EXTENDED_CLASS: u8 = 0x42;
 
 /// The number of a DT, ED, AK or EA, and its top bit.
-#[derive(Clone, Copy, Debug, PartialEq, Eq)]
+#[derive(Clone, Copy)]
 pub struct Numbered {
     pub last: bool,
     pub number: u32,

@@ -6,7 +6,7 @@ ghost use Rattle.tpdu.specs.Kinds.{kind_of, fixed_count, is_request, is_connect,
 use crate::Format;
 
 /// A kind of TPDU.
-#[derive(Clone, Copy, Debug, PartialEq, Eq)]
+#[derive(Clone, Copy, Debug)]
 pub enum Kind {
     Cr,
     Cc,

@@ -10,6 +10,7 @@ mod laws;
 mod parameter;
 mod reading;
 mod sections;
+mod service;
 mod tpdu;
 mod writing;
 
@@ -20,5 +21,6 @@ pub use laws::{
     read_is_allowed, same_target, spelling_is_first,
 };
 pub use reading::read_first;
+pub use service::{EndTold, GoneCause, HeldKind, Options, State};
 pub use tpdu::{Format, Tpdu, TpduRef};
 pub use writing::write_tpdu;

@@ -50,7 +50,7 @@ pub const CONFIRMATION: u8 = 0x8c;
 pub const INFO: u8 = 0xe0;
 
 /// The least and the most octets of a value.
-#[derive(Clone, Copy, Debug, PartialEq, Eq)]
+#[derive(Clone, Copy)]
 pub struct Lengths {
     pub least: usize,
     pub most: usize,

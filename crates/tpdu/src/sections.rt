@@ -17,7 +17,7 @@ use crate::{Format, TpduRef};
 const DEFAULT_EXTRA: u8 = 1;
 
 /// The front of a TPDU: the header behind the code, all octets of the TPDU, its data, what follows it.
-#[derive(Clone, Copy, Debug)]
+#[derive(Clone, Copy)]
 pub struct HeadRef<'a> {
     pub kind: Kind,
     pub code: u8,
@@ -28,7 +28,7 @@ pub struct HeadRef<'a> {
 }
 
 /// The fixed part and the parameters of a header.
-#[derive(Clone, Copy, Debug)]
+#[derive(Clone, Copy)]
 pub struct SectionsRef<'a> {
     pub format: Format,
     pub fixed: &'a [u8],

@@ -104,7 +104,7 @@ pub enum TpduRef<'a> {
 }
 
 /// A TPDU that owns its octets, with the fields of [`TpduRef`] but `sum`.
-#[derive(Debug, Drop, PartialEq, Eq)]
+#[derive(Debug, Drop)]
 pub enum Tpdu {
     /// Connection request.
     Cr {

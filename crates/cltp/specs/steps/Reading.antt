@@ -5,8 +5,8 @@ use Rattle.osi_base.specs.Fletcher.{is_sealed}
 use Rattle.pdu_parts.specs.FirstFault.{first_failing}
 use Rattle.pdu_parts.specs.Parameter.{Parameter, front_parameter, parameters_in, left_in}
 use Rattle.pdu_parts.specs.steps.Reading.{◌>>=◌, unless}
-use Rattle.osi_journal.specs.declared.cause.UdCause.{UdCause}
-use Rattle.osi_journal.specs.declared.cause.UdCause.TheVariants.{Short, Length, Code, Param, Missing, Checksum}
+use Rattle.script_journal.specs.declared.cause.UdCause.{UdCause}
+use Rattle.script_journal.specs.declared.cause.UdCause.TheVariants.{Short, Length, Code, Param, Missing, Checksum}
 use Rattle.cltp.specs.declared.fault.UdFault.{UdFault}
 use Rattle.cltp.specs.declared.parameter.ValuesRef.{ValuesRef}
 use Rattle.cltp.specs.declared.reading.HeadRef.{HeadRef}

@@ -15,7 +15,7 @@ use Rattle.tp4_entity.specs.Entity.{Acted, Entity, at}
 use Rattle.tp4_entity.specs.References.{least_free}
 use Rattle.tp4_entity.specs.Step.{call_of, calling, connecting, first_due, ticking, user_refusal}
 use Rattle.tp4_entity.specs.Unit.{extended_of}
-use Rattle.osi_journal.specs.declared.event.Event.{Event}
+use Rattle.script_journal.specs.declared.event.Event.{Event}
 use Rattle.law_tp4_history.specs.Journals.{IsAside}
 use Rattle.law_tp4_proper.specs.Rest.{AreProper}
 use Rattle.tp4_world.specs.Run.{has_ended, transport_address}

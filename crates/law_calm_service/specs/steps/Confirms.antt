@@ -5,12 +5,12 @@ use Rattle.std.specs.List.{AllByRecursion}
 use Rattle.osi_base.specs.Calls.{Call}
 use Rattle.osi_base.specs.Link.{Link}
 use Rattle.osi_base.specs.declared.unit.Unit.{Unit as CarriedUnit}
-use Rattle.osi_journal.specs.Lawful.{AreEnds}
-use Rattle.osi_journal.specs.declared.event.Event.{Event}
-use Rattle.osi_journal.specs.declared.event.Event.TheVariants as events
-use Rattle.osi_script.specs.declared.line.Line.{Line}
-use Rattle.osi_script.specs.declared.line.Line.TheVariants as lines
-use Rattle.osi_script.specs.declared.line.Options.{Options}
+use Rattle.script_journal.specs.Lawful.{AreEnds}
+use Rattle.script_journal.specs.declared.event.Event.{Event}
+use Rattle.script_journal.specs.declared.event.Event.TheVariants as events
+use Rattle.script_lines.specs.declared.line.Line.{Line}
+use Rattle.script_lines.specs.declared.line.Line.TheVariants as lines
+use Rattle.tpdu.specs.declared.service.Options.{Options}
 use Rattle.tp4_conn.specs.declared.timers.Timers.{Timers}
 use Rattle.law_tp4_history.specs.Journals.{IsAside}
 use Rattle.law_tp4_pair.specs.Claim.{IsUndropped}
@@ -19,6 +19,7 @@ use Rattle.tp4_world.specs.World.{World}
 use Rattle.law_tp4_lawful.specs.Limits.{IsProperLine}
 use Rattle.law_calm_run.specs.Run.{IsCalmRun, IsStart}
 use Rattle.law_calm_service.specs.Confirms.{IsUnanswered}
+use Rattle.tpdu.specs.declared.service.EndTold.TheVariants as tells
 
 module _ {C : Type 0} (link : C → Link (List ℕ)) (steps : C → Call (List ℕ) → C → Type 0) (wrap : ℕ → ℕ → ℕ) where
   -- an accept line of the called end that was taken, where the calling end waits for an answer, and the settle behind it
@@ -27,7 +28,7 @@ module _ {C : Type 0} (link : C → Link (List ℕ)) (steps : C → Call (List �
     pub later : List Event
     pub between : World C
     pub proper : IsProperLine (lines.Accept called options octets)
-    pub accepts : RunsLine link steps wrap titles before (lines.Accept called options octets) (events.Accept called agreed octets ∷ later) between
+    pub accepts : RunsLine link steps wrap titles before (lines.Accept called options octets) (events.End called (tells.Accept agreed octets) ∷ later) between
     pub settles : RunsLine link steps wrap titles between lines.Settle settled last
     pub undropped : AllByRecursion IsUndropped (later ++ settled)
 
@@ -38,4 +39,4 @@ AcceptsAreConfirmed {C} link steps wrap titles Waits =
     → IsStart titles timers Waits first → IsAside begun
     → IsCalmRun link steps wrap titles first script journal before → AreEnds (begun ++ journal) calling called
     → AcceptsAndSettles link steps wrap titles before calling called options agreed octets settled last
-    → Contains settled (events.Confirm calling agreed octets)
+    → Contains settled (events.End calling (tells.Confirm agreed octets))

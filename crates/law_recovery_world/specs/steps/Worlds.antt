@@ -6,7 +6,7 @@ use Rattle.osi_base.specs.Link.{Link}
 use Rattle.tp4_flow.specs.declared.step.Sent.{Sent}
 use Rattle.tp4_conn.specs.declared.timers.Timers.{Timers}
 use Rattle.tp4_entity.specs.Entity.{Acted, Entity}
-use Rattle.osi_journal.specs.declared.event.Event.{Event}
+use Rattle.script_journal.specs.declared.event.Event.{Event}
 use Rattle.law_tp4_history.specs.History.{History}
 use Rattle.law_tp4_history.specs.Tracks.{Whole}
 use Rattle.tp4_world.specs.World.{World}

@@ -6,16 +6,16 @@ use Rattle.osi_base.specs.declared.unit.Up.TheVariants.{Unit as Came, Note as No
 use Rattle.osi_base.specs.Link.{Link}
 use Rattle.osi_base.specs.Calls.{Call}
 use Rattle.law_carrier_answers.specs.Answers.{AreOctets}
-use Rattle.osi_script.specs.Tags.{Tags}
-use Rattle.osi_journal.specs.Injective.{AreTold}
-use Rattle.osi_journal.specs.Told.{cells_of}
-use Rattle.net_world.specs.Told.{note_event}
+use Rattle.script_lines.specs.Tags.{Tags}
+use Rattle.script_journal.specs.Injective.{AreTold}
+use Rattle.script_journal.specs.Told.{cells_of}
 use Rattle.tp4_world.specs.Total.{Serves}
+use Rattle.script_journal.specs.declared.event.Event.TheVariants as events
 
 -- the note has an event that its text tells, and a unit comes up at a declared system
 abbrev pub IsToldUp : {A : Type 0} → Tags → Up A → Type 0
 IsToldUp tags (Came arrival) = arrival.system < length tags.systems
-IsToldUp tags (Noted note) = AreTold tags (cells_of (note_event note))
+IsToldUp tags (Noted note) = AreTold tags (cells_of (events.Net note))
 
 -- in a set of states that calls do not leave: all that may be asked is answered, what waits is told, a pair that can be taken is of a declared system, and the
 -- clock has not passed its limit. What passes for an address has an octet, and is octets

@@ -11,37 +11,40 @@ use Rattle.osi_base.specs.declared.unit.Offered.TheVariants.{Taken as WasTaken, 
 use Rattle.osi_base.specs.declared.unit.Up.{Up}
 use Rattle.osi_base.specs.declared.unit.Up.TheVariants.{Unit as Came, Note as Noted}
 use Rattle.law_carrier_answers.specs.Answers.{AreOctets}
-use Rattle.osi_script.specs.Tags.{Tags}
-use Rattle.osi_journal.specs.Injective.{AreTold, EachTold, IsTold, plain}
-use Rattle.osi_journal.specs.Told.{Cell, Number, Octets, Preferred, cells_of, drop_text, gone_cell, option_cells, standing_text, tpdu_cause_text, tpdu_text}
-use Rattle.osi_journal.specs.declared.cause.Refused.{Refused}
-use Rattle.osi_journal.specs.declared.cause.Refused.TheVariants as refusals
-use Rattle.osi_journal.specs.declared.cause.Standing.{Standing}
-use Rattle.osi_journal.specs.declared.cause.Standing.TheVariants as standings
-use Rattle.osi_journal.specs.declared.event.Event.{Event}
-use Rattle.osi_journal.specs.declared.event.Event.TheVariants as events
+use Rattle.script_lines.specs.Tags.{Tags}
+use Rattle.script_journal.specs.Injective.{AreTold, EachTold, IsTold, plain}
+use Rattle.script_journal.specs.Told.{Cell, Number, Octets, Preferred, cells_of, drop_text, format_text, gone_cell, held_text, option_cells, state_text, tpdu_cause_text, tpdu_text}
+use Rattle.script_journal.specs.declared.cause.Refused.{Refused}
+use Rattle.script_journal.specs.declared.cause.Refused.TheVariants as refusals
+use Rattle.tpdu.specs.declared.service.State.{State}
+use Rattle.tpdu.specs.declared.service.State.TheVariants as states
+use Rattle.script_journal.specs.declared.event.Event.{Event}
+use Rattle.script_journal.specs.declared.event.Event.TheVariants as events
 use Rattle.net_world.specs.Told.{told, up_events}
 use Rattle.tpdu.specs.declared.fault.TpduCause.{TpduCause}
 use Rattle.tpdu.specs.declared.fault.TpduCause.TheVariants as causes
 use Rattle.tpdu.specs.declared.kind.Kind.{Kind}
 use Rattle.tpdu.specs.declared.kind.Kind.TheVariants as kinds
-use Rattle.tp4_flow.specs.declared.rules.Options.{Options}
+use Rattle.tpdu.specs.declared.tpdu.Format.{Format}
+use Rattle.tpdu.specs.declared.tpdu.Format.TheVariants as formats
+use Rattle.tpdu.specs.declared.service.Options.{Options}
 use Rattle.tp4_flow.specs.declared.step.EndEvent.{EndEvent}
-use Rattle.tp4_flow.specs.declared.step.GoneCause.{GoneCause}
-use Rattle.tp4_flow.specs.declared.step.GoneCause.TheVariants as gone
-use Rattle.tp4_flow.specs.declared.step.HeldKind.{HeldKind}
-use Rattle.tp4_flow.specs.declared.step.HeldKind.TheVariants as held
+use Rattle.tpdu.specs.declared.service.GoneCause.{GoneCause}
+use Rattle.tpdu.specs.declared.service.GoneCause.TheVariants as gone
+use Rattle.tpdu.specs.declared.service.HeldKind.{HeldKind}
+use Rattle.tpdu.specs.declared.service.HeldKind.TheVariants as held
 use Rattle.tp4_flow.specs.declared.step.What.{What}
 use Rattle.tp4_flow.specs.declared.step.What.TheVariants as whats
 use Rattle.tp4_conn.specs.End.{IsSized, IsSizedBy}
 use Rattle.tp4_conn.proofs.Sizes.{size_most}
-use Rattle.tp4_world.specs.Telling.{drop_events, ends_after, ends_with, event_for, events_after, is_extended, is_urgent, told_cause, told_fault, told_kind, told_options}
+use Rattle.tp4_world.specs.Telling.{drop_events, ends_after, ends_with, event_for, events_after}
 use Rattle.tp4_world.specs.Total.{ComesInOctets}
 use Rattle.tp4_world.specs.World.{is_at, latest, latest_from}
 use Rattle.tp4_world.specs.declared.place.EndAt.{EndAt}
 use Rattle.law_tp4_proper.proofs.Octets.{all_both, octet_at}
 use Rattle.law_run.proofs.told.Carriers.{IsToldUp}
 use Rattle.law_run.proofs.told.Sends.{AreToldBy, IsCause, IsToldWhat}
+use Rattle.tpdu.specs.declared.service.EndTold.TheVariants as tells
 
 -- ---- events, counted
 
@@ -55,15 +58,14 @@ EachFrom tags n (event ∷ events) = (n < 4294967296 → IsToldEvent tags event)
 
 -- ---- words
 
-standing_plain : (standing : Standing) → plain (standing_text standing) ≡ true
-standing_plain standings.CrWait = refl
-standing_plain standings.WaitBeforeClose = refl
-standing_plain standings.UserWait = refl
-standing_plain standings.AkWait = refl
-standing_plain standings.Opened = refl
-standing_plain standings.Closing = refl
-standing_plain standings.Frozen = refl
-standing_plain standings.Ended = refl
+state_plain : (state : State) → plain (state_text state) ≡ true
+state_plain states.CrWait = refl
+state_plain states.WaitBeforeClose = refl
+state_plain states.UserWait = refl
+state_plain states.AkWait = refl
+state_plain states.Opened = refl
+state_plain states.Closing = refl
+state_plain states.Frozen = refl
 
 drop_plain : (cause : DropCause) → plain (drop_text cause) ≡ true
 drop_plain drops.TooLong = refl
@@ -71,7 +73,7 @@ drop_plain drops.NoRoute = refl
 drop_plain drops.Full = refl
 drop_plain drops.IdsSpent = refl
 
-fault_plain : (cause : TpduCause) → plain (tpdu_cause_text (told_fault cause)) ≡ true
+fault_plain : (cause : TpduCause) → plain (tpdu_cause_text cause) ≡ true
 fault_plain causes.Short = refl
 fault_plain causes.Length = refl
 fault_plain causes.Code = refl
@@ -82,7 +84,7 @@ fault_plain causes.Unknown = refl
 fault_plain causes.Checksum = refl
 fault_plain causes.Body = refl
 
-kind_plain : (kind : Kind) → plain (tpdu_text (told_kind kind)) ≡ true
+kind_plain : (kind : Kind) → plain (tpdu_text kind) ≡ true
 kind_plain kinds.Cr = refl
 kind_plain kinds.Cc = refl
 kind_plain kinds.Dr = refl
@@ -113,7 +115,8 @@ module _ (tags : Tags) where
   -- nothing but a refusal
   pub refusal_told : (why : Refused) → IsToldEvent tags (events.No why)
   refusal_told refusals.NoSuchEnd = (refl, (refl, tt))
-  refusal_told (refusals.WrongState standing) = (refl, (refl, (standing_plain standing, tt)))
+  refusal_told (refusals.WrongState state) = (refl, (refl, (state_plain state, tt)))
+  refusal_told refusals.Ended = (refl, (refl, (refl, tt)))
   refusal_told refusals.EmptyUnit = (refl, (refl, tt))
   refusal_told refusals.TooLong = (refl, (refl, tt))
   refusal_told refusals.NoExpedited = (refl, (refl, tt))
@@ -125,7 +128,7 @@ module _ (tags : Tags) where
   refusal_told refusals.IdsSpent = (refl, (refl, tt))
   refusal_told refusals.Relayed = (refl, (refl, tt))
 
-  gone_told : (cause : GoneCause) → IsCause cause → IsTold tags (gone_cell (told_cause cause))
+  gone_told : (cause : GoneCause) → IsCause cause → IsTold tags (gone_cell cause)
   gone_told (gone.Reason reason) h = omega (arith, h)
   gone_told gone.Protocol h = refl
   gone_told gone.Exhausted h = refl
@@ -134,13 +137,13 @@ module _ (tags : Tags) where
 
   -- ---- options
 
-  options_by : (extended preferred expedited sum : Bool) (size : ℕ) (cells : List Cell) → IsSizedBy preferred size → AreTold tags cells
-      → AreTold tags (option_cells (record { extended = extended; size = size; preferred = preferred; expedited = expedited; sum = sum }) cells)
-  options_by extended preferred expedited sum size cells sized h = (first extended, (by preferred sized, (third expedited, (last sum, h))))
+  options_by : (format : Format) (preferred expedited sum : Bool) (size : ℕ) (cells : List Cell) → IsSizedBy preferred size → AreTold tags cells
+      → AreTold tags (option_cells (record { format = format; size = size; preferred = preferred; expedited = expedited; sum = sum }) cells)
+  options_by format preferred expedited sum size cells sized h = (first format, (by preferred sized, (third expedited, (last sum, h))))
     where
-      first : (b : Bool) → plain (if b then codes "extended" else codes "normal") ≡ true
-      first true = refl
-      first false = refl
+      first : (format : Format) → plain (format_text format) ≡ true
+      first formats.Normal = refl
+      first formats.Extended = refl
 
       third : (b : Bool) → plain (if b then codes "exp" else codes "noexp") ≡ true
       third true = refl
@@ -154,12 +157,12 @@ module _ (tags : Tags) where
       by true is = (is.0, is.1, omega (arith, is.3))
       by false is = omega (arith, size_most size is)
 
-  options_told : (o : Options) (cells : List Cell) → IsSized o → AreTold tags cells → AreTold tags (option_cells (told_options o) cells)
-  options_told o cells sized h = options_by (is_extended o.format) o.preferred o.expedited o.sum o.size cells sized h
+  options_told : (o : Options) (cells : List Cell) → IsSized o → AreTold tags cells → AreTold tags (option_cells o cells)
+  options_told o cells sized h = options_by o.format o.preferred o.expedited o.sum o.size cells sized h
 
   -- ---- the events of ends
 
-  held_plain : (kind : HeldKind) → plain (if is_urgent kind then codes "ed" else codes "dt") ≡ true
+  held_plain : (kind : HeldKind) → plain (held_text kind) ≡ true
   held_plain held.Dt = refl
   held_plain held.Ed = refl
 
@@ -187,13 +190,13 @@ module _ (tags : Tags) where
         ),
       ),
     )
-    event_told n k number reference (whats.Accept options octets) up some low h = (refl, (omega (arith, up, low), options_told options (Octets octets ∷ []) h.0 (octets_bytes octets h.1, tt)))
-    event_told n k number reference (whats.Confirm options octets) up some low h = (refl, (omega (arith, up, low), options_told options (Octets octets ∷ []) h.0 (octets_bytes octets h.1, tt)))
-    event_told n k number reference (whats.Got octets) up some low h = (refl, (omega (arith, up, low), (octets_bytes octets h, tt)))
-    event_told n k number reference (whats.Urgent octets) up some low h = (refl, (omega (arith, up, low), (octets_bytes octets h, tt)))
-    event_told n k number reference (whats.Window credit) up some low h = (refl, (omega (arith, up, low), (omega (arith, h), tt)))
-    event_told n k number reference (whats.Held kind held_number) up some low h = (refl, (omega (arith, up, low), (held_plain kind, (omega (arith, h, some, low), tt))))
-    event_told n k number reference (whats.Gone cause octets) up some low h = (refl, (omega (arith, up, low), (gone_told cause h.0, (octets_bytes octets h.1, tt))))
+    event_told n k number reference (whats.End (tells.Accept options octets)) up some low h = (refl, (omega (arith, up, low), options_told options (Octets octets ∷ []) h.0 (octets_bytes octets h.1, tt)))
+    event_told n k number reference (whats.End (tells.Confirm options octets)) up some low h = (refl, (omega (arith, up, low), options_told options (Octets octets ∷ []) h.0 (octets_bytes octets h.1, tt)))
+    event_told n k number reference (whats.End (tells.Got octets)) up some low h = (refl, (omega (arith, up, low), (octets_bytes octets h, tt)))
+    event_told n k number reference (whats.End (tells.Urgent octets)) up some low h = (refl, (omega (arith, up, low), (octets_bytes octets h, tt)))
+    event_told n k number reference (whats.End (tells.Window credit)) up some low h = (refl, (omega (arith, up, low), (omega (arith, h), tt)))
+    event_told n k number reference (whats.End (tells.Held kind held_number)) up some low h = (refl, (omega (arith, up, low), (held_plain kind, (omega (arith, h, some, low), tt))))
+    event_told n k number reference (whats.End (tells.Gone cause octets)) up some low h = (refl, (omega (arith, up, low), (gone_told cause h.0, (octets_bytes octets h.1, tt))))
     event_told n k number reference (whats.BadTpdu cause place) up some low h = (refl, (declared, (fault_plain cause, (omega (arith, h), tt))))
     event_told n k number reference (whats.Unknown kind) up some low h = (refl, (declared, (kind_plain kind, tt)))
     event_told n k number reference whats.Silent up some low h = (refl, (declared, tt))
@@ -201,13 +204,7 @@ module _ (tags : Tags) where
     -- the ends that were made, and those after the events of a system
     with_more : (ends : List EndAt) (telling : EndEvent) (what : What) → length (ends_with ends system telling what) ≤ length ends + 1
     with_more ends telling (whats.Incoming from partner calling called options octets) = let long = length-append ends (record { system = system; reference = telling.reference } ∷ []) in omega (arith, long)
-    with_more ends telling (whats.Accept options octets) = omega arith
-    with_more ends telling (whats.Confirm options octets) = omega arith
-    with_more ends telling (whats.Got octets) = omega arith
-    with_more ends telling (whats.Urgent octets) = omega arith
-    with_more ends telling (whats.Window credit) = omega arith
-    with_more ends telling (whats.Held kind number) = omega arith
-    with_more ends telling (whats.Gone cause octets) = omega arith
+    with_more ends telling (whats.End what) = omega arith
     with_more ends telling (whats.BadTpdu cause place) = omega arith
     with_more ends telling (whats.Unknown kind) = omega arith
     with_more ends telling whats.Silent = omega arith

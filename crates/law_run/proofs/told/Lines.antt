@@ -5,9 +5,9 @@ use Rattle.std.specs.List.{AllByRecursion}
 use Rattle.osi_base.specs.Link.{Link}
 use Rattle.osi_base.specs.Calls.{Call, Keeps}
 use Rattle.law_carrier_answers.specs.Answers.{OneStep}
-use Rattle.osi_script.specs.Tags.{Tags}
-use Rattle.osi_script.specs.declared.line.Line.{Line}
-use Rattle.osi_journal.specs.declared.event.Event.{Event}
+use Rattle.script_lines.specs.Tags.{Tags}
+use Rattle.script_lines.specs.declared.line.Line.{Line}
+use Rattle.script_journal.specs.declared.event.Event.{Event}
 use Rattle.tp4_entity.specs.Entity.{Entity}
 use Rattle.tp4_number.specs.Number.{wire}
 use Rattle.tp4_world.specs.Run.{RunsLine, Starts}

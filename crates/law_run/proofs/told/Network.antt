@@ -25,7 +25,7 @@ use Rattle.clnp_system.specs.Tables.{rows_tables}
 use Rattle.law_clnp_step.specs.Handling.{Changes, Handles, IsReceived, Nobody, OffersFrame, OffersFrames, Somebody, TicksAll, drop_note, is_system, notes_of, plain_wish}
 use Rattle.law_clnp_step.specs.Network.{Network, net_link}
 use Rattle.law_clnp_step.specs.Step.{Arrives, Begins, IsDropped, IsFull, IsNobodys, IsTaken, NetOffers, NetStep, NetTakesUp, NetTicks, is_source}
-use Rattle.osi_script.specs.Tags.{Tags}
+use Rattle.script_lines.specs.Tags.{Tags}
 use Rattle.law_clnp_answers.specs.Serving.{StandsInOctets}
 use Rattle.law_clnp_answers.specs.Standing.{FitsBag, FitsKept, FitsUp, IsFrame, is_nsap, is_port}
 use Rattle.law_clnp_answers.proofs.Always.{serves}

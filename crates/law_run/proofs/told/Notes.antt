@@ -26,7 +26,7 @@ use Rattle.lan_bag.specs.Reading.{up_in, ups_of}
 use Rattle.lan_bag.specs.Rows.{is_on, room_on, same_port, same_snpa, sender_of}
 use Rattle.lan_bag.specs.declared.setup.PortRow.{PortRow}
 use Rattle.law_carrier_answers.specs.Answers.{AreOctets}
-use Rattle.osi_script.specs.Tags.{Tags}
+use Rattle.script_lines.specs.Tags.{Tags}
 use Rattle.law_clnp_answers.specs.Standing.{IsSnpa}
 use Rattle.law_clnp_answers.proofs.written.Octets.{all_both}
 use Rattle.law_tp4_proper.proofs.Octets.{octet_at}

@@ -1,19 +1,19 @@
 -- The number of a frame in a `deliver` line is one that was read, and so within its bounds.
 use Rattle.std.proofs.Common.{◌≡◌, ◌≤◌, ℕ, List, [], ◌∷◌, Ok, sym, subst}
 use Rattle.std.specs.Prelude.{None}
-use Rattle.osi_script.specs.declared.words.FieldKind.TheVariants as forms
-use Rattle.osi_script.specs.declared.words.NameKind.TheVariants as named
-use Rattle.osi_script.specs.declared.words.WordKind.TheVariants as plain
-use Rattle.osi_script.specs.declared.words.Word.{Word}
-use Rattle.osi_script.specs.declared.words.Word.TheVariants as words
-use Rattle.osi_script.specs.declared.line.Line.{Line}
-use Rattle.osi_script.specs.declared.line.Line.TheVariants as lines
-use Rattle.osi_script.specs.declared.field_values.FieldValues.{FieldValues}
-use Rattle.osi_script.specs.Field.{number_of}
-use Rattle.osi_script.specs.Grammar.{Reading, count_fault, fields_read, line_for, line_read, next_column, next_number}
-use Rattle.osi_script.specs.Known.{Declared, no_parts}
-use Rattle.osi_script.specs.Reading.{system_of}
-use Rattle.osi_script.specs.Table.{row_of}
+use Rattle.script_lines.specs.declared.words.FieldKind.TheVariants as forms
+use Rattle.script_lines.specs.declared.words.NameKind.TheVariants as named
+use Rattle.script_lines.specs.declared.words.WordKind.TheVariants as plain
+use Rattle.script_lines.specs.declared.words.Word.{Word}
+use Rattle.script_lines.specs.declared.words.Word.TheVariants as words
+use Rattle.script_lines.specs.declared.line.Line.{Line}
+use Rattle.script_lines.specs.declared.line.Line.TheVariants as lines
+use Rattle.script_lines.specs.declared.field_values.FieldValues.{FieldValues}
+use Rattle.script_lines.specs.Field.{number_of}
+use Rattle.script_lines.specs.Grammar.{Reading, count_fault, fields_read, line_for, line_read, next_column, next_number}
+use Rattle.script_lines.specs.Known.{Declared, no_parts}
+use Rattle.script_lines.specs.Reading.{system_of}
+use Rattle.script_lines.specs.Table.{row_of}
 use Rattle.script_bench.specs.steps.Came.{Came, Idle, Worded, came}
 use Rattle.law_setup.proofs.Values.{number_within, same_parts, step}
 

@@ -48,9 +48,9 @@ use Rattle.clnp_system.specs.declared.aim.Aim.TheVariants.{Free, Entry, Forbidde
 use Rattle.clnp_system.specs.declared.verdict.Verdict.{Verdict}
 use Rattle.clnp_system.specs.declared.verdict.Verdict.TheVariants.{Discard, Tell, Take, Join, Onward}
 use Rattle.law_carrier_answers.specs.Answers.{AreOctets}
-use Rattle.osi_script.specs.Tags.{Tags}
-use Rattle.osi_journal.specs.Injective.{plain}
-use Rattle.osi_journal.specs.Told.{hello_cause_text, hello_text}
+use Rattle.script_lines.specs.Tags.{Tags}
+use Rattle.script_journal.specs.Injective.{plain}
+use Rattle.script_journal.specs.Told.{hello_cause_text, hello_text}
 use Rattle.law_clnp_answers.specs.Standing.{IsFrame, IsSnpa}
 use Rattle.law_clnp_answers.proofs.written.Fitting.{FitsOption}
 use Rattle.law_clnp_answers.proofs.written.Reading.{front_fits, front_hello_fits}

@@ -14,7 +14,7 @@ use Rattle.tp4_number.specs.Formats.{most_of}
 use Rattle.tp4_flow.specs.Half.{Half, Received, dt_arrival, half_granted, taken_dt, taken_ed}
 use Rattle.tp4_flow.specs.declared.rules.Life.{Life as Ends}
 use Rattle.tp4_flow.specs.declared.rules.Life.TheVariants.{Goes, Exhausted}
-use Rattle.tp4_flow.specs.declared.rules.Options.{Options}
+use Rattle.tpdu.specs.declared.service.Options.{Options}
 use Rattle.tp4_flow.specs.declared.rules.SubmitRefusal.{SubmitRefusal}
 use Rattle.tp4_flow.specs.declared.step.EndEvent.{EndEvent}
 use Rattle.tp4_flow.specs.declared.step.Sent.{Sent}

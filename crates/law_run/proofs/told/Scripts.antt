@@ -15,21 +15,21 @@ use Rattle.esis_tables.specs.Rows.{Rows}
 use Rattle.lan_bag.specs.Bag.{BagStep, link_of, new_bag}
 use Rattle.clnp_system.specs.Tables.{rows_tables}
 use Rattle.law_clnp_step.specs.Step.{Begins}
-use Rattle.osi_journal.specs.Injective.{EachTold}
-use Rattle.osi_journal.specs.Told.{journal_text}
-use Rattle.osi_journal.proofs.OneText.{journal_same}
-use Rattle.osi_journal.specs.declared.event.Event.{Event}
-use Rattle.osi_script.specs.declared.words.Dialect.TheVariants as dialects
-use Rattle.osi_script.specs.declared.line.Line.{Line}
-use Rattle.osi_script.specs.declared.line.Line.TheVariants as lines
-use Rattle.osi_script.specs.Grammar.{line_read}
-use Rattle.osi_script.specs.Known.{Declared}
-use Rattle.osi_script.specs.Names.{NamesDeclared}
-use Rattle.osi_script.specs.Tags.{HaveNames, Tags, tags_of}
-use Rattle.osi_script.proofs.FreshNames.{script_names}
-use Rattle.osi_script.proofs.LineNames.{line_named}
-use Rattle.osi_setup.specs.Fitting.{IsWell}
-use Rattle.osi_setup.specs.SetUp.{SetUp, nodes_of, set_up, titles_of as titles_said}
+use Rattle.script_journal.specs.Injective.{EachTold}
+use Rattle.script_journal.specs.Told.{journal_text}
+use Rattle.script_journal.proofs.OneText.{journal_same}
+use Rattle.script_journal.specs.declared.event.Event.{Event}
+use Rattle.script_lines.specs.declared.words.Dialect.TheVariants as dialects
+use Rattle.script_lines.specs.declared.line.Line.{Line}
+use Rattle.script_lines.specs.declared.line.Line.TheVariants as lines
+use Rattle.script_lines.specs.Grammar.{line_read}
+use Rattle.script_lines.specs.Known.{Declared}
+use Rattle.script_lines.specs.Names.{NamesDeclared}
+use Rattle.script_lines.specs.Tags.{HaveNames, Tags, tags_of}
+use Rattle.script_lines.proofs.FreshNames.{script_names}
+use Rattle.script_lines.proofs.LineNames.{line_named}
+use Rattle.script_setup.specs.Fitting.{IsWell}
+use Rattle.script_setup.specs.SetUp.{SetUp, nodes_of, set_up, titles_of as titles_said}
 use Rattle.script_world.specs.Entities.{entities_of}
 use Rattle.law_setup.specs.Agreeing.{AreOne}
 use Rattle.law_setup.specs.Lines.{IsInOctets}

@@ -23,11 +23,12 @@ use Rattle.tp4_sending.specs.Pieces.{Queue, count_in, end_of, freed_by, is_due}
 use Rattle.tp4_sending.specs.declared.tries.Tries.{Tries}
 use Rattle.tp4_conn.proofs.Timely.{if_kept}
 use Rattle.law_tp4_proper.proofs.Octets.{all_both, all_drop, octets_both}
-use Rattle.tp4_flow.specs.declared.step.GoneCause.{GoneCause}
-use Rattle.tp4_flow.specs.declared.step.GoneCause.TheVariants as gone
+use Rattle.tpdu.specs.declared.service.GoneCause.{GoneCause}
+use Rattle.tpdu.specs.declared.service.GoneCause.TheVariants as gone
 use Rattle.tp4_flow.specs.declared.step.What.{What}
 use Rattle.tp4_flow.specs.declared.step.What.TheVariants as whats
 use Rattle.tp4_conn.specs.End.{IsSized}
+use Rattle.tpdu.specs.declared.service.EndTold.TheVariants as tells
 
 -- ---- what an end tells
 
@@ -44,13 +45,13 @@ IsCause cause = Unit {0}
 abbrev pub IsToldWhat : ℕ → ℕ → What → Type 0
 IsToldWhat n reference (whats.Incoming from partner calling called options octets) =
     (reference < 65536) × (partner < 65536) × AreOctets from × (0 < length from) × AreOctets calling × AreOctets called × IsSized options × AreOctets octets
-IsToldWhat n reference (whats.Accept options octets) = IsSized options × AreOctets octets
-IsToldWhat n reference (whats.Confirm options octets) = IsSized options × AreOctets octets
-IsToldWhat n reference (whats.Got octets) = AreOctets octets
-IsToldWhat n reference (whats.Urgent octets) = AreOctets octets
-IsToldWhat n reference (whats.Window credit) = credit < 65536
-IsToldWhat n reference (whats.Held kind number) = number < most n
-IsToldWhat n reference (whats.Gone cause octets) = IsCause cause × AreOctets octets
+IsToldWhat n reference (whats.End (tells.Accept options octets)) = IsSized options × AreOctets octets
+IsToldWhat n reference (whats.End (tells.Confirm options octets)) = IsSized options × AreOctets octets
+IsToldWhat n reference (whats.End (tells.Got octets)) = AreOctets octets
+IsToldWhat n reference (whats.End (tells.Urgent octets)) = AreOctets octets
+IsToldWhat n reference (whats.End (tells.Window credit)) = credit < 65536
+IsToldWhat n reference (whats.End (tells.Held kind number)) = number < most n
+IsToldWhat n reference (whats.End (tells.Gone cause octets)) = IsCause cause × AreOctets octets
 IsToldWhat n reference (whats.BadTpdu cause place) = place < 65536
 IsToldWhat n reference (whats.Unknown kind) = Unit {0}
 IsToldWhat n reference whats.Silent = Unit {0}

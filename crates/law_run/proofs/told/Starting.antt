@@ -12,10 +12,10 @@ use Rattle.tp4_conn.specs.End.{End}
 use Rattle.tp4_entity.specs.Entity.{Entity, end_at, there}
 use Rattle.tp4_world.specs.World.{entity_at, is_of}
 use Rattle.tp4_world.specs.declared.place.Placed.{Placed}
-use Rattle.osi_script.specs.Tags.{Tags}
-use Rattle.osi_setup.specs.declared.transport.Limits.{Limits}
-use Rattle.osi_setup.specs.Fitting.{IsWell}
-use Rattle.osi_setup.specs.SetUp.{System, SetUp, end_at as end_by, entity_with, nodes_from, nodes_of, timers_of}
+use Rattle.script_lines.specs.Tags.{Tags}
+use Rattle.script_setup.specs.declared.transport.Limits.{Limits}
+use Rattle.script_setup.specs.Fitting.{IsWell}
+use Rattle.script_setup.specs.SetUp.{System, SetUp, end_at as end_by, entity_with, nodes_from, nodes_of, timers_of}
 use Rattle.script_world.specs.Entities.{entities_from, entities_of}
 use Rattle.law_run.proofs.told.EndSteps.{EntityFew}
 use Rattle.law_run.proofs.told.Network.{AreNodes}

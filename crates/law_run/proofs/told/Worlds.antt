@@ -19,16 +19,15 @@ use Rattle.osi_base.specs.Link.{Link}
 use Rattle.osi_base.specs.Calls.{Call, Chain, Choose, Inject, Keeps, NextUp, Offer, Tick}
 use Rattle.osi_base.specs.Gathering.{Gathers, takings}
 use Rattle.law_carrier_answers.specs.Answers.{AreOctets, CanBeAsked, MayBeOffered, asked_of}
-use Rattle.osi_script.specs.Tags.{Tags}
-use Rattle.osi_script.specs.declared.line.Line.{Line}
-use Rattle.osi_script.specs.declared.line.Line.TheVariants as lines
-use Rattle.osi_script.specs.declared.line.Options.{Options as ScriptOptions}
-use Rattle.osi_journal.specs.RawLawful.{raw_address}
-use Rattle.osi_journal.specs.declared.cause.Refused.{Refused}
-use Rattle.osi_journal.specs.declared.cause.Refused.TheVariants as refusals
-use Rattle.osi_journal.specs.declared.cause.Standing.TheVariants.{Ended}
-use Rattle.osi_journal.specs.declared.event.Event.{Event}
-use Rattle.osi_journal.specs.declared.event.Event.TheVariants as events
+use Rattle.script_lines.specs.Tags.{Tags}
+use Rattle.script_lines.specs.declared.line.Line.{Line}
+use Rattle.script_lines.specs.declared.line.Line.TheVariants as lines
+use Rattle.tpdu.specs.declared.service.Options.{Options}
+use Rattle.script_journal.specs.RawLawful.{raw_address}
+use Rattle.script_journal.specs.declared.cause.Refused.{Refused}
+use Rattle.script_journal.specs.declared.cause.Refused.TheVariants as refusals
+use Rattle.script_journal.specs.declared.event.Event.{Event}
+use Rattle.script_journal.specs.declared.event.Event.TheVariants as events
 use Rattle.net_world.specs.Run.{Passes, raw_unit}
 use Rattle.net_world.specs.Told.{picked_event, refusal, sent_event, told}
 use Rattle.tpdu.specs.Writing.{IsWritten, is_summed}
@@ -55,7 +54,7 @@ use Rattle.law_tp4_proper.proofs.OctetEnds.{calling_in, connecting_in, ticking_i
 use Rattle.law_tp4_proper.proofs.Octets.{all_both}
 use Rattle.law_tp4_proper.proofs.Writings.{some_writing}
 use Rattle.tp4_world.specs.Run.{Acts, Arrives, BeginsAt, Calls, CallsAt, CallsBy, CallsEnd, ConnectsBy, Delivers, HearsAll, HearsIf, Injects, IsRefused, NoneDue, NoneLeft, OneDue, OneMore, Restarts, RunsLine, SendsRaw, SendsTpdu, SendsTpdus, Settles, Starts, Ticks, TicksAll, TicksEntity, TooMany, has_ended, is_for, transport_address, transport_wish}
-use Rattle.tp4_world.specs.Telling.{asked_options, call_events, connect_event, drop_events, events_after, inject_event, told_connect, told_refusal}
+use Rattle.tp4_world.specs.Telling.{call_events, connect_event, drop_events, events_after, inject_event, told_connect, told_refusal}
 use Rattle.tp4_world.specs.Total.{CanConnect, CanRun, ComesInOctets}
 use Rattle.tp4_world.specs.World.{World, end_numbered, entity_at, with_entity}
 use Rattle.tp4_world.specs.declared.place.EndAt.{EndAt}
@@ -530,7 +529,7 @@ module _ {C : Type 0} (tags : Tags) (is_address : List ℕ → Bool) (link : C �
           (λ _ never. absurd cc)
           (λ _. if_kept (λ (o : Option ConnectRefusal). o ≡ None → length octets ≤ 32) (nat_lt 32 (length octets)) _ _ (λ _ never. absurd cc) (λ short _. ltb-false 32 (length octets) short))
 
-  connects_so : (n : ℕ) (titles : List (List ℕ)) (old new : World C) (system to : ℕ) (options : ScriptOptions) (selector called octets : List ℕ) (made : List Event) → WorldSo n old
+  connects_so : (n : ℕ) (titles : List (List ℕ)) (old new : World C) (system to : ℕ) (options : Options) (selector called octets : List ℕ) (made : List Event) → WorldSo n old
       → CanConnect is_address titles old system to options selector called octets → RunsLine link steps wrap titles old (lines.Connect system selector to called options octets) made new → StepSo n made new
   connects_so n titles old new system to options selector called octets made h may r =
       let request : ConnectRequest = r.1 in
@@ -583,7 +582,7 @@ module _ {C : Type 0} (tags : Tags) (is_address : List ℕ → Bool) (link : C �
 
   calls_end : (n : ℕ) (old new : World C) (number : ℕ) (end : EndAt) (e : Entity) (call : UserCall) (over_is : Bool) (made : List Event) → WorldSo n old → entity_at old.entities end.system ≡ Some e → number ≤ n
       → IsCall call → CallInOctets is_address call → CallsEnd link steps wrap old number end e call over_is made new → StepSo n made new
-  calls_end n old new number end e call true made h is low c octets r = refused_so n old new (Some (refusals.WrongState Ended)) made h r
+  calls_end n old new number end e call true made h is low c octets r = refused_so n old new (Some refusals.Ended) made h r
   calls_end n old new number end e call false made h is low c octets r = calls_by n old new number end e call (user_refusal e end.reference call) made refl h is low c octets r
 
   number_low : (ends : List EndAt) (place : ℕ) (end : EndAt) → slice_get ends place ≡ Some end → place < length ends
@@ -668,7 +667,7 @@ module _ {C : Type 0} (tags : Tags) (is_address : List ℕ → Bool) (link : C �
       → ((system : ℕ) (e : Entity) → entity_at new.entities system ≡ Some e → first_due (now_of new) e ≡ None) → RunsLine link steps wrap titles old line made new → StepSo n made new
   line_so n titles old new lines.Nothing made h may names idle r = nothing_so n old new made h r.0 r.1
   line_so n titles old new (lines.Connect system selector to called options octets) made h may names idle r = connects_so n titles old new system to options selector called octets made h may r
-  line_so n titles old new (lines.Accept end options octets) made h may names idle r = calls_so n old new end (asks.Accept (asked_options options) octets) made h may.0 may.1 r
+  line_so n titles old new (lines.Accept end options octets) made h may names idle r = calls_so n old new end (asks.Accept options octets) made h may.0 may.1 r
   line_so n titles old new (lines.Refuse end octets) made h may names idle r = calls_so n old new end (asks.Refuse octets) made h tt may r
   line_so n titles old new (lines.Disconnect end octets) made h may names idle r = calls_so n old new end (asks.Disconnect octets) made h tt may r
   line_so n titles old new (lines.Data end octets) made h may names idle r = calls_so n old new end (asks.Normal octets) made h tt may r

@@ -1,10 +1,10 @@
 -- The network as a stage of a script: its laws, and what a step of it says.
 use Rattle.std.proofs.Common.{◌≡◌, ℕ, List, [], ◌∷◌, ◌++◌, sym, ◌∙◌, ap, subst}
 use Rattle.line_loop.specs.Meaning.{Laws}
-use Rattle.osi_journal.specs.declared.event.Event.{Event}
-use Rattle.osi_script.specs.declared.words.Dialect.TheVariants as dialects
-use Rattle.osi_script.specs.declared.line.Line.{Line}
-use Rattle.osi_setup.specs.SetUp.{SetUp}
+use Rattle.script_journal.specs.declared.event.Event.{Event}
+use Rattle.script_lines.specs.declared.words.Dialect.TheVariants as dialects
+use Rattle.script_lines.specs.declared.line.Line.{Line}
+use Rattle.script_setup.specs.SetUp.{SetUp}
 use Rattle.script_bench.specs.Acts.{Keeping, StageLaws}
 use Rattle.script_bench.specs.steps.BenchLaws.{bench_laws as laws_of}
 use Rattle.script_world.specs.ClnpNets.{MakesNet, Net, NetDoes, link_of_net}

@@ -1,6 +1,6 @@
 -- A step of one end of an entity, as a step of the history (X.224, class 4 state tables).
 use Rattle.std.specs.Prelude.{◌≡◌, ◌≤◌, ℕ, ◌+◌, List, [], Option, Some, None}
-use Rattle.osi_journal.specs.declared.event.Event.{Event as Told}
+use Rattle.script_journal.specs.declared.event.Event.{Event as Told}
 use Rattle.tp4_number.specs.Number.{whole}
 use Rattle.tp4_conn.specs.End.{End}
 use Rattle.tp4_conn.specs.Living.{IsFit}

@@ -21,8 +21,8 @@ use Rattle.tp4_entity.specs.Association.{met}
 use Rattle.tp4_entity.specs.Entity.{Entity, at, Acted}
 use Rattle.tp4_entity.specs.References.{least_free, is_silent}
 use Rattle.tp4_entity.specs.Step.{call_of, calling, connecting, first_due, ticking, user_refusal, restarted}
-use Rattle.osi_journal.specs.declared.event.Event.{Event}
-use Rattle.osi_journal.specs.declared.event.Event.TheVariants as events
+use Rattle.script_journal.specs.declared.event.Event.{Event}
+use Rattle.script_journal.specs.declared.event.Event.TheVariants as events
 use Rattle.law_tp4_history.specs.History.{History, Note, Tick, Restart}
 use Rattle.law_tp4_history.specs.Tracks.{Whole, Nothing, onward}
 use Rattle.law_tp4_history.specs.Journals.{IsAside}

@@ -2,7 +2,7 @@
 -- lines of its connection (X.224, class 4 procedures).
 use Rattle.std.specs.Prelude.{◌≡◌, ℕ, ◌+◌, ◌-◌, ◌<◌, ◌≤◌, true, false, if◌then◌else◌, List, length, slice_get, Option, Some, None, Contains}
 use Rattle.nsap.specs.Address.{is_same_system}
-use Rattle.osi_journal.specs.declared.event.Event.{Event}
+use Rattle.script_journal.specs.declared.event.Event.{Event}
 use Rattle.tpdu.specs.Kinds.{has_number}
 use Rattle.tpdu.specs.Values.{TpduAndSum, destination_of, format_for}
 use Rattle.tpdu.specs.Writing.{IsAllowed, kind_for}

@@ -1,7 +1,7 @@
 -- A run of a network in small steps, each with one event at most: what is seen of its ends as systems begin again (X.224, frozen references).
 use Rattle.std.specs.Prelude.{◌≡◌, ◌≢◌, ◌⊎◌, ℕ, ◌+◌, ◌<◌, ◌≤◌, List, [], ◌∷◌, ◌++◌, length, map, Option, Some, None}
-use Rattle.osi_journal.specs.declared.event.Event.{Event}
-use Rattle.osi_journal.specs.declared.event.Event.TheVariants as events
+use Rattle.script_journal.specs.declared.event.Event.{Event}
+use Rattle.script_journal.specs.declared.event.Event.TheVariants as events
 use Rattle.tp4_conn.specs.End.{End}
 use Rattle.tp4_entity.specs.Entity.{Entity, end_at}
 use Rattle.tp4_world.specs.World.{entity_at, latest}
@@ -22,17 +22,11 @@ abbrev pub kind_of : Event → Kind
 kind_of (events.Tick now) = Clock now
 kind_of (events.Connect asked) = Makes asked.end asked.system
 kind_of (events.Incoming heard) = Makes heard.end heard.system
-kind_of (events.Accept end options octets) = Of end
-kind_of (events.Confirm end options octets) = Of end
+kind_of (events.End end what) = Of end
 kind_of (events.Data end octets) = Of end
-kind_of (events.Got end octets) = Of end
 kind_of (events.Expedite end octets) = Of end
-kind_of (events.Urgent end octets) = Of end
 kind_of (events.Refuse end octets) = Of end
 kind_of (events.Disconnect end octets) = Of end
-kind_of (events.Gone end cause octets) = Of end
-kind_of (events.Window end credit) = Of end
-kind_of (events.Held end expedited number) = Of end
 kind_of (events.Restart system) = Begins system
 kind_of event = Other
 

@@ -22,7 +22,7 @@ use Rattle.tp4_entity.specs.Entity.{Entity, at, Acted}
 use Rattle.tp4_entity.specs.References.{least_free}
 use Rattle.tp4_entity.specs.Step.{call_of, calling, connecting, first_due, ticking, user_refusal, restarted}
 use Rattle.tp4_entity.specs.Unit.{EndsWith, Separates, extended_of}
-use Rattle.osi_journal.specs.declared.event.Event.{Event}
+use Rattle.script_journal.specs.declared.event.Event.{Event}
 use Rattle.law_tp4_history.specs.History.{History}
 use Rattle.law_tp4_history.specs.Tracks.{Whole}
 use Rattle.tp4_world.specs.World.{World}

@@ -4,7 +4,7 @@ use Rattle.std.specs.Prelude.{◌≡◌, ℕ, ◌+◌, ◌<◌, List, [], ◌∷
 use Rattle.std.specs.List.{sum_by}
 use Rattle.tpdu.specs.declared.tpdu.Tpdu.{Tpdu}
 use Rattle.tpdu.specs.declared.tpdu.Tpdu.TheVariants.{Dt, Ed}
-use Rattle.osi_journal.specs.Lawful.{Marked, expediteds, normals}
+use Rattle.script_journal.specs.Lawful.{Marked, expediteds, normals}
 use Rattle.tp4_number.specs.declared.piece.Piece.{Piece}
 use Rattle.tp4_flow.specs.Half.{Half}
 use Rattle.tp4_flow.specs.declared.step.Sent.{Sent}

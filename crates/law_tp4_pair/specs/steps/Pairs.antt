@@ -1,19 +1,22 @@
 -- What the claim follows from: each two partner ends that are Opened are a pair that went from its accept to where it is, and no end is due.
-use Rattle.std.specs.Prelude.{◌≡◌, ℕ, ◌+◌, true, false, List, Option, Some, Contains}
-use Rattle.osi_journal.specs.Lawful.{AreEnds, shown, submitted}
-use Rattle.osi_journal.specs.declared.event.Event.{Event}
-use Rattle.osi_journal.specs.declared.event.Event.TheVariants as events
+use Rattle.std.specs.Prelude.{◌≡◌, ℕ, ◌+◌, List, Option, Some, Contains}
+use Rattle.script_journal.specs.Lawful.{AreEnds, shown, submitted}
+use Rattle.script_journal.specs.declared.event.Event.{Event}
+use Rattle.script_journal.specs.declared.event.Event.TheVariants as events
 use Rattle.tp4_conn.specs.declared.call.UserCall.TheVariants.{Accept}
 use Rattle.tp4_conn.specs.declared.states.InOpened.{InOpened}
 use Rattle.tp4_conn.specs.declared.states.StateData.TheVariants.{Opened}
 use Rattle.tp4_conn.specs.End.{End}
 use Rattle.tp4_conn.specs.Living.{IsInTime}
 use Rattle.tp4_conn.specs.Table.{due}
-use Rattle.tp4_flow.specs.declared.rules.Options.{Options}
+use Rattle.tpdu.specs.declared.service.Options.{Options}
 use Rattle.tp4_flow.specs.declared.step.EndEvent.{EndEvent}
-use Rattle.tp4_flow.specs.declared.step.HeldKind.TheVariants.{Dt, Ed}
-use Rattle.tp4_flow.specs.declared.step.What.TheVariants.{Held}
+use Rattle.tpdu.specs.declared.service.HeldKind.TheVariants.{Dt, Ed}
+use Rattle.tp4_flow.specs.declared.step.What.TheVariants as whats
+use Rattle.tpdu.specs.declared.service.EndTold.TheVariants.{Held}
 use Rattle.law_tp4_pair.specs.Pair.{Accepts, Asks_called, Happening, IsIdle, Leads, Pair, next}
+use Rattle.tpdu.specs.declared.service.EndTold.TheVariants as tells
+use Rattle.tpdu.specs.declared.service.HeldKind.TheVariants as helds
 
 -- no end is due at this tick, by the numbers of ends
 abbrev pub AreLater : ℕ → (ℕ → Option End) → Type 0
@@ -21,8 +24,8 @@ AreLater now end_of = (number : ℕ) (x : End) → end_of number ≡ Some x → 
 
 -- what an end told as held stands in the journal, under the number of the end
 pub record IsToldIn (journal : List Event) (end : ℕ) (told : List EndEvent) : Type 0 where
-  pub urgent : (reference n : ℕ) → Contains told (record { reference = reference; what = Held Ed n }) → Contains journal (events.Held end true n)
-  pub normal : (reference n : ℕ) → Contains told (record { reference = reference; what = Held Dt n }) → Contains journal (events.Held end false n)
+  pub urgent : (reference n : ℕ) → Contains told (record { reference = reference; what = whats.End (Held Ed n) }) → Contains journal (events.End end (tells.Held helds.Ed n))
+  pub normal : (reference n : ℕ) → Contains told (record { reference = reference; what = whats.End (Held Dt n) }) → Contains journal (events.End end (tells.Held helds.Dt n))
 
 -- a pair went from its accept to these two ends, nothing waits there, and the journal has what was submitted, shown and told
 pub record IsPairOf (journal : List Event) (calling called : ℕ) (x y : End) : Type 0 where

@@ -1,7 +1,7 @@
 -- What is left where nothing waits: nothing, but for want of credit or by the number rule (X.224, class 4: explicit flow control; frozen
 -- references and numbers). Of this the claim says what is shown.
 use Rattle.std.specs.Prelude.{◌≡◌, ◌⊎◌, ◌≤◌, [], None}
-use Rattle.osi_journal.specs.Lawful.{expediteds, normals}
+use Rattle.script_journal.specs.Lawful.{expediteds, normals}
 use Rattle.tp4_flow.specs.Half.{Half}
 use Rattle.tp4_sending.specs.FlowSender.{FlowSender}
 use Rattle.tp4_sending.specs.Pieces.{end_of}

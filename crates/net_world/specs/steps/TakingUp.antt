@@ -4,7 +4,7 @@ use Rattle.osi_base.specs.declared.unit.Up.{Up}
 use Rattle.osi_base.specs.Link.{Link}
 use Rattle.osi_base.specs.Calls.{Call}
 use Rattle.osi_base.specs.Gathering.{Gathers}
-use Rattle.osi_journal.specs.declared.event.Event.{Event}
+use Rattle.script_journal.specs.declared.event.Event.{Event}
 use Rattle.net_world.specs.Told.{told}
 
 -- after these events those of what waited were told, and nothing waits

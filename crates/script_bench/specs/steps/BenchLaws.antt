@@ -2,13 +2,13 @@
 use Rattle.std.proofs.Common.{◌≡◌, ◌⊎◌, ℕ, ◌+◌, ◌-◌, ◌<◌, ◌≤◌, Bool, true, false, List, [], ◌++◌, length, take, Result, Ok, Err, inl, inr, refl, sym, ◌∙◌, ap, subst, arith}
 use Rattle.std.proofs.lemmas.Bool.{false≢true}
 use Rattle.std.proofs.lemmas.List.Concat.{flat_map-append}
-use Rattle.osi_script.specs.declared.cause.LineFault.{LineFault}
-use Rattle.osi_script.specs.declared.line.Line.{Line}
-use Rattle.osi_script.specs.Grammar.{Reading, line_read}
-use Rattle.osi_script.specs.Known.{Declared}
-use Rattle.osi_script.specs.Tags.{Tags, tags_of}
-use Rattle.osi_journal.specs.declared.event.Event.{Event}
-use Rattle.osi_journal.specs.Told.{event_text, journal_text}
+use Rattle.script_lines.specs.declared.cause.LineFault.{LineFault}
+use Rattle.script_lines.specs.declared.line.Line.{Line}
+use Rattle.script_lines.specs.Grammar.{Reading, line_read}
+use Rattle.script_lines.specs.Known.{Declared}
+use Rattle.script_lines.specs.Tags.{Tags, tags_of}
+use Rattle.script_journal.specs.declared.event.Event.{Event}
+use Rattle.script_journal.specs.Told.{event_text, journal_text}
 use Rattle.line_loop.specs.Meaning.{Laws}
 use Rattle.script_bench.specs.Acts.{Acts, Keeping, StageLaws}
 use Rattle.script_bench.specs.Bench.{Bench, FillsJournal, RunsText, bench_meaning, most_events}

@@ -1,16 +1,16 @@
 -- Where a line that is read comes from: from nothing, or from the fields of a word, with no limit passed.
 use Rattle.std.proofs.Common.{◌≡◌, ℕ, ◌+◌, Bool, true, false, List, [], ◌∷◌, length, Option, Some, None, Result, Ok, Err, refl, sym}
 use Rattle.std.specs.Prelude.{if◌then◌else◌}
-use Rattle.osi_script.specs.declared.cause.LineCause.{LineCause}
-use Rattle.osi_script.specs.declared.cause.LineCause.TheVariants as causes
-use Rattle.osi_script.specs.declared.cause.LineFault.{LineFault}
-use Rattle.osi_script.specs.declared.words.Word.{Word}
-use Rattle.osi_script.specs.declared.line.Line.TheVariants as lines
-use Rattle.osi_script.specs.declared.field_values.FieldValues.{FieldValues}
-use Rattle.osi_script.specs.Field.{fields_of}
-use Rattle.osi_script.specs.Known.{Declared, no_parts}
-use Rattle.osi_script.specs.Table.{row_of, word_of}
-use Rattle.osi_script.specs.Grammar.{Reading, fault, next_column, count_fault, fields_read, limit_cause, next_number, line_for, declared_by, with_limit, whole_read, counted_read, is_of_later_version, is_out_of_order, worded_read, split_read, is_idle, text_read, printable_read, line_read}
+use Rattle.script_lines.specs.declared.cause.LineCause.{LineCause}
+use Rattle.script_lines.specs.declared.cause.LineCause.TheVariants as causes
+use Rattle.script_lines.specs.declared.cause.LineFault.{LineFault}
+use Rattle.script_lines.specs.declared.words.Word.{Word}
+use Rattle.script_lines.specs.declared.line.Line.TheVariants as lines
+use Rattle.script_lines.specs.declared.field_values.FieldValues.{FieldValues}
+use Rattle.script_lines.specs.Field.{fields_of}
+use Rattle.script_lines.specs.Known.{Declared, no_parts}
+use Rattle.script_lines.specs.Table.{row_of, word_of}
+use Rattle.script_lines.specs.Grammar.{Reading, fault, next_column, count_fault, fields_read, limit_cause, next_number, line_for, declared_by, with_limit, whole_read, counted_read, is_of_later_version, is_out_of_order, worded_read, split_read, is_idle, text_read, printable_read, line_read}
 
 -- the fields of a word, with no limit passed
 pub record IsWorded (names : Declared) (word : Word) (reading : Reading) : Type 0 where

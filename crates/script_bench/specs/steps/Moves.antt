@@ -1,14 +1,14 @@
 -- A line that is read stands where it may, and only a set-up line declares names.
 use Rattle.std.proofs.Common.{◌≡◌, ◌⊎◌, ℕ, Bool, true, false, List, inl, inr, refl, sym, subst}
 use Rattle.std.specs.Prelude.{◌||◌, not, Ok}
-use Rattle.osi_script.specs.declared.words.Word.{Word}
-use Rattle.osi_script.specs.declared.words.Word.TheVariants as words
-use Rattle.osi_script.specs.declared.line.Line.{Line}
-use Rattle.osi_script.specs.declared.line.Line.TheVariants as lines
-use Rattle.osi_script.specs.declared.field_values.FieldValues.{FieldValues}
-use Rattle.osi_script.specs.Known.{Declared}
-use Rattle.osi_script.specs.Table.{row_of}
-use Rattle.osi_script.specs.Grammar.{Reading, next_number, line_for, declared_by, is_out_of_order, line_read}
+use Rattle.script_lines.specs.declared.words.Word.{Word}
+use Rattle.script_lines.specs.declared.words.Word.TheVariants as words
+use Rattle.script_lines.specs.declared.line.Line.{Line}
+use Rattle.script_lines.specs.declared.line.Line.TheVariants as lines
+use Rattle.script_lines.specs.declared.field_values.FieldValues.{FieldValues}
+use Rattle.script_lines.specs.Known.{Declared}
+use Rattle.script_lines.specs.Table.{row_of}
+use Rattle.script_lines.specs.Grammar.{Reading, next_number, line_for, declared_by, is_out_of_order, line_read}
 use Rattle.script_bench.specs.steps.Came.{Came, Idle, Worded, came}
 use Rattle.script_bench.specs.Script.{IsPlaced, is_start, started_after}
 

@@ -1,10 +1,10 @@
 -- A line makes one list of frames, and what was told of frames stays told.
 use Rattle.std.proofs.Common.{◌≡◌, ℕ, List, [], ◌∷◌, ◌++◌, ◌∙◌, refl, sym, ap, append_assoc, take}
 use Rattle.std.specs.List.{count_by}
-use Rattle.frame_capture.specs.Written.{SentFrame, record_octets, records_octets}
+use Rattle.capture_write.specs.Written.{SentFrame, record_octets, records_octets}
 use Rattle.line_loop.specs.Meaning.{Laws}
-use Rattle.osi_journal.specs.declared.event.Event.{Event}
-use Rattle.osi_storm.specs.Counted.{is_frame}
+use Rattle.script_journal.specs.declared.event.Event.{Event}
+use Rattle.script_storm.specs.Counted.{is_frame}
 use Rattle.law_run.specs.Bench.{Bench}
 use Rattle.script_frames.specs.Frames.{MakesFrames, FillsWithFrames, frames_meaning, new_slots, sent_in}
 use Rattle.law_run.specs.steps.WorldLaws.{bench_laws}

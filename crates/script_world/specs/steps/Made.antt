@@ -32,10 +32,10 @@ use Rattle.esis_tables.specs.Rows.{Rows}
 use Rattle.net_world.specs.First.{IsFirst}
 use Rattle.tp4_world.specs.Total.{ComesInOctets, Serves, ServesOn}
 use Rattle.tp4_world.proofs.Serving.{serves_within}
-use Rattle.osi_script.specs.declared.words.Dialect.TheVariants as dialects
-use Rattle.osi_setup.specs.Fitting.{IsWell}
-use Rattle.osi_setup.specs.SetUp.{System, SetUp, nodes_from, nodes_of, titles_of}
-use Rattle.osi_setup.proofs.Ports.{number_is}
+use Rattle.script_lines.specs.declared.words.Dialect.TheVariants as dialects
+use Rattle.script_setup.specs.Fitting.{IsWell}
+use Rattle.script_setup.specs.SetUp.{System, SetUp, nodes_from, nodes_of, titles_of}
+use Rattle.script_setup.proofs.Ports.{number_is}
 use Rattle.law_setup.specs.Lines.{IsInOctets}
 use Rattle.law_setup.proofs.Octets.{may_begin, nodes_are}
 use Rattle.script_world.specs.ClnpNets.{MakesNet, Net, NetDoes, link_of_net}

@@ -28,14 +28,14 @@ use Rattle.net_world.specs.First.{IsFirst}
 use Rattle.tp4_world.specs.Run.{transport_address}
 use Rattle.tp4_world.specs.Total.{Serves, ServesOn}
 use Rattle.tp4_world.proofs.Serving.{serves_within}
-use Rattle.osi_script.specs.declared.words.Dialect.TheVariants as dialects
-use Rattle.osi_script.specs.declared.line.Line.TheVariants as lines
-use Rattle.osi_setup.specs.Fitting.{Fits, IsTitle, IsWell}
-use Rattle.osi_setup.specs.Inactive.{inactive_rows}
-use Rattle.osi_setup.specs.SetUp.{SetUp, titles_of}
-use Rattle.osi_setup.proofs.Elements.{at, find_all}
-use Rattle.osi_setup.proofs.Ports.{number_is}
-use Rattle.osi_setup.proofs.Served.{are_served, of_rows}
+use Rattle.script_lines.specs.declared.words.Dialect.TheVariants as dialects
+use Rattle.script_lines.specs.declared.line.Line.TheVariants as lines
+use Rattle.script_setup.specs.Fitting.{Fits, IsTitle, IsWell}
+use Rattle.script_setup.specs.Inactive.{inactive_rows}
+use Rattle.script_setup.specs.SetUp.{SetUp, titles_of}
+use Rattle.script_setup.proofs.Elements.{at, find_all}
+use Rattle.script_setup.proofs.Ports.{number_is}
+use Rattle.script_setup.proofs.Served.{are_served, of_rows}
 use Rattle.law_setup.specs.Lines.{IsInOctets}
 use Rattle.law_setup.proofs.InOctets.{address_octets}
 use Rattle.script_world.specs.InactiveNets.{InactiveDoes, MakesInactive, link_of_inactive}

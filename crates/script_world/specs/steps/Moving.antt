@@ -22,12 +22,11 @@ use Rattle.tp4_entity.specs.Entity.{Acted, Entity}
 use Rattle.tp4_entity.specs.References.{least_free}
 use Rattle.tp4_entity.specs.Step.{calling, connect_refusal, connecting, restarted, ticking, user_refusal}
 use Rattle.tp4_number.specs.Number.{wire}
-use Rattle.osi_journal.specs.declared.cause.Refused.{Refused}
-use Rattle.osi_journal.specs.declared.cause.Refused.TheVariants as refusals
-use Rattle.osi_journal.specs.declared.cause.Standing.TheVariants.{Ended}
-use Rattle.osi_journal.specs.declared.event.Event.{Event}
-use Rattle.osi_script.specs.declared.line.Line.{Line}
-use Rattle.osi_script.specs.declared.line.Line.TheVariants as lines
+use Rattle.script_journal.specs.declared.cause.Refused.{Refused}
+use Rattle.script_journal.specs.declared.cause.Refused.TheVariants as refusals
+use Rattle.script_journal.specs.declared.event.Event.{Event}
+use Rattle.script_lines.specs.declared.line.Line.{Line}
+use Rattle.script_lines.specs.declared.line.Line.TheVariants as lines
 use Rattle.tp4_world.specs.Run.{Acts, Arrives, BeginsAt, Calls, CallsAt, CallsBy, CallsEnd, ConnectsBy, HearsAll, HearsIf, IsRefused, NoneDue, NoneLeft, OneDue, OneMore, Restarts, RunsLine, SendsTpdu, SendsTpdus, Settles, Starts, Ticks, TicksAll, TicksEntity, TooMany, clock_of, has_ended, is_for, transport_wish}
 use Rattle.tp4_world.specs.World.{World, end_numbered, entity_at, is_of, with_entity}
 use Rattle.tp4_world.specs.declared.place.EndAt.{EndAt}
@@ -137,7 +136,7 @@ module _ {N : Type 0} (link : N → Link (List ℕ)) (steps : N → Call (List �
 
   call_end_stays : (old : World N) (number : ℕ) (end : EndAt) (entity : Entity) (call : UserCall) (ended : Bool) (made : List Event) (new : World N)
       → CallsEnd link steps wire old number end entity call ended made new → Stays old new
-  call_end_stays old number end entity call true made new h = refused_stays old (Some (refusals.WrongState Ended)) made new h
+  call_end_stays old number end entity call true made new h = refused_stays old (Some refusals.Ended) made new h
   call_end_stays old number end entity call false made new h = call_by_stays old number end entity call (user_refusal entity end.reference call) made new h
 
   call_at_stays : (old : World N) (number : ℕ) (call : UserCall) (end : Option EndAt) (made : List Event) (new : World N) → CallsAt link steps wire old number call end made new → Stays old new

@@ -10,8 +10,8 @@ use Rattle.tp4_world.specs.First.{IsNew}
 use Rattle.tp4_world.specs.declared.place.Placed.{Placed}
 use Rattle.tp4_world.specs.steps.Parts.{AreLaterAll}
 use Rattle.tp4_world.proofs.Later.{each_later}
-use Rattle.osi_setup.specs.declared.transport.Limits.{Limits}
-use Rattle.osi_setup.specs.SetUp.{System, SetUp, entity_with, timers_of, titles_of}
+use Rattle.script_setup.specs.declared.transport.Limits.{Limits}
+use Rattle.script_setup.specs.SetUp.{System, SetUp, entity_with, timers_of, titles_of}
 use Rattle.script_world.specs.Entities.{entities_from, entities_of, placed_at}
 
 no_ends : (count : ℕ) → AllByRecursion (λ (place : Option End). place ≡ None) (replicate count None)

@@ -14,12 +14,12 @@ use Rattle.tp4_world.specs.Run.{transport_address}
 use Rattle.tp4_world.specs.Total.{AreReady, IsReadyEntity}
 use Rattle.tp4_world.specs.World.{entity_at, is_of}
 use Rattle.tp4_world.specs.declared.place.Placed.{Placed}
-use Rattle.osi_setup.specs.declared.transport.Limits.{Limits}
-use Rattle.osi_setup.specs.Fitting.{IsTitle, IsWell}
-use Rattle.osi_setup.specs.SetUp.{System, SetUp, end_at as ends_at, entity_with, timers_of, titles_of}
+use Rattle.script_setup.specs.declared.transport.Limits.{Limits}
+use Rattle.script_setup.specs.Fitting.{IsTitle, IsWell}
+use Rattle.script_setup.specs.SetUp.{System, SetUp, end_at as ends_at, entity_with, timers_of, titles_of}
 use Rattle.script_world.specs.Entities.{entities_from, entities_of}
-use Rattle.osi_setup.proofs.Elements.{at, find_all}
-use Rattle.osi_setup.proofs.Entities.{are_timed}
+use Rattle.script_setup.proofs.Elements.{at, find_all}
+use Rattle.script_setup.proofs.Entities.{are_timed}
 use Rattle.script_world.specs.steps.Peopled.{of_systems, title_there}
 use Rattle.law_setup.proofs.InOctets.{address_octets}
 

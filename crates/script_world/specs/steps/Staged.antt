@@ -3,15 +3,15 @@
 use Rattle.std.proofs.Common.{◌≡◌, ℕ, ◌+◌, ◌<◌, Bool, true, false, List, [], Ok, refl, sym, ◌∙◌, ap, subst}
 use Rattle.std.proofs.lemmas.Bool.{false≢true}
 use Rattle.line_loop.specs.Lines.{most_lines}
-use Rattle.osi_journal.specs.declared.event.Event.{Event}
-use Rattle.osi_script.specs.declared.line.Line.{Line}
-use Rattle.osi_script.specs.declared.line.Line.TheVariants as lines
-use Rattle.osi_script.specs.Grammar.{line_read}
-use Rattle.osi_script.specs.Known.{Declared, nothing_declared}
-use Rattle.osi_script.proofs.CommandLines.{line_stays}
-use Rattle.osi_setup.specs.Fitting.{Fits, IsWell}
-use Rattle.osi_setup.specs.SetUp.{SetUp, set_up}
-use Rattle.osi_setup.proofs.Wellness.{nothing_well, well_after}
+use Rattle.script_journal.specs.declared.event.Event.{Event}
+use Rattle.script_lines.specs.declared.line.Line.{Line}
+use Rattle.script_lines.specs.declared.line.Line.TheVariants as lines
+use Rattle.script_lines.specs.Grammar.{line_read}
+use Rattle.script_lines.specs.Known.{Declared, nothing_declared}
+use Rattle.script_lines.proofs.CommandLines.{line_stays}
+use Rattle.script_setup.specs.Fitting.{Fits, IsWell}
+use Rattle.script_setup.specs.SetUp.{SetUp, set_up}
+use Rattle.script_setup.proofs.Wellness.{nothing_well, well_after}
 use Rattle.law_setup.specs.Agreeing.{AreOne}
 use Rattle.law_setup.specs.Lines.{IsInOctets, Kept, LineInOctets}
 use Rattle.law_setup.proofs.Kept.{line_kept}

@@ -11,28 +11,27 @@ use Rattle.osi_base.specs.Calls.{Call, Keeps}
 use Rattle.law_clnp_answers.specs.Standing.{is_nsap}
 use Rattle.law_clnp_answers.proofs.answered.Carrying.{nsap_passes}
 use Rattle.line_loop.specs.Lines.{most_lines}
-use Rattle.osi_script.specs.Commands.{HasLine as HasLineOf}
-use Rattle.osi_script.specs.declared.words.Dialect.{Dialect}
-use Rattle.osi_script.proofs.CommandLines.{line_has, line_stays}
-use Rattle.osi_script.specs.declared.line.Options.{Options}
+use Rattle.script_lines.specs.Commands.{HasLine as HasLineOf}
+use Rattle.script_lines.specs.declared.words.Dialect.{Dialect}
+use Rattle.script_lines.proofs.CommandLines.{line_has, line_stays}
+use Rattle.tpdu.specs.declared.service.Options.{Options}
 use Rattle.tp4_conn.specs.End.{IsSized}
-use Rattle.tp4_world.specs.Telling.{asked_options}
 use Rattle.tp4_number.specs.Number.{wire}
 use Rattle.tp4_world.specs.Run.{RunsLine, Starts}
 use Rattle.tp4_world.specs.Total.{CanConnect, CanRun as CanRunOn, HasRun, HasStart as HasBegin, IsReady, ServesOn}
 use Rattle.tp4_world.specs.World.{World, entity_at}
 use Rattle.tp4_world.proofs.Serving.{some_run, some_start as some_begin}
-use Rattle.osi_journal.specs.declared.event.Event.{Event}
-use Rattle.osi_script.specs.declared.line.Line.{Line}
-use Rattle.osi_script.specs.declared.line.Line.TheVariants as lines
-use Rattle.osi_script.specs.Grammar.{line_read}
-use Rattle.osi_script.specs.Known.{Declared, is_end}
-use Rattle.osi_script.specs.Names.{NamesDeclared}
-use Rattle.osi_script.proofs.LineNames.{line_named}
-use Rattle.osi_setup.specs.Fitting.{Fits, IsWell}
-use Rattle.osi_setup.specs.SetUp.{System, SetUp, timers_of, titles_of as titles_said}
+use Rattle.script_journal.specs.declared.event.Event.{Event}
+use Rattle.script_lines.specs.declared.line.Line.{Line}
+use Rattle.script_lines.specs.declared.line.Line.TheVariants as lines
+use Rattle.script_lines.specs.Grammar.{line_read}
+use Rattle.script_lines.specs.Known.{Declared, is_end}
+use Rattle.script_lines.specs.Names.{NamesDeclared}
+use Rattle.script_lines.proofs.LineNames.{line_named}
+use Rattle.script_setup.specs.Fitting.{Fits, IsWell}
+use Rattle.script_setup.specs.SetUp.{System, SetUp, timers_of, titles_of as titles_said}
 use Rattle.script_world.specs.Entities.{entities_of}
-use Rattle.osi_setup.proofs.Elements.{at, there}
+use Rattle.script_setup.proofs.Elements.{at, there}
 use Rattle.law_setup.specs.Agreeing.{AreOne}
 use Rattle.law_setup.specs.Lines.{IsInOctets, LineInOctets, RunsAt}
 use Rattle.law_setup.proofs.Fitted.{as_many, ends_one}
@@ -66,7 +65,7 @@ has None is = absurd (cc)
 has (Some value) is = record { value = value; is = refl }
 
 module _ {N : Type 0} (link : N → Link (List ℕ)) where
-  connects : (titles : List (List ℕ)) (ends : World N) (system to : ℕ) (options : Options) (selector called octets : List ℕ) → AllByRecursion IsOwn titles → to < length titles → IsSized (asked_options options)
+  connects : (titles : List (List ℕ)) (ends : World N) (system to : ℕ) (options : Options) (selector called octets : List ℕ) → AllByRecursion IsOwn titles → to < length titles → IsSized options
       → LineInOctets (lines.Connect system selector to called options octets) → IsSome (entity_at ends.entities system)
       → CanConnect is_nsap titles ends system to options selector called octets
   connects titles ends system to options selector called octets own known sized in_octets some =

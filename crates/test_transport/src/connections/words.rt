@@ -6,8 +6,7 @@ ghost use Rattle.tpdu.specs.Writing.{IsKnownSize, IsPreferred};
 
 use crate::words::word;
 use std::test::Fail;
-use tp4_conn::Options;
-use tpdu::Format;
+use tpdu::{Format, Options};
 
 /// The options behind the first word.
 pub fn options(words: &[&str]) -> Result<Options, Fail>

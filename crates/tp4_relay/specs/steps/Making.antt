@@ -1,8 +1,8 @@
 -- What a pump tells of an event of a line, and which events of the line may come behind that.
 use Rattle.std.specs.Prelude.{◌≡◌, ◌≢◌, ℕ, ◌<◌, ◌≤◌, true, false, List, [], ◌∷◌, Some, None}
 use Rattle.std.specs.List.{AllByRecursion}
-use Rattle.osi_journal.specs.declared.event.Event.{Event}
-use Rattle.osi_journal.specs.declared.event.Event.TheVariants as events
+use Rattle.script_journal.specs.declared.event.Event.{Event}
+use Rattle.script_journal.specs.declared.event.Event.TheVariants as events
 use Rattle.tp4_conn.specs.End.{IsSized}
 use Rattle.tp4_conn.specs.Calls.{IsCall}
 use Rattle.tp4_conn.specs.declared.call.UserCall.{UserCall}
@@ -15,8 +15,8 @@ use Rattle.tp4_relay.specs.declared.unit.MarkedUnit.TheVariants.{Normal, Expedit
 use Rattle.tp4_relay.specs.Allowed.{GivesUnit, IsUnjoined, Joins}
 use Rattle.tp4_relay.specs.Kept.{Kept, noted}
 use Rattle.tp4_relay.specs.Pairs.{AtEnd, Change, Accepts, Closes, inbound_change, outbound_change}
-use Rattle.tp4_relay.specs.Reaction.{asked_options}
 use Rattle.tp4_relay.specs.steps.Tables.{is_claimed}
+use Rattle.tpdu.specs.declared.service.EndTold.TheVariants as tells
 
 -- ---- what a pump tells
 
@@ -36,7 +36,7 @@ IsFreeEvent event = IsFreeAt (inbound_change event) × IsFreeAt (outbound_change
 -- what a pump tells of an event: it joins an indicated end to one that is above these, or what it tells goes with every event
 abbrev pub IsMadeBy : ℕ → Kept → Event → Type 0
 IsMadeBy ends kept (events.Incoming heard) = ⊥
-IsMadeBy ends kept (events.Gone end cause octets) = ⊥
+IsMadeBy ends kept (events.End end (tells.Gone cause octets)) = ⊥
 IsMadeBy ends kept (events.Joined inbound outbound) = Joins kept inbound outbound × (ends < outbound)
 IsMadeBy ends kept event = IsFreeEvent event
 
@@ -50,20 +50,20 @@ AreMadeBy ends kept (event ∷ made) = IsMadeBy ends kept event × AreMadeBy end
 -- end is a new one
 abbrev pub Passes : Kept → Event → Type 0
 Passes kept (events.Incoming heard) = AllByRecursion (λ (claim : Claim). claim.end < heard.end) kept.claims × AllByRecursion (λ (pair : Pair). pair.outbound ≢ heard.end) kept.pairs
-Passes kept (events.Accept end options octets) = is_claimed kept.claims end ≡ false
+Passes kept (events.End end (tells.Accept options octets)) = is_claimed kept.claims end ≡ false
 Passes kept (events.Data end octets) = is_claimed kept.claims end ≡ false
 Passes kept (events.Expedite end octets) = is_claimed kept.claims end ≡ false
-Passes kept (events.Window end credit) = is_claimed kept.claims end ≡ false
+Passes kept (events.End end (tells.Window credit)) = is_claimed kept.claims end ≡ false
 Passes kept (events.Disconnect end octets) = is_claimed kept.claims end ≡ false
-Passes kept (events.Got end octets) = IsUnjoined kept end → ⊥
-Passes kept (events.Urgent end octets) = IsUnjoined kept end → ⊥
+Passes kept (events.End end (tells.Got octets)) = IsUnjoined kept end → ⊥
+Passes kept (events.End end (tells.Urgent octets)) = IsUnjoined kept end → ⊥
 Passes kept (events.Joined inbound outbound) = ⊥
 Passes kept event = Unit {0}
 
 -- its options have a listed size
 abbrev pub HasSize : Event → Type 0
-HasSize (events.Incoming heard) = IsSized (asked_options heard.options)
-HasSize (events.Confirm end options octets) = IsSized (asked_options options)
+HasSize (events.Incoming heard) = IsSized heard.options
+HasSize (events.End end (tells.Confirm options octets)) = IsSized options
 HasSize event = Unit {0}
 
 -- ---- what is to be done

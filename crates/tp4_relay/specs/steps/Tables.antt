@@ -1,8 +1,8 @@
 -- What a relay's table stands for, and how its parts are tied.
 use Rattle.std.specs.Prelude.{◌≡◌, ◌≢◌, ℕ, ◌<◌, ◌≤◌, ◌==◌, true, false, Bool, List, [], ◌∷◌}
 use Rattle.std.specs.List.{AllByRecursion, list_any}
-use Rattle.osi_journal.specs.declared.event.Event.{Event}
-use Rattle.osi_journal.specs.declared.event.Event.TheVariants as events
+use Rattle.script_journal.specs.declared.event.Event.{Event}
+use Rattle.script_journal.specs.declared.event.Event.TheVariants as events
 use Rattle.tp4_relay.specs.declared.claim.Claim.{Claim}
 use Rattle.tp4_relay.specs.declared.pair.Pair.{Pair}
 use Rattle.tp4_relay.specs.declared.table.Table.{Table}

@@ -1,4 +1,4 @@
-use Rattle.osi_script.specs.declared.words.Dialect.TheVariants as dialects
+use Rattle.script_lines.specs.declared.words.Dialect.TheVariants as dialects
 use Rattle.script_world.specs.ClnpNets.{MakesNet, NetDoes, link_of_net}
 use Rattle.script_world.specs.steps.Made.{net_laws}
 use Rattle.script_world.proofs.Headline.{script_lawful}

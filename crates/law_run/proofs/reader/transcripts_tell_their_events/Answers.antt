@@ -1,6 +1,6 @@
 use Rattle.std.proofs.Common.{List, [], sym, subst, append-nil}
-use Rattle.osi_journal.specs.declared.event.Event.{Event}
-use Rattle.osi_journal.specs.Lawful.{Lawful}
+use Rattle.script_journal.specs.declared.event.Event.{Event}
+use Rattle.script_journal.specs.Lawful.{Lawful}
 use Rattle.law_run.specs.World.{frozen_of, titles_of}
 use Rattle.law_run.proofs.Handled.{shows_submitted}
 use Rattle.law_run.proofs.told.Scripts.{one_text, read_back, run_named, run_told}

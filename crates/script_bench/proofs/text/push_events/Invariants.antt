@@ -1,6 +1,6 @@
 use Rattle.std.proofs.Common.{◌≡◌, ◌++◌, take}
-use Rattle.osi_script.specs.Tags.{tags_of}
-use Rattle.osi_journal.specs.Told.{journal_text}
+use Rattle.script_lines.specs.Tags.{tags_of}
+use Rattle.script_journal.specs.Told.{journal_text}
 use Rattle.script_bench.proofs.text.push_events.Given as goal
 
 -- the lines of the events so far stand

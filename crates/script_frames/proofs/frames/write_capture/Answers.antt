@@ -1,5 +1,5 @@
 use Rattle.std.proofs.Common.{inr, refl, arith}
-use Rattle.frame_capture.specs.Written.{header_octets}
+use Rattle.capture_write.specs.Written.{header_octets}
 use Rattle.script_frames.proofs.Capturing.{broken_fails, framed, framed_accepted, framed_exact, header_broken, header_put, not_framed, reads_nothing}
 use Rattle.law_run.proofs.Handled.{shows_silence, shows_submitted}
 use Rattle.script_frames.proofs.frames.write_capture.Goals as goal

@@ -5,8 +5,8 @@ use Rattle.std.specs.List.{AllByRecursion}
 use Rattle.std.proofs.lemmas.List.{append-nil}
 use Rattle.osi_base.specs.Link.{Link}
 use Rattle.osi_base.specs.Calls.{Call}
-use Rattle.osi_journal.specs.Lawful.{Lawful}
-use Rattle.osi_journal.specs.declared.event.Event.{Event}
+use Rattle.script_journal.specs.Lawful.{Lawful}
+use Rattle.script_journal.specs.declared.event.Event.{Event}
 use Rattle.tp4_number.specs.Number.{wire}
 use Rattle.tp4_conn.specs.End.{IsTimed, frozen_for}
 use Rattle.tp4_conn.specs.declared.call.UserCall.TheVariants as asks

@@ -1,10 +1,9 @@
 use Rattle.std.proofs.Common.{List, ℕ, get_or, sym, ◌∙◌, ap}
 use Rattle.tp4_conn.specs.declared.call.UserCall.TheVariants as asks
-use Rattle.tp4_flow.specs.declared.rules.Options.{Options}
 use Rattle.tp4_relay.specs.declared.pair.Pair.{Pair}
 use Rattle.tp4_relay.specs.declared.reaction.Reaction.TheVariants.{Ask}
 use Rattle.tp4_relay.specs.Pairs.{is_closed}
-use Rattle.tp4_relay.specs.Reaction.{asked_options, confirms}
+use Rattle.tp4_relay.specs.Reaction.{confirms}
 use Rattle.tp4_relay.proofs.OpenPlaces.{any_default}
 use Rattle.tp4_relay.proofs.Placed.{confirms_closed, confirms_open, outbound_missing}
 use Rattle.tp4_relay.proofs.reaction.acceptance.Goals as goal
@@ -20,8 +19,7 @@ returns-then-is_closed c =
 pub returns : goal.returns
 returns c =
     let place = c.in-Some.ensures.some in
-    ap (λ (p : Pair). Ask p.inbound (asks.Accept c.asked_options.result c.in_ok-octets.octets)) (any_default c.args.pairs.now c.in-Some.place c.index-pairs-place-2.result c.index-pairs-place.result place.bound)
-    ∙ ap (λ (o : Options). Ask (get_or c.args.pairs.now c.in-Some.place c.index-pairs-place.result).inbound (asks.Accept o c.in_ok-octets.octets)) c.asked_options.ensures
-    ∙ ap (λ (x : List ℕ). Ask (get_or c.args.pairs.now c.in-Some.place c.index-pairs-place.result).inbound (asks.Accept (asked_options c.args.options) x)) (c.in_ok-octets.ensures ∙ c.as_slice.ensures)
+    ap (λ (p : Pair). Ask p.inbound (asks.Accept c.args.options c.in_ok-octets.octets)) (any_default c.args.pairs.now c.in-Some.place c.index-pairs-place-2.result c.index-pairs-place.result place.bound)
+    ∙ ap (λ (x : List ℕ). Ask (get_or c.args.pairs.now c.in-Some.place c.index-pairs-place.result).inbound (asks.Accept c.args.options x)) (c.in_ok-octets.ensures ∙ c.as_slice.ensures)
     ∙ confirms_open c.args.options c.args.octets.now c.args.pairs.now c.args.end c.in-Some.place c.index-pairs-place.result c.requires place
     (ap (λ (p : Pair). is_closed p.phase) (sym c.index-pairs-place.is) ∙ sym c.is_closed.ensures ∙ c.if-is_closed.false)

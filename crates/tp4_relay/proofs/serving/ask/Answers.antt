@@ -1,5 +1,5 @@
 use Rattle.std.proofs.Common.{◌≡◌, ◌≤◌, ℕ, List, length, drop, ap, subst, sym, arith}
-use Rattle.osi_journal.specs.declared.event.Event.{Event}
+use Rattle.script_journal.specs.declared.event.Event.{Event}
 use Rattle.tp4_relay.specs.Allowed.{AreAllowed}
 use Rattle.tp4_relay.specs.Kept.{kept_after}
 use Rattle.tp4_relay.specs.Service.{Tells}

@@ -3,7 +3,7 @@ use Rattle.std.proofs.lemmas.List.{take_at}
 use Rattle.tp4_relay.specs.Pairs.{open_places}
 use Rattle.tp4_relay.specs.steps.Tables.{kept_of}
 use Rattle.tp4_relay.proofs.Noted.{tidy_part}
-use Rattle.tp4_relay.proofs.Tying.{noted_other, places_joined, tied_gone, tied_incoming, tied_joined, tied_other}
+use Rattle.tp4_relay.proofs.Tying.{noted_other, places_joined, tied_end, tied_incoming, tied_joined, tied_other}
 use Rattle.tp4_relay.proofs.table.note.Goals as goal
 
 pub returns-in_err-push-in-Joined-clause-tied : goal.returns-in_err-push-in-Joined-clause-tied
@@ -31,15 +31,15 @@ returns-in_ok-push-in-Joined-clause-tied c = record {
       c.deref-in-Joined.ensures.value c.joined-pair.ensures c.in_ok-push-in-Joined.ensures.items;
 }
 
-pub returns-in-Gone-clause-tied : goal.returns-in-Gone-clause-tied
-returns-in-Gone-clause-tied c =
-    let claims_len : length c.lose_at.new.claims ≡ c.args.table.now.claims.len = omega arith in
+pub returns-in-End-clause-tied : goal.returns-in-End-clause-tied
+returns-in-End-clause-tied c =
+    let claims_len : length c.lose_told.new.claims ≡ c.args.table.now.claims.len = omega arith in
     let pairs_len : length c.change_pairs.new.pairs ≡ c.args.table.now.pairs.len = omega arith in
     record {
-      tidy = tied_gone (kept_of c.args.table.now) c.args.event.now c.raise.new.named c.requires.tied.tidy c.requires.notable
+      tidy = tied_end (kept_of c.args.table.now) c.args.event.now c.raise.new.named c.requires.tied.tidy c.requires.notable
           (c.raise.ensures ∙ ap (max c.args.table.now.named) c.named_by.ensures) c.change_pairs.result _ c.change_pairs.new.pairs _
-          (take_at c.change_pairs.new.pairs _ c.args.table.now.pairs.len pairs_len) c.deref_mut-in-Gone.ensures.value c.change_pairs.ensures.pairs _ _ _ _ c.lose_at.new.claims _ c.in-Gone.is
-          (take_at c.lose_at.new.claims _ c.args.table.now.claims.len claims_len) c.deref_mut.ensures.value c.lose_at.ensures c.change_pairs.ensures.part;
+          (take_at c.change_pairs.new.pairs _ c.args.table.now.pairs.len pairs_len) c.deref_mut-in-End.ensures.value c.change_pairs.ensures.pairs _ _ _ c.lose_told.new.claims _ c.in-End.is
+          (take_at c.lose_told.new.claims _ c.args.table.now.claims.len claims_len) c.deref_mut.ensures.value c.lose_told.ensures c.change_pairs.ensures.part;
       places = c.change_pairs.ensures.places ∙ ap open_places (sym (take_at c.change_pairs.new.pairs _ c.args.table.now.pairs.len pairs_len));
     }
 
@@ -50,12 +50,12 @@ returns-in_default c =
       noted = noted_other (kept_of c.args.table.now) c.args.event.now c.raise.new.named c.requires.tied.tidy c.requires.notable
           (c.raise.ensures ∙ ap (max c.args.table.now.named) c.named_by.ensures) c.change_pairs-in_default.result _ c.change_pairs-in_default.new.pairs _
           (take_at c.change_pairs-in_default.new.pairs _ c.args.table.now.pairs.len pairs_len) c.deref_mut-in_default.ensures.value c.change_pairs-in_default.ensures.pairs
-          c.in_default.not-Incoming c.in_default.not-Joined c.in_default.not-Gone;
+          c.in_default.not-Incoming c.in_default.not-Joined c.in_default.not-End;
       tied = record {
         tidy = tied_other (kept_of c.args.table.now) c.args.event.now c.raise.new.named c.requires.tied.tidy c.requires.notable
             (c.raise.ensures ∙ ap (max c.args.table.now.named) c.named_by.ensures) c.change_pairs-in_default.result _ c.change_pairs-in_default.new.pairs _
             (take_at c.change_pairs-in_default.new.pairs _ c.args.table.now.pairs.len pairs_len) c.deref_mut-in_default.ensures.value c.change_pairs-in_default.ensures.pairs
-            c.in_default.not-Incoming c.in_default.not-Joined c.in_default.not-Gone c.change_pairs-in_default.ensures.part;
+            c.in_default.not-Incoming c.in_default.not-Joined c.in_default.not-End c.change_pairs-in_default.ensures.part;
         places = c.change_pairs-in_default.ensures.places ∙ ap open_places (sym (take_at c.change_pairs-in_default.new.pairs _ c.args.table.now.pairs.len pairs_len));
       };
     }

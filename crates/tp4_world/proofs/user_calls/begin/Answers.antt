@@ -1,8 +1,8 @@
 use Rattle.std.proofs.Common.{◌∙◌, ◌++◌, ◌∷◌, ◌<◌, [], ap, length, subst, sym, slice_get, List}
 use Rattle.std.specs.List.{position}
-use Rattle.osi_journal.specs.declared.event.Event.{Event}
-use Rattle.osi_journal.specs.declared.event.Event.TheVariants.{Connect}
-use Rattle.osi_journal.specs.declared.event.Request.{Request}
+use Rattle.script_journal.specs.declared.event.Event.{Event}
+use Rattle.script_journal.specs.declared.event.Event.TheVariants.{Connect}
+use Rattle.script_journal.specs.declared.event.Request.{Request}
 use Rattle.tp4_world.specs.World.{is_of}
 use Rattle.tp4_world.specs.declared.place.Placed.{Placed}
 use Rattle.tp4_world.proofs.Asked.{connect_begun, connect_memory, connect_refused}

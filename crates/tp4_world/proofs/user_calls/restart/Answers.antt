@@ -1,7 +1,7 @@
 use Rattle.std.proofs.Common.{◌∙◌, ◌++◌, ◌∷◌, [], List, ap, sym}
 use Rattle.std.specs.List.{position}
-use Rattle.osi_journal.specs.declared.event.Event.{Event}
-use Rattle.osi_journal.specs.declared.event.Event.TheVariants.{Restart}
+use Rattle.script_journal.specs.declared.event.Event.{Event}
+use Rattle.script_journal.specs.declared.event.Event.TheVariants.{Restart}
 use Rattle.tp4_world.specs.World.{is_of}
 use Rattle.tp4_world.proofs.Asked.{restarts_there}
 use Rattle.tp4_world.proofs.Entities.{listed_place}

@@ -1,7 +1,7 @@
 use Rattle.osi_base.specs.Calls.{Choose}
 use Rattle.net_world.specs.Told.{picked_event}
 use Rattle.std.proofs.Common.{◌∙◌, ◌++◌, ◌∷◌, [], ap}
-use Rattle.osi_journal.specs.declared.event.Event.{Event}
+use Rattle.script_journal.specs.declared.event.Event.{Event}
 use Rattle.tp4_number.specs.Number.{wire}
 use Rattle.tp4_world.proofs.Heard.{arrives}
 use Rattle.tp4_world.proofs.world.deliver.Goals as goal

@@ -27,7 +27,7 @@ pub returns-in-Some-fresh-clause-settles : goal.returns-in-Some-fresh-clause-set
 returns-in-Some-fresh-clause-settles g c =
     let all : c.loop-count.count ≡ 65536 = search rules in
     subst (λ (n : ℕ). Rattle.tp4_world.specs.steps.Parts.Tells c.args.events.now.items c.loop-count.events.items (λ made. Rattle.tp4_world.specs.steps.Parts.SettlesSo g.C.Carrier.link g.C.Carrier.steps wire
-    (world_of c.args.carrier.now c.args.transport.now.entities.items c.args.transport.now.ends) made (Rattle.osi_journal.specs.declared.cause.Settled.TheVariants.Stopped n)
+    (world_of c.args.carrier.now c.args.transport.now.entities.items c.args.transport.now.ends) made (Rattle.script_journal.specs.declared.cause.Settled.TheVariants.Stopped n)
     (world_of c.loop-count.carrier c.loop-count.transport.entities.items c.loop-count.transport.ends))) all
     (settle_many g.C.Carrier.link g.C.Carrier.steps wire (world_of c.args.carrier.now c.args.transport.now.entities.items c.args.transport.now.ends) c.args.events.now.items c.loop-count.count
     (world_of c.loop-count.carrier c.loop-count.transport.entities.items c.loop-count.transport.ends) c.loop-count.events.items c.in-Some-fresh.field-0 c.loop-count.invariant.0 c.in-Some-fresh.ensures all)
@@ -36,7 +36,7 @@ pub returns-in-None-clause-settles : goal.returns-in-None-clause-settles
 returns-in-None-clause-settles g c =
     let all : c.loop-count.count ≡ 65536 = search rules in
     subst (λ (n : ℕ). Rattle.tp4_world.specs.steps.Parts.Tells c.args.events.now.items c.loop-count.events.items (λ made. Rattle.tp4_world.specs.steps.Parts.SettlesSo g.C.Carrier.link g.C.Carrier.steps wire
-    (world_of c.args.carrier.now c.args.transport.now.entities.items c.args.transport.now.ends) made (Rattle.osi_journal.specs.declared.cause.Settled.TheVariants.Settled n)
+    (world_of c.args.carrier.now c.args.transport.now.entities.items c.args.transport.now.ends) made (Rattle.script_journal.specs.declared.cause.Settled.TheVariants.Settled n)
     (world_of c.loop-count.carrier c.loop-count.transport.entities.items c.loop-count.transport.ends))) all
     (settle_none g.C.Carrier.link g.C.Carrier.steps wire (world_of c.args.carrier.now c.args.transport.now.entities.items c.args.transport.now.ends) c.args.events.now.items c.loop-count.count
     (world_of c.loop-count.carrier c.loop-count.transport.entities.items c.loop-count.transport.ends) c.loop-count.events.items c.loop-count.invariant.0

@@ -5,7 +5,7 @@ use Rattle.clnp_segment.specs.Store.{Holding, HasPlaces, Key, Partial, has_key, 
 use Rattle.clnp_segment.specs.steps.Due.{AreDeadlines}
 use Rattle.clnp_segment.specs.steps.Incoming.{incoming_of}
 use Rattle.clnp_segment.specs.steps.Places.{segment_of, with_segment}
-use Rattle.clnp_segment.proofs.Dues.{added_due}
+use Rattle.clnp_segment.proofs.Dues.{added_due, due_room}
 use Rattle.clnp_segment.proofs.Storing.{added}
 use Rattle.clnp_segment.proofs.Taking.{first_clash, first_filled, first_full, first_held, first_places, first_whole}
 use Rattle.clnp_segment.proofs.store.Store.hold_first.Goals as goal
@@ -28,6 +28,13 @@ returns-in-Fresh-clause-takes c =
     not_true : false ≡ true → ⊥
     not_true e = cc e
 
+pub push-requires-in-Fresh-2 : goal.push-requires-in-Fresh-2
+push-requires-in-Fresh-2 c =
+    let is : c.self.inside.held.items ≡ c.args.self.now.held = ap (λ (s : Holding). s.held) c.self.view_is in
+    let room = c.if-not-has_room.ensures.0 refl in
+    due_room c.self.inside.units c.self.inside.held.items c.self.inside.due c.self.invariant.2
+    (omega (arith, room.0, ap (λ (us : List Partial). length us) is, ap (λ (s : Holding). s.units) c.self.view_is))
+
 pub invariant_of-self-in-Fresh-2 : goal.invariant_of-self-in-Fresh-2
 invariant_of-self-in-Fresh-2 c =
     let key : Key = (incoming_of c.args.incoming.now).key in
@@ -47,9 +54,9 @@ invariant_of-self-in-Fresh-2 c =
     let octets : octets_held c.self.inside.held.items + c.in-Fresh.fresh ≤ c.self.inside.octets =
     omega (arith, room.1, ap octets_held is, ap (λ (s : Holding). s.octets) c.self.view_is) in
     let all = added _ key c.add.new.self c.push.new.self.items c.in-Fresh.fresh c.self.invariant.0 none c.in_ok-push-in-Fresh-2.ensures.items same places units filled octets in
-    let due : AreDeadlines c.self.inside.units c.push.new.self.items c.keep.new.due =
-    added_due c.self.inside.units c.self.inside.held.items c.push.new.self.items c.add.new.self c.len-place.result (Some c.deadline-until.result) c.self.inside.due
-    c.keep.new.due c.in_ok-push-in-Fresh-2.ensures.items (omega arith) units c.self.invariant.2 (ap Some c.deadline-until.ensures) c.keep.ensures in
+    let due : AreDeadlines c.self.inside.units c.push.new.self.items c.push-in-Fresh-2.new.self =
+    added_due c.self.inside.units c.self.inside.held.items c.push.new.self.items c.add.new.self (Some c.deadline-until.result) c.self.inside.due
+    c.push-in-Fresh-2.new.self c.in_ok-push-in-Fresh-2.ensures.items c.self.invariant.2 (ap Some c.deadline-until.ensures) c.push-in-Fresh-2.ensures in
     (all.0, ap (λ (n : ℕ). n + c.in-Fresh.fresh) c.self.invariant.1 ∙ all.1, due)
 
 pub returns-in_ok-push-in-Fresh-2-clause-within : goal.returns-in_ok-push-in-Fresh-2-clause-within

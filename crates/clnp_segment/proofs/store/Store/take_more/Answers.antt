@@ -6,7 +6,7 @@ use Rattle.clnp_segment.specs.steps.Due.{AreDeadlines}
 use Rattle.clnp_segment.specs.steps.Incoming.{incoming_of}
 use Rattle.clnp_segment.specs.steps.Places.{Judges, segment_of, with_segment}
 use Rattle.clnp_segment.specs.declared.held.Verdict.TheVariants as verdict
-use Rattle.clnp_segment.proofs.Dues.{changed_due}
+use Rattle.clnp_segment.proofs.Dues.{changed_due, due_within}
 use Rattle.clnp_segment.proofs.Storing.{changed, same_got}
 use Rattle.clnp_segment.proofs.Taking.{more_clash, more_full, more_held, more_whole}
 use Rattle.clnp_segment.proofs.store.Store.take_more.Goals as goal
@@ -55,6 +55,12 @@ returns-in-Fresh-clause-takes c =
     omega (arith, c.if-self-fresh.true, ap (λ (s : Holding). s.octets) c.self.view_is, ap octets_held is, c.self.invariant.0.octets, c.self.invariant.1) in
     more_full old (incoming_of c.args.incoming.now) place c.index.result.now (segment_of c.segment-segment.result) c.in-Fresh.fresh _ there c.segment-segment.ensures c.in-Fresh.ensures room refl
 
+pub set-requires : goal.set-requires
+set-requires c =
+    let is : c.self.inside.held.items ≡ c.args.self.now.held = ap (λ (s : Holding). s.held) c.self.view_is in
+    due_within c.self.inside.units c.self.inside.held.items c.self.inside.due c.args.place c.self.invariant.2
+    (omega (arith, c.requires.place, ap (λ (us : List Partial). length us) is))
+
 pub invariant_of-self-in-Fresh-2 : goal.invariant_of-self-in-Fresh-2
 invariant_of-self-in-Fresh-2 c =
     let old = c.args.self.now in
@@ -72,9 +78,9 @@ invariant_of-self-in-Fresh-2 c =
     let made : c.add.new.self ≡ record c.index_mut-unit.result.now { held = held; deadline = deadline } = c.in_ok-add-in-Fresh-2.ensures.ok in
     let room : octets_held c.self.inside.held.items + c.in-Fresh.fresh ≤ c.self.inside.octets = omega (arith, c.if-self-fresh.false, c.self.invariant.0.octets, c.self.invariant.1) in
     let all = changed _ place c.index_mut-unit.result.now c.add.new.self held deadline c.in-Fresh.fresh c.self.invariant.0 here made refl refl judged.1.positions judged.3 room in
-    let due : AreDeadlines c.self.inside.units (slice_set c.self.inside.held.items place c.add.new.self) c.keep.new.due =
-    changed_due c.self.inside.units c.self.inside.held.items place c.add.new.self (Some c.deadline.result) c.self.inside.due c.keep.new.due inside
-    c.self.invariant.0.units c.self.invariant.2 (ap Some c.deadline.ensures) c.keep.ensures in
+    let due : AreDeadlines c.self.inside.units (slice_set c.self.inside.held.items place c.add.new.self) c.set.new.self =
+    changed_due c.self.inside.units c.self.inside.held.items place c.add.new.self (Some c.deadline.result) c.self.inside.due c.set.new.self
+    c.self.invariant.2 (ap Some c.deadline.ensures) c.set.ensures in
     (all.0, ap (λ (n : ℕ). n + c.in-Fresh.fresh) c.self.invariant.1 ∙ all.1, due)
 
 pub returns-in_ok-add-in-Fresh-2-clause-within : goal.returns-in_ok-add-in-Fresh-2-clause-within

@@ -1,8 +1,8 @@
 use Rattle.std.proofs.Common.{◌≡◌, ◌<◌, get_or, length, slice_get, Some, List, ap, subst, sym, ◌∙◌, arith}
 use Rattle.std.proofs.lemmas.Option.{slice_get-get_or}
 use Rattle.clnp_segment.specs.Store.{Holding, Partial}
-use Rattle.clnp_segment.specs.steps.Due.{AreDeadlines, IsKept}
-use Rattle.clnp_segment.proofs.Dues.{removed_due}
+use Rattle.clnp_segment.specs.steps.Due.{AreDeadlines}
+use Rattle.clnp_segment.proofs.Dues.{due_within, removed_due}
 use Rattle.clnp_segment.proofs.Storing.{withdrawn}
 use Rattle.clnp_segment.proofs.store.Store.withdraw.Goals as goal
 
@@ -11,6 +11,12 @@ returns-clause-unit c =
     let is : c.self.inside.held.items ≡ c.args.self.now.held = ap (λ (s : Holding). s.held) c.self.view_is in
     let there = slice_get-get_or c.args.self.now.held c.args.place c.remove-unit.result c.requires in
     there ∙ sym (ap Some (c.remove-unit.ensures.value ∙ ap (λ (us : List Partial). get_or us c.args.place c.remove-unit.result) is))
+
+pub remove-requires : goal.remove-requires
+remove-requires c =
+    let is : c.self.inside.held.items ≡ c.args.self.now.held = ap (λ (s : Holding). s.held) c.self.view_is in
+    due_within c.self.inside.units c.self.inside.held.items c.self.inside.due c.args.place c.self.invariant.2
+    (omega (arith, c.requires, ap (λ (us : List Partial). length us) is))
 
 pub overflow_sub-self : goal.overflow_sub-self
 overflow_sub-self c =
@@ -27,10 +33,9 @@ invariant_of-self c =
     let there : slice_get c.self.inside.held.items c.args.place ≡ Some c.remove-unit.result =
     slice_get-get_or c.self.inside.held.items c.args.place c.remove-unit.result inside ∙ sym (ap Some c.remove-unit.ensures.value) in
     let all = withdrawn _ c.args.place c.remove-unit.result c.remove-unit.new.self.items c.self.invariant.0 there c.remove-unit.ensures.items in
-    let due : AreDeadlines c.self.inside.units c.remove-unit.new.self.items c.keep_from.new.due =
-    removed_due c.self.inside.units c.self.inside.held.items c.remove-unit.new.self.items c.args.place c.len-count.result c.self.inside.due c.keep_from.new.due
-    c.remove-unit.ensures.items (omega arith) c.self.invariant.2
-    (subst (λ (us : List Partial). IsKept us c.args.place c.len-count.result c.self.inside.due c.keep_from.new.due) c.deref.ensures.value c.keep_from.ensures) in
+    let due : AreDeadlines c.self.inside.units c.remove-unit.new.self.items c.remove.new.self =
+    removed_due c.self.inside.units c.self.inside.held.items c.remove-unit.new.self.items c.args.place c.self.inside.due c.remove.new.self
+    c.remove-unit.ensures.items c.self.invariant.2 c.remove.ensures in
     (all.0, omega (arith, all.1, c.self.invariant.1, c.count.ensures), due)
 
 pub returns-clause-within : goal.returns-clause-within

@@ -1,6 +1,6 @@
 use Rattle.std.proofs.Common.{◌≡◌, ◌<◌, ℕ, Some, None, subst, rules}
 use Rattle.osi_base.specs.Link.{IsLeastFresh}
-use Rattle.osi_journal.specs.declared.cause.Settled.TheVariants as settled
+use Rattle.script_journal.specs.declared.cause.Settled.TheVariants as settled
 use Rattle.cltp.specs.Run.{Tells}
 use Rattle.cltp.specs.Systems.{World}
 use Rattle.cltp.specs.steps.TakingUp.{SettlesSo}

@@ -3,7 +3,7 @@ use Rattle.std.specs.Prelude.{nat_lt, option_copied}
 use Rattle.osi_base.specs.Calls.{Offer}
 use Rattle.cltp.specs.Sending.{ud_wish}
 use Rattle.cltp.specs.Systems.{World, system_at}
-use Rattle.osi_journal.specs.declared.event.Event.{Event}
+use Rattle.script_journal.specs.declared.event.Event.{Event}
 use Rattle.cltp.specs.declared.system.ClSystem.{ClSystem}
 use Rattle.cltp.proofs.Arrivals.{sends}
 use Rattle.cltp.proofs.world.ClWorld.send.Goals as goal

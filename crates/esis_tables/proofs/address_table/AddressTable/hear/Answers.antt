@@ -1,7 +1,8 @@
 use Rattle.std.proofs.Common.{◌≡◌, List, Option, ℕ, length, take, ap, ◌∙◌, sym, subst, arith}
 use Rattle.esis_tables.specs.declared.holding_time.Row.{Row}
 use Rattle.esis_tables.specs.Rows.{IsTable, Rows}
-use Rattle.esis_tables.specs.steps.Deadlines.{AreDeadlines, IsDue, IsKept}
+use Rattle.due_links.specs.Entries.{Entries}
+use Rattle.esis_tables.specs.steps.Deadlines.{AreDeadlines, IsDue, IsKept, IsListed}
 use Rattle.esis_tables.specs.steps.Places.{IsRenewed}
 use Rattle.esis_tables.proofs.Keeping.{heard_due, made_due}
 use Rattle.esis_tables.proofs.Placing.{table_all, table_heard}
@@ -11,18 +12,22 @@ pub invariant_of-self-in-Ok : goal.invariant_of-self-in-Ok
 invariant_of-self-in-Ok c =
     let renewed : IsRenewed c.args.heard.now c.in-Ok.places.items c.places_of.new.rows.items c.renew.new.rows.items =
     subst (λ (places : List ℕ). IsRenewed c.args.heard.now places c.places_of.new.rows.items c.renew.new.rows.items) c.deref.ensures.value c.renew.ensures in
-    let kept : IsKept c.renew.new.rows.items c.in-Ok.places.items c.in_ok-due.due c.keep_noted.new.due =
-    subst (λ (places : List ℕ). IsKept c.renew.new.rows.items places c.in_ok-due.due c.keep_noted.new.due) c.deref-in-Ok-2.ensures.value
-    (subst (λ (rows : List Row). IsKept rows c.deref-in-Ok-2.result.now c.in_ok-due.due c.keep_noted.new.due) c.deref-in-Ok.ensures.value c.keep_noted.ensures) in
+    let listed : IsListed c.renew.new.rows.items (length c.renew.new.rows.items) c.in_ok-due.due.ticks c.list_new.new.due.ticks =
+    subst (λ (rows : List Row). IsListed rows (length rows) c.in_ok-due.due.ticks c.list_new.new.due.ticks) c.deref-in-Ok.ensures.value c.list_new.ensures.ticks in
+    let kept : IsKept c.renew.new.rows.items c.in-Ok.places.items c.list_new.new.due.ticks c.keep_noted.new.due.ticks =
+    subst (λ (places : List ℕ). IsKept c.renew.new.rows.items places c.list_new.new.due.ticks c.keep_noted.new.due.ticks) c.deref-in-Ok-3.ensures.value
+    (subst (λ (rows : List Row). IsKept rows c.deref-in-Ok-3.result.now c.list_new.new.due.ticks c.keep_noted.new.due.ticks) c.deref-in-Ok-2.ensures.value c.keep_noted.ensures.ticks) in
     let table : IsTable c.renew.new.rows.items =
     table_all c.args.names.now c.args.heard.now c.in-Ok.places.items c.places_of.new.rows.items c.renew.new.rows.items c.places_of.ensures.table
     c.in-Ok.ensures.places renewed in
-    let was : AreDeadlines c.self.inside.rows.items c.in_ok-due.due =
-    made_due c.take.result c.in_ok-due.due c.self.inside.rows.items
-    (subst (λ (due : Option (List (Option ℕ))). IsDue due c.self.inside.rows.items) (sym c.take.ensures.value) c.self.invariant.1) c.in_ok-due.ensures.ok in (
+    let was = made_due c.take.result c.in_ok-due.due c.self.inside.rows.items
+    (subst (λ (due : Option Entries). IsDue due c.self.inside.rows.items) (sym c.take.ensures.value) c.self.invariant.1) c.in_ok-due.ensures.ok in (
       table,
-      heard_due c.args.names.now c.args.heard.now c.in-Ok.places.items c.self.inside.rows.items c.places_of.new.rows.items c.renew.new.rows.items
-          c.in_ok-due.due c.keep_noted.new.due c.in-Ok.ensures.ok c.in-Ok.ensures.places renewed table.few was kept,
+      (
+        c.keep_noted.ensures.most ∙ (c.list_new.ensures.most ∙ was.0),
+        heard_due c.args.names.now c.args.heard.now c.in-Ok.places.items c.self.inside.rows.items c.places_of.new.rows.items c.renew.new.rows.items
+            c.in_ok-due.due.ticks c.list_new.new.due.ticks c.keep_noted.new.due.ticks c.in-Ok.ensures.ok c.in-Ok.ensures.places renewed was.1 listed kept,
+      ),
     )
 
 pub returns-in-Ok-clause-ok : goal.returns-in-Ok-clause-ok
@@ -35,9 +40,8 @@ invariant_of-self-in-Err c =
     let count : c.len-stood.result ≡ length c.self.inside.rows.items = omega arith in
     let same : c.truncate.new.self.items ≡ c.self.inside.rows.items =
     c.truncate.ensures.items ∙ ap (λ (n : ℕ). take n c.places_of.new.rows.items) count ∙ c.places_of.ensures.kept in
-    let was : AreDeadlines c.self.inside.rows.items c.in_ok-due.due =
-    made_due c.take.result c.in_ok-due.due c.self.inside.rows.items
-    (subst (λ (due : Option (List (Option ℕ))). IsDue due c.self.inside.rows.items) (sym c.take.ensures.value) c.self.invariant.1) c.in_ok-due.ensures.ok in (
+    let was = made_due c.take.result c.in_ok-due.due c.self.inside.rows.items
+    (subst (λ (due : Option Entries). IsDue due c.self.inside.rows.items) (sym c.take.ensures.value) c.self.invariant.1) c.in_ok-due.ensures.ok in (
       subst IsTable (sym same) c.self.invariant.0,
-      subst (λ (rows : List Row). AreDeadlines rows c.in_ok-due.due) (sym same) was,
+      (was.0, subst (λ (rows : List Row). AreDeadlines rows c.in_ok-due.due.ticks) (sym same) was.1),
     )

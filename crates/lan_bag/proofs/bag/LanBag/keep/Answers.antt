@@ -1,13 +1,12 @@
 use Rattle.std.proofs.Common.{◌≡◌, ◌∙◌, ℕ, ◌+◌, ◌<◌, ◌++◌, ap, ◌∷◌, [], List, length, length-append, Option, Some, refl, sym, subst}
 use Rattle.osi_base.specs.declared.unit.Offered.TheVariants.{Taken as WasTaken}
 use Rattle.lan_bag.specs.Frames.{offered, Frame}
-use Rattle.lan_bag.specs.steps.Index.{code_of, key_of}
 use Rattle.lan_bag.specs.steps.Openings.{IsFreshAt}
 use Rattle.lan_bag.specs.steps.Wheel.{listed}
 use Rattle.lan_bag.specs.Bag.{Bag}
 use Rattle.std.specs.BTreeSet.{contains}
 use Rattle.std.specs.Ordering.{nat_cmp}
-use Rattle.lan_bag.proofs.Indices.{indexed_kept, indexed_pushed, indexed_same, indexed_unchanged}
+use Rattle.lan_bag.proofs.Indices.{indexed_below, indexed_pushed, indexed_same}
 use Rattle.lan_bag.proofs.Offers.{taken_fits, bounds_fit}
 use Rattle.lan_bag.proofs.Openings.{closed_pushed, closed_same, fresh_pushed, fresh_same, pushed_is}
 use Rattle.lan_bag.proofs.Wheels.{due_listed, due_offered, due_same}
@@ -48,22 +47,7 @@ invariant_of-self-in_err-push c = record {
   due = due_same c.self.inside.clock c.self.inside.setup.lans c.self.inside.frames c.push.new.self (listed c.self.inside.wheel c.bound.result c.count-place.result) c.list.new.self
       (due_listed c.self.inside.clock c.self.inside.setup.lans c.self.inside.frames c.self.inside.wheel c.bound.result c.count-place.result c.self.invariant.due)
       c.in_err-push.ensures.err c.in_ok-list.ensures.ok;
-  indexed = λ wanted.
-      indexed_same (contains nat_cmp c.enlist.new.self.codes) c.self.inside.frames c.push.new.self c.in_err-push.ensures.err
-      (indexed_kept c.self.inside.index.codes c.enlist.new.self.codes (code_of (key_of c.in_ok-sent.sent.unit) c.count-place.result) c.self.inside.frames
-      (c.in_ok-enlist.ensures.ok (sym c.enlist.ensures.wanted ∙ wanted)) (c.self.invariant.indexed (sym c.enlist.ensures.wanted ∙ wanted)));
-}
-
-pub invariant_of-self-in_err-enlist : goal.invariant_of-self-in_err-enlist
-invariant_of-self-in_err-enlist c = record {
-  lans_fit = c.self.invariant.lans_fit;
-  strays = c.self.invariant.strays;
-  fresh = c.self.invariant.fresh;
-  due = due_same c.self.inside.clock c.self.inside.setup.lans c.self.inside.frames c.self.inside.frames (listed c.self.inside.wheel c.bound.result c.count-place.result) c.list.new.self
-      (due_listed c.self.inside.clock c.self.inside.setup.lans c.self.inside.frames c.self.inside.wheel c.bound.result c.count-place.result c.self.invariant.due)
-      refl c.in_ok-list.ensures.ok;
-  indexed = λ wanted.
-      indexed_unchanged c.self.inside.index.codes c.enlist.new.self.codes c.self.inside.frames c.in_err-enlist.ensures.err (c.self.invariant.indexed (sym c.enlist.ensures.wanted ∙ wanted));
+  indexed = λ wanted. indexed_same (contains nat_cmp c.self.inside.index.codes) c.self.inside.frames c.push.new.self c.in_err-push.ensures.err (c.self.invariant.indexed wanted);
 }
 
 pub invariant_of-self-in_err-sent : goal.invariant_of-self-in_err-sent
@@ -87,7 +71,8 @@ invariant_of-self-2 c = record {
       (subst (λ (bound : ℕ). bound < 17) (sym c.bound.ensures) (bounds_fit c.self.inside.setup.lans c.args.unit.to.lan c.self.invariant.lans_fit))
       c.list.ensures.span c.in_ok-list.ensures.ok c.in_ok-push.ensures.ok;
   indexed = λ wanted.
-      indexed_pushed c.self.inside.index.codes c.enlist.new.self.codes c.self.inside.frames c.push.new.self c.in_ok-sent.sent c.count-place.result
-      (c.in_ok-enlist.ensures.ok (sym c.enlist.ensures.wanted ∙ wanted)) c.count-place.ensures c.in_ok-push.ensures.ok
-      (c.self.invariant.indexed (sym c.enlist.ensures.wanted ∙ wanted));
+      indexed_pushed (contains nat_cmp c.enlist-listed.new.self.codes) c.self.inside.frames c.push.new.self c.in_ok-sent.sent c.count-place.result c.count-place.ensures c.in_ok-push.ensures.ok
+      (c.enlist-listed.ensures
+      (λ was. indexed_below (contains nat_cmp c.self.inside.index.codes) c.self.inside.frames c.push.new.self c.in_ok-sent.sent c.count-place.result c.count-place.ensures c.in_ok-push.ensures.ok
+      (c.self.invariant.indexed was)) wanted);
 }

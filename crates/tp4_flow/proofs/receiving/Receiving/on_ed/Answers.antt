@@ -3,7 +3,8 @@ use Rattle.std.proofs.lemmas.Bool.Decides.{nat_tests}
 use Rattle.tp4_number.specs.Number.{wire}
 use Rattle.tp4_flow.specs.Half.{Half, block_in, ea}
 use Rattle.tp4_flow.specs.Told.{Told}
-use Rattle.tp4_flow.specs.declared.step.What.TheVariants.{Urgent}
+use Rattle.tp4_flow.specs.declared.step.What.TheVariants as whats
+use Rattle.tpdu.specs.declared.service.EndTold.TheVariants.{Urgent}
 use Rattle.tp4_flow.proofs.Joinings.{append_none}
 use Rattle.tp4_flow.proofs.Urgents.{TakesUrgent, urgent_next, urgent_other}
 use Rattle.tp4_flow.proofs.receiving.Receiving.on_ed.Goals as goal
@@ -13,10 +14,10 @@ next : (c : In_ok-answer_ed) → TakesUrgent c.args.self.now c.args.wire c.args.
     (record { rules = c.self.inside.rules; receiver = record { expected = c.self.inside.expected; urgent = (c.self.inside.urgent + 1) % (4 * c.block-turn.result); inbox = record { credit = c.self.inside.credit; subsequence = c.self.inside.subsequence; held = c.self.inside.window } } }) c.args.out.now c.answer_ed.new.out
 next c =
     let viewed : Half = record { rules = c.self.inside.rules; receiver = record { expected = c.self.inside.expected; urgent = c.self.inside.urgent; inbox = record { credit = c.self.inside.credit; subsequence = c.self.inside.subsequence; held = c.self.inside.window } } } in
-    let told : c.answer_ed.new.out ≡ record { events = c.args.out.now.events ++ record { reference = viewed.rules.own; what = Urgent c.args.octets.now } ∷ []; tpdus = c.args.out.now.tpdus ++ ea viewed c.args.wire ∷ [] } =
+    let told : c.answer_ed.new.out ≡ record { events = c.args.out.now.events ++ record { reference = viewed.rules.own; what = whats.End (Urgent c.args.octets.now) } ∷ []; tpdus = c.args.out.now.tpdus ++ ea viewed c.args.wire ∷ [] } =
     c.in_ok-answer_ed.ensures.ok
     ∙ ap (λ (t : Told). record t { tpdus = t.tpdus ++ ea viewed c.args.wire ∷ [] }) c.in_ok-event.ensures.ok
-    ∙ ap (λ (o : List ℕ). record { events = c.args.out.now.events ++ record { reference = viewed.rules.own; what = Urgent o } ∷ []; tpdus = c.args.out.now.tpdus ++ ea viewed c.args.wire ∷ [] }) c.in_ok-copy.ensures in
+    ∙ ap (λ (o : List ℕ). record { events = c.args.out.now.events ++ record { reference = viewed.rules.own; what = whats.End (Urgent o) } ∷ []; tpdus = c.args.out.now.tpdus ++ ea viewed c.args.wire ∷ [] }) c.in_ok-copy.ensures in
     let new : ℕ → Half = λ n. record viewed { receiver = record viewed.receiver { urgent = (viewed.receiver.urgent + 1) % (4 * n) } } in
     subst (λ (h : Half). TakesUrgent h c.args.wire c.args.octets.now true (new c.block-turn.result) c.args.out.now c.answer_ed.new.out) c.self.view_is
     (subst (λ (n : ℕ). TakesUrgent viewed c.args.wire c.args.octets.now true (new n) c.args.out.now c.answer_ed.new.out) (sym c.block-turn.ensures)

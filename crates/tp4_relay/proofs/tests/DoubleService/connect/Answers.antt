@@ -1,5 +1,5 @@
 use Rattle.std.proofs.Common.{ap}
-use Rattle.osi_journal.specs.declared.event.Request.{Request}
+use Rattle.script_journal.specs.declared.event.Request.{Request}
 use Rattle.tp4_relay.proofs.DoubledCalls.{connected}
 use Rattle.tp4_relay.proofs.tests.DoubleService.connect.Goals as goal
 

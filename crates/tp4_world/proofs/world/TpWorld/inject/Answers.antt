@@ -1,6 +1,6 @@
 use Rattle.std.proofs.Common.{◌∙◌, ◌++◌, ◌∷◌, [], ap}
 use Rattle.osi_base.specs.Calls.{Inject}
-use Rattle.osi_journal.specs.declared.event.Event.{Event}
+use Rattle.script_journal.specs.declared.event.Event.{Event}
 use Rattle.tp4_number.specs.Number.{wire}
 use Rattle.tp4_world.specs.Run.{Injects}
 use Rattle.tp4_world.specs.Telling.{inject_event}

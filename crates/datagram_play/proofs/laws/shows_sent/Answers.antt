@@ -1,5 +1,0 @@
-use Rattle.datagram_play.proofs.Sent.{shows_sent}
-use Rattle.datagram_play.proofs.laws.shows_sent.Goals as goal
-
-pub returns : goal.returns
-returns g c = shows_sent g.N.Carrier.link g.N.Carrier.steps g.met.N.Carrier.keeps g.N.Network.makes g.met.N.Network.laws

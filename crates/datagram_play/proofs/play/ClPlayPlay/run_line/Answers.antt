@@ -1,7 +1,0 @@
-use Rattle.datagram_play.proofs.Ran.{runs_on}
-use Rattle.datagram_play.proofs.play.ClPlayPlay.run_line.Goals as goal
-
-pub returns : goal.returns
-returns g c =
-    runs_on g.N.Carrier.link g.N.Carrier.steps c.args.self.now c.self.inside.titles c.as_slice.result.now c.self.inside.life c.self.inside.world c.run_line.new.world c.args.line
-    c.run_line.new.events.items c.run_line.result c.self.view_is c.as_slice.ensures c.run_line.ensures

@@ -1,8 +1,0 @@
-//! What is written is a capture.
-
-ghost use Rattle.frame_capture.specs.Laws.{WritesCapture};
-
-/// What is written of frames is a capture, and its records are the frames.
-pub fn writes_capture()
-    ensures { WritesCapture }
-{}

@@ -1,0 +1,4 @@
+pub mod Acting
+pub mod Fitting
+pub mod Pairs
+pub mod Sending

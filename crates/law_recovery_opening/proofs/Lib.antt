@@ -1,0 +1,7 @@
+mod Asking
+mod Calling
+mod Opening
+mod Opens
+mod Requests
+mod Stepping
+mod Waiting

@@ -1,0 +1,4 @@
+pub mod Laws
+pub mod Opening
+pub mod Requests
+pub mod Steps

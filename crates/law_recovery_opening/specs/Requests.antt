@@ -1,0 +1,36 @@
+-- A calling end in CrWait since when nothing is lost: the called end stands in UserWait until its user answers, and where there is none a CR makes one, or its answer ends
+-- the calling one (X.224, class 4: connection establishment, retransmission on time-out).
+use Rattle.std.specs.Prelude.{◌≡◌, ℕ, true, false, List, [], ◌∷◌}
+use Rattle.std.specs.List.{list_any}
+use Rattle.tp4_conn.specs.declared.call.ConnectCall.{ConnectCall}
+use Rattle.tp4_conn.specs.declared.call.UserCall.TheVariants.{Accept}
+use Rattle.tp4_conn.specs.declared.states.InCrWait.{InCrWait}
+use Rattle.tp4_conn.specs.declared.states.StateData.TheVariants.{CrWait, UserWait}
+use Rattle.tp4_conn.specs.Agreeing.{proposed_by}
+use Rattle.tp4_conn.specs.Making.{called_end, indicated}
+use Rattle.tp4_entity.specs.Association.{answers, is_called, refusal}
+use Rattle.tp4_entity.specs.Entity.{Acted, Entity, moved}
+use Rattle.law_tp4_pair.specs.Pair.{Asks_called, Happening, Pair}
+use Rattle.law_recovery_opening.specs.Steps.{AreCrs}
+
+-- the calling end is in CrWait, and the called one in UserWait; nothing but CRs waits
+pub record IsRequested (p : Pair) : Type 0 where
+  pub request : InCrWait
+  pub since : ℕ
+  pub calling : p.calling.stage ≡ CrWait request
+  pub called : p.called.stage ≡ UserWait since
+  pub forth : AreCrs p.forth
+  pub back : p.back ≡ []
+
+-- the user of the called end accepts
+abbrev pub IsAccept : Happening → Type 0
+IsAccept (Asks_called (Accept asked octets)) = Unit {0}
+IsAccept other = ⊥
+
+-- what the CR of a call does where it comes: an end for that caller is there, or is made and waits for its user; or a DR goes back
+pub data IsAnswered (now : ℕ) (e : Entity) (from : List ℕ) (call : ConnectCall) (m : Acted) : Type 0 where
+  Stands : list_any (is_called false from call.own) e.ends ≡ true → m ≡ answers e [] → IsAnswered now e from call m
+  Waits : (reference : ℕ)
+      → m ≡ moved e reference (indicated (called_end now reference from e.timers call.rules.credit call.own call.request.from_selector call.request.to_selector (proposed_by call.request.options)) call.request.octets)
+      → IsAnswered now e from call m
+  Refused : (reason : ℕ) → m ≡ answers e (refusal from call.own reason ∷ []) → IsAnswered now e from call m

@@ -1,5 +1,0 @@
-use Rattle.osi_bench.proofs.Summaries.{one_summary}
-use Rattle.osi_bench.proofs.laws.one_summary.Goals as goal
-
-pub returns : goal.returns
-returns c = one_summary

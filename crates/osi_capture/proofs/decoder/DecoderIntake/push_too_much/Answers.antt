@@ -1,6 +1,0 @@
-use Rattle.osi_capture.proofs.Parts.{on_ok}
-use Rattle.osi_capture.proofs.Taking.{overflows}
-use Rattle.osi_capture.proofs.decoder.DecoderIntake.push_too_much.Goals as goal
-
-pub returns : goal.returns
-returns c = on_ok c.push_too_much.result (overflows c.args.self.now c.args.out.now.items c.push_too_much.new.out.items) c.push_too_much.ensures

@@ -1,5 +1,0 @@
-use Rattle.osi_journal.proofs.OneText.{journal_same}
-use Rattle.osi_journal.proofs.laws.text_is_injective.Goals as goal
-
-pub returns : goal.returns
-returns c = journal_same

@@ -1,5 +1,0 @@
-use Rattle.osi_script.proofs.PairSteps.{Written}
-use Rattle.osi_script.proofs.hexadecimal.write.Given as goal
-
-abbrev pub invariant-loop-place : goal.invariant-loop-place
-invariant-loop-place l = Written l.text l.octets l.place l.most

@@ -1,5 +1,0 @@
-use Rattle.osi_script.proofs.FieldSplits.{nothing_left}
-use Rattle.osi_script.proofs.line_fields.Fields.is_empty.Goals as goal
-
-pub returns : goal.returns
-returns c = rw (← c.self.view_is) (nothing_left c.self.inside.rest c.is_none.result c.is_none.ensures)

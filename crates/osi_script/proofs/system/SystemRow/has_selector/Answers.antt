@@ -1,6 +1,0 @@
-use Rattle.osi_script.proofs.Keys.{key_there}
-use Rattle.std.proofs.Common.{◌∙◌}
-use Rattle.osi_script.proofs.system.SystemRow.has_selector.Goals as goal
-
-pub returns : goal.returns
-returns c = rw (← c.self.view_is) (c.contains.ensures ∙ key_there (λ key. key.items) c.args.selector.now c.self.inside.selectors.keys)

@@ -1,6 +1,0 @@
-use Rattle.std.proofs.Common.{◌≡◌, map, take}
-use Rattle.osi_setup.specs.SetUp.{title_at}
-use Rattle.osi_setup.proofs.setup.SetUp.titles_of.Given as goal
-
-abbrev pub invariant-loop-system : goal.invariant-loop-system
-invariant-loop-system l = l.titles.items ≡ map (title_at l.self.systems) (take l.system-index l.systems)

@@ -1,6 +1,0 @@
-use Rattle.std.proofs.Common.{◌≡◌, ◌++◌, replicate}
-use Rattle.hex.specs.Hex.{encode_lower}
-use Rattle.osi_storm.proofs.text.push_octets.Given as goal
-
-abbrev pub invariant-loop-time : goal.invariant-loop-time
-invariant-loop-time l = l.out.items ≡ l.fn.out.items ++ encode_lower (replicate l._time l.octet)

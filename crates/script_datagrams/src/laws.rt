@@ -1,0 +1,21 @@
+//! What holds of every script of datagrams, over every network that a set-up makes.
+
+ghost use Rattle.script_world.specs.Plays.{world_acts};
+ghost use Rattle.script_bench.specs.Claims.{IsLaw};
+ghost use Rattle.script_datagrams.specs.Laws.{HearsEach};
+ghost use Rattle.script_datagrams.specs.Claims.{ShownWasSent};
+ghost use Rattle.script_datagrams.specs.Datagrams.{cl_play};
+
+use script_world::Network;
+
+/// Whatever part of a script was run: each datagram that is shown was sent, to this system and selector, with these octets, at most the
+/// initial lifetime before.
+pub fn shows_sent<N: Network>()
+    ensures { IsLaw (world_acts (cl_play N.link N.steps N.makes)) ShownWasSent }
+{}
+
+/// A unit that comes up at an address of transport users of an end system gives exactly one event: the datagram, or that it is no UD, or
+/// that its selector has no user.
+pub fn each_unit_is_heard<N: Network>()
+    ensures { HearsEach N.link N.makes }
+{}

@@ -1,0 +1,19 @@
+//! What holds of every script with relays, over every network that a set-up makes.
+
+ghost use Rattle.script_bench.specs.Claims.{IsLaw};
+ghost use Rattle.script_world.specs.Plays.{world_acts};
+ghost use Rattle.script_relays.specs.Claims.{RelaysLawfully};
+ghost use Rattle.script_relays.specs.Relays.{relay_play};
+
+use script_world::Network;
+
+/// Whatever part of a script was run: each connection is two queues; what a relay submits at one end of a pair is a front of what the
+/// other end shows; and of the partners of the two ends each shows a front of what the other submitted.
+pub fn relays_lawfully<N: Network>()
+    ensures { IsLaw (world_acts (relay_play N.link N.steps N.makes)) RelaysLawfully }
+{
+    law_tp4_lawful::lawful::<N>();
+    tp4_relay::relays_units();
+    law_relay::noted();
+    law_relay::goes_through();
+}
