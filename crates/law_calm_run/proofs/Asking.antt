@@ -40,8 +40,8 @@ use Rattle.tp4_world.specs.declared.place.EndAt.{EndAt}
 use Rattle.tp4_world.specs.declared.place.Placed.{Placed}
 use Rattle.tp4_world.proofs.Destinations.{ActsFine, calling_fine, connecting_fine}
 use Rattle.law_tp4_lawful.proofs.WorldAsides.{AreQuiet, sent_quiet, told_quiet}
-use Rattle.law_calm_run.specs.steps.Hall.{Calling, Calls as HallCalls, Connecting, Hall, IsAddress, after, with_new}
-use Rattle.law_calm_run.specs.steps.Posting.{AreUnitsOf, IsHall}
+use Rattle.law_calm_run.proofs.Hall.{Calling, Calls as HallCalls, Connecting, Hall, IsAddress, after, with_new}
+use Rattle.law_calm_run.proofs.Posting.{AreUnitsOf, IsHall}
 use Rattle.law_calm_run.proofs.Going.{Stands, Went, acts_go, have_after, kept_after, one_step, still, waiting_after}
 use Rattle.law_calm_run.proofs.Queueing.{all_parts, none_dropped, raw_behind}
 use Rattle.tp4_entity.proofs.Restarts.{calling_same, connecting_same}

@@ -36,8 +36,8 @@ use Rattle.tp4_world.proofs.Destinations.{ActsFine, hearing_fine}
 use Rattle.tp4_world.proofs.Having.{found, with_any, with_some}
 use Rattle.law_tp4_lawful.proofs.WorldAsides.{AreQuiet, are_aside, picked_quiet, told_quiet}
 use Rattle.law_calm_run.specs.Run.{HaveEntities}
-use Rattle.law_calm_run.specs.steps.Hall.{AreWaiting, Does, Done, Goes, Hall, IsAddress, Meeting, Meets, More, Post, Step, Still, after}
-use Rattle.law_calm_run.specs.steps.Posting.{AreKept, AreUnitsOf, IsHall, IsKept, IsUnitOf}
+use Rattle.law_calm_run.proofs.Hall.{AreWaiting, Does, Done, Goes, Hall, IsAddress, Meeting, Meets, More, Post, Step, Still, after}
+use Rattle.law_calm_run.proofs.Posting.{AreKept, AreUnitsOf, IsHall, IsKept, IsUnitOf}
 use Rattle.law_calm_run.proofs.Queueing.{all_parts, all_sent, none_dropped}
 use Rattle.law_calm_run.proofs.Reading.{heard_as, was}
 use Rattle.tp4_entity.specs.References.{is_within}

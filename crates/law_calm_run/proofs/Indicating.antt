@@ -42,8 +42,8 @@ use Rattle.tp4_world.specs.declared.place.Placed.{Placed}
 use Rattle.tp4_world.proofs.Destinations.{ActsFine, connecting_fine}
 use Rattle.law_calm_run.specs.Run.{IsCalmRun, IsStart}
 use Rattle.law_calm_run.specs.Service.{ConnectsAndSettles, ConnectsAreIndicated, IsIndicationOf, MayIndicate}
-use Rattle.law_calm_run.specs.steps.Hall.{Calling, Clocking, Connecting, Done, Goes, Hall, IsReadBy, Meeting, Meets, More, Post, Step, Still, after, with_new}
-use Rattle.law_calm_run.specs.steps.Posting.{AreKept, AreUnitsOf, IsHall}
+use Rattle.law_calm_run.proofs.Hall.{Calling, Clocking, Connecting, Done, Goes, Hall, IsReadBy, Meeting, Meets, More, Post, Step, Still, after, with_new}
+use Rattle.law_calm_run.proofs.Posting.{AreKept, AreUnitsOf, IsHall}
 use Rattle.tp4_entity.proofs.Beginning.{short}
 use Rattle.law_calm_run.proofs.Asking.{IsAsked}
 use Rattle.law_calm_run.proofs.Going.{HasSettled, Stands, acts_go, have_after, kept_after, settled, stands_then, waiting_after}

@@ -1,7 +1,9 @@
 pub mod Asking
 pub mod Going
+pub mod Hall
 pub mod Indicating
 pub mod Lines
+pub mod Posting
 pub mod Queueing
 pub mod Reading
 pub mod Starting

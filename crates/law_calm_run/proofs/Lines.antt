@@ -18,8 +18,8 @@ use Rattle.tp4_world.specs.Run.{RunsLine, RunsLines}
 use Rattle.tp4_world.specs.World.{World}
 use Rattle.law_tp4_lawful.specs.Limits.{IsProperLine}
 use Rattle.law_calm_run.specs.Run.{IsUnrouted}
-use Rattle.law_calm_run.specs.steps.Hall.{Done, Hall}
-use Rattle.law_calm_run.specs.steps.Posting.{IsHall}
+use Rattle.law_calm_run.proofs.Hall.{Done, Hall}
+use Rattle.law_calm_run.proofs.Posting.{IsHall}
 use Rattle.law_calm_run.proofs.Asking.{called, connected, raw}
 use Rattle.law_calm_run.proofs.Going.{HasSettled, Stands, Went, settled, stands_then, went_then}
 use Rattle.law_calm_run.proofs.Queueing.{all_parts}

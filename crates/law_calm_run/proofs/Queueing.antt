@@ -21,8 +21,8 @@ use Rattle.tp4_world.specs.Run.{SendsTpdu, SendsTpdus, transport_address, transp
 use Rattle.tp4_world.specs.Telling.{drop_events}
 use Rattle.tp4_world.proofs.Destinations.{SentFine}
 use Rattle.law_tp4_lawful.proofs.WorldAsides.{AreQuiet, drop_quiet, quiet_append, told_quiet}
-use Rattle.law_calm_run.specs.steps.Hall.{IsAddress, Post, posted}
-use Rattle.law_calm_run.specs.steps.Posting.{AreUnitsOf, IsUnitOf}
+use Rattle.law_calm_run.proofs.Hall.{IsAddress, Post, posted}
+use Rattle.law_calm_run.proofs.Posting.{AreUnitsOf, IsUnitOf}
 
 -- ---- what is told
 

@@ -17,7 +17,7 @@ use Rattle.tp4_entity.specs.Entity.{Acted, Entity, at}
 use Rattle.tp4_entity.specs.Unit.{EndsWith, Faulty, HearsUnit, Separates, Whole, all_met, extended_of}
 use Rattle.law_tp4_proper.specs.Units.{IsBad, IsOne}
 use Rattle.law_tp4_proper.proofs.OneUnits.{one_in_unit}
-use Rattle.law_calm_run.specs.steps.Hall.{IsReadBy}
+use Rattle.law_calm_run.proofs.Hall.{IsReadBy}
 
 -- the TPDU, as it is read
 abbrev pub was : Sent → TpduAndSum

@@ -21,8 +21,8 @@ use Rattle.tp4_world.proofs.Destinations.{EndsFine}
 use Rattle.law_tp4_lawful.specs.First.{IsUntouched}
 use Rattle.law_tp4_lawful.proofs.WorldPlaces.{none_some, some_same}
 use Rattle.law_calm_run.specs.Run.{IsCalmRun, IsStart}
-use Rattle.law_calm_run.specs.steps.Hall.{Hall, IsAddress}
-use Rattle.law_calm_run.specs.steps.Posting.{IsKept}
+use Rattle.law_calm_run.proofs.Hall.{Hall, IsAddress}
+use Rattle.law_calm_run.proofs.Posting.{IsKept}
 use Rattle.law_calm_run.proofs.Going.{HasSettled, Stands}
 use Rattle.law_calm_run.proofs.Lines.{lines_go}
 

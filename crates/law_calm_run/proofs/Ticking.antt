@@ -22,8 +22,8 @@ use Rattle.law_tp4_lawful.proofs.WorldAsides.{are_aside, told_quiet}
 use Rattle.law_tp4_lawful.proofs.WorldPlaces.{some_same}
 use Rattle.tp4_world.proofs.Having.{found_any, with_first, with_other}
 use Rattle.law_calm_run.specs.Run.{HaveEntities}
-use Rattle.law_calm_run.specs.steps.Hall.{AreWaiting, Clocking, Hall, IsAddress, Over, TickGoes, TickStep, Ticking, TicksDone, TicksMore, after}
-use Rattle.law_calm_run.specs.steps.Posting.{AreKept, AreUnitsOf, IsHall}
+use Rattle.law_calm_run.proofs.Hall.{AreWaiting, Clocking, Hall, IsAddress, Over, TickGoes, TickStep, Ticking, TicksDone, TicksMore, after}
+use Rattle.law_calm_run.proofs.Posting.{AreKept, AreUnitsOf, IsHall}
 use Rattle.law_calm_run.proofs.Going.{Stands, Went, acts_go, have_after, kept_after, one_step}
 use Rattle.law_calm_run.proofs.Queueing.{all_parts, none_dropped}
 use Rattle.tp4_entity.proofs.Restarts.{ticking_same}

@@ -52,15 +52,15 @@ use Rattle.law_tp4_associations.specs.steps.Together.{Laws}
 use Rattle.law_tp4_associations.specs.Standing.{IsParty, Standing}
 use Rattle.law_tp4_associations.specs.Ticking.{IsTicking}
 use Rattle.law_tp4_associations.proofs.Together.{all_laws}
-use Rattle.law_calm_run.specs.steps.Hall.{AreAllProper, Calls, Goes, Hall, IsReadBy, Meets, Post, after, posted}
-use Rattle.law_calm_run.specs.steps.Posting.{AreUnitsOf}
+use Rattle.law_calm_run.proofs.Hall.{AreAllProper, Calls, Goes, Hall, IsReadBy, Meets, Post, after, posted}
+use Rattle.law_calm_run.proofs.Posting.{AreUnitsOf}
 use Rattle.law_calm_run.proofs.Asking.{TookCall, taken}
 use Rattle.law_calm_run.proofs.Going.{HasSettled, Stands, settled, stands_then}
 use Rattle.law_calm_run.proofs.Indicating.{met_first}
 use Rattle.law_calm_run.proofs.Queueing.{all_parts}
 use Rattle.law_calm_run.proofs.Starting.{first_hall, run_settles}
 use Rattle.law_calm_service.specs.steps.Confirms.{AcceptsAreConfirmed}
-use Rattle.law_calm_service.specs.steps.Story.{ArePosts, Story, address_of}
+use Rattle.law_calm_service.proofs.Story.{ArePosts, Story, address_of}
 use Rattle.law_calm_service.proofs.Continuing.{get_set_same, some_same}
 use Rattle.law_calm_service.proofs.Keeping.{has_story}
 use Rattle.law_calm_service.proofs.Partnering.{none_waits}

@@ -13,11 +13,11 @@ use Rattle.law_tp4_moves.specs.Lines.{given, shown_in}
 use Rattle.tp4_world.specs.Telling.{ends_after, events_after}
 use Rattle.tp4_world.specs.World.{latest}
 use Rattle.tp4_world.specs.declared.place.EndAt.{EndAt}
-use Rattle.law_tp4_lawful.specs.steps.Acting.{first_of}
+use Rattle.law_tp4_lawful.proofs.Acting.{first_of}
 use Rattle.law_tp4_lawful.proofs.ActsRows.{AreTold}
 use Rattle.law_tp4_lawful.proofs.ActsTold.{ends_stay}
 use Rattle.law_tp4_associations.specs.Handing.{TellsOfNoEnd}
-use Rattle.law_calm_service.specs.steps.Story.{AreOwn, HasNoUnits}
+use Rattle.law_calm_service.proofs.Story.{AreOwn, HasNoUnits}
 use Rattle.law_calm_service.proofs.Rows.{row_told}
 use Rattle.law_calm_service.proofs.Telling.{ActsIn, acts_in}
 

@@ -26,8 +26,8 @@ use Rattle.law_tp4_associations.specs.Association.{Association, Posted, post, wi
 use Rattle.law_tp4_associations.specs.Laws.{Answerable, MayAccept, WasCalled}
 use Rattle.law_tp4_associations.specs.Handing.{AreProperEnds}
 use Rattle.law_tp4_associations.specs.Standing.{IsParty, Standing}
-use Rattle.law_calm_run.specs.steps.Hall.{AreAllProper, Calls, Hall, Post, after, posted}
-use Rattle.law_calm_service.specs.steps.Story.{ArePosts, IsRunning, IsYoung, Story, Tells}
+use Rattle.law_calm_run.proofs.Hall.{AreAllProper, Calls, Hall, Post, after, posted}
+use Rattle.law_calm_service.proofs.Story.{ArePosts, IsRunning, IsYoung, Story, Tells}
 use Rattle.law_calm_service.proofs.Acting.{acts_of, ends_same}
 use Rattle.law_calm_service.proofs.Calling.{MayBegin, tells_called, tells_calling}
 use Rattle.law_calm_service.proofs.Queued.{none_posted, party_systems, posts_of, set_still}

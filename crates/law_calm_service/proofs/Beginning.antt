@@ -20,8 +20,8 @@ use Rattle.law_tp4_lawful.specs.First.{IsUntouched}
 use Rattle.law_tp4_associations.specs.Association.{Association}
 use Rattle.law_tp4_associations.specs.Standing.{AreSystems}
 use Rattle.law_calm_run.specs.Run.{IsStart}
-use Rattle.law_calm_run.specs.steps.Hall.{AreAllProper, Done, Goes, Hall, More, Step}
-use Rattle.law_calm_service.specs.steps.Story.{Numbers, Story, address_of}
+use Rattle.law_calm_run.proofs.Hall.{AreAllProper, Done, Goes, Hall, More, Step}
+use Rattle.law_calm_service.proofs.Story.{Numbers, Story, address_of}
 use Rattle.law_calm_service.proofs.Continuing.{none_some}
 use Rattle.law_calm_run.proofs.Starting.{found}
 

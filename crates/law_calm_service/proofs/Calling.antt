@@ -18,7 +18,7 @@ use Rattle.law_tp4_pair.specs.Pair.{Accepts}
 use Rattle.law_tp4_pair.specs.steps.Standing.{HasLeft}
 use Rattle.tp4_world.specs.declared.place.EndAt.{EndAt}
 use Rattle.law_tp4_associations.specs.Association.{Association, post, waiting, with_party}
-use Rattle.law_calm_service.specs.steps.Story.{AreOpening, IsRunning, IsYoung, Numbers, Tells}
+use Rattle.law_calm_service.proofs.Story.{AreOpening, IsRunning, IsYoung, Numbers, Tells}
 use Rattle.law_calm_service.proofs.Continuing.{none_some, some_same}
 use Rattle.law_calm_service.proofs.Pairing.{running_begins, running_called, running_calling, running_stays}
 use Rattle.law_calm_service.proofs.Stepping.{two_sides, waiting_other, waiting_own, waiting_side}

@@ -17,7 +17,7 @@ use Rattle.law_tp4_moves.specs.Lines.{shown_in}
 use Rattle.tp4_world.specs.declared.place.EndAt.{EndAt}
 use Rattle.law_tp4_associations.specs.Association.{Association, Posted, post, waiting, with_party}
 use Rattle.law_tp4_associations.specs.Phase.{IsInUse}
-use Rattle.law_calm_service.specs.steps.Story.{AreOpening, HasNoUnits, IsClocking, IsRunning, IsYoung, Numbers, Tells}
+use Rattle.law_calm_service.proofs.Story.{AreOpening, HasNoUnits, IsClocking, IsRunning, IsYoung, Numbers, Tells}
 use Rattle.law_calm_service.proofs.Calling.{Answers, Nobodys, Partners, Users, answers}
 use Rattle.law_calm_service.proofs.Continuing.{some_same}
 use Rattle.law_calm_service.proofs.Pairing.{clocking_begins, clocking_ends, ticked_now, ticked_stays}

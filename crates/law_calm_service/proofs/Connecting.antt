@@ -16,8 +16,8 @@ use Rattle.law_tp4_associations.specs.Association.{Association, Posted, cleared,
 use Rattle.law_tp4_associations.specs.Handing.{AreProperEnds, requested_by}
 use Rattle.law_tp4_associations.specs.Laws.{Connected}
 use Rattle.law_tp4_associations.specs.Standing.{Standing}
-use Rattle.law_calm_run.specs.steps.Hall.{AreAllProper, Connects, Hall, Post, after, posted, with_new}
-use Rattle.law_calm_service.specs.steps.Story.{ArePosts, IsRunning, Story, Tells, address_of}
+use Rattle.law_calm_run.proofs.Hall.{AreAllProper, Connects, Hall, Post, after, posted, with_new}
+use Rattle.law_calm_service.proofs.Story.{ArePosts, IsRunning, Story, Tells, address_of}
 use Rattle.law_calm_service.proofs.Continuing.{length_map}
 use Rattle.law_calm_service.proofs.Freeing.{is_freed}
 use Rattle.law_calm_service.proofs.Making.{tells_connected}

@@ -6,7 +6,7 @@ use Rattle.tp4_conn.specs.End.{End}
 use Rattle.tp4_world.specs.World.{latest}
 use Rattle.tp4_world.specs.declared.place.EndAt.{EndAt}
 use Rattle.law_tp4_associations.specs.Association.{Association, cleared, party, system_of, with_party, without}
-use Rattle.law_calm_service.specs.steps.Story.{AreNumbered, Numbers}
+use Rattle.law_calm_service.proofs.Story.{AreNumbered, Numbers}
 
 -- ---- lists
 

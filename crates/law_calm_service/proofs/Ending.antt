@@ -14,12 +14,12 @@ use Rattle.tp4_world.specs.World.{World}
 use Rattle.tp4_world.specs.declared.place.Placed.{Placed}
 use Rattle.law_calm_run.specs.Run.{IsCalmRun, IsStart}
 use Rattle.law_calm_run.specs.Service.{end_at_number}
-use Rattle.law_calm_run.specs.steps.Hall.{AreWaiting, Hall}
-use Rattle.law_calm_run.specs.steps.Posting.{AreUnitsOf}
+use Rattle.law_calm_run.proofs.Hall.{AreWaiting, Hall}
+use Rattle.law_calm_run.proofs.Posting.{AreUnitsOf}
 use Rattle.law_calm_run.proofs.Going.{HasSettled}
 use Rattle.law_calm_run.proofs.Starting.{first_hall, run_settles}
 use Rattle.law_calm_service.specs.Pairs.{HavePairs}
-use Rattle.law_calm_service.specs.steps.Story.{Story, address_of}
+use Rattle.law_calm_service.proofs.Story.{Story, address_of}
 use Rattle.law_calm_service.proofs.Keeping.{has_story}
 use Rattle.law_calm_service.proofs.Placing.{where_it_stands}
 use Rattle.law_calm_service.proofs.Partnering.{story_has_pairs}

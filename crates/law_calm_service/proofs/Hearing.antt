@@ -23,8 +23,8 @@ use Rattle.law_tp4_associations.specs.Association.{Posted, system_of}
 use Rattle.law_tp4_associations.specs.Laws.{Addressed, Formatted, Handed}
 use Rattle.law_tp4_associations.specs.Handing.{AreProperEnds, Hands}
 use Rattle.law_tp4_associations.specs.Standing.{Standing}
-use Rattle.law_calm_run.specs.steps.Hall.{AreAllProper, Hall, IsReadBy, Meets, after}
-use Rattle.law_calm_service.specs.steps.Story.{IsRunning, Story, Tells, address_of}
+use Rattle.law_calm_run.proofs.Hall.{AreAllProper, Hall, IsReadBy, Meets, after}
+use Rattle.law_calm_service.proofs.Story.{IsRunning, Story, Tells, address_of}
 use Rattle.law_calm_service.proofs.Meeting.{story_handed}
 use Rattle.law_calm_service.proofs.Queued.{IsFirst, first_posted}
 

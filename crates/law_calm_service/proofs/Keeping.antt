@@ -12,9 +12,9 @@ use Rattle.law_tp4_associations.specs.steps.Together.{Laws}
 use Rattle.law_tp4_associations.specs.Ticking.{IsTicking}
 use Rattle.law_tp4_associations.proofs.Together.{all_laws}
 use Rattle.law_calm_run.specs.Run.{HaveEntities, IsStart}
-use Rattle.law_calm_run.specs.steps.Hall.{AreAllProper, Calling, Clocking, Connecting, Hall, Meeting, Over, Step, Still, TickGoes, TickStep, Ticking, TicksDone, TicksMore}
+use Rattle.law_calm_run.proofs.Hall.{AreAllProper, Calling, Clocking, Connecting, Hall, Meeting, Over, Step, Still, TickGoes, TickStep, Ticking, TicksDone, TicksMore}
 use Rattle.law_calm_run.proofs.Going.{have_after}
-use Rattle.law_calm_service.specs.steps.Story.{HasStory, IsRunning, Story, address_of}
+use Rattle.law_calm_service.proofs.Story.{HasStory, IsRunning, Story, address_of}
 use Rattle.law_calm_service.proofs.Asking.{calls_keeps}
 use Rattle.law_calm_service.proofs.Beginning.{holds_after, story_begins}
 use Rattle.law_calm_service.proofs.Connecting.{connects_keeps}

@@ -26,7 +26,7 @@ use Rattle.law_tp4_associations.specs.Association.{Association}
 use Rattle.law_tp4_associations.specs.Phase.{Answered, Asking, IsFrozen, IsInUse, IsOver, Late, Leaving, Over, Paired, Phase, Refused, Rejected, Waiting, WillFreeze}
 use Rattle.law_tp4_associations.proofs.Handing.{paired_held}
 use Rattle.law_tp4_associations.proofs.Keeping.{ticks_same}
-use Rattle.law_calm_service.specs.steps.Story.{IsYoung}
+use Rattle.law_calm_service.proofs.Story.{IsYoung}
 use Rattle.law_calm_service.proofs.Continuing.{none_some, some_same}
 
 -- ---- an end that ticks

@@ -24,6 +24,7 @@ pub mod Placing
 pub mod Queued
 pub mod Rows
 pub mod Stepping
+pub mod Story
 pub mod Storying
 pub mod Telling
 pub mod Ticking

@@ -13,7 +13,7 @@ use Rattle.law_tp4_history.specs.Journals.{MakesNone}
 use Rattle.tp4_world.specs.declared.place.EndAt.{EndAt}
 use Rattle.law_tp4_associations.specs.Association.{Association, Posted, cleared, party, waiting, without}
 use Rattle.law_tp4_associations.specs.Phase.{IsInUse}
-use Rattle.law_calm_service.specs.steps.Story.{AreOpening, AreOwn, HasNoUnits, IsYoung, Numbers, Runs, Tells}
+use Rattle.law_calm_service.proofs.Story.{AreOpening, AreOwn, HasNoUnits, IsYoung, Numbers, Runs, Tells}
 use Rattle.law_calm_service.proofs.Continuing.{get_behind, left_party, length_map, map_got, none_some, some_same}
 use Rattle.law_calm_service.proofs.Numbering.{linked_connect, number_here, number_there, numbered_connect, one_more, with_caller}
 use Rattle.law_calm_service.proofs.Pairing.{gave_none, showed_none}

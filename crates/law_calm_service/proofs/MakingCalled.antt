@@ -15,7 +15,7 @@ use Rattle.law_tp4_history.specs.Journals.{MakesNone}
 use Rattle.tp4_world.specs.declared.place.EndAt.{EndAt}
 use Rattle.law_tp4_associations.specs.Association.{Association, Posted, cleared, party, waiting}
 use Rattle.law_tp4_associations.specs.Phase.{IsInUse}
-use Rattle.law_calm_service.specs.steps.Story.{AreOpening, AreOwn, HasNoUnits, IsYoung, Numbers, Runs, Tells}
+use Rattle.law_calm_service.proofs.Story.{AreOpening, AreOwn, HasNoUnits, IsYoung, Numbers, Runs, Tells}
 use Rattle.law_calm_service.proofs.Continuing.{get_set_other, get_set_same, map_get, none_some, some_same}
 use Rattle.law_calm_service.proofs.Numbering.{number_here, number_there, one_more}
 use Rattle.law_calm_service.proofs.NumberingCalled.{linked_begins, numbered_begins, with_called}

@@ -23,8 +23,8 @@ use Rattle.law_tp4_associations.specs.Association.{Association, Posted, cleared,
 use Rattle.law_tp4_associations.specs.Handing.{Aside, Begins, Hands, IsBetweenOpen, Taken, Takes, TellsOfNoEnd}
 use Rattle.law_tp4_associations.specs.Phase.{Answered, Asking, Late, Leaving, Over, Paired, Phase, Refused, Rejected, Waiting}
 use Rattle.law_tp4_associations.specs.Standing.{Standing}
-use Rattle.law_calm_run.specs.steps.Hall.{Hall, Post, after, posted}
-use Rattle.law_calm_service.specs.steps.Story.{ArePosts, IsRunning, IsYoung, Numbers, Story, Tells}
+use Rattle.law_calm_run.proofs.Hall.{Hall, Post, after, posted}
+use Rattle.law_calm_service.proofs.Story.{ArePosts, IsRunning, IsYoung, Numbers, Story, Tells}
 use Rattle.law_calm_service.proofs.Acting.{acts_of, aside_of_no_end, ends_same}
 use Rattle.law_calm_service.proofs.Continuing.{map_get, none_some}
 use Rattle.law_calm_service.proofs.Freeing.{free_place, is_freed}

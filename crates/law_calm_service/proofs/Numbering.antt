@@ -13,7 +13,7 @@ use Rattle.law_tp4_history.specs.Journals.{MakesNone}
 use Rattle.tp4_world.specs.World.{is_at, latest, latest_from}
 use Rattle.tp4_world.specs.declared.place.EndAt.{EndAt}
 use Rattle.law_tp4_associations.specs.Association.{Association, cleared, party, system_of}
-use Rattle.law_calm_service.specs.steps.Story.{AreLinked, AreNumbered, IsLatestOf, Numbers}
+use Rattle.law_calm_service.proofs.Story.{AreLinked, AreNumbered, IsLatestOf, Numbers}
 use Rattle.law_calm_service.proofs.Continuing.{cleared_continues, get_behind, left_party, length_map, map_got, none_some, numbered_on, some_same}
 use Rattle.law_calm_service.proofs.Partners.{latest_connect, latest_new, partner_connect}
 

@@ -13,7 +13,7 @@ use Rattle.law_tp4_history.specs.Journals.{MakesNone}
 use Rattle.tp4_world.specs.World.{latest}
 use Rattle.tp4_world.specs.declared.place.EndAt.{EndAt}
 use Rattle.law_tp4_associations.specs.Association.{Association, cleared, party, system_of}
-use Rattle.law_calm_service.specs.steps.Story.{AreLinked, AreNumbered, IsLatestOf, Numbers}
+use Rattle.law_calm_service.proofs.Story.{AreLinked, AreNumbered, IsLatestOf, Numbers}
 use Rattle.law_calm_service.proofs.Continuing.{cleared_continues, get_set_other, get_set_same, left_party, length_map, length_set, map_get, map_got, none_some, numbered_on, some_same}
 use Rattle.law_calm_service.proofs.Numbering.{latest_elsewhere, latest_here, none_at_cleared, number_here, number_there, numbered_elsewhere, one_more}
 use Rattle.law_calm_service.proofs.Partners.{latest_heard, one_latest, partner_new}

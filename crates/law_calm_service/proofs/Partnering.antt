@@ -14,8 +14,8 @@ use Rattle.tp4_world.specs.declared.place.EndAt.{EndAt}
 use Rattle.tp4_world.specs.declared.place.Placed.{Placed}
 use Rattle.law_tp4_associations.specs.Association.{Association, Posted, party, waiting}
 use Rattle.law_calm_run.specs.Service.{end_at_number}
-use Rattle.law_calm_run.specs.steps.Hall.{Hall, Post}
-use Rattle.law_calm_service.specs.steps.Story.{ArePosts, IsRunning, IsYoung, Story, pair_of}
+use Rattle.law_calm_run.proofs.Hall.{Hall, Post}
+use Rattle.law_calm_service.proofs.Story.{ArePosts, IsRunning, IsYoung, Story, pair_of}
 use Rattle.law_calm_service.proofs.Continuing.{some_same}
 use Rattle.law_calm_service.proofs.Placing.{IsWhere, party_of, where_it_stands}
 

@@ -10,7 +10,7 @@ use Rattle.law_tp4_pair.specs.steps.Standing.{HasLeft}
 use Rattle.tp4_world.specs.declared.place.EndAt.{EndAt}
 use Rattle.law_tp4_associations.specs.Association.{Association, Posted, post, waiting}
 use Rattle.law_tp4_associations.specs.Handing.{IsBetweenOpen}
-use Rattle.law_calm_service.specs.steps.Story.{AreOpening, HasNoUnits, IsRunning, IsYoung, Numbers, Runs, Tells}
+use Rattle.law_calm_service.proofs.Story.{AreOpening, HasNoUnits, IsRunning, IsYoung, Numbers, Runs, Tells}
 use Rattle.law_calm_service.proofs.Continuing.{AllContinue, some_same}
 use Rattle.law_calm_service.proofs.Pairing.{gave_none, running_stays, showed_none}
 use Rattle.law_calm_service.proofs.Stepping.{first_other, waiting_append, waiting_other}

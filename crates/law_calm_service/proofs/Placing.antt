@@ -12,7 +12,7 @@ use Rattle.tp4_world.specs.declared.place.Placed.{Placed}
 use Rattle.law_tp4_associations.specs.Association.{Association, Posted}
 use Rattle.law_tp4_associations.specs.Standing.{IsParty, Standing, StandsAt}
 use Rattle.law_calm_run.specs.Service.{end_at_number, end_placed}
-use Rattle.law_calm_service.specs.steps.Story.{AreNumbered, Numbers}
+use Rattle.law_calm_service.proofs.Story.{AreNumbered, Numbers}
 use Rattle.law_calm_service.proofs.Continuing.{none_some}
 
 -- the end of that number stands here

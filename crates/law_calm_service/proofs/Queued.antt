@@ -4,8 +4,8 @@ use Rattle.std.proofs.lemmas.Bool.{cases_eq}
 use Rattle.tp4_flow.specs.declared.step.Sent.{Sent}
 use Rattle.tp4_conn.specs.End.{End}
 use Rattle.law_tp4_associations.specs.Association.{Association, Posted, cleared, post, system_of, with_party}
-use Rattle.law_calm_run.specs.steps.Hall.{Post, posted}
-use Rattle.law_calm_service.specs.steps.Story.{ArePosts}
+use Rattle.law_calm_run.proofs.Hall.{Post, posted}
+use Rattle.law_calm_service.proofs.Story.{ArePosts}
 use Rattle.law_calm_service.proofs.Continuing.{get_set_other, get_set_same, map_get, some_same, system_same, with_from, with_to}
 
 -- ---- associations that keep their systems

@@ -8,7 +8,7 @@ use Rattle.tp4_conn.specs.End.{End, end_of}
 use Rattle.tp4_conn.specs.Table.{Event, stepped}
 use Rattle.law_tp4_lawful.proofs.ActsRows.{AreTold, IsRowOf, row_of}
 use Rattle.law_tp4_lawful.specs.Own.{IsStageOf}
-use Rattle.law_calm_service.specs.steps.Story.{AreOwn, AreOwnIn}
+use Rattle.law_calm_service.proofs.Story.{AreOwn, AreOwnIn}
 
 -- so are the halves of an end by itself
 to_stage : (b : EndRecord) (stage : StateData) → AreOwnIn b stage → IsStageOf b.own stage

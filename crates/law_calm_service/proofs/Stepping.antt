@@ -19,7 +19,7 @@ use Rattle.tp4_conn.specs.declared.states.StateData.TheVariants as stages
 use Rattle.law_tp4_moves.specs.Lines.{shown_in}
 use Rattle.tp4_world.specs.declared.place.EndAt.{EndAt}
 use Rattle.law_tp4_associations.specs.Association.{Association, Posted, is_same, post, waiting, with_party}
-use Rattle.law_calm_service.specs.steps.Story.{AreNumbered, AreOpening, IsRunning, IsYoung, Numbers, Tells}
+use Rattle.law_calm_service.proofs.Story.{AreNumbered, AreOpening, IsRunning, IsYoung, Numbers, Tells}
 use Rattle.law_calm_service.proofs.Continuing.{none_some, some_same}
 use Rattle.law_calm_service.proofs.Pairing.{running_back, running_forth, running_stays}
 use Rattle.law_calm_service.proofs.Storying.{tells_acted}

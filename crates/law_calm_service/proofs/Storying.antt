@@ -15,7 +15,7 @@ use Rattle.tp4_world.specs.declared.place.EndAt.{EndAt}
 use Rattle.law_tp4_associations.specs.Association.{Association, Posted, party, waiting, with_party}
 use Rattle.law_tp4_associations.specs.Phase.{IsInUse}
 use Rattle.law_tp4_associations.proofs.Holding.{held_on}
-use Rattle.law_calm_service.specs.steps.Story.{AreLinked, AreOpening, AreOwn, HasNoUnits, IsLatestOf, IsYoung, Numbers, Runs, Tells}
+use Rattle.law_calm_service.proofs.Story.{AreLinked, AreOpening, AreOwn, HasNoUnits, IsLatestOf, IsYoung, Numbers, Runs, Tells}
 use Rattle.law_calm_service.proofs.Continuing.{AllContinue, get_set_other, get_set_same, numbered_on, party_continues, set_continues, some_same, with_from, with_to}
 use Rattle.law_calm_service.proofs.Pairing.{gave_none, showed_none}
 use Rattle.law_calm_service.proofs.Partners.{latest_more, partner_back}

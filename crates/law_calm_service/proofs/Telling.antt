@@ -17,7 +17,7 @@ use Rattle.law_tp4_pair.specs.steps.Pairs.{IsToldIn}
 use Rattle.tp4_world.specs.Telling.{ends_after, events_after}
 use Rattle.tp4_world.specs.World.{latest}
 use Rattle.tp4_world.specs.declared.place.EndAt.{EndAt}
-use Rattle.law_tp4_lawful.specs.steps.Acting.{first_of}
+use Rattle.law_tp4_lawful.proofs.Acting.{first_of}
 use Rattle.law_tp4_lawful.proofs.ActsRows.{AreTold, IsTold}
 use Rattle.law_tp4_lawful.proofs.ActsTold.{ends_stay}
 use Rattle.law_tp4_lawful.proofs.ActsUnits.{given_other, given_own, made_none, shown_other, shown_own}

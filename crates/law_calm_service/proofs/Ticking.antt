@@ -18,8 +18,8 @@ use Rattle.law_tp4_associations.specs.Handing.{AreProperEnds}
 use Rattle.law_tp4_associations.specs.Laws.{Ticks as TickLaws}
 use Rattle.law_tp4_associations.specs.Phase.{IsInUse}
 use Rattle.law_tp4_associations.specs.Standing.{IsParty, Standing}
-use Rattle.law_calm_run.specs.steps.Hall.{AreAllProper, Clocks, Hall, IsOver, Over, Post, TickGoes, TickStep, Ticking, Ticks, TicksDone, TicksMore, after, posted}
-use Rattle.law_calm_service.specs.steps.Story.{ArePosts, IsClocking, IsRunning, IsYoung, Story, Tells, TickStory}
+use Rattle.law_calm_run.proofs.Hall.{AreAllProper, Clocks, Hall, IsOver, Over, Post, TickGoes, TickStep, Ticking, Ticks, TicksDone, TicksMore, after, posted}
+use Rattle.law_calm_service.proofs.Story.{ArePosts, IsClocking, IsRunning, IsYoung, Story, Tells, TickStory}
 use Rattle.law_calm_service.proofs.Acting.{acts_of, ends_same}
 use Rattle.law_calm_service.proofs.Clocking.{tells_called_tick, tells_calling_tick, tells_clock, tells_over}
 use Rattle.law_calm_service.proofs.Lasting.{due_first, due_later, kept_held, kept_is, stays_held}

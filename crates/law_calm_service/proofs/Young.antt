@@ -33,7 +33,7 @@ use Rattle.tp4_conn.specs.Opened.{dt_as, hearing, is_expedited, opened_as, opene
 use Rattle.tp4_conn.specs.Table.{Called, Event, Ticked, Took, at as at_tick, on_call, on_tick, on_tpdu, stepped}
 use Rattle.tp4_conn.specs.UserWait.{user_wait_accept, user_wait_refuse, user_wait_tick}
 use Rattle.tp4_conn.specs.WaitBeforeClose.{wait_before_close_tick, wait_before_close_tpdu}
-use Rattle.law_calm_service.specs.steps.Story.{IsYoung}
+use Rattle.law_calm_service.proofs.Story.{IsYoung}
 use Rattle.law_tp4_moves.specs.Lines.{given, shown_in}
 use Rattle.law_tp4_pair.specs.steps.Standing.{HasLeft}
 use Rattle.law_tp4_pair.proofs.Leaving.{stays_left}

@@ -1,3 +1,2 @@
 -- What only carries the proofs: what the law says of accepts, and the story of the associations beside a network.
 pub mod Confirms
-pub mod Story

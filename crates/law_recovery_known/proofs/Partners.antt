@@ -19,7 +19,7 @@ use Rattle.law_recovery_steps.specs.Known.{AreKnown}
 use Rattle.tp4_world.specs.World.{World}
 use Rattle.law_tp4_lawful.specs.Numbers.{IsOpenEnd}
 use Rattle.law_tp4_lawful.specs.References.{halves_at}
-use Rattle.law_tp4_lawful.specs.steps.Worlds.{Explains}
+use Rattle.law_tp4_lawful.proofs.Worlds.{Explains}
 use Rattle.law_recovery_world.specs.Lines.{HasViews}
 use Rattle.law_recovery_world.specs.Steady.{AreLate, AreSteady, StageLate}
 use Rattle.law_recovery_known.specs.Partners.{AreTimed, IsOpenedEnd, IsPairOf}

@@ -21,7 +21,7 @@ use Rattle.tp4_world.specs.World.{entity_at, latest, with_entity}
 use Rattle.tp4_world.specs.declared.place.EndAt.{EndAt}
 use Rattle.tp4_world.specs.declared.place.Placed.{Placed}
 use Rattle.tp4_world.proofs.Having.{with_any}
-use Rattle.law_tp4_lawful.specs.steps.Worlds as worlds
+use Rattle.law_tp4_lawful.proofs.Worlds as worlds
 use Rattle.law_recovery_world.specs.Steady.{AreSteady, HasSteadyEnds, IsSteady}
 use Rattle.law_recovery_world.specs.steps.Known.{AreSeeing, Known}
 use Rattle.law_recovery_world.specs.steps.Worlds.{AreOffered, Followed, Follows}

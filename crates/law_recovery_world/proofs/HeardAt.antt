@@ -25,7 +25,7 @@ use Rattle.tp4_world.specs.World.{entity_at, latest}
 use Rattle.tp4_world.specs.declared.place.EndAt.{EndAt}
 use Rattle.tp4_world.specs.declared.place.Placed.{Placed}
 use Rattle.law_tp4_lawful.specs.References.{halves_at}
-use Rattle.law_tp4_lawful.specs.steps.Known.{AreTerms, IsKnown, IsOffered, IsReadAs, IsThere, Known}
+use Rattle.law_tp4_lawful.proofs.Known.{AreTerms, IsKnown, IsOffered, IsReadAs, IsThere, Known}
 use Rattle.law_tp4_lawful.proofs.FramesKnown.{keeps, number_at}
 use Rattle.law_tp4_lawful.proofs.MeetsOthers.{is as read_is, number, taken}
 use Rattle.law_tp4_lawful.proofs.ReferencesHalves.{AreThere, own_in, stand_in}

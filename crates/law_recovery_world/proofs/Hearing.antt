@@ -30,7 +30,7 @@ use Rattle.law_tp4_moves.specs.Moves.{times_of}
 use Rattle.law_tp4_moves.specs.Seen.{IsNumbered as HasNumber, seen}
 use Rattle.tp4_world.specs.World.{World}
 use Rattle.law_tp4_lawful.specs.References.{ComesTo, halves_at}
-use Rattle.law_tp4_lawful.specs.steps.Worlds.{Explains}
+use Rattle.law_tp4_lawful.proofs.Worlds.{Explains}
 use Rattle.law_tp4_lawful.proofs.FramesKnown.{keeps}
 use Rattle.law_tp4_lawful.proofs.ReferencesHalves.{AreThere, are_there}
 use Rattle.law_tp4_lawful.proofs.ReferencesMet.{IsMet, met}

@@ -32,7 +32,7 @@ use Rattle.tp4_world.specs.World.{entity_at, latest, with_entity}
 use Rattle.tp4_world.specs.declared.place.EndAt.{EndAt}
 use Rattle.tp4_world.specs.declared.place.Placed.{Placed}
 use Rattle.law_tp4_lawful.specs.References.{halves_at}
-use Rattle.law_tp4_lawful.specs.steps.Acting.{IsLike}
+use Rattle.law_tp4_lawful.proofs.Acting.{IsLike}
 use Rattle.law_tp4_lawful.proofs.WorldPlaces.{some_same}
 use Rattle.law_recovery_world.specs.Lines.{IsOfferedView}
 use Rattle.law_recovery_world.specs.steps.Known.{AreSeeing, Known, StageSees}

@@ -16,8 +16,8 @@ use Rattle.tp4_world.specs.Telling.{ends_after}
 use Rattle.tp4_world.specs.World.{entity_at, is_at, latest, latest_from, with_entity}
 use Rattle.tp4_world.specs.declared.place.EndAt.{EndAt}
 use Rattle.tp4_world.specs.declared.place.Placed.{Placed}
-use Rattle.law_tp4_lawful.specs.steps.Acting.{IsLike}
-use Rattle.law_tp4_lawful.specs.steps.Known.{IsKnown, IsThere}
+use Rattle.law_tp4_lawful.proofs.Acting.{IsLike}
+use Rattle.law_tp4_lawful.proofs.Known.{IsKnown, IsThere}
 use Rattle.law_tp4_lawful.proofs.Acts.{stage_of}
 use Rattle.law_tp4_lawful.proofs.ActsRows.{AreTold, row_of}
 use Rattle.law_tp4_lawful.proofs.ActsTold.{ends_stay}

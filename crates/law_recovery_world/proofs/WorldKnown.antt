@@ -8,7 +8,7 @@ use Rattle.tp4_world.specs.World.{entity_at, with_entity}
 use Rattle.tp4_world.specs.declared.place.EndAt.{EndAt}
 use Rattle.tp4_world.specs.declared.place.Placed.{Placed}
 use Rattle.tp4_world.proofs.Having.{with_any}
-use Rattle.law_tp4_lawful.specs.steps.Along.{Grows, IsKept}
+use Rattle.law_tp4_lawful.proofs.Along.{Grows, IsKept}
 use Rattle.law_tp4_lawful.proofs.WorldKnown.{known_at as plain_at, plain_grows}
 use Rattle.law_recovery_world.specs.steps.Known.{HasSeeingEnds, IsOffered, Known}
 use Rattle.law_recovery_world.specs.Steady.{AreSteady, HasSteadyEnds}

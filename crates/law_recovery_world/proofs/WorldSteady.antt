@@ -24,7 +24,7 @@ use Rattle.tp4_world.specs.World.{World}
 use Rattle.tp4_world.specs.declared.place.Placed.{Placed}
 use Rattle.tp4_world.specs.declared.place.EndAt.{EndAt}
 use Rattle.law_tp4_lawful.specs.Called.{AreCalls, AreHonestCalls, OnCalls}
-use Rattle.law_tp4_lawful.specs.steps.Worlds as worlds
+use Rattle.law_tp4_lawful.proofs.Worlds as worlds
 use Rattle.law_tp4_lawful.specs.Numbers.{IsOpenEnd}
 use Rattle.law_tp4_lawful.proofs.ActsLines.{Flowing}
 use Rattle.law_tp4_lawful.proofs.CalledStarts.{followed_by}

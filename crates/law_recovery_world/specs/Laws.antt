@@ -21,7 +21,7 @@ use Rattle.tp4_world.specs.World.{World, entity_at}
 use Rattle.law_tp4_lawful.specs.Called.{AreHonestCalls}
 use Rattle.law_tp4_lawful.specs.Numbers.{IsOpenEnd}
 use Rattle.law_tp4_lawful.specs.References.{ComesTo, halves_at}
-use Rattle.law_tp4_lawful.specs.steps.Worlds.{Explains}
+use Rattle.law_tp4_lawful.proofs.Worlds.{Explains}
 use Rattle.law_recovery_world.specs.Steady.{HasSteadyEnds, FloatsGive, EndsAreSteady, AfterCalls}
 use Rattle.law_recovery_world.specs.Lines.{IsAk, IsSaid, IsOfferedView, HasView, StageView, KnowsLine, HasViews}
 

@@ -21,7 +21,7 @@ use Rattle.law_tp4_history.specs.Ends.{Ak as Said, Offer, Sent}
 use Rattle.law_tp4_history.specs.Tracks.{Whole}
 use Rattle.tp4_world.specs.World.{World}
 use Rattle.law_tp4_lawful.specs.Numbers.{IsOpenEnd}
-use Rattle.law_tp4_lawful.specs.steps.Worlds.{Explains}
+use Rattle.law_tp4_lawful.proofs.Worlds.{Explains}
 use Rattle.law_recovery_world.specs.Steady.{says_of}
 
 abbrev pub IsAk : Tpdu → Type 0

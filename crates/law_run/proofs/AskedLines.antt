@@ -14,7 +14,7 @@ use Rattle.script_lines.specs.declared.line.Line.TheVariants as lines
 use Rattle.script_setup.specs.SetUp.{SetUp, nothing_said, set_up, timers_of, titles_of as titles_said}
 use Rattle.script_world.specs.Plays.{IsOfSetUp}
 use Rattle.script_world.specs.declared.play.World.TheVariants.{SettingUp}
-use Rattle.script_world.specs.steps.Made.{net_law}
+use Rattle.law_setup.proofs.Made.{net_law}
 use Rattle.tp4_number.specs.Number.{wire}
 use Rattle.tp4_world.specs.Asked.{AreAsked, IsAsked, asked_in}
 use Rattle.tp4_world.proofs.Lined.{tells_asked}

@@ -44,7 +44,7 @@ use Rattle.law_calm_service.proofs.Wired.{indicated_on_wire}
 use Rattle.law_calm_service.proofs.WiredEnds.{confirmed_on_wire, shown_on_wire}
 use Rattle.script_setup.specs.Fitting.{IsWell}
 use Rattle.script_setup.specs.SetUp.{SetUp, timers_of, titles_of as titles_said}
-use Rattle.script_world.specs.Entities.{entities_of}
+use Rattle.law_setup.specs.Entities.{entities_of}
 use Rattle.script_setup.proofs.Entities.{are_timed}
 use Rattle.law_run.specs.Calm.{AcceptsAreConfirmed, ActsCalmly, ConnectsAreIndicated, RunsCalmly}
 use Rattle.law_run.specs.Laws.{ServesCalmScripts}
@@ -52,14 +52,14 @@ use Rattle.law_run.specs.World.{TransportNet, Net, NetDoes, Started, World, Worl
 use Rattle.script_world.specs.declared.play.World.TheVariants.{SettingUp, Running}
 use Rattle.script_bench.specs.steps.Moves.{line_moves}
 use Rattle.law_setup.proofs.Started.{still_started}
-use Rattle.script_world.specs.steps.Made.{net_law}
-use Rattle.script_world.specs.steps.Peopled.{entities_new}
+use Rattle.law_setup.proofs.Made.{net_law}
+use Rattle.law_setup.proofs.Peopled.{entities_new}
 use Rattle.law_run.specs.steps.WorldLaws.{ran_line}
 use Rattle.law_run.proofs.CalmNet.{MakesCalm}
 use Rattle.law_run.proofs.CalmRun.{runs_calm}
 use Rattle.script_world.proofs.Headline.{distinct, untouched}
 use Rattle.law_run.proofs.Lawful.{RunsOn, runs_on}
-use Rattle.script_world.specs.steps.Placing.{present}
+use Rattle.law_setup.proofs.Placing.{present}
 use Rattle.law_setup.proofs.Proper.{script_proper}
 use Rattle.tp4_conn.specs.declared.timers.Timers.{Timers}
 use Rattle.tpdu.specs.declared.service.EndTold.TheVariants as tells

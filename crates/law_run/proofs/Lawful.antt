@@ -12,13 +12,13 @@ use Rattle.script_lines.specs.Injecting.{HasNoInject}
 use Rattle.script_lines.specs.Known.{Declared, nothing_declared}
 use Rattle.script_lines.specs.Script.{Says}
 use Rattle.script_setup.specs.SetUp.{SetUp, nothing_said, set_up, timers_of, titles_of as titles_said}
-use Rattle.script_world.specs.Entities.{entities_of}
+use Rattle.law_setup.specs.Entities.{entities_of}
 use Rattle.law_run.specs.World.{TransportNet, NetDoes, SetsUp, StartsUp, World, WorldRun, WorldRuns, is_start, life_of, link_of_net, running, strays_of, titles_of}
-use Rattle.script_world.specs.ClnpNets.{MakesNet}
+use Rattle.law_setup.specs.ClnpNets.{MakesNet}
 use Rattle.script_world.proofs.Headline.{script_unstrayed, still_honest}
 use Rattle.script_world.specs.declared.play.World.TheVariants.{SettingUp}
-use Rattle.script_world.specs.steps.Made.{begins_first, net_law, net_laws}
-use Rattle.script_world.specs.steps.Peopled.{entities_new}
+use Rattle.law_setup.proofs.Made.{begins_first, net_law, net_laws}
+use Rattle.law_setup.proofs.Peopled.{entities_new}
 use Rattle.law_run.specs.steps.WorldLaws.{ran_line, started}
 use Rattle.tp4_conn.specs.declared.timers.Timers.{Timers}
 

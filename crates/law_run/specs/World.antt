@@ -9,11 +9,11 @@ use Rattle.script_journal.specs.declared.event.Event.{Event}
 use Rattle.script_lines.specs.declared.words.Dialect.TheVariants as dialects
 use Rattle.script_lines.specs.declared.line.Line.{Line}
 use Rattle.script_setup.specs.SetUp.{SetUp, timers_of, titles_of as titles_said}
-use Rattle.script_world.specs.Entities.{entities_of}
+use Rattle.law_setup.specs.Entities.{entities_of}
 use Rattle.script_bench.specs.Acts.{Acts, RunsScript}
 pub use Rattle.script_bench.specs.Script.{is_start}
-use Rattle.script_world.specs.ClnpNets.{MakesNet}
-pub use Rattle.script_world.specs.ClnpNets.{Net, NetDoes, link_of_net}
+use Rattle.law_setup.specs.ClnpNets.{MakesNet}
+pub use Rattle.law_setup.specs.ClnpNets.{Net, NetDoes, link_of_net}
 use Rattle.script_world.specs.Plays.{Playing, SetsUp as SetsUpOf, StartsUp as StartsUpOf, WorldStep as WorldStepOf, first_world as first_of, strays_of as strays_in_play, world_acts as acts_of}
 pub use Rattle.script_world.specs.Transports.{frozen_of, life_of, titles_of}
 use Rattle.script_world.specs.Transports.{TransportRun, tp_play}

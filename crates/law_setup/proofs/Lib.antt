@@ -2,8 +2,15 @@ pub mod Fields
 pub mod Fitted
 pub mod InOctets
 pub mod Kept
+pub mod Made
+pub mod MadeInactive
+pub mod Moving
 pub mod Octets
+pub mod OneLine
+pub mod Peopled
+pub mod Placing
 pub mod Proper
 pub mod Relays
+pub mod Sending
 pub mod Started
 pub mod Values

@@ -1,3 +1,7 @@
 pub mod Agreeing
+pub mod ClnpNets
+pub mod Entities
+pub mod InactiveNets
 pub mod Laws
 pub mod Lines
+pub mod Networks

@@ -39,9 +39,9 @@ use Rattle.tp4_world.specs.Telling.{ends_after, events_after}
 use Rattle.tp4_world.specs.World.{entity_at, latest, with_entity}
 use Rattle.tp4_world.specs.declared.place.EndAt.{EndAt}
 use Rattle.tp4_world.specs.declared.place.Placed.{Placed}
-use Rattle.law_tp4_lawful.specs.steps.Acting.{Acts, Comes, IsLike, first_of}
-use Rattle.law_tp4_lawful.specs.steps.Known.{AreTerms, HaveBegun, IsKnown, Known}
-use Rattle.law_tp4_lawful.specs.steps.Worlds.{AreOffered, Follows}
+use Rattle.law_tp4_lawful.proofs.Acting.{Acts, Comes, IsLike, first_of}
+use Rattle.law_tp4_lawful.proofs.Known.{AreTerms, HaveBegun, IsKnown, Known}
+use Rattle.law_tp4_lawful.proofs.Worlds.{AreOffered, Follows}
 use Rattle.law_tp4_lawful.proofs.ActsLines.{Did, Flowing, Says, acted, did}
 use Rattle.law_tp4_lawful.proofs.ActsSame.{step_leaves}
 use Rattle.law_tp4_lawful.proofs.ActsRows.{AreTold, row_of}

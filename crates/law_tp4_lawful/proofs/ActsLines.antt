@@ -30,8 +30,8 @@ use Rattle.law_tp4_history.proofs.Tracked.{Tracked, not_begun}
 use Rattle.law_tp4_moves.specs.Lines.{AreOffered, ArePlain, AreSentIn, AreUntouched, Begun, Flowed, Going, IsIn, IsKnownEvent, IsKnownTpdu, IsSendingAt, IsTimely, LinesBegin, LinesGoOn, LinesStay, Stands, Still, given, shown_in}
 use Rattle.law_tp4_moves.specs.Moves.{AreOwn, IsAsked, IsSeenIn, Moves, Sees}
 use Rattle.law_tp4_moves.specs.Seen.{AreOffersOf, no_terms, seen, terms_of}
-use Rattle.law_tp4_lawful.specs.steps.Acting.{Comes}
-use Rattle.law_tp4_lawful.specs.steps.Known.{AreTerms, HasBegun, piece_by}
+use Rattle.law_tp4_lawful.proofs.Acting.{Comes}
+use Rattle.law_tp4_lawful.proofs.Known.{AreTerms, HasBegun, piece_by}
 use Rattle.law_tp4_lawful.proofs.ActsSame.{HasHalves, IsUnagreed, step_leaves}
 use Rattle.law_tp4_lawful.proofs.FramesLines.{apart_from, end_here, end_other, has_partner, line_other, line_own, line_theirs}
 

@@ -14,7 +14,7 @@ use Rattle.law_tp4_moves.specs.Lines.{given, shown_as, shown_in}
 use Rattle.tp4_world.specs.Telling.{ends_after, ends_with, event_for, events_after}
 use Rattle.tp4_world.specs.World.{latest}
 use Rattle.tp4_world.specs.declared.place.EndAt.{EndAt}
-use Rattle.law_tp4_lawful.specs.steps.Acting.{first_of}
+use Rattle.law_tp4_lawful.proofs.Acting.{first_of}
 use Rattle.law_tp4_lawful.proofs.ActsRows.{AreTold, IsTold}
 use Rattle.tpdu.specs.declared.service.EndTold.TheVariants as tells
 

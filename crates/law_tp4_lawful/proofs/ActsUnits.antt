@@ -13,7 +13,7 @@ use Rattle.law_tp4_moves.specs.Lines.{given, shown_in}
 use Rattle.tp4_world.specs.Telling.{events_after}
 use Rattle.tp4_world.specs.World.{latest}
 use Rattle.tp4_world.specs.declared.place.EndAt.{EndAt}
-use Rattle.law_tp4_lawful.specs.steps.Acting.{first_of}
+use Rattle.law_tp4_lawful.proofs.Acting.{first_of}
 use Rattle.law_tp4_lawful.proofs.ActsRows.{AreTold}
 use Rattle.law_tp4_lawful.proofs.ActsTold.{first_gives, first_gives_none, first_makes_none, first_shows_none, lines_give_none, lines_make_none, others_show_none, own_shows}
 

@@ -16,8 +16,8 @@ use Rattle.tp4_world.specs.First.{HasNoEnd}
 use Rattle.tp4_world.specs.Wire.{world_on_wire}
 use Rattle.tp4_world.specs.World.{World}
 use Rattle.tp4_world.specs.declared.place.Placed.{Placed}
-use Rattle.law_tp4_lawful.specs.steps.Known.{IsOffered, Known}
-use Rattle.law_tp4_lawful.specs.steps.Worlds.{Explains, Followed, Rests}
+use Rattle.law_tp4_lawful.proofs.Known.{IsOffered, Known}
+use Rattle.law_tp4_lawful.proofs.Worlds.{Explains, Followed, Rests}
 use Rattle.law_tp4_proper.specs.Rest.{AreInTime, AreProper}
 use Rattle.law_tp4_lawful.proofs.Acts.{acts}
 use Rattle.law_tp4_lawful.proofs.ActsLines.{Flowing}

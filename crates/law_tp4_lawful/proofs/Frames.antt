@@ -10,7 +10,7 @@ use Rattle.tp4_entity.proofs.PlaceLaws.{end_at_of}
 use Rattle.tp4_entity.proofs.Standings.{within}
 use Rattle.tp4_world.specs.World.{entity_at, is_of, with_entity}
 use Rattle.tp4_world.specs.declared.place.Placed.{Placed}
-use Rattle.law_tp4_lawful.specs.steps.Acting.{IsLike}
+use Rattle.law_tp4_lawful.proofs.Acting.{IsLike}
 
 -- ---- ends
 

@@ -20,8 +20,8 @@ use Rattle.law_tp4_moves.proofs.Beginnings.{fit_times}
 use Rattle.tp4_world.specs.World.{entity_at, is_at, latest, latest_from, with_entity}
 use Rattle.tp4_world.specs.declared.place.EndAt.{EndAt}
 use Rattle.tp4_world.specs.declared.place.Placed.{Placed}
-use Rattle.law_tp4_lawful.specs.steps.Acting.{IsLike}
-use Rattle.law_tp4_lawful.specs.steps.Known.{AreTerms, HaveBegun, Holds, IsEndAt, IsKnown, IsThere, Known, AreBegan}
+use Rattle.law_tp4_lawful.proofs.Acting.{IsLike}
+use Rattle.law_tp4_lawful.proofs.Known.{AreTerms, HaveBegun, Holds, IsEndAt, IsKnown, IsThere, Known, AreBegan}
 use Rattle.law_tp4_lawful.proofs.Frames.{AreOwners, entity_other, entity_set, place_other, place_there}
 use Rattle.law_tp4_lawful.proofs.Restarts.{later_began, same_began}
 

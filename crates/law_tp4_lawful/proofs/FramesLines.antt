@@ -6,7 +6,7 @@ use Rattle.law_tp4_history.specs.History.{History, IsPartner, set_end}
 use Rattle.law_tp4_history.specs.Tracks.{Doing, Go, MayDo, Nothing, Start, Track, Whole, done, set_track}
 use Rattle.law_tp4_history.proofs.Sound.{Sound}
 use Rattle.law_tp4_history.proofs.Tracked.{Tracked, at_track, not_begun}
-use Rattle.law_tp4_lawful.specs.steps.Known.{HasBegun}
+use Rattle.law_tp4_lawful.proofs.Known.{HasBegun}
 
 -- ---- partners
 

@@ -14,8 +14,8 @@ use Rattle.law_tp4_moves.specs.Moves.{times_of}
 use Rattle.law_tp4_moves.proofs.Beginnings.{fit_times}
 use Rattle.tp4_world.specs.declared.place.EndAt.{EndAt}
 use Rattle.tp4_world.specs.declared.place.Placed.{Placed}
-use Rattle.law_tp4_lawful.specs.steps.Known.{HaveBegun, IsKnown, Known}
-use Rattle.law_tp4_lawful.specs.steps.Worlds.{AfterAside}
+use Rattle.law_tp4_lawful.proofs.Known.{HaveBegun, IsKnown, Known}
+use Rattle.law_tp4_lawful.proofs.Worlds.{AfterAside}
 use Rattle.law_tp4_lawful.proofs.Frames.{owners_same}
 use Rattle.law_tp4_lawful.proofs.FramesKnown.{Frames, calls_back, holds_all, keeps, known_on, known_stays, pair_low, partner_back, terms_back}
 

@@ -30,8 +30,8 @@ use Rattle.tp4_world.specs.Telling.{connect_event}
 use Rattle.tp4_world.specs.World.{entity_at, with_entity}
 use Rattle.tp4_world.specs.declared.place.EndAt.{EndAt}
 use Rattle.tp4_world.specs.declared.place.Placed.{Placed}
-use Rattle.law_tp4_lawful.specs.steps.Known.{Known, AreBegan}
-use Rattle.law_tp4_lawful.specs.steps.Worlds.{AfterConnect, Follows}
+use Rattle.law_tp4_lawful.proofs.Known.{Known, AreBegan}
+use Rattle.law_tp4_lawful.proofs.Worlds.{AfterConnect, Follows}
 use Rattle.law_tp4_lawful.proofs.MakesEnds.{made_known}
 use Rattle.law_tp4_lawful.proofs.MakesFree.{Freed, freed, no_events}
 use Rattle.tp4_entity.specs.References.{is_silent, is_within}

@@ -29,8 +29,8 @@ use Rattle.law_tp4_moves.proofs.Beginnings.{fit_times}
 use Rattle.tp4_world.specs.World.{entity_at, with_entity}
 use Rattle.tp4_world.specs.declared.place.EndAt.{EndAt}
 use Rattle.tp4_world.specs.declared.place.Placed.{Placed}
-use Rattle.law_tp4_lawful.specs.steps.Acting.{IsLike}
-use Rattle.law_tp4_lawful.specs.steps.Known.{AreTerms, HaveBegun, Holds, IsKnown, IsListed, IsThere, Known, AreBegan}
+use Rattle.law_tp4_lawful.proofs.Acting.{IsLike}
+use Rattle.law_tp4_lawful.proofs.Known.{AreTerms, HaveBegun, Holds, IsKnown, IsListed, IsThere, Known, AreBegan}
 use Rattle.law_tp4_lawful.proofs.MakesFree.{Freed, kept_known}
 use Rattle.law_tp4_lawful.proofs.MakesPlaces.{at_other, at_same, entity_other, entity_same, get_last, made_last}
 use Rattle.law_tp4_lawful.proofs.Restarts.{same_began}

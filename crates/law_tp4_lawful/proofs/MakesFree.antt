@@ -20,7 +20,7 @@ use Rattle.law_tp4_moves.proofs.Beginnings.{frozen_is}
 use Rattle.tp4_world.specs.World.{entity_at}
 use Rattle.tp4_world.specs.declared.place.EndAt.{EndAt}
 use Rattle.tp4_world.specs.declared.place.Placed.{Placed}
-use Rattle.law_tp4_lawful.specs.steps.Known.{AreTerms, HaveBegun, IsKnown, IsListed, IsThere, Known}
+use Rattle.law_tp4_lawful.proofs.Known.{AreTerms, HaveBegun, IsKnown, IsListed, IsThere, Known}
 
 -- an end is known as before, in another history
 pub kept_known : (w new : Whole) (own : List ℕ) (r : ℕ) (e : End) (is : IsKnown w own r e) → new.base.clock ≡ w.base.clock → new.base.end is.k ≡ w.base.end is.k → is.k < new.base.count

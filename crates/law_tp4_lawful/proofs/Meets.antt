@@ -2,8 +2,8 @@
 use Rattle.std.proofs.Common.{ℕ, List}
 use Rattle.tpdu.specs.declared.tpdu.Tpdu.TheVariants as wires
 use Rattle.tp4_conn.specs.declared.timers.Timers.{Timers}
-use Rattle.law_tp4_lawful.specs.steps.Acting.{Acts}
-use Rattle.law_tp4_lawful.specs.steps.Worlds.{AfterMeet}
+use Rattle.law_tp4_lawful.proofs.Acting.{Acts}
+use Rattle.law_tp4_lawful.proofs.Worlds.{AfterMeet}
 use Rattle.law_tp4_lawful.proofs.MeetsOthers.{KnowsTaken, after_other}
 use Rattle.law_tp4_lawful.proofs.MeetsRequests.{after_request}
 

@@ -23,8 +23,8 @@ use Rattle.tp4_world.specs.Telling.{ends_after, events_after}
 use Rattle.tp4_world.specs.World.{entity_at, is_of, with_entity}
 use Rattle.tp4_world.specs.declared.place.EndAt.{EndAt}
 use Rattle.tp4_world.specs.declared.place.Placed.{Placed}
-use Rattle.law_tp4_lawful.specs.steps.Known.{IsKnown, IsThere, Known}
-use Rattle.law_tp4_lawful.specs.steps.Worlds.{Follows}
+use Rattle.law_tp4_lawful.proofs.Known.{IsKnown, IsThere, Known}
+use Rattle.law_tp4_lawful.proofs.Worlds.{Follows}
 
 -- an entity stays as it is
 stay_or : (b : Bool) (one : Placed) (placed others : List Placed) (entity : Entity) (system : ℕ) → option_map (λ (x : Placed). x.entity) (cond b (Some one) (find (is_of system) placed)) ≡ Some entity

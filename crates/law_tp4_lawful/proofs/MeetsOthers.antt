@@ -48,9 +48,9 @@ use Rattle.tp4_world.specs.Telling.{events_after}
 use Rattle.tp4_world.specs.World.{entity_at}
 use Rattle.tp4_world.specs.declared.place.EndAt.{EndAt}
 use Rattle.tp4_world.specs.declared.place.Placed.{Placed}
-use Rattle.law_tp4_lawful.specs.steps.Acting.{Acts}
-use Rattle.law_tp4_lawful.specs.steps.Known.{AreTerms, IsKnown, IsOffered, IsReadAs, IsThere, Known}
-use Rattle.law_tp4_lawful.specs.steps.Worlds.{Follows}
+use Rattle.law_tp4_lawful.proofs.Acting.{Acts}
+use Rattle.law_tp4_lawful.proofs.Known.{AreTerms, IsKnown, IsOffered, IsReadAs, IsThere, Known}
+use Rattle.law_tp4_lawful.proofs.Worlds.{Follows}
 use Rattle.law_tp4_lawful.proofs.MeetsAside.{noted, replied}
 
 -- what an end has to know of an offer that it takes

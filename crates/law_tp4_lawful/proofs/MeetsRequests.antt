@@ -39,8 +39,8 @@ use Rattle.tp4_world.specs.Telling.{events_after}
 use Rattle.tp4_world.specs.World.{entity_at, latest, with_entity}
 use Rattle.tp4_world.specs.declared.place.EndAt.{EndAt}
 use Rattle.tp4_world.specs.declared.place.Placed.{Placed}
-use Rattle.law_tp4_lawful.specs.steps.Known.{IsOffered, IsReadAs, IsThere, Known}
-use Rattle.law_tp4_lawful.specs.steps.Worlds.{Follows}
+use Rattle.law_tp4_lawful.proofs.Known.{IsOffered, IsReadAs, IsThere, Known}
+use Rattle.law_tp4_lawful.proofs.Worlds.{Follows}
 use Rattle.law_tp4_lawful.proofs.Makes.{freed_audible}
 use Rattle.law_tp4_lawful.proofs.MakesEnds.{made_known}
 use Rattle.law_tp4_lawful.proofs.MakesFree.{Freed, cases_out, freed, no_events}

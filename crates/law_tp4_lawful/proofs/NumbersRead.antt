@@ -36,7 +36,7 @@ use Rattle.law_tp4_moves.specs.Seen.{IsNumbered as HasNumber, seen}
 use Rattle.tp4_world.specs.World.{World}
 use Rattle.law_tp4_lawful.specs.Numbers.{AcknowledgesShown, AreRead, IsNumber, IsOpenEnd, IsReadAsNumber, IsReadAsAk, IsReadAsDt, IsReadAsEd, IsSentBy}
 use Rattle.law_tp4_lawful.specs.References.{ComesTo, halves_at}
-use Rattle.law_tp4_lawful.specs.steps.Worlds.{Explains, OneInUnit}
+use Rattle.law_tp4_lawful.proofs.Worlds.{Explains, OneInUnit}
 use Rattle.law_tp4_lawful.proofs.FramesKnown.{keeps}
 use Rattle.law_tp4_lawful.proofs.ReferencesHalves.{are_there, known_at}
 use Rattle.law_tp4_lawful.proofs.ReferencesMet.{IsMet}

@@ -20,8 +20,8 @@ use Rattle.law_tp4_moves.specs.Moves.{AreOwn, IsSeenIn, times_of}
 use Rattle.law_tp4_moves.specs.Seen.{terms_of}
 use Rattle.tp4_world.specs.World.{World}
 use Rattle.law_tp4_lawful.specs.References.{IsEnd, halves_at}
-use Rattle.law_tp4_lawful.specs.steps.Known.{AreTerms, IsKnown, IsThere}
-use Rattle.law_tp4_lawful.specs.steps.Worlds.{Explains}
+use Rattle.law_tp4_lawful.proofs.Known.{AreTerms, IsKnown, IsThere}
+use Rattle.law_tp4_lawful.proofs.Worlds.{Explains}
 use Rattle.law_tp4_lawful.proofs.FramesKnown.{keeps, number_at}
 
 pub own_in : (birth : Birth) (took latest : ℕ) (b : EndRecord) (stage : StateData) (h : Halves) → halves_at stage ≡ Some h → IsSeenIn birth took latest b stage → AreOwn b h × (b.partner ≢ 0)

@@ -32,8 +32,8 @@ use Rattle.tp4_world.specs.Called.{Did, DidAll, KeepsLimits, WorldCall}
 use Rattle.tp4_world.specs.World.{World}
 use Rattle.law_tp4_lawful.specs.Called.{OnCalls}
 use Rattle.law_tp4_lawful.specs.References.{ComesTo, IsMadeBy, IsNotBefore}
-use Rattle.law_tp4_lawful.specs.steps.Known.{IsOffered as WasOffered, Known}
-use Rattle.law_tp4_lawful.specs.steps.Worlds.{Explains, Followed, IsBacked, OneInUnit, Outcomes, Rests}
+use Rattle.law_tp4_lawful.proofs.Known.{IsOffered as WasOffered, Known}
+use Rattle.law_tp4_lawful.proofs.Worlds.{Explains, Followed, IsBacked, OneInUnit, Outcomes, Rests}
 use Rattle.law_tp4_proper.specs.Rest.{AreInTime, AreProper}
 use Rattle.law_tp4_lawful.proofs.ActsLines.{Flowing}
 use Rattle.law_tp4_lawful.proofs.FramesKnown.{keeps}

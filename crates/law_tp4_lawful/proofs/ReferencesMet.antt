@@ -30,8 +30,8 @@ use Rattle.law_tp4_moves.specs.Moves.{times_of}
 use Rattle.law_tp4_moves.specs.Seen.{IsNumbered, seen, terms_of}
 use Rattle.tp4_world.specs.World.{World}
 use Rattle.law_tp4_lawful.specs.References.{ComesTo}
-use Rattle.law_tp4_lawful.specs.steps.Known.{IsKnown, IsReadAs, IsThere}
-use Rattle.law_tp4_lawful.specs.steps.Worlds.{Explains, IsBacked, OneInUnit}
+use Rattle.law_tp4_lawful.proofs.Known.{IsKnown, IsReadAs, IsThere}
+use Rattle.law_tp4_lawful.proofs.Worlds.{Explains, IsBacked, OneInUnit}
 use Rattle.law_tp4_lawful.proofs.FramesKnown.{keeps, number_at}
 
 -- ---- what is seen of a TPDU

@@ -24,7 +24,7 @@ use Rattle.law_tp4_moves.specs.Seen.{IsNumbered, seen}
 use Rattle.tp4_world.specs.World.{World, end_numbered}
 use Rattle.tp4_world.specs.declared.place.EndAt.{EndAt}
 use Rattle.law_tp4_lawful.specs.References.{Carries, ComesTo, HasPartnerAt, IsAnswer}
-use Rattle.law_tp4_lawful.specs.steps.Worlds.{Explains, OneInUnit}
+use Rattle.law_tp4_lawful.proofs.Worlds.{Explains, OneInUnit}
 use Rattle.law_tp4_lawful.proofs.FramesKnown.{keeps}
 use Rattle.law_tp4_lawful.proofs.ReferencesMet.{IsMet, met}
 

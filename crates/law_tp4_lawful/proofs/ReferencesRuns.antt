@@ -24,7 +24,7 @@ use Rattle.tp4_world.specs.Wire.{world_on_wire}
 use Rattle.tp4_world.specs.World.{World}
 use Rattle.tp4_world.proofs.OnWire.{formats_on, lower_there, upper}
 use Rattle.law_tp4_lawful.specs.References.{AreCarried, AreSizes, Carries, ComesTo, IsEnd, IsMadeBy, IsNotBefore, IsOfPartner}
-use Rattle.law_tp4_lawful.specs.steps.Worlds.{Explains, OneInUnit}
+use Rattle.law_tp4_lawful.proofs.Worlds.{Explains, OneInUnit}
 use Rattle.law_tp4_lawful.proofs.ReferencesOwn.{carried, m, of_partner}
 use Rattle.law_tp4_lawful.proofs.ReferencesSizes.{agreed_at, sizes}
 

@@ -22,8 +22,8 @@ use Rattle.law_tp4_moves.specs.Moves.{times_of}
 use Rattle.law_tp4_moves.specs.Seen.{terms_of}
 use Rattle.tp4_world.specs.World.{World}
 use Rattle.law_tp4_lawful.specs.References.{AreSizes, ComesTo, piece_of}
-use Rattle.law_tp4_lawful.specs.steps.Known.{IsKnown, piece_by}
-use Rattle.law_tp4_lawful.specs.steps.Worlds.{Explains, OneInUnit}
+use Rattle.law_tp4_lawful.proofs.Known.{IsKnown, piece_by}
+use Rattle.law_tp4_lawful.proofs.Worlds.{Explains, OneInUnit}
 use Rattle.law_tp4_lawful.proofs.FramesKnown.{keeps}
 use Rattle.law_tp4_lawful.proofs.ReferencesHalves.{known_at}
 use Rattle.law_tp4_lawful.proofs.ReferencesMet.{IsMet, is_flow, met}

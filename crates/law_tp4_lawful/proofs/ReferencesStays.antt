@@ -34,9 +34,9 @@ use Rattle.tp4_world.specs.Telling.{call_events, connect_event}
 use Rattle.tp4_world.specs.World.{World, end_numbered, entity_at, with_entity}
 use Rattle.tp4_world.specs.declared.place.EndAt.{EndAt}
 use Rattle.tp4_world.specs.declared.place.Placed.{Placed}
-use Rattle.law_tp4_lawful.specs.steps.Known.{IsOffered, Known}
-use Rattle.law_tp4_lawful.specs.steps.Along.{AreAtRest}
-use Rattle.law_tp4_lawful.specs.steps.Worlds.{Explains, Followed, OneInUnit, Outcomes}
+use Rattle.law_tp4_lawful.proofs.Known.{IsOffered, Known}
+use Rattle.law_tp4_lawful.proofs.Along.{AreAtRest}
+use Rattle.law_tp4_lawful.proofs.Worlds.{Explains, Followed, OneInUnit, Outcomes}
 use Rattle.law_tp4_lawful.proofs.WorldActs.{Went, went_aside, went_nowhere, went_on, went_then}
 use Rattle.law_tp4_lawful.proofs.WorldAsides.{AreQuiet, are_aside, told_quiet}
 use Rattle.law_tp4_lawful.proofs.WorldCalls.{IsAsked}

@@ -3,7 +3,7 @@ use Rattle.std.proofs.Common.{inl, inr, ◌≡◌, ◌≢◌, ℕ, ◌≤◌, Li
 use Rattle.std.proofs.lemmas.List.Elements.{Contains-push_cases}
 use Rattle.tp4_entity.specs.Entity.{Entity}
 use Rattle.tp4_entity.specs.Step.{restarted}
-use Rattle.law_tp4_lawful.specs.steps.Known.{AreBegan}
+use Rattle.law_tp4_lawful.proofs.Known.{AreBegan}
 
 -- an entity with the same address that began again at the same tick
 pub same_began : (now : ℕ) (restarts : List (List ℕ × ℕ)) (old new : Entity) → new.own ≡ old.own → new.restarted ≡ old.restarted → AreBegan now restarts old → AreBegan now restarts new

@@ -31,7 +31,7 @@ use Rattle.tp4_world.specs.World.{entity_at, latest, with_entity}
 use Rattle.tp4_world.specs.declared.place.EndAt.{EndAt}
 use Rattle.tp4_world.specs.declared.place.Placed.{Placed}
 use Rattle.tp4_world.proofs.Having.{with_any}
-use Rattle.law_tp4_lawful.specs.steps.Silence.{BeginsEnd, Goes, IsLongAgo, IsStanding, Kind, Makes, Making, Noting, Of, Other, Quietly, Runs, Seen, Stays, Step, Stops, Telling, kind_of, kinds_of, last_restart, told_by}
+use Rattle.law_tp4_lawful.proofs.Silence.{BeginsEnd, Goes, IsLongAgo, IsStanding, Kind, Makes, Making, Noting, Of, Other, Quietly, Runs, Seen, Stays, Step, Stops, Telling, kind_of, kinds_of, last_restart, told_by}
 use Rattle.law_tp4_lawful.proofs.ActsRows.{AreTold, IsRowOf, IsTold, row_of}
 use Rattle.law_tp4_lawful.specs.Own.{IsEndOf}
 use Rattle.law_tp4_lawful.proofs.ActsTold.{ends_stay}

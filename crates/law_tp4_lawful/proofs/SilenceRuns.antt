@@ -53,7 +53,7 @@ use Rattle.tp4_world.specs.declared.place.Placed.{Placed}
 use Rattle.tp4_world.proofs.Having.{with_any}
 use Rattle.law_tp4_lawful.specs.Laws.{CallsAreSilent}
 use Rattle.law_tp4_lawful.specs.First.{IsUntouched}
-use Rattle.law_tp4_lawful.specs.steps.Silence.{Begins, BeginsAgain, Clock, Goes, IsStanding, IsUnused, Kind, Makes, Noting, Of, Other, Restarting, Runs, Seen, Stays, Stops, Telling, Ticking, kind_of, kinds_of, last_restart}
+use Rattle.law_tp4_lawful.proofs.Silence.{Begins, BeginsAgain, Clock, Goes, IsStanding, IsUnused, Kind, Makes, Noting, Of, Other, Restarting, Runs, Seen, Stays, Stops, Telling, Ticking, kind_of, kinds_of, last_restart}
 use Rattle.law_tp4_lawful.proofs.Frames.{entity_other, entity_set}
 use Rattle.law_tp4_lawful.proofs.ReferencesSince.{passed, raw_sent, sent_all}
 use Rattle.law_tp4_lawful.proofs.SilenceEntities.{AreOf, Connected, Did, did_call, did_connect, did_take, did_tick, past_by, runs_then, stays_same}

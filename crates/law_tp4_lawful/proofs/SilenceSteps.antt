@@ -8,7 +8,7 @@ use Rattle.script_journal.specs.declared.event.Event.{Event}
 use Rattle.script_journal.specs.declared.event.Event.TheVariants as events
 use Rattle.tp4_world.specs.World.{is_at, latest, latest_from}
 use Rattle.tp4_world.specs.declared.place.EndAt.{EndAt}
-use Rattle.law_tp4_lawful.specs.steps.Silence.{AreSilent, Begins, Clock, Goes, IsLongAgo, IsOf, IsStanding, IsUnused, Kind, Makes, Making, Noting, Of, Other, Quietly, Restarting, Runs, Seen, Stays, Step, Stops, Telling, Ticking, clock_after, clock_from, kind_of, kinds_of, restarted_at, tick_after, told_by}
+use Rattle.law_tp4_lawful.proofs.Silence.{AreSilent, Begins, Clock, Goes, IsLongAgo, IsOf, IsStanding, IsUnused, Kind, Makes, Making, Noting, Of, Other, Quietly, Restarting, Runs, Seen, Stays, Step, Stops, Telling, Ticking, clock_after, clock_from, kind_of, kinds_of, restarted_at, tick_after, told_by}
 
 -- ---- lists
 

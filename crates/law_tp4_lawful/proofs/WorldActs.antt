@@ -13,8 +13,8 @@ use Rattle.law_tp4_moves.specs.Moves.{times_of}
 use Rattle.tp4_world.specs.Run.{Acts}
 use Rattle.tp4_world.specs.Telling.{ends_after, events_after}
 use Rattle.tp4_world.specs.World.{World, with_entity}
-use Rattle.law_tp4_lawful.specs.steps.Along.{AfterAside, Carries, Explains, Follows, IsKept, Knowing, Offering}
-use Rattle.law_tp4_lawful.specs.steps.Known.{GoesOn}
+use Rattle.law_tp4_lawful.proofs.Along.{AfterAside, Carries, Explains, Follows, IsKept, Knowing, Offering}
+use Rattle.law_tp4_lawful.proofs.Known.{GoesOn}
 use Rattle.law_tp4_lawful.proofs.WorldAsides.{AreQuiet, are_aside}
 use Rattle.law_tp4_lawful.proofs.WorldFloats.{carries_on, stays_on, then_on, tpdus_go}
 

@@ -30,8 +30,8 @@ use Rattle.tp4_world.specs.Run.{Acts, BeginsAt, Calls, CallsAt, CallsBy, CallsEn
 use Rattle.tp4_world.specs.Telling.{call_events, connect_event}
 use Rattle.tp4_world.specs.World.{World, end_numbered, entity_at}
 use Rattle.tp4_world.specs.declared.place.EndAt.{EndAt}
-use Rattle.law_tp4_lawful.specs.steps.Along.{AreAtRest, Followed, IsKept, Knowing, Offering, Rests}
-use Rattle.law_tp4_lawful.specs.steps.Worlds.{OneInUnit, Outcomes}
+use Rattle.law_tp4_lawful.proofs.Along.{AreAtRest, Followed, IsKept, Knowing, Offering, Rests}
+use Rattle.law_tp4_lawful.proofs.Worlds.{OneInUnit, Outcomes}
 use Rattle.law_tp4_lawful.proofs.WorldActs.{Went, went_aside}
 use Rattle.law_tp4_lawful.proofs.WorldAsides.{AreQuiet}
 use Rattle.law_tp4_lawful.proofs.WorldFloats.{raw_goes}

@@ -28,8 +28,8 @@ use Rattle.law_tp4_history.specs.Ends.{Offer as OfferOf}
 use Rattle.law_tp4_history.specs.History.{History}
 use Rattle.tp4_world.specs.Run.{SendsTpdu, SendsTpdus, transport_wish}
 use Rattle.tp4_world.specs.Telling.{drop_events}
-use Rattle.law_tp4_lawful.specs.steps.Along.{AreExplained, AreOffered, Carries, Grows, HasCome, IsBacked, Offering}
-use Rattle.law_tp4_lawful.specs.steps.Known.{GoesOn}
+use Rattle.law_tp4_lawful.proofs.Along.{AreExplained, AreOffered, Carries, Grows, HasCome, IsBacked, Offering}
+use Rattle.law_tp4_lawful.proofs.Known.{GoesOn}
 use Rattle.law_tp4_lawful.proofs.WorldAsides.{AreQuiet, drop_quiet, quiet_append, sent_quiet, told_quiet}
 
 -- ---- a history goes on

@@ -36,9 +36,9 @@ use Rattle.tp4_world.specs.Telling.{ends_after, events_after, inject_event}
 use Rattle.tp4_world.specs.World.{World, entity_at, with_entity}
 use Rattle.tp4_world.specs.declared.place.EndAt.{EndAt}
 use Rattle.tp4_world.specs.declared.place.Placed.{Placed}
-use Rattle.law_tp4_lawful.specs.steps.Along.{AfterAside, AfterMeet, AreAtRest, AreExplained, Carries, Explains, Follows, HasCome, IsKept, Knowing, Offering}
-use Rattle.law_tp4_lawful.specs.steps.Known.{GoesOn, IsReadAs}
-use Rattle.law_tp4_lawful.specs.steps.Worlds.{OneInUnit, Outcomes}
+use Rattle.law_tp4_lawful.proofs.Along.{AfterAside, AfterMeet, AreAtRest, AreExplained, Carries, Explains, Follows, HasCome, IsKept, Knowing, Offering}
+use Rattle.law_tp4_lawful.proofs.Known.{GoesOn, IsReadAs}
+use Rattle.law_tp4_lawful.proofs.Worlds.{OneInUnit, Outcomes}
 use Rattle.law_tp4_lawful.proofs.WorldActs.{Went, went_aside, went_nowhere, went_on, went_then}
 use Rattle.law_tp4_lawful.proofs.WorldAsides.{are_aside, inject_quiet, picked_quiet, told_quiet}
 use Rattle.law_tp4_lawful.proofs.WorldFloats.{all_explained_on, choice_goes, injection_goes}

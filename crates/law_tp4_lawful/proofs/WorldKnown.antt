@@ -9,8 +9,8 @@ use Rattle.law_tp4_history.specs.Tracks.{Whole}
 use Rattle.tp4_world.specs.World.{entity_at, with_entity}
 use Rattle.tp4_world.specs.declared.place.EndAt.{EndAt}
 use Rattle.tp4_world.specs.declared.place.Placed.{Placed}
-use Rattle.law_tp4_lawful.specs.steps.Known.{AreBegan, Holds, IsListed, IsOffered, Known}
-use Rattle.law_tp4_lawful.specs.steps.Along.{AreAtRest, Grows, IsKept}
+use Rattle.law_tp4_lawful.proofs.Known.{AreBegan, Holds, IsListed, IsOffered, Known}
+use Rattle.law_tp4_lawful.proofs.Along.{AreAtRest, Grows, IsKept}
 use Rattle.law_tp4_lawful.proofs.WorldPlaces.{some_same}
 use Rattle.tp4_world.proofs.Having.{with_any, with_first, with_other}
 use Rattle.law_tp4_lawful.proofs.Restarts.{same_began}

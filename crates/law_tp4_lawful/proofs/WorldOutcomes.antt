@@ -5,7 +5,7 @@ use Rattle.tp4_number.specs.Number.{whole}
 use Rattle.law_tp4_proper.specs.Rest.{AreInTime, AreProper}
 use Rattle.law_tp4_proper.proofs.Ends.{calling_rests, connecting_rests, met_rests, new_rests, ticking_proper, waits}
 use Rattle.law_tp4_proper.proofs.OneUnits.{one_in_unit}
-use Rattle.law_tp4_lawful.specs.steps.Worlds.{OneInUnit, Outcomes}
+use Rattle.law_tp4_lawful.proofs.Worlds.{OneInUnit, Outcomes}
 use Rattle.tp4_entity.specs.Step.{restarted}
 
 pub outcomes : Outcomes AreProper AreInTime

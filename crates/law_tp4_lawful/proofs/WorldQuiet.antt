@@ -23,8 +23,8 @@ use Rattle.law_tp4_proper.proofs.Ends.{waits}
 use Rattle.tp4_world.specs.World.{entity_at}
 use Rattle.tp4_world.specs.declared.place.EndAt.{EndAt}
 use Rattle.tp4_world.specs.declared.place.Placed.{Placed}
-use Rattle.law_tp4_lawful.specs.steps.Known.{AreIdle, HaveBegun, Holds, IsThere, Known}
-use Rattle.law_tp4_lawful.specs.steps.Worlds.{AfterClock}
+use Rattle.law_tp4_lawful.proofs.Known.{AreIdle, HaveBegun, Holds, IsThere, Known}
+use Rattle.law_tp4_lawful.proofs.Worlds.{AfterClock}
 use Rattle.law_tp4_lawful.proofs.Frames.{owners_same}
 use Rattle.law_tp4_lawful.proofs.FramesKnown.{Frames, at_on, calls_back, free_on, keeps, known_on, pair_low, partner_back, terms_back}
 use Rattle.law_tp4_lawful.proofs.WorldPlaces.{none_some}

@@ -24,10 +24,10 @@ use Rattle.tp4_world.specs.World.{World, entity_at, with_entity}
 use Rattle.tp4_world.specs.declared.place.EndAt.{EndAt}
 use Rattle.tp4_world.specs.declared.place.Placed.{Placed}
 use Rattle.nsap.specs.Address.{is_same_system}
-use Rattle.law_tp4_lawful.specs.steps.Known.{AreBegan, AreTerms, Holds, IsListed, IsThere, Known}
-use Rattle.law_tp4_lawful.specs.steps.Along as along
-use Rattle.law_tp4_lawful.specs.steps.Along.{AreAtRest, IsKept, Knowing, Offering}
-use Rattle.law_tp4_lawful.specs.steps.Worlds.{AfterRestart}
+use Rattle.law_tp4_lawful.proofs.Known.{AreBegan, AreTerms, Holds, IsListed, IsThere, Known}
+use Rattle.law_tp4_lawful.proofs.Along as along
+use Rattle.law_tp4_lawful.proofs.Along.{AreAtRest, IsKept, Knowing, Offering}
+use Rattle.law_tp4_lawful.proofs.Worlds.{AfterRestart}
 use Rattle.law_tp4_lawful.proofs.Frames.{entity_other, entity_set}
 use Rattle.law_tp4_lawful.proofs.MakesFree.{kept_known}
 use Rattle.law_tp4_lawful.proofs.Restarts.{again_began, other_began}

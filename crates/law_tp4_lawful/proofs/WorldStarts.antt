@@ -24,9 +24,9 @@ use Rattle.tp4_world.specs.Run.{Starts, transport_address}
 use Rattle.tp4_world.specs.World.{World, entity_at, is_of}
 use Rattle.tp4_world.specs.declared.place.Placed.{Placed}
 use Rattle.law_tp4_lawful.specs.First.{AreDistinct, IsUntouched}
-use Rattle.law_tp4_lawful.specs.steps.Known.{Holds, IsOffered, IsThere, Known}
-use Rattle.law_tp4_lawful.specs.steps.Along.{AreAtRest}
-use Rattle.law_tp4_lawful.specs.steps.Worlds.{Followed, Outcomes, Rests}
+use Rattle.law_tp4_lawful.proofs.Known.{Holds, IsOffered, IsThere, Known}
+use Rattle.law_tp4_lawful.proofs.Along.{AreAtRest}
+use Rattle.law_tp4_lawful.proofs.Worlds.{Followed, Outcomes, Rests}
 use Rattle.law_tp4_lawful.proofs.WorldActs.{Went, went_aside}
 use Rattle.law_tp4_lawful.proofs.WorldAsides.{told_quiet}
 use Rattle.law_tp4_lawful.proofs.WorldFloats.{start_goes}

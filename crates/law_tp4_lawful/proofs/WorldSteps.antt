@@ -33,9 +33,9 @@ use Rattle.tp4_world.specs.Telling.{call_events}
 use Rattle.tp4_world.specs.World.{entity_at, latest, with_entity}
 use Rattle.tp4_world.specs.declared.place.EndAt.{EndAt}
 use Rattle.tp4_world.specs.declared.place.Placed.{Placed}
-use Rattle.law_tp4_lawful.specs.steps.Acting.{Acts, IsLike}
-use Rattle.law_tp4_lawful.specs.steps.Known.{IsKnown, IsThere, Known}
-use Rattle.law_tp4_lawful.specs.steps.Worlds.{AfterCall, AfterTick, Follows}
+use Rattle.law_tp4_lawful.proofs.Acting.{Acts, IsLike}
+use Rattle.law_tp4_lawful.proofs.Known.{IsKnown, IsThere, Known}
+use Rattle.law_tp4_lawful.proofs.Worlds.{AfterCall, AfterTick, Follows}
 use Rattle.law_tp4_lawful.proofs.Frames.{owners_with, place_there}
 use Rattle.law_tp4_lawful.proofs.FramesKnown.{Frames, calls_back, holds_on, keeps, known_on, known_stays, number_at, pair_low, partner_back, terms_back}
 use Rattle.law_tp4_lawful.proofs.WorldAsides.{are_aside}

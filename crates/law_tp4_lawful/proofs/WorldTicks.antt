@@ -18,8 +18,8 @@ use Rattle.law_tp4_moves.specs.Moves.{times_of}
 use Rattle.tp4_world.specs.Run.{Acts, NoneDue, OneDue, Ticks, TicksAll, TicksEntity, clock_of}
 use Rattle.tp4_world.specs.World.{World, entity_at, is_of, with_entity}
 use Rattle.tp4_world.specs.declared.place.Placed.{Placed}
-use Rattle.law_tp4_lawful.specs.steps.Along.{AfterAside, AfterClock, AfterTick, AreAtRest, Explains, IsKept, Knowing, Offering, Rests}
-use Rattle.law_tp4_lawful.specs.steps.Worlds.{Outcomes}
+use Rattle.law_tp4_lawful.proofs.Along.{AfterAside, AfterClock, AfterTick, AreAtRest, Explains, IsKept, Knowing, Offering, Rests}
+use Rattle.law_tp4_lawful.proofs.Worlds.{Outcomes}
 use Rattle.law_tp4_lawful.proofs.WorldActs.{Went, went_nowhere, went_on, went_then}
 use Rattle.law_tp4_lawful.proofs.WorldAsides.{are_aside, told_quiet}
 use Rattle.law_tp4_lawful.proofs.WorldFloats.{tick_goes}

@@ -5,4 +5,3 @@ pub mod Limits
 pub mod Numbers
 pub mod Own
 pub mod References
-pub mod steps

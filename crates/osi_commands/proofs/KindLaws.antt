@@ -12,9 +12,9 @@ use Rattle.script_lines.specs.declared.line.Line.TheVariants as lines
 use Rattle.script_lines.proofs.CommandLines.{script_has}
 use Rattle.script_storm.specs.declared.request.Storm.{Storm}
 use Rattle.script_bench.specs.Claims.{IsLaw}
-use Rattle.script_world.specs.InactiveNets.{InactiveDoes, MakesInactive, link_of_inactive}
+use Rattle.law_setup.specs.InactiveNets.{InactiveDoes, MakesInactive, link_of_inactive}
 use Rattle.script_world.specs.Transports.{frozen_of, titles_of}
-use Rattle.script_world.specs.steps.MadeInactive.{inactive_laws, subset_law}
+use Rattle.law_setup.proofs.MadeInactive.{inactive_laws, subset_law}
 use Rattle.script_world.proofs.Headline.{front_lawful, script_lawful, script_unstrayed}
 use Rattle.law_tp4_lawful.specs.Laws.{ReceivesWhatWasSubmitted}
 use Rattle.osi_commands.specs.Kinds.{IsLawfulRun, inactive_acts, kind_named, kind_of}

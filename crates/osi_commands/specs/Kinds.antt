@@ -13,15 +13,15 @@ use Rattle.script_lines.specs.declared.line.Line.{Line}
 use Rattle.script_bench.specs.Acts.{Acts}
 use Rattle.script_bench.specs.Bench.{bench_meaning, first_bench}
 use Rattle.script_bench.specs.Scripts.{IsTold}
-use Rattle.script_world.specs.ClnpNets.{MakesNet, Net, NetDoes, link_of_net}
-use Rattle.script_world.specs.InactiveNets.{InactiveDoes, MakesInactive, link_of_inactive}
+use Rattle.law_setup.specs.ClnpNets.{MakesNet, Net, NetDoes, link_of_net}
+use Rattle.law_setup.specs.InactiveNets.{InactiveDoes, MakesInactive, link_of_inactive}
 use Rattle.script_world.specs.Plays.{world_acts}
 use Rattle.script_world.specs.Transports.{TransportRun, frozen_of, titles_of, tp_play}
 use Rattle.script_world.specs.declared.play.World.{World}
 use Rattle.script_datagrams.specs.Claims.{ShownWasSent}
-use Rattle.script_datagrams.specs.Datagrams.{DatagramRun, cl_play}
+use Rattle.law_datagram_run.specs.Datagrams.{DatagramRun, cl_play}
 use Rattle.script_relays.specs.Claims.{RelaysLawfully}
-use Rattle.script_relays.specs.Relays.{RelayRun, relay_play}
+use Rattle.law_relay_run.specs.Relays.{RelayRun, relay_play}
 use Rattle.osi_commands.specs.declared.kinds.Kind.{Kind}
 use Rattle.osi_commands.specs.declared.kinds.Kind.TheVariants as kinds
 

@@ -15,12 +15,12 @@ use Rattle.cltp.specs.Systems.{is_for, system_at}
 use Rattle.cltp.specs.declared.system.ClSystem.{ClSystem}
 use Rattle.cltp.proofs.Hearings.{one_hearing}
 use Rattle.script_setup.specs.SetUp.{SetUp}
-use Rattle.script_world.specs.Networks.{NetworkLaws}
+use Rattle.law_setup.specs.Networks.{NetworkLaws}
 use Rattle.tp4_world.specs.Run.{transport_address}
 use Rattle.script_datagrams.specs.Claims.{GivesOne}
 use Rattle.script_datagrams.specs.Laws.{HearsEach}
-use Rattle.script_datagrams.specs.Users.{users_of}
-use Rattle.script_datagrams.specs.steps.Peopled.{has_users}
+use Rattle.law_datagram_run.specs.Users.{users_of}
+use Rattle.law_datagram_run.proofs.Peopled.{has_users}
 
 -- an address of the system of a title, with the selector of transport, is that of the title
 some_left : (to : List ℕ) → selector_of to ≡ 1 → 0 < length to

@@ -7,7 +7,7 @@ use Rattle.cltp.specs.Run.{Tells}
 use Rattle.cltp.specs.Systems.{World}
 use Rattle.script_journal.specs.declared.event.Event.{Event}
 use Rattle.script_lines.specs.declared.line.Line.{Line}
-use Rattle.script_datagrams.specs.Datagrams.{DatagramRun, RunsDatagrams, RunsLine}
+use Rattle.law_datagram_run.specs.Datagrams.{DatagramRun, RunsDatagrams, RunsLine}
 
 pub tells_all : (before after : List Event) (Made : List Event → Type 0) → before ≡ [] → Tells before after Made → Made after
 tells_all before after Made none tells = subst Made (sym (tells.added ∙ ap (λ (es : List Event). es ++ tells.made) none)) tells.are

@@ -27,14 +27,14 @@ use Rattle.script_bench.specs.Acts.{RunsScript}
 use Rattle.script_bench.specs.Claims.{IsLaw}
 use Rattle.script_bench.specs.Script.{started_after}
 use Rattle.script_bench.specs.steps.Moves.{line_moves, start_only, starts_not}
-use Rattle.script_world.specs.Networks.{NetworkLaws}
+use Rattle.law_setup.specs.Networks.{NetworkLaws}
 use Rattle.script_world.specs.Plays.{SetsUp, StartsUp, is_start, world_acts}
 use Rattle.script_world.specs.declared.play.World.{World as ScriptWorld}
 use Rattle.script_world.specs.declared.play.World.TheVariants.{SettingUp, Running}
 use Rattle.script_datagrams.specs.Claims.{IsSent, ShownWasSent}
-use Rattle.script_datagrams.specs.Datagrams.{DatagramRun, RunsLine, cl_play}
-use Rattle.script_datagrams.specs.Users.{users_of}
-use Rattle.script_datagrams.specs.steps.Played.{Called, Idle, Ran, ran}
+use Rattle.law_datagram_run.specs.Datagrams.{DatagramRun, RunsLine, cl_play}
+use Rattle.law_datagram_run.specs.Users.{users_of}
+use Rattle.law_datagram_run.proofs.Played.{Called, Idle, Ran, ran}
 
 module _ {N : Type 0} (link : N → Link (List ℕ)) (steps : N → Call (List ℕ) → N → Type 0) (keeps : (old : N) (call : Call (List ℕ)) (new : N) → steps old call new → Keeps (link old) call (link new))
     (makes : SetUp → N → Type 0) where

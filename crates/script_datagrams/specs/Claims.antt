@@ -9,7 +9,7 @@ use Rattle.script_journal.specs.declared.event.Event.{Event}
 use Rattle.script_lines.specs.declared.line.Line.{Line}
 use Rattle.script_world.specs.declared.play.World.{World}
 use Rattle.script_world.specs.declared.play.World.TheVariants.{SettingUp, Running}
-use Rattle.script_datagrams.specs.Datagrams.{DatagramRun}
+use Rattle.law_datagram_run.specs.Datagrams.{DatagramRun}
 
 -- each datagram of the journal was sent, to this system and selector, with these octets, at most the lifetime before; while it is set up nothing is told
 abbrev pub IsSent : {N : Type 0} → List Event → World (DatagramRun N) → Type 0

@@ -6,7 +6,7 @@ use Rattle.osi_base.specs.Link.{Link}
 use Rattle.script_lines.specs.declared.line.Line.TheVariants as lines
 use Rattle.script_setup.specs.Fitting.{Fits, IsWell}
 use Rattle.script_setup.specs.SetUp.{SetUp, end_at}
-use Rattle.script_datagrams.specs.Users.{users_of}
+use Rattle.law_datagram_run.specs.Users.{users_of}
 use Rattle.script_datagrams.specs.Claims.{GivesOne}
 
 -- a unit that may come up at an end system, and whose destination has the selector of transport, gives one event

@@ -4,7 +4,7 @@ ghost use Rattle.script_world.specs.Plays.{world_acts};
 ghost use Rattle.script_bench.specs.Claims.{IsLaw};
 ghost use Rattle.script_datagrams.specs.Laws.{HearsEach};
 ghost use Rattle.script_datagrams.specs.Claims.{ShownWasSent};
-ghost use Rattle.script_datagrams.specs.Datagrams.{cl_play};
+ghost use Rattle.law_datagram_run.specs.Datagrams.{cl_play};
 
 use script_world::Network;
 

@@ -1,8 +1,8 @@
 //! A network whose users send one another datagrams, which a script runs once it is set up (X.214, connectionless-mode service).
 
 ghost use Rattle.std.specs.Prelude.{◌≡◌, [], OnOk};
-ghost use Rattle.script_datagrams.specs.Datagrams.{RunsLine};
-ghost use Rattle.script_datagrams.specs.steps.Played.{MayRun};
+ghost use Rattle.law_datagram_run.specs.Datagrams.{RunsLine};
+ghost use Rattle.law_datagram_run.proofs.Played.{MayRun};
 
 use crate::users::users;
 use cltp::{ClWorld, Request};
@@ -34,7 +34,7 @@ impl<N: Network + Drop> Drop for ClPlay<N> {
 }
 
 impl<N: Network + Drop> Model for ClPlay<N> {
-    ghost use Rattle.script_datagrams.specs.Datagrams.{DatagramRun};
+    ghost use Rattle.law_datagram_run.specs.Datagrams.{DatagramRun};
 
     ghost Value = { DatagramRun N };
 
@@ -42,8 +42,8 @@ impl<N: Network + Drop> Model for ClPlay<N> {
 }
 
 impl<N: Network + Drop> Play for ClPlay<N> {
-    ghost use Rattle.script_datagrams.specs.Datagrams.{cl_play};
-    ghost use Rattle.script_datagrams.specs.steps.Played.{cl_going, cl_laws};
+    ghost use Rattle.law_datagram_run.specs.Datagrams.{cl_play};
+    ghost use Rattle.law_datagram_run.proofs.Played.{cl_going, cl_laws};
 
     ghost play = { cl_play N.link N.steps N.makes };
 

@@ -1,7 +1,7 @@
 //! The users of datagrams of a set-up (X.214, transport service access points).
 
 ghost use Rattle.std.specs.Prelude.{◌≡◌, ◌≤◌, ◌++◌, length, IfOk, OnOk};
-ghost use Rattle.script_datagrams.specs.Users.{users_at, users_from};
+ghost use Rattle.law_datagram_run.specs.Users.{users_at, users_from};
 
 use cltp::ClSystem;
 use nsap::TRANSPORT;

@@ -46,7 +46,7 @@ use Rattle.script_lines.specs.Grammar.{Reading, line_read}
 use Rattle.script_lines.specs.Known.{Declared}
 use Rattle.script_setup.specs.Fitting.{IsWell}
 use Rattle.script_setup.specs.SetUp.{SetUp, nodes_of, set_up, titles_of as titles_said}
-use Rattle.script_world.specs.Entities.{entities_of}
+use Rattle.law_setup.specs.Entities.{entities_of}
 use Rattle.law_setup.specs.Lines.{IsInOctets}
 use Rattle.law_setup.proofs.Octets.{may_begin, nodes_are}
 use Rattle.tp4_number.specs.Number.{wire}
@@ -54,11 +54,11 @@ use Rattle.tp4_world.specs.Total.{CanRun, HasRun, HasStart, IsReady, Serves}
 use Rattle.tp4_world.proofs.Addressees.{all_append}
 use Rattle.tp4_world.proofs.SomeLines.{some_begin, some_line}
 use Rattle.script_bench.specs.Acts.{HasStep}
-use Rattle.script_world.specs.ClnpNets.{MakesNet}
+use Rattle.law_setup.specs.ClnpNets.{MakesNet}
 use Rattle.script_world.specs.declared.play.World.TheVariants.{SettingUp, Running}
-use Rattle.script_world.specs.steps.Made.{comes, net_law, net_laws}
-use Rattle.script_world.specs.steps.OneLine.{one_begin, one_line}
-use Rattle.script_world.specs.steps.Placing.{entities_ready, titles_own}
+use Rattle.law_setup.proofs.Made.{comes, net_law, net_laws}
+use Rattle.law_setup.proofs.OneLine.{one_begin, one_line}
+use Rattle.law_setup.proofs.Placing.{entities_ready, titles_own}
 use Rattle.law_run.specs.Bench.{Bench, RunsText, first_bench, most_events}
 use Rattle.law_run.specs.World.{TransportNet, Net, NetDoes, SetsUp, StartsUp, World, WorldStep, is_start, link_of_net, world_acts}
 use Rattle.law_run.specs.steps.WorldLaws.{ran_line, started, world_keeping, world_laws}

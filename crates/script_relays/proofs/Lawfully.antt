@@ -13,17 +13,17 @@ use Rattle.script_lines.specs.declared.line.Line.{Line}
 use Rattle.script_lines.specs.Known.{Declared}
 use Rattle.script_lines.specs.Script.{Says}
 use Rattle.script_setup.specs.SetUp.{SetUp, timers_of, titles_of as titles_said}
-use Rattle.script_world.specs.Entities.{entities_of}
+use Rattle.law_setup.specs.Entities.{entities_of}
 use Rattle.script_setup.proofs.Entities.{are_timed}
 use Rattle.law_setup.proofs.Proper.{script_proper}
 use Rattle.law_relay.proofs.Chained.{goes_through}
 use Rattle.law_relay.proofs.Noting.{noted, plain_more}
 use Rattle.law_relay.specs.Notes.{plain}
 use Rattle.script_bench.specs.Claims.{IsLaw}
-use Rattle.script_world.specs.Networks.{NetworkLaws}
+use Rattle.law_setup.specs.Networks.{NetworkLaws}
 use Rattle.script_world.specs.Plays.{world_acts}
 use Rattle.script_world.specs.declared.play.World.{World as ScriptWorld}
-use Rattle.script_world.specs.steps.Peopled.{entities_new}
+use Rattle.law_setup.proofs.Peopled.{entities_new}
 use Rattle.script_world.proofs.Headline.{distinct, front_lawful, none_lawful, untouched}
 use Rattle.script_world.proofs.Went.{HasStarted, PlayRuns, Went, went}
 use Rattle.tp4_conn.specs.End.{frozen_for}
@@ -39,12 +39,12 @@ use Rattle.tp4_world.specs.World.{World}
 use Rattle.tp4_world.proofs.Lined.{lines_alike}
 use Rattle.tp4_world.proofs.Shown.{first_honest}
 use Rattle.script_relays.specs.Claims.{RelaysLawfully, frozen_of, titles_of}
-use Rattle.script_relays.specs.Relays.{RelayRun, part_of, relay_play}
-use Rattle.script_relays.specs.Rows.{rows_of}
-use Rattle.script_relays.specs.steps.Begun.{first_plays}
-use Rattle.script_relays.specs.steps.Leading.{rows_lead}
-use Rattle.script_relays.specs.steps.Playing.{Plays}
-use Rattle.script_relays.specs.steps.Running.{line_plays}
+use Rattle.law_relay_run.specs.Relays.{RelayRun, part_of, relay_play}
+use Rattle.law_relay_run.specs.Rows.{rows_of}
+use Rattle.law_relay_run.proofs.Begun.{first_plays}
+use Rattle.law_relay_run.proofs.Leading.{rows_lead}
+use Rattle.law_relay_run.proofs.Playing.{Plays}
+use Rattle.law_relay_run.proofs.Running.{line_plays}
 use Rattle.script_relays.proofs.Rebuilt.{Leads, Rebuilt, part_rebuilt, rebuilt_none, rebuilt_then, told_plain}
 use Rattle.script_relays.proofs.Units.{script_relays, script_units}
 

@@ -15,7 +15,7 @@ use Rattle.script_lines.specs.Known.{Declared, nothing_declared}
 use Rattle.script_lines.specs.Script.{Says}
 use Rattle.script_setup.specs.Fitting.{IsWell}
 use Rattle.script_setup.specs.SetUp.{SetUp, nothing_said, set_up, timers_of, titles_of}
-use Rattle.script_world.specs.Entities.{entities_of}
+use Rattle.law_setup.specs.Entities.{entities_of}
 use Rattle.script_setup.proofs.Wellness.{nothing_well, well_after}
 use Rattle.law_setup.specs.Agreeing.{AreOne}
 use Rattle.law_setup.specs.Lines.{Kept as IsKept}
@@ -36,13 +36,13 @@ use Rattle.tp4_relay.proofs.Commuting.{allowed_more}
 use Rattle.tp4_relay.proofs.Journals.{front_allowed, nothing_stands, relays_units, stands_after}
 use Rattle.tp4_world.specs.Run.{Starts}
 use Rattle.tp4_world.specs.World.{World}
-use Rattle.script_relays.specs.Relays.{RelayRun, relay_play}
-use Rattle.script_relays.specs.Rows.{rows_of}
-use Rattle.script_relays.specs.steps.Begun.{first_plays}
-use Rattle.script_relays.specs.steps.Linking.{AreNotes, IsNote, notes_walk, told_notes}
-use Rattle.script_relays.specs.steps.Playing.{Plays}
-use Rattle.script_relays.specs.steps.Running.{line_plays}
-use Rattle.script_relays.specs.steps.Walks.{after_append}
+use Rattle.law_relay_run.specs.Relays.{RelayRun, relay_play}
+use Rattle.law_relay_run.specs.Rows.{rows_of}
+use Rattle.law_relay_run.proofs.Begun.{first_plays}
+use Rattle.law_relay_run.proofs.Linking.{AreNotes, IsNote, notes_walk, told_notes}
+use Rattle.law_relay_run.proofs.Playing.{Plays}
+use Rattle.law_relay_run.proofs.Running.{line_plays}
+use Rattle.law_relay_run.proofs.Walks.{after_append}
 use Rattle.script_relays.proofs.Joins.{relays}
 use Rattle.tpdu.specs.declared.service.EndTold.TheVariants as tells
 

@@ -8,7 +8,7 @@ ghost use Rattle.script_lines.specs.declared.words.Dialect.TheVariants.{Relay as
 ghost use Rattle.tp4_number.specs.Number.{wire};
 ghost use Rattle.tp4_world.specs.Run.{RunsLine, Settles};
 ghost use Rattle.tp4_world.specs.Total.{CanRun};
-ghost use Rattle.script_relays.specs.Services.{IsInOrder, is_done};
+ghost use Rattle.law_relay_run.specs.Services.{IsInOrder, is_done};
 
 use nsap::Nsap;
 use osi_base::{Carrier, NoMemory, go_on};
@@ -34,7 +34,7 @@ pub struct WorldService<C: Carrier<Addr = Nsap> + Drop> {
 impl<C: Carrier<Addr = Nsap> + Drop> Model for WorldService<C> {
     ghost use Rattle.std.specs.Prelude.{◌≡◌, false};
     ghost use Rattle.tp4_world.specs.World.{World};
-    ghost use Rattle.script_relays.specs.Services.{IsInOrder};
+    ghost use Rattle.law_relay_run.specs.Services.{IsInOrder};
 
     ghost Value = { World C };
 
@@ -96,8 +96,8 @@ impl<N: Network + Drop> WorldService<N> {
 }
 
 impl<C: Carrier<Addr = Nsap> + Drop> Service for WorldService<C> {
-    ghost use Rattle.script_relays.specs.Services.{AsksEnd, AsksFor, ends_of, has_system, is_honest};
-    ghost use Rattle.script_relays.specs.steps.Serving.{world_serves};
+    ghost use Rattle.law_relay_run.specs.Services.{AsksEnd, AsksFor, ends_of, has_system, is_honest};
+    ghost use Rattle.law_relay_run.proofs.Serving.{world_serves};
 
     ghost has = { has_system };
 

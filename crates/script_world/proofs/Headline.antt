@@ -25,16 +25,16 @@ use Rattle.law_tp4_lawful.specs.First.{AreDistinct, IsUntouched}
 use Rattle.law_tp4_lawful.specs.Laws.{ReceivesWhatWasSubmitted, StaysSilent}
 use Rattle.script_setup.specs.Fitting.{AreTitlesApart, IsWell}
 use Rattle.script_setup.specs.SetUp.{SetUp, timers_of, titles_of as titles_said}
-use Rattle.script_world.specs.Entities.{entities_of}
+use Rattle.law_setup.specs.Entities.{entities_of}
 use Rattle.script_setup.proofs.Entities.{are_timed}
 use Rattle.law_setup.proofs.Proper.{script_proper}
 use Rattle.script_bench.specs.Acts.{RunsScript}
-use Rattle.script_world.specs.Networks.{NetworkLaws}
+use Rattle.law_setup.specs.Networks.{NetworkLaws}
 use Rattle.script_world.specs.Plays.{first_world, strays_of, world_acts}
 use Rattle.script_world.specs.Transports.{TransportRun, frozen_of, strays_in, titles_of, tp_play}
 use Rattle.script_world.specs.declared.play.World.{World}
 use Rattle.script_world.specs.declared.play.World.TheVariants.{Running, SettingUp}
-use Rattle.script_world.specs.steps.Peopled.{entities_new, of_systems}
+use Rattle.law_setup.proofs.Peopled.{entities_new, of_systems}
 use Rattle.script_world.proofs.Ends.{EndsRan, ends_ran}
 use Rattle.script_world.proofs.Went.{HasStarted, IsSettingUp, PlayRuns, Went, went}
 

@@ -11,7 +11,7 @@ use Rattle.script_journal.specs.declared.event.Event.{Event}
 use Rattle.script_lines.specs.declared.words.Dialect.{Dialect}
 use Rattle.script_lines.specs.declared.line.Line.{Line}
 use Rattle.script_setup.specs.SetUp.{SetUp, timers_of, titles_of as titles_said}
-use Rattle.script_world.specs.Entities.{entities_of}
+use Rattle.law_setup.specs.Entities.{entities_of}
 use Rattle.script_world.specs.Plays.{Playing}
 use Rattle.script_world.specs.declared.play.World.{World}
 use Rattle.script_world.specs.declared.play.World.TheVariants.{Running, SettingUp}

@@ -34,8 +34,8 @@ impl Model for SubsetNet {
 impl Carrier for SubsetNet {
     ghost use Rattle.std.specs.Prelude.{IfOk};
     ghost use Rattle.osi_base.specs.Calls.{Inject, Injects, Offer, Offers};
-    ghost use Rattle.script_world.specs.InactiveNets.{InactiveDoes, link_of_inactive};
-    ghost use Rattle.script_world.specs.steps.MadeInactive.{subset_given, subset_law};
+    ghost use Rattle.law_setup.specs.InactiveNets.{InactiveDoes, link_of_inactive};
+    ghost use Rattle.law_setup.proofs.MadeInactive.{subset_given, subset_law};
 
     type Addr = Nsap;
 
@@ -100,8 +100,8 @@ impl Carrier for SubsetNet {
 
 impl Network for SubsetNet {
     ghost use Rattle.script_lines.specs.declared.words.Dialect.TheVariants.{Inactive as OfInactive};
-    ghost use Rattle.script_world.specs.InactiveNets.{MakesInactive};
-    ghost use Rattle.script_world.specs.steps.MadeInactive.{inactive_laws, none_sent};
+    ghost use Rattle.law_setup.specs.InactiveNets.{MakesInactive};
+    ghost use Rattle.law_setup.proofs.MadeInactive.{inactive_laws, none_sent};
 
     ghost dialect = { OfInactive };
 

@@ -13,7 +13,7 @@ pub trait Network: Carrier<Addr = Nsap> + Sized {
     ghost use Rattle.script_lines.specs.declared.words.Dialect.{Dialect};
     ghost use Rattle.script_lines.specs.Known.{nothing_declared};
     ghost use Rattle.script_setup.specs.SetUp.{SetUp as Said};
-    ghost use Rattle.script_world.specs.Networks.{NetworkLaws, SendsNoDatagrams};
+    ghost use Rattle.law_setup.specs.Networks.{NetworkLaws, SendsNoDatagrams};
 
     /// The command that runs transport entities over it.
     ghost dialect: { Dialect };

@@ -3,7 +3,7 @@
 ghost use Rattle.std.specs.Prelude.{◌≡◌, ◌≤◌, ◌++◌, [], length, IfOk, OnOk};
 ghost use Rattle.std.specs.List.{AllByRecursion};
 ghost use Rattle.script_setup.specs.Fitting.{AreLimits, AreSelectorsApart};
-ghost use Rattle.script_world.specs.Entities.{entities_from, entities_of, placed_at};
+ghost use Rattle.law_setup.specs.Entities.{entities_from, entities_of, placed_at};
 
 use osi_base::NoMemory;
 use script_setup::{Limits, SetUp, System};

@@ -25,7 +25,7 @@ impl Drop for RoutedNet {
 }
 
 impl Model for RoutedNet {
-    ghost use Rattle.script_world.specs.ClnpNets.{Net};
+    ghost use Rattle.law_setup.specs.ClnpNets.{Net};
 
     ghost Value = { Net };
 
@@ -44,8 +44,8 @@ impl RoutedNet {
 impl Carrier for RoutedNet {
     ghost use Rattle.std.specs.Prelude.{IfOk};
     ghost use Rattle.osi_base.specs.Calls.{Inject, Injects, Offer, Offers};
-    ghost use Rattle.script_world.specs.ClnpNets.{NetDoes, link_of_net};
-    ghost use Rattle.script_world.specs.steps.Made.{net_given, net_law};
+    ghost use Rattle.law_setup.specs.ClnpNets.{NetDoes, link_of_net};
+    ghost use Rattle.law_setup.proofs.Made.{net_given, net_law};
 
     type Addr = Nsap;
 
@@ -112,8 +112,8 @@ impl Carrier for RoutedNet {
 
 impl Network for RoutedNet {
     ghost use Rattle.script_lines.specs.declared.words.Dialect.TheVariants.{Run};
-    ghost use Rattle.script_world.specs.ClnpNets.{MakesNet};
-    ghost use Rattle.script_world.specs.steps.Made.{net_laws, none_sent};
+    ghost use Rattle.law_setup.specs.ClnpNets.{MakesNet};
+    ghost use Rattle.law_setup.proofs.Made.{net_laws, none_sent};
 
     ghost dialect = { Run };
 

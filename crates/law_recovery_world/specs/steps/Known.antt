@@ -16,7 +16,7 @@ use Rattle.law_tp4_history.specs.Tracks.{Whole}
 use Rattle.tp4_world.specs.World.{entity_at, latest}
 use Rattle.tp4_world.specs.declared.place.EndAt.{EndAt}
 use Rattle.tp4_world.specs.declared.place.Placed.{Placed}
-use Rattle.law_tp4_lawful.specs.steps.Known as lawful
+use Rattle.law_tp4_lawful.proofs.Known as lawful
 use Rattle.law_recovery_world.specs.Lines.{IsOfferedView}
 use Rattle.law_recovery_world.specs.Steady.{AreSteady}
 

@@ -15,7 +15,7 @@ use Rattle.tp4_world.specs.Total.{AreReady, CanRun, HasEntity, IsReady}
 use Rattle.tp4_world.specs.World.{World, entity_at}
 use Rattle.tp4_world.specs.declared.place.Placed.{Placed}
 use Rattle.tp4_world.proofs.SomeLines.{some_line}
-use Rattle.script_world.specs.steps.OneLine.{one_line}
+use Rattle.law_setup.proofs.OneLine.{one_line}
 use Rattle.law_run.proofs.told.EndSteps.{EntityFew}
 use Rattle.law_run.proofs.told.Worlds.{NamesSystems, WorldSo, line_so, start_so}
 use Rattle.law_run.proofs.told.Carriers.{Tells}

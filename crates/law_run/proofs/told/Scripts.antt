@@ -30,7 +30,7 @@ use Rattle.script_lines.proofs.FreshNames.{script_names}
 use Rattle.script_lines.proofs.LineNames.{line_named}
 use Rattle.script_setup.specs.Fitting.{IsWell}
 use Rattle.script_setup.specs.SetUp.{SetUp, nodes_of, set_up, titles_of as titles_said}
-use Rattle.script_world.specs.Entities.{entities_of}
+use Rattle.law_setup.specs.Entities.{entities_of}
 use Rattle.law_setup.specs.Agreeing.{AreOne}
 use Rattle.law_setup.specs.Lines.{IsInOctets}
 use Rattle.law_setup.proofs.Fitted.{as_many}
@@ -39,12 +39,12 @@ use Rattle.law_setup.proofs.Octets.{may_begin, nodes_are}
 use Rattle.law_setup.proofs.Started.{names_kept}
 use Rattle.script_bench.specs.Claims.{AllLines, ToLimit, ToLimitAtEnd, WholeLines}
 use Rattle.script_bench.specs.steps.Moves.{line_moves, start_only}
-use Rattle.script_world.specs.ClnpNets.{MakesNet, Net, NetDoes, link_of_net}
+use Rattle.law_setup.specs.ClnpNets.{MakesNet, Net, NetDoes, link_of_net}
 use Rattle.script_world.specs.Plays.{Agrees}
 use Rattle.script_world.specs.Transports.{TransportRun}
 use Rattle.script_world.specs.declared.play.World.TheVariants.{Running, SettingUp}
-use Rattle.script_world.specs.steps.Made.{comes, net_law, net_laws}
-use Rattle.script_world.specs.steps.Placing.{entities_ready, titles_own}
+use Rattle.law_setup.proofs.Made.{comes, net_law, net_laws}
+use Rattle.law_setup.proofs.Placing.{entities_ready, titles_own}
 use Rattle.tp4_number.specs.Number.{wire}
 use Rattle.tp4_world.specs.Run.{Starts}
 use Rattle.law_run.specs.Bench.{Bench, FillsJournal, RunsText, bench_meaning, first_bench, most_events}

@@ -16,7 +16,7 @@ use Rattle.script_lines.specs.Tags.{Tags}
 use Rattle.script_setup.specs.declared.transport.Limits.{Limits}
 use Rattle.script_setup.specs.Fitting.{IsWell}
 use Rattle.script_setup.specs.SetUp.{System, SetUp, end_at as end_by, entity_with, nodes_from, nodes_of, timers_of}
-use Rattle.script_world.specs.Entities.{entities_from, entities_of}
+use Rattle.law_setup.specs.Entities.{entities_from, entities_of}
 use Rattle.law_run.proofs.told.EndSteps.{EntityFew}
 use Rattle.law_run.proofs.told.Network.{AreNodes}
 use Rattle.law_run.proofs.told.Notes.{BagTold, IsDeclared}

@@ -7,10 +7,10 @@ use Rattle.script_lines.specs.declared.line.Line.{Line}
 use Rattle.script_setup.specs.SetUp.{SetUp}
 use Rattle.script_bench.specs.Acts.{Keeping, StageLaws}
 use Rattle.script_bench.specs.steps.BenchLaws.{bench_laws as laws_of}
-use Rattle.script_world.specs.ClnpNets.{MakesNet, Net, NetDoes, link_of_net}
+use Rattle.law_setup.specs.ClnpNets.{MakesNet, Net, NetDoes, link_of_net}
 use Rattle.script_world.specs.Plays.{Going, PlayLaws, world_keeping as keeping_of}
 use Rattle.script_world.specs.Transports.{TransportRun}
-use Rattle.script_world.specs.steps.Made.{net_law, net_laws, none_sent}
+use Rattle.law_setup.proofs.Made.{net_law, net_laws, none_sent}
 use Rattle.script_world.specs.steps.Staged.{world_laws as world_laws_of}
 use Rattle.script_world.specs.steps.Transported.{tp_going, tp_laws}
 use Rattle.script_world.specs.declared.play.World.TheVariants.{Running}

@@ -30,7 +30,7 @@ use Rattle.script_lines.specs.Names.{NamesDeclared}
 use Rattle.script_lines.proofs.LineNames.{line_named}
 use Rattle.script_setup.specs.Fitting.{Fits, IsWell}
 use Rattle.script_setup.specs.SetUp.{System, SetUp, timers_of, titles_of as titles_said}
-use Rattle.script_world.specs.Entities.{entities_of}
+use Rattle.law_setup.specs.Entities.{entities_of}
 use Rattle.script_setup.proofs.Elements.{at, there}
 use Rattle.law_setup.specs.Agreeing.{AreOne}
 use Rattle.law_setup.specs.Lines.{IsInOctets, LineInOctets, RunsAt}
@@ -41,12 +41,12 @@ use Rattle.law_setup.proofs.Octets.{line_octets}
 use Rattle.law_setup.proofs.Started.{names_kept}
 use Rattle.script_bench.specs.Script.{IsPlaced}
 use Rattle.script_bench.specs.steps.Moves.{line_moves}
-use Rattle.script_world.specs.Networks.{NetworkLaws, SendsNoDatagrams, SendsNone}
+use Rattle.law_setup.specs.Networks.{NetworkLaws, SendsNoDatagrams, SendsNone}
 use Rattle.script_world.specs.Plays.{Going, HasLine, HasStart, PlayLaws}
 use Rattle.script_world.specs.Transports.{RunsEnds, StartsEnds, TransportRun, tp_play}
-use Rattle.script_world.specs.steps.Moving.{line_near, start_near}
-use Rattle.script_world.specs.steps.OneLine.{one_begin, one_line}
-use Rattle.script_world.specs.steps.Placing.{IsOwn, among, entities_ready, present, titles_own}
+use Rattle.law_setup.proofs.Moving.{line_near, start_near}
+use Rattle.law_setup.proofs.OneLine.{one_begin, one_line}
+use Rattle.law_setup.proofs.Placing.{IsOwn, among, entities_ready, present, titles_own}
 
 -- ---- a line of a running network
 

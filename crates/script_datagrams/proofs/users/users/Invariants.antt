@@ -1,5 +1,5 @@
 use Rattle.std.proofs.Common.{◌≡◌, ◌++◌, drop}
-use Rattle.script_datagrams.specs.Users.{users_from}
+use Rattle.law_datagram_run.specs.Users.{users_from}
 use Rattle.script_datagrams.proofs.users.users.Given as goal
 
 -- the users so far and those of the systems that are left are all

@@ -1,5 +1,5 @@
 use Rattle.std.proofs.Common.{◌≡◌, ◌++◌, drop}
-use Rattle.script_world.specs.Entities.{entities_from}
+use Rattle.law_setup.specs.Entities.{entities_from}
 use Rattle.script_world.proofs.placed.entities_from.Given as goal
 
 -- the entities so far and those of the systems that are left are all

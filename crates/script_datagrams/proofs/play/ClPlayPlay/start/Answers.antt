@@ -1,7 +1,7 @@
 use Rattle.std.proofs.Common.{◌∙◌, List, ap, subst}
 use Rattle.cltp.specs.Run.{Starts}
 use Rattle.cltp.specs.declared.system.ClSystem.{ClSystem}
-use Rattle.script_datagrams.specs.Users.{users_from}
+use Rattle.law_datagram_run.specs.Users.{users_from}
 use Rattle.script_datagrams.proofs.Ran.{tells_all}
 use Rattle.script_datagrams.proofs.play.ClPlayPlay.start.Goals as goal
 

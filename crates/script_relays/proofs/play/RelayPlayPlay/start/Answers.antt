@@ -3,13 +3,13 @@ use Rattle.std.specs.List.{AllByRecursion}
 use Rattle.tp4_world.specs.Run.{Starts}
 use Rattle.tp4_world.specs.declared.place.Placed.{Placed}
 use Rattle.tp4_world.specs.steps.Parts.{AreLaterAll}
-use Rattle.script_world.specs.steps.Peopled.{entities_behind, entities_later}
+use Rattle.law_setup.proofs.Peopled.{entities_behind, entities_later}
 use Rattle.tp4_conn.specs.declared.timers.Timers.{Timers}
 use Rattle.script_setup.specs.declared.relay.RelayLine.{RelayLine}
 use Rattle.tp4_relay.specs.declared.row.RelayRow.{RelayRow}
 use Rattle.tp4_relay.specs.Kept.{nothing_kept}
-use Rattle.script_relays.specs.Rows.{row_of}
-use Rattle.script_relays.specs.steps.Begun.{first_order}
+use Rattle.law_relay_run.specs.Rows.{row_of}
+use Rattle.law_relay_run.proofs.Begun.{first_order}
 use Rattle.script_relays.proofs.play.RelayPlayPlay.start.Goals as goal
 
 pub start-requires-clause-low : goal.start-requires-clause-low

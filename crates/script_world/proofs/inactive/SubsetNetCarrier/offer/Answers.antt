@@ -2,7 +2,7 @@ use Rattle.std.proofs.Common.{IfOk, subst}
 use Rattle.lan_bag.specs.Bag.{Bag}
 use Rattle.inactive_step.specs.Network.{Inactive}
 use Rattle.osi_base.specs.Calls.{Offer}
-use Rattle.script_world.specs.InactiveNets.{InactiveDoes}
+use Rattle.law_setup.specs.InactiveNets.{InactiveDoes}
 use Rattle.script_world.proofs.inactive.SubsetNetCarrier.offer.Goals as goal
 
 pub returns-clause-steps : goal.returns-clause-steps

@@ -1,6 +1,6 @@
 use Rattle.std.proofs.Common.{IfOk, subst}
 use Rattle.osi_base.specs.Calls.{Offer}
-use Rattle.script_world.specs.ClnpNets.{Net, NetDoes}
+use Rattle.law_setup.specs.ClnpNets.{Net, NetDoes}
 use Rattle.script_world.proofs.routed.RoutedNetCarrier.offer.Goals as goal
 
 pub returns-clause-steps : goal.returns-clause-steps

@@ -3,7 +3,7 @@ use Rattle.std.specs.List.{AllByRecursion}
 use Rattle.tp4_world.specs.Run.{Starts}
 use Rattle.tp4_world.specs.declared.place.Placed.{Placed}
 use Rattle.tp4_world.specs.steps.Parts.{AreLaterAll}
-use Rattle.script_world.specs.steps.Peopled.{entities_behind, entities_later}
+use Rattle.law_setup.proofs.Peopled.{entities_behind, entities_later}
 use Rattle.script_world.proofs.transport.TpPlayPlay.start.Goals as goal
 
 pub start-requires-clause-low : goal.start-requires-clause-low

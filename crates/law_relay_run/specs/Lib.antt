@@ -1,0 +1,4 @@
+pub mod Asked
+pub mod Relays
+pub mod Rows
+pub mod Services
