@@ -33,8 +33,8 @@ use Rattle.law_tp4_history.proofs.Meets.{swap}
 use Rattle.law_tp4_history.proofs.Sound.{one_partner}
 use Rattle.law_tp4_moves.specs.Moves.{Sees, stop_of, times_of}
 use Rattle.tp4_world.specs.World.{World, latest}
-use Rattle.law_tp4_lawful.specs.steps.Known.{IsKnown, IsThere}
-use Rattle.law_tp4_lawful.specs.steps.Worlds.{Explains}
+use Rattle.law_tp4_lawful.proofs.Known.{IsKnown, IsThere}
+use Rattle.law_tp4_lawful.proofs.Worlds.{Explains}
 use Rattle.law_tp4_lawful.proofs.MakesPlaces.{at_other}
 use Rattle.law_recovery_run.specs.Aside.{AreFacing, IsBeside, IsSentTo, LeavesAside, Names}
 use Rattle.law_recovery_run.specs.Rivals.{IsFor}

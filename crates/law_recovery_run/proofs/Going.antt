@@ -8,7 +8,7 @@ use Rattle.script_lines.specs.declared.line.Line.{Line}
 use Rattle.net_world.specs.Fifo.{IsFifo}
 use Rattle.net_world.specs.Prompt.{IsPrompt}
 use Rattle.tp4_world.specs.World.{World}
-use Rattle.law_calm_run.specs.steps.Posting.{IsHall}
+use Rattle.law_calm_run.proofs.Posting.{IsHall}
 use Rattle.law_calm_run.proofs.Going.{HasSettled, Stands}
 use Rattle.law_calm_run.proofs.Lines.{lines_go}
 use Rattle.law_recovery_run.specs.Ordered.{HasGone, InOrder, IsReady, ReachedFrom, RunsInOrder, hall_of}

@@ -13,8 +13,8 @@ use Rattle.law_tp4_history.proofs.Sound.{OwnFacts, Sound, partner_address, partn
 use Rattle.law_tp4_history.proofs.Written.{Kept}
 use Rattle.law_tp4_moves.specs.Moves.{times_of}
 use Rattle.tp4_world.specs.World.{World}
-use Rattle.law_tp4_lawful.specs.steps.Known.{IsKnown}
-use Rattle.law_tp4_lawful.specs.steps.Worlds.{Explains}
+use Rattle.law_tp4_lawful.proofs.Known.{IsKnown}
+use Rattle.law_tp4_lawful.proofs.Worlds.{Explains}
 use Rattle.law_tp4_lawful.proofs.FramesKnown.{keeps}
 use Rattle.law_tp4_lawful.proofs.ReferencesHalves.{known_at}
 use Rattle.law_tp4_lawful.proofs.ReferencesOwn.{partners_are}

@@ -19,8 +19,8 @@ use Rattle.tp4_world.specs.World.{World}
 use Rattle.law_tp4_lawful.specs.Limits.{IsProperLine}
 use Rattle.law_calm_run.specs.Run.{HaveEntities, IsUnrouted}
 use Rattle.law_calm_run.specs.Service.{WaitsBy}
-use Rattle.law_calm_run.specs.steps.Hall.{AreWaiting, Goes, Hall}
-use Rattle.law_calm_run.specs.steps.Posting.{AreKept, IsHall}
+use Rattle.law_calm_run.proofs.Hall.{AreWaiting, Goes, Hall}
+use Rattle.law_calm_run.proofs.Posting.{AreKept, IsHall}
 use Rattle.law_recovery_run.specs.Run.{IsKept}
 
 -- ---- the carrier
