@@ -7,6 +7,6 @@ mod CalmRows
 mod CalmRun
 pub mod Handled
 pub mod Lawful
+mod Legible
 pub mod ScriptRuns
 pub mod Served
-pub mod told

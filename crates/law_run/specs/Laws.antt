@@ -9,13 +9,11 @@ use Rattle.script_lines.specs.Script.{Says}
 use Rattle.script_lines.specs.declared.words.Dialect.TheVariants as dialects
 use Rattle.law_run.specs.Bench.{Bench, first_bench, bench_meaning}
 use Rattle.law_run.specs.Calm.{ServesUsers, RunsCalmly}
-use Rattle.law_run.specs.World.{TransportNet, frozen_of, strays_of, titles_of, WorldRun, World}
+use Rattle.law_run.specs.World.{TransportNet, frozen_of, strays_of, titles_of, world_acts, WorldRun, World}
 use Rattle.script_journal.specs.Lawful.{Lawful}
 use Rattle.law_run.specs.Transcript.{IsScriptRun, IsRun}
-use Rattle.script_journal.specs.Injective.{EachTold}
 use Rattle.script_journal.specs.Showing.{EachTellsRightly}
-use Rattle.script_journal.specs.Told.{journal_text}
-use Rattle.script_lines.specs.Tags.{HaveNames, tags_of}
+use Rattle.law_told.specs.Reading.{HasOneReading as HasOneReadingOf, IsReadBack as IsReadBackOf, IsReading, TellsItsEvents as TellsItsEventsOf}
 use Rattle.tp4_world.specs.Asked.{AreAsked}
 
 -- ---- scripts
@@ -33,24 +31,21 @@ ServesCalmScripts = (texts : List (List ℕ)) (script : List Line) (names : Decl
 
 -- however far octets were run: the names declared are names, no two alike, and with them each event is told by its line
 abbrev pub TellsItsEvents : Type 0
-TellsItsEvents = (octets : List ℕ) (journal : List Event) (last : Bench) → IsRun octets journal last → HaveNames last.names × EachTold (tags_of last.names) journal
+TellsItsEvents = TellsItsEventsOf world_acts
 
 -- so events that can be read from its text are its events
 abbrev pub IsReadBack : Type 0
-IsReadBack = (octets : List ℕ) (journal read : List Event) (last : Bench) → IsRun octets journal last → EachTold (tags_of last.names) read
-    → journal_text (tags_of last.names) read ≡ journal_text (tags_of last.names) journal → read ≡ journal
+IsReadBack = IsReadBackOf world_acts
 
 -- and where no strays are told, since no line that was handled is an `inject` line that was taken, what is read is lawful: what users are told is what their
 -- partners asked, as `Lawful` and `TellsRightly` say it
 abbrev pub ReadsLawfully : Type 0
-ReadsLawfully = (octets : List ℕ) (journal read : List Event) (last : Bench) → IsRun octets journal last → EachTold (tags_of last.names) read
-    → journal_text (tags_of last.names) read ≡ journal_text (tags_of last.names) journal → strays_of last.world ≡ None
+ReadsLawfully = (octets : List ℕ) (journal read : List Event) (last : Bench) → IsRun octets journal last → IsReading journal read last → strays_of last.world ≡ None
     → Lawful (frozen_of last.world) (titles_of last.world) read × EachTellsRightly (titles_of last.world) read
 
 -- and two runs with the same names and the same text have the same events
 abbrev pub HasOneReading : Type 0
-HasOneReading = (octets others : List ℕ) (journal other : List Event) (last end : Bench) → IsRun octets journal last → IsRun others other end → tags_of last.names ≡ tags_of end.names
-    → journal_text (tags_of last.names) journal ≡ journal_text (tags_of end.names) other → journal ≡ other
+HasOneReading = HasOneReadingOf world_acts
 
 -- each `connect`, `data` and `expedite` line of a script has its own event, which says what the line says, or is refused; no other line has such an event
 abbrev pub LinesAreAsked : Type 0

@@ -4,7 +4,7 @@ use Rattle.std.proofs.Common.{◌≡◌, ◌≢◌, ◌⊎◌, inl, inr, ℕ, �
 use Rattle.std.proofs.lemmas.Bool.{cases_order}
 use Rattle.law_tp4_history.specs.Ends.{Times, IsFit, frozen, Kind, Cr, Cc, Dr, Dc, Er, Flow, Origin, Sent, Answer, Offer}
 use Rattle.law_tp4_history.specs.History.{History, IsCaller, IsPartner, IsFresh}
-use Rattle.law_tp4_history.specs.Reached.{IsFor, MeetsOwn, IsQuiet, FreeIsQuiet, EachEnd, From_partner, Answering}
+use Rattle.law_tp4_history.specs.Reached.{IsFor, MeetsOwn, OneRequest, EachRequest, IsQuiet, FreeIsQuiet, EachEnd, From_partner, Answering}
 use Rattle.law_tp4_history.proofs.Sound.{Until, AimedFacts, SentFacts, AnswerFacts, OfferFacts, Sound, partner_low, one_partner}
 
 pub swap : (h : History) (x y : ℕ) → IsPartner h x y → IsPartner h y x
@@ -68,15 +68,36 @@ module _ (times : Times) (h : History) (s : Sound times h) where
   is_request Er = inr (λ e. cc e)
   is_request Flow = inr (λ e. cc e)
 
+  -- how long a CR is afloat
+  module _ (fit : IsFit times) (a : ℕ) (o : Offer) (c : Contains h.offers o) (is : o.tpdu.kind ≡ Cr) (by : o.origin ≡ Sent a) (fresh : IsFresh times h o) where
+    since_made : h.clock ≤ (h.end a).birth.made + times.most + times.life
+    since_made = let soon = (((s.offers o c).sent a by).request is).soon in omega (arith, soon, fresh)
+
+    since_called : (y : ℕ) → IsCaller h a y → h.clock ≤ (h.end y).birth.made + times.most + times.life
+    since_called y p = let before = (s.pairs a y p).before in omega (arith, since_made, before)
+
+    since_stop : (y t : ℕ) → IsCaller h a y → (h.end y).stop ≡ Some t → h.clock ≤ t + times.span + times.life
+    since_stop y t p stop =
+        let own = s.own y p.b_low in
+        let made = own.made_low in
+        let took = (own.stopped t stop).1 in
+        omega (arith, since_called y p, made, took, fit)
+
+    since_restart : (y r : ℕ) → IsCaller h a y → Contains h.restarts ((h.end y).birth.address, r) → (h.end y).birth.made ≤ r → h.clock ≤ r + times.span + times.life
+    since_restart y r p began low = omega (arith, since_called y p, low, fit)
+
+    one_request : OneRequest times h a o
+    one_request = record { made = since_made; called = since_called; stopped = since_stop; restarted = since_restart }
+
+  pub each_request : IsFit times → EachRequest times h
+  each_request fit a o c is by fresh = one_request fit a o c is by fresh
+
   module _ (fit : IsFit times) (y t : ℕ) (ylow : y < h.count) (stop : (h.end y).stop ≡ Some t) (past : t + frozen times < h.clock) where
-    -- no CR of its caller
+    -- no CR of its caller, by the law of one request
     request_late : (a : ℕ) (o : Offer) → IsCaller h a y → Contains h.offers o → o.tpdu.kind ≡ Cr → o.origin ≡ Sent a → IsFresh times h o → ⊥
     request_late a o p c is by fresh =
-        let q = ((s.offers o c).sent a by).request is in
-        let before = (s.pairs a y p).before in
-        let made = (s.own y ylow).made_low in
-        let took = ((s.own y ylow).stopped t stop).1 in
-        omega (arith, q.soon, before, made, took, past, fresh, fit)
+        let r = each_request fit a o c is by fresh in
+        omega (arith, r.stopped y t p stop, past)
 
     for_late : (o : Offer) → Contains h.offers o → IsFor h o y → IsFresh times h o → ⊥
     for_late o c (From_partner x is p from) fresh = elim (is_request o.tpdu.kind) [

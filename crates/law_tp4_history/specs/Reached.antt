@@ -17,6 +17,18 @@ abbrev pub MeetsOwn : Times → History → Type 0
 MeetsOwn times h = (y : ℕ) (o : Offer) → y < h.count → (h.end y).is_out ≡ false → Contains h.offers o → IsFresh times h o → o.tpdu.kind ≢ Cr
     → o.to ≡ (h.end y).birth.address → o.tpdu.target ≡ (h.end y).birth.reference → ((h.end y).birth.made ≤ o.tick) × IsFor h o y
 
+-- Law of one request: a CR is sent for the last time (N - 1) * T1 after its request at the latest, and is afloat for a lifetime then. A request that made a
+-- called end was made by then: so its last CR is gone N * T1 and a lifetime after that end stopped, or, of an end of before, after a restart of its entity
+pub record OneRequest (times : Times) (h : History) (a : ℕ) (o : Offer) : Type 0 where
+  pub made : h.clock ≤ (h.end a).birth.made + times.most + times.life
+  pub called : (y : ℕ) → IsCaller h a y → h.clock ≤ (h.end y).birth.made + times.most + times.life
+  pub stopped : (y t : ℕ) → IsCaller h a y → (h.end y).stop ≡ Some t → h.clock ≤ t + times.span + times.life
+  pub restarted : (y r : ℕ) → IsCaller h a y → Contains h.restarts ((h.end y).birth.address, r) → (h.end y).birth.made ≤ r → h.clock ≤ r + times.span + times.life
+
+-- of every CR that is afloat
+abbrev pub EachRequest : Times → History → Type 0
+EachRequest times h = (a : ℕ) (o : Offer) → Contains h.offers o → o.tpdu.kind ≡ Cr → o.origin ≡ Sent a → IsFresh times h o → OneRequest times h a o
+
 -- nothing is afloat for an end or from it, nor the CR that made it
 pub record IsQuiet (times : Times) (h : History) (y : ℕ) : Type 0 where
   pub to : (o : Offer) → Contains h.offers o → IsFor h o y → IsFresh times h o → ⊥

@@ -8,17 +8,19 @@ ghost use Rattle.law_tp4_history.specs.Ends.{Times, IsFit};
 ghost use Rattle.law_tp4_history.specs.History.{History};
 ghost use Rattle.law_tp4_history.specs.Indications.{IndicatesEach};
 ghost use Rattle.law_tp4_history.specs.Journals.{MayFollow, Written};
-ghost use Rattle.law_tp4_history.specs.Reached.{Reached, MeetsOwn, FreeIsQuiet, FlowInFormat, EachEnd};
+ghost use Rattle.law_tp4_history.specs.Reached.{Reached, MeetsOwn, EachRequest, FreeIsQuiet, FlowInFormat, EachEnd};
 ghost use Rattle.law_tp4_history.specs.Line.{Line, Happening, Runs, empty};
 ghost use Rattle.law_tp4_history.specs.Tracks.{Whole, Moment, onward, IsNothing, ReachedAll, IsTold, IsNumbered};
 ghost use Rattle.law_tp4_history.specs.Units.{Spoken, TellsTrue};
 ghost use Rattle.law_tp4_history.specs.Worked.{IsWorked};
 
 /// What is afloat for an end is of its partner, or answers it, and is in its format; and what was for an
-/// end that stopped is gone when its reference may be given again.
+/// end that stopped is gone when its reference may be given again: the last CR of a request sooner, a lifetime after it
+/// may be sent no more.
 pub fn references()
     ensures own { (times : Times) (h : History) → IsFit times → Reached times h → MeetsOwn times h }
     ensures each { (times : Times) (h : History) → IsFit times → Reached times h → EachEnd times h }
+    ensures request { (times : Times) (h : History) → IsFit times → Reached times h → EachRequest times h }
     ensures format { (times : Times) (h : History) → IsFit times → Reached times h → FlowInFormat times h }
     ensures quiet { (times : Times) (h : History) → IsFit times → Reached times h → FreeIsQuiet times h }
 {}

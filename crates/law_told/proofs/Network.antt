@@ -31,9 +31,9 @@ use Rattle.law_clnp_answers.specs.Standing.{FitsBag, FitsKept, FitsUp, IsFrame, 
 use Rattle.law_clnp_answers.proofs.Always.{serves}
 use Rattle.law_clnp_answers.proofs.answered.Carrying.{bag_answers}
 use Rattle.law_clnp_answers.proofs.written.Octets.{all_back, all_both, all_front}
-use Rattle.law_run.proofs.told.Carriers.{IsToldUp}
-use Rattle.law_run.proofs.told.Notes.{BagTold, GoesTo, bag_told, gathered_told, pick_of, same_frames}
-use Rattle.law_run.proofs.told.Reactions.{receives_told, ticks_told}
+use Rattle.law_told.proofs.Carriers.{IsToldUp}
+use Rattle.law_told.proofs.Notes.{BagTold, GoesTo, bag_told, gathered_told, pick_of, same_frames}
+use Rattle.law_told.proofs.Reactions.{receives_told, ticks_told}
 
 module _ (tags : Tags) where
   abbrev pub IsDeclaredSystem : ℕ → Type 0

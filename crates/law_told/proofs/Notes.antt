@@ -30,7 +30,7 @@ use Rattle.script_lines.specs.Tags.{Tags}
 use Rattle.law_clnp_answers.specs.Standing.{IsSnpa}
 use Rattle.law_clnp_answers.proofs.written.Octets.{all_both}
 use Rattle.law_tp4_proper.proofs.Octets.{octet_at}
-use Rattle.law_run.proofs.told.Carriers.{IsToldUp}
+use Rattle.law_told.proofs.Carriers.{IsToldUp}
 
 pub bytes_of : (octets : List ℕ) → AreOctets octets → IsBytes octets
 bytes_of octets h = λ i. octet_at octets i h

@@ -42,8 +42,8 @@ use Rattle.tp4_world.specs.Total.{ComesInOctets}
 use Rattle.tp4_world.specs.World.{is_at, latest, latest_from}
 use Rattle.tp4_world.specs.declared.place.EndAt.{EndAt}
 use Rattle.law_tp4_proper.proofs.Octets.{all_both, octet_at}
-use Rattle.law_run.proofs.told.Carriers.{IsToldUp}
-use Rattle.law_run.proofs.told.Sends.{AreToldBy, IsCause, IsToldWhat}
+use Rattle.law_told.proofs.Carriers.{IsToldUp}
+use Rattle.law_told.proofs.Sends.{AreToldBy, IsCause, IsToldWhat}
 use Rattle.tpdu.specs.declared.service.EndTold.TheVariants as tells
 
 -- ---- events, counted

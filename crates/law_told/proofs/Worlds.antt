@@ -61,11 +61,11 @@ use Rattle.tp4_world.specs.declared.place.EndAt.{EndAt}
 use Rattle.tp4_world.specs.declared.place.Placed.{Placed}
 use Rattle.tp4_world.proofs.Having.{with_any}
 use Rattle.tp4_world.proofs.Places.{some_same}
-use Rattle.law_run.proofs.told.Carriers.{IsToldUp, Tells}
-use Rattle.law_run.proofs.told.Sends.{AreToldBy}
-use Rattle.law_run.proofs.told.Events.{EachFrom, IsToldEvent, drop_told, each_both, each_of, ends_told, octets_bytes, refusal_told, ups_told}
-use Rattle.law_run.proofs.told.EndSteps.{ActedTold, EntityFew, calling_told, connecting_told, entity_on, restarting_few, taken_told, ticking_told}
-use Rattle.law_run.proofs.told.Rows.{after_call}
+use Rattle.law_told.proofs.Carriers.{IsToldUp, Tells}
+use Rattle.law_told.proofs.Sends.{AreToldBy}
+use Rattle.law_told.proofs.Events.{EachFrom, IsToldEvent, drop_told, each_both, each_of, ends_told, octets_bytes, refusal_told, ups_told}
+use Rattle.law_told.proofs.EndSteps.{ActedTold, EntityFew, calling_told, connecting_told, entity_on, restarting_few, taken_told, ticking_told}
+use Rattle.law_told.proofs.Rows.{after_call}
 
 written_octets : (sent : Sent) (octets : List ℕ) (is_address : List ℕ → Bool) → IsWritten sent.format sent.sum sent.tpdu octets → IsSendable sent → IsAddressed is_address sent → AreOctets octets
 written_octets sent octets is_address w fits to =
@@ -89,22 +89,22 @@ module _ {C : Type 0} (tags : Tags) (is_address : List ℕ → Bool) (link : C �
   chain_stands [] old new stands c = subst StandsSo (sym c.2) (tells.serves.answers.stays old (NextUp None) c.0 stands tt c.1)
   chain_stands (up ∷ ups) old new stands c = chain_stands ups c.0 new (tells.serves.answers.stays old (NextUp (Some up)) c.0 stands tt c.1) c.2
 
-  record UpSo (ups : List (Up (List ℕ))) (new : C) : Type 0 where
-    stands : StandsSo new
-    told_is : AllByRecursion (IsToldUp tags) ups
-    octets : AllByRecursion (ComesInOctets is_address) ups
+  pub record UpSo (ups : List (Up (List ℕ))) (new : C) : Type 0 where
+    pub stands : StandsSo new
+    pub told_is : AllByRecursion (IsToldUp tags) ups
+    pub octets : AllByRecursion (ComesInOctets is_address) ups
 
-  gathers_so : (called : C) (ups : List (Up (List ℕ))) (new : C) → StandsSo called → Gathers link steps called ups new → UpSo ups new
+  pub gathers_so : (called : C) (ups : List (Up (List ℕ))) (new : C) → StandsSo called → Gathers link steps called ups new → UpSo ups new
   gathers_so called ups new stands g = record {
     stands = chain_stands ups called new stands g.chain;
     told_is = subst (AllByRecursion (IsToldUp tags)) g.waited (tells.waiting called stands);
     octets = subst (AllByRecursion (ComesInOctets is_address)) g.waited (tells.serves.in_octets called stands);
   }
 
-  passes_so : (old : C) (call : Call (List ℕ)) (ups : List (Up (List ℕ))) (new : C) → StandsSo old → CanBeAsked is_address (link old) (asked_of call) → Passes link steps old call ups new → UpSo ups new
+  pub passes_so : (old : C) (call : Call (List ℕ)) (ups : List (Up (List ℕ))) (new : C) → StandsSo old → CanBeAsked is_address (link old) (asked_of call) → Passes link steps old call ups new → UpSo ups new
   passes_so old call ups new stands may p = gathers_so p.called ups new (tells.serves.answers.stays old call p.called stands may p.steps_to) p.gathers
 
-  ups_events : (ups : List (Up (List ℕ))) (new : C) → UpSo ups new → AreEvents (told ups)
+  pub ups_events : (ups : List (Up (List ℕ))) (new : C) → UpSo ups new → AreEvents (told ups)
   ups_events ups new u = ups_told tags is_address tells.addresses ups u.told_is u.octets
 
   -- ---- TPDUs
@@ -176,7 +176,7 @@ module _ {C : Type 0} (tags : Tags) (is_address : List ℕ → Bool) (link : C �
   entity_later : (n more now system : ℕ) (e : Entity) → EntitySo n now system e → EntitySo (n + more) now system e
   entity_later n more now system e h = record { declared = h.declared; rest = h.rest; octets = h.octets; keeps_few = entity_on n more e h.keeps_few }
 
-  later : (n more : ℕ) (world : World C) → WorldSo n world → WorldSo (n + more) world
+  pub later : (n more : ℕ) (world : World C) → WorldSo n world → WorldSo (n + more) world
   later n more world h =
       let few = h.ends_few in
       record { carrier_so = h.carrier_so; entities_so = λ system e is. entity_later n more (now_of world) system e (h.entities_so system e is); ends_few = omega (arith, few) }
@@ -278,7 +278,7 @@ module _ {C : Type 0} (tags : Tags) (is_address : List ℕ → Bool) (link : C �
       own_first n own made (told a.ups ++ a.later) new first
       (events_first (n + 1) (told a.ups) (told a.ups ++ a.later) a.later mid new (ups_events a.ups a.below u) start (λ k. hears_all a.ups (n + 1 + length (told a.ups)) mid new a.later k u.octets a.hears) refl) a.made_is
 
-  picked_told : (number system : ℕ) (answer : Picked) → number < 2 ^ 64 → IsDeclared system → IsToldEvent tags (picked_event number system answer)
+  pub picked_told : (number system : ℕ) (answer : Picked) → number < 2 ^ 64 → IsDeclared system → IsToldEvent tags (picked_event number system answer)
   picked_told number system picks.Taken low declared = (refl, (low, (declared, tt)))
   picked_told number system picks.NoSuch low declared = (refl, (low, (declared, tt)))
   picked_told number system picks.Late low declared = (refl, (low, (declared, tt)))

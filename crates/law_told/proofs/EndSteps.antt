@@ -33,9 +33,9 @@ use Rattle.law_tp4_proper.specs.Octets.{CallInOctets, EntityInOctets, HasOctets,
 use Rattle.law_tp4_proper.specs.Rest.{AreProper}
 use Rattle.law_tp4_proper.proofs.Ends.{same_end, set_ends}
 use Rattle.law_tp4_proper.proofs.Readings.{first_octets}
-use Rattle.law_run.proofs.told.Sends.{AreToldBy, told_both}
-use Rattle.law_run.proofs.told.FaultPlaces.{fault_low}
-use Rattle.law_run.proofs.told.Rows.{RowTold, StageFew, after_call, called_told, connected_told, indicated_told, stage_after, stage_later, ticked_end_told, took_told}
+use Rattle.law_told.proofs.Sends.{AreToldBy, told_both}
+use Rattle.law_told.proofs.FaultPlaces.{fault_low}
+use Rattle.law_told.proofs.Rows.{RowTold, StageFew, after_call, called_told, connected_told, indicated_told, stage_after, stage_later, ticked_end_told, took_told}
 
 -- what each end keeps
 abbrev pub EntityFew : ℕ → Entity → Type 0

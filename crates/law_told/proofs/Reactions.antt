@@ -56,9 +56,9 @@ use Rattle.law_clnp_answers.proofs.written.Fitting.{FitsOption}
 use Rattle.law_clnp_answers.proofs.written.Reading.{front_fits, front_hello_fits}
 use Rattle.law_clnp_answers.proofs.written.Writes.{FitsHello}
 use Rattle.law_tp4_proper.proofs.Octets.{octet_at}
-use Rattle.law_run.proofs.told.Carriers.{IsToldUp}
-use Rattle.law_run.proofs.told.PduFaults.{pdu_fault_low}
-use Rattle.law_run.proofs.told.Notes.{bytes_of, snpa_told}
+use Rattle.law_told.proofs.Carriers.{IsToldUp}
+use Rattle.law_told.proofs.PduFaults.{pdu_fault_low}
+use Rattle.law_told.proofs.Notes.{bytes_of, snpa_told}
 
 -- ---- words and numbers
 

@@ -16,10 +16,10 @@ use Rattle.tp4_world.specs.World.{World, entity_at}
 use Rattle.tp4_world.specs.declared.place.Placed.{Placed}
 use Rattle.tp4_world.proofs.SomeLines.{some_line}
 use Rattle.law_setup.proofs.OneLine.{one_line}
-use Rattle.law_run.proofs.told.EndSteps.{EntityFew}
-use Rattle.law_run.proofs.told.Worlds.{NamesSystems, WorldSo, line_so, start_so}
-use Rattle.law_run.proofs.told.Carriers.{Tells}
-use Rattle.law_run.proofs.told.Events.{EachFrom}
+use Rattle.law_told.proofs.EndSteps.{EntityFew}
+use Rattle.law_told.proofs.Worlds.{NamesSystems, WorldSo, line_so, start_so}
+use Rattle.law_told.proofs.Carriers.{Tells}
+use Rattle.law_told.proofs.Events.{EachFrom}
 
 module _ {C : Type 0} (tags : Tags) (is_address : List ℕ → Bool) (link : C → Link (List ℕ)) (steps : C → Call (List ℕ) → C → Type 0)
     (keeps : (old : C) (call : Call (List ℕ)) (new : C) → steps old call new → Keeps (link old) call (link new)) (StandsSo : C → Type 0) (tells : Tells tags is_address link steps StandsSo) (once : OneStep steps) where
@@ -28,7 +28,7 @@ module _ {C : Type 0} (tags : Tags) (is_address : List ℕ → Bool) (link : C �
     pub so : WorldSo tags is_address link steps keeps StandsSo tells wire n world
     pub ends : AllByRecursion (HasEntity world.entities) world.ends
 
-  ready : (n : ℕ) (world : World C) → RunSo n world → IsReady is_address link StandsSo world
+  pub ready : (n : ℕ) (world : World C) → RunSo n world → IsReady is_address link StandsSo world
   ready n world r = record {
     carrier = r.so.carrier_so;
     entities = λ system e is. let e_so = r.so.entities_so system e is in record { rest = e_so.rest; octets = e_so.octets };

@@ -50,7 +50,7 @@ use Rattle.tp4_conn.proofs.Sizes.{agreed_sized, read_sized}
 use Rattle.tp4_conn.proofs.Timely.{if_kept}
 use Rattle.law_tp4_proper.specs.Octets.{CallInOctets, EndInOctets, HalvesInOctets, HasOctets, IsPair, StageInOctets}
 use Rattle.law_tp4_proper.proofs.OctetSends.{granted_in}
-use Rattle.law_run.proofs.told.Sends.{AreToldBy, KeepsOctets, SenderFew, SendsTold, acknowledged_told, clock_few, done_told, dt_keeps, dt_told, ed_keeps, ed_told, few_later, fresh_keeps, grant_keeps, opened_told, submitted_told, ticked_told, told_both, urged_told}
+use Rattle.law_told.proofs.Sends.{AreToldBy, KeepsOctets, SenderFew, SendsTold, acknowledged_told, clock_few, done_told, dt_keeps, dt_told, ed_keeps, ed_told, few_later, fresh_keeps, grant_keeps, opened_told, submitted_told, ticked_told, told_both, urged_told}
 
 pub record HalvesFew (n : ℕ) (h : Halves) : Type 0 where
   pub sending : SenderFew n h.sending

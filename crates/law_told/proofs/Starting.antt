@@ -17,9 +17,9 @@ use Rattle.script_setup.specs.declared.transport.Limits.{Limits}
 use Rattle.script_setup.specs.Fitting.{IsWell}
 use Rattle.script_setup.specs.SetUp.{System, SetUp, end_at as end_by, entity_with, nodes_from, nodes_of, timers_of}
 use Rattle.law_setup.specs.Entities.{entities_from, entities_of}
-use Rattle.law_run.proofs.told.EndSteps.{EntityFew}
-use Rattle.law_run.proofs.told.Network.{AreNodes}
-use Rattle.law_run.proofs.told.Notes.{BagTold, IsDeclared}
+use Rattle.law_told.proofs.EndSteps.{EntityFew}
+use Rattle.law_told.proofs.Network.{AreNodes}
+use Rattle.law_told.proofs.Notes.{BagTold, IsDeclared}
 
 -- ---- the LANs
 

@@ -1,0 +1,3 @@
+pub mod Inactive
+pub mod Laws
+pub mod Reading

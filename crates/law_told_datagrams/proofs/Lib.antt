@@ -1,0 +1,4 @@
+mod Places
+mod Played
+mod Read
+mod Users

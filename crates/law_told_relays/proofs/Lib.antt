@@ -1,0 +1,5 @@
+mod Asking
+mod Kept
+mod Lines
+mod Played
+mod Pumps
