@@ -32,9 +32,9 @@ use Rattle.tp4_conn.specs.Table.{Called, Event, Ticked, Took, at, on_call, on_ti
 use Rattle.tp4_conn.proofs.Propers.{step_row}
 use Rattle.script_journal.specs.Lawful.{Marked, expediteds, normals}
 use Rattle.law_tp4_history.specs.Ends.{Ak, Body, Dt, Ea, Ed, Offer, Sent as SentBy, Terms, Times}
-use Rattle.law_tp4_history.specs.Tracks.{CanIn, CanOut, GoesOn, Track}
+use Rattle.law_tp4_history.specs.Tracks.{CanIn, CanOut, GoesOn, IsRun, Track}
 use Rattle.law_tp4_history.proofs.Marks.{expediteds-append, normals-append}
-use Rattle.law_tp4_history.proofs.Tracked.{GrowsTrack, Hears, HearsIn, IsRun, runs_in, runs_out}
+use Rattle.law_tp4_history.proofs.Tracked.{GrowsTrack, Hears, HearsIn, runs_in, runs_out}
 use Rattle.law_tp4_moves.specs.Lines.{AreSentIn, Begun, CarriesItsUnit, Flowed, Going, IsIn, IsKnownEvent, IsKnownTpdu, IsSentIn, IsTimely, LinesGoOn, LinesStay, Stands, Still, given}
 use Rattle.law_tp4_moves.specs.Seen.{IsNumbered, seen}
 use Rattle.law_tp4_pair.specs.Pair.{tick_of}

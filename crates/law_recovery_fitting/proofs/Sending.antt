@@ -10,8 +10,8 @@ use Rattle.tp4_conn.specs.Proper.{AreSendable}
 use Rattle.script_journal.specs.Lawful.{normals}
 use Rattle.law_tp4_history.specs.Ends.{Ak, Body, Dt, Ea, Ed, Offer, Plain, Times}
 use Rattle.law_tp4_history.specs.Line.{Clock, Expedites, Flows, Happening, Line, Runs, Submit, empty, next as next_line}
-use Rattle.law_tp4_history.specs.Tracks.{CanIn, RunsBy, Track, clocked}
-use Rattle.law_tp4_history.proofs.Tracked.{Grows, GrowsTrack, IsAt, IsRun}
+use Rattle.law_tp4_history.specs.Tracks.{CanIn, IsAt, IsRun, RunsBy, Track, clocked}
+use Rattle.law_tp4_history.proofs.Tracked.{Grows, GrowsTrack}
 use Rattle.law_tp4_moves.specs.Lines.{ArePlain, AreSentIn, IsIn}
 use Rattle.law_tp4_moves.specs.Seen.{IsNumbered, seen}
 

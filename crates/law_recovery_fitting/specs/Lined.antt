@@ -6,8 +6,7 @@ use Rattle.tp4_conn.specs.Opened.{is_expedited}
 use Rattle.tp4_conn.specs.Proper.{IsProper}
 use Rattle.script_journal.specs.Lawful.{Marked, expediteds, normals}
 use Rattle.law_tp4_history.specs.Ends.{Terms, Times}
-use Rattle.law_tp4_history.specs.Tracks.{Track}
-use Rattle.law_tp4_history.proofs.Tracked.{IsRun}
+use Rattle.law_tp4_history.specs.Tracks.{IsRun, Track}
 use Rattle.law_tp4_moves.specs.Lines.{Stands}
 use Rattle.law_tp4_pair.specs.Pair.{Pair}
 use Rattle.law_recovery_going.specs.Fitting.{AllShort}

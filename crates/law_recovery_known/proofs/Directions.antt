@@ -29,12 +29,11 @@ use Rattle.script_journal.specs.declared.event.Event.{Event}
 use Rattle.law_tp4_history.specs.Ends.{Terms}
 use Rattle.law_tp4_history.specs.History.{IsPartner}
 use Rattle.law_tp4_history.specs.Line.{empty}
-use Rattle.law_tp4_history.specs.Tracks.{Track, Whole}
+use Rattle.law_tp4_history.specs.Tracks.{IsRun, Track, Whole}
 use Rattle.law_tp4_history.proofs.Complete.{Complete}
 use Rattle.law_tp4_history.proofs.Lines.{Fine, fine_empty, fine_runs, line_sound}
 use Rattle.law_tp4_history.proofs.Meets.{swap}
 use Rattle.law_tp4_history.proofs.Sound.{one_partner}
-use Rattle.law_tp4_history.proofs.Tracked.{IsRun}
 use Rattle.law_tp4_history.proofs.Written.{Kept}
 use Rattle.law_tp4_moves.specs.Lines.{IsReceivingAt, IsSendingAt}
 use Rattle.law_tp4_moves.specs.Moves.{IsOpened, IsSeenIn, times_of}

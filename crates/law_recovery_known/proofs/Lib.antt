@@ -1,5 +1,7 @@
+pub mod Asking
 pub mod Carried
 pub mod Directions
+pub mod Lined
 pub mod Parting
 pub mod Partners
 pub mod Recovering

@@ -8,7 +8,7 @@ use Rattle.tp4_conn.specs.declared.timers.Timers.{Timers}
 use Rattle.tp4_entity.specs.Entity.{Entity}
 use Rattle.script_journal.specs.Lawful.{ArePartners, shown, submitted}
 use Rattle.script_journal.specs.declared.event.Event.{Event}
-use Rattle.law_tp4_pair.specs.Pair.{IsIdle, Pair}
+use Rattle.law_tp4_pair.specs.Pair.{Comes_back, Comes_forth, Happening, IsIdle, Pair}
 use Rattle.law_recovery_steps.specs.Beginning.{AreAgreed}
 use Rattle.law_recovery_steps.specs.Known.{AreKnown}
 use Rattle.tp4_world.specs.World.{World}
@@ -42,6 +42,12 @@ pub record AreTimed (timers : Timers) (p : Pair) (o q : InOpened) : Type 0 where
   pub called_t1 : q.halves.sending.rules.t1 ≡ timers.t1
   pub calling_sendings : o.halves.sending.rules.sendings ≡ timers.sendings
   pub called_sendings : q.halves.sending.rules.sendings ≡ timers.sendings
+
+-- a TPDU that waits comes
+abbrev pub IsArrival : Happening → Type 0
+IsArrival Comes_forth = Unit {0}
+IsArrival Comes_back = Unit {0}
+IsArrival other = ⊥
 
 -- of each pair of partners all is known, they agreed, and both have the timers of the calling end
 abbrev pub PairsAreKnown : {C : Type 0} → (C → Link (List ℕ)) → List Event → World C → Type 0

@@ -1,6 +1,6 @@
 //! What is known of two partner ends where nothing waits between them (X.224, class 4 procedures; X.214, queue model).
 
-ghost use Rattle.law_recovery_known.specs.Laws.{KnownAreCarried, PartnersAreKnown, PartnersPart, PartnersRecover, PartnersShow};
+ghost use Rattle.law_recovery_known.specs.Laws.{AskersAreKnown, AskersOpen, AskersShow, KnownAreCarried, PartnersAreKnown, PartnersAreLined, PartnersPart, PartnersRecover, PartnersShow};
 ghost use Rattle.law_recovery_known.specs.Partners.{PairsAreKnown};
 ghost use Rattle.law_tp4_lawful.specs.Called.{OfWhole, OnCalls};
 ghost use Rattle.tp4_number.specs.Number.{wire};
@@ -21,6 +21,15 @@ pub fn partners_are_known<C: Carrier<Addr = Nsap>>()
     law_tp4_history::journals_are_lawful();
 }
 
+/// And they stand in the lines of their connection: each normal unit that was submitted has at most 16,384 octets, and none was submitted as expedited
+/// where that is not agreed.
+pub fn partners_are_lined<C: Carrier<Addr = Nsap>>()
+    ensures { PartnersAreLined C.link C.steps }
+{
+    law_recovery_world::over_calls::<C>();
+    law_recovery_world::calls_know::<C>();
+}
+
 /// What is known of a direction has what is known of its units at any tick.
 pub fn known_are_carried()
     ensures { KnownAreCarried }
@@ -36,18 +45,44 @@ pub fn partners_recover<C: Carrier<Addr = Nsap>>()
     law_recovery_steps::pairs_recover();
 }
 
-/// And each has shown by the journal what the other submitted, where what either told of numbers that the number rule holds back stands there.
+/// And each has shown by the journal what the other submitted; of a number that the number rule holds back the journal tells.
 pub fn partners_show<C: Carrier<Addr = Nsap>>()
     ensures { PartnersShow C.link C.steps }
 {
     partners_recover::<C>();
+    law_recovery_world::over_calls::<C>();
 }
 
 /// Of two partners that are Opened after some calls: both stay so, or the first to leave did so by its user, by what it had tried N times by
-/// then, by what it had not heard since before then, or by a TPDU that it may not take; and its partner follows.
+/// then, or by what it had not heard since before then, and by nothing that came; and its partner follows.
 pub fn partners_part<C: Carrier<Addr = Nsap>>()
     ensures { PartnersPart C.link C.steps }
 {
     partners_are_known::<C>();
+    partners_are_lined::<C>();
     law_recovery_going::pairs_part();
+    law_recovery_fitting::lines_fit();
+}
+
+/// After any calls of a network after which its carrier is honest: of each two partners of which the one is in CrWait and the other in AkWait, where
+/// nothing waits between them, all is known that such a pair begins with, and their timers are those of the network.
+pub fn askers_are_known<C: Carrier<Addr = Nsap>>()
+    ensures { AskersAreKnown C.link C.steps }
+{
+    law_recovery_world::over_calls::<C>();
+    law_recovery_world::calls_know::<C>();
+}
+
+/// So T1 ticks later both are Opened, or one has left; and where the longer of T1 and W has passed, each has shown by the journal what the other
+/// submitted, but for want of credit or by the number rule.
+pub fn askers_open<C: Carrier<Addr = Nsap>>()
+    ensures opened { AskersOpen C.link C.steps }
+    ensures shown { AskersShow C.link C.steps }
+{
+    askers_are_known::<C>();
+    partners_are_known::<C>();
+    known_are_carried();
+    law_recovery_world::over_calls::<C>();
+    law_recovery_opening::asks_begin();
+    law_recovery_opening::pairs_open();
 }

@@ -3,11 +3,11 @@ use Rattle.std.proofs.Common.{◌≡◌, ℕ, ◌+◌, ◌≤◌, true, List, []
 use Rattle.tp4_number.specs.Traffic.{Event, Leads, Rules, Tick}
 use Rattle.law_tp4_history.specs.Ends.{IsFit, Times}
 use Rattle.law_tp4_history.specs.Line.{Clock, Expedites, Flows, Happening, Line, Runs, Submit, empty, next}
-use Rattle.law_tp4_history.specs.Tracks.{LeadsAll, Moment, ReachedAll, Track, Whole, onward}
+use Rattle.law_tp4_history.specs.Tracks.{IsRun, LeadsAll, Moment, ReachedAll, Track, Whole, onward}
 use Rattle.law_tp4_history.proofs.Agreed.{Agreed, agreed_start, agreed_step}
 use Rattle.law_tp4_history.proofs.Sound.{Sound}
 use Rattle.law_tp4_history.proofs.Steps.{sound_start, sound_step}
-use Rattle.law_tp4_history.proofs.Tracked.{IsRun, Tracked, tracked_start, tracked_step}
+use Rattle.law_tp4_history.proofs.Tracked.{Tracked, tracked_start, tracked_step}
 use Rattle.law_tp4_recovery.specs.Speaking.{Knows, Speaks}
 use Rattle.law_tp4_recovery.specs.Views.{AreViews}
 use Rattle.law_tp4_recovery.proofs.Speaking.{all_speak, views_known}

@@ -23,11 +23,12 @@ use Rattle.tp4_conn.specs.UserWait.{user_wait_refuse, user_wait_tick}
 use Rattle.tp4_entity.specs.Association.{calls, is_called, is_registered, met, new_end, refusal}
 use Rattle.tp4_entity.specs.Entity.{Entity}
 use Rattle.tp4_entity.specs.References.{least_free}
-use Rattle.law_tp4_pair.specs.Pair.{Asks_called, Asks_calling, Clock, Comes_back, Comes_forth, Happening, May, Pair, clocked, comes_back, comes_forth, next, tick_of}
+use Rattle.law_tp4_pair.specs.Pair.{Asks_called, Asks_calling, Clock, Comes_back, Comes_forth, Happening, Leads, May, Pair, clocked, comes_back, comes_forth, next, tick_of}
 use Rattle.law_tp4_pair.specs.steps.Standing.{HasLeft}
 use Rattle.law_tp4_pair.proofs.Confirming.{indicates}
 use Rattle.law_recovery_steps.specs.Steps.{IsParted}
-use Rattle.law_recovery_opening.specs.Requests.{IsAccept, IsAnswered, IsRequested, Refused, Stands, Waits}
+use Rattle.law_recovery_steps.proofs.Pairs.{parted_after}
+use Rattle.law_recovery_opening.specs.Requests.{IsAccept, IsAccepted, IsAnswered, IsRequested, Refused, Stands, Waits}
 use Rattle.law_recovery_opening.specs.Steps.{AreCrs}
 
 -- ---- the rows
@@ -141,6 +142,33 @@ requests_stay p (Clock calling called) x may = by (ticked_asks calling) (ticked_
     by (inl left) w = inl (inl left)
     by (inr a) (inl left) = inl (inr left)
     by (inr a) (inr w) = inr (inl (record { request = a.r; since = w.since; calling = a.stage; called = w.stage; forth = crs_then p.forth m.tpdus x.forth a.tpdus; back = (λ i. x.back i ++ w.tpdus i) }))
+
+-- however much happens
+later_accept : (p : Pair) (happening : Happening) (happenings : List Happening) (last : Pair) → May p happening → IsAccepted (next p happening) happenings last → IsAccepted p (happening ∷ happenings) last
+later_accept p happening happenings last may a = record {
+  before = happening ∷ a.before;
+  accept = a.accept;
+  after = a.after;
+  happenings_are = ap (λ (l : List Happening). happening ∷ l) a.happenings_are;
+  is = a.is;
+  mid = a.mid;
+  early = (may, a.early);
+  waits = a.waits;
+  late = a.late;
+}
+
+pub requests_last : (p : Pair) (happenings : List Happening) (last : Pair) → IsRequested p → Leads p happenings last → IsParted last ⊎ (IsRequested last ⊎ IsAccepted p happenings last)
+requests_last p [] last x l = inr (inl (subst IsRequested (sym l) x))
+requests_last p (happening ∷ happenings) last x l = elim (requests_stay p happening x l.0) [
+  | inl left ↦ inl (parted_after (next p happening) last happenings left l.1)
+  | inr y ↦ elim y [
+    | inl stays ↦ elim (requests_last (next p happening) happenings last stays l.1) [
+      | inl left ↦ inl left
+      | inr z ↦ inr (elim z [ inl waits ↦ inl waits | inr a ↦ inr (later_accept p happening happenings last l.0 a) ])
+    ]
+    | inr accept ↦ inr (inr (record { before = []; accept = happening; after = happenings; happenings_are = refl; is = accept; mid = p; early = refl; waits = x; late = l.1 }))
+  ]
+]
 
 -- ---- a CR
 

@@ -25,7 +25,7 @@ use Rattle.law_recovery_steps.specs.Resting.{AreLater, AreLevel, HaveWindow}
 use Rattle.law_recovery_steps.specs.Showing.{AreCarried}
 use Rattle.law_recovery_steps.specs.Steps.{AreRiding, IsParted, RidesOnward, Since}
 use Rattle.law_recovery_opening.specs.Opening.{AreAsking, IsBegunSo, IsQueued, KnowsCc, as_confirmed, as_opened}
-use Rattle.law_recovery_opening.specs.Requests.{IsAccept, IsAnswered, IsRequested}
+use Rattle.law_recovery_opening.specs.Requests.{IsAccept, IsAccepted, IsAnswered, IsRequested}
 use Rattle.law_recovery_opening.specs.Steps.{IsOpenedBoth, IsOpening}
 
 -- the called end takes an AK, a DT, an ED or an EA that waits first: it is Opened, and both ride on; or it has left
@@ -71,6 +71,10 @@ PairsOpenRest = (life size t1 window : ℕ) (p : Pair) (o : InOpened) (w : InAkW
 -- whatever happens next, the called end stands in UserWait, or one of them has left, as long as the user does not accept
 abbrev pub RequestsStay : Type 0
 RequestsStay = (p : Pair) (happening : Happening) → IsRequested p → May p happening → IsParted (next p happening) ⊎ (IsRequested (next p happening) ⊎ IsAccept happening)
+
+-- so whatever happens in order, however long: the called end stands in UserWait, or its user has accepted, or one of them has left
+abbrev pub RequestsLast : Type 0
+RequestsLast = (p : Pair) (happenings : List Happening) (last : Pair) → IsRequested p → Leads p happenings last → IsParted last ⊎ (IsRequested last ⊎ IsAccepted p happenings last)
 
 -- T1 ticks after a tick, an end in CrWait that is not due has sent its CR since
 abbrev pub RequestsAgain : Type 0

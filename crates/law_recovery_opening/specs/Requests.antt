@@ -1,6 +1,6 @@
 -- A calling end in CrWait since when nothing is lost: the called end stands in UserWait until its user answers, and where there is none a CR makes one, or its answer ends
 -- the calling one (X.224, class 4: connection establishment, retransmission on time-out).
-use Rattle.std.specs.Prelude.{◌≡◌, ℕ, true, false, List, [], ◌∷◌}
+use Rattle.std.specs.Prelude.{◌≡◌, ℕ, true, false, List, [], ◌∷◌, ◌++◌}
 use Rattle.std.specs.List.{list_any}
 use Rattle.tp4_conn.specs.declared.call.ConnectCall.{ConnectCall}
 use Rattle.tp4_conn.specs.declared.call.UserCall.TheVariants.{Accept}
@@ -10,7 +10,7 @@ use Rattle.tp4_conn.specs.Agreeing.{proposed_by}
 use Rattle.tp4_conn.specs.Making.{called_end, indicated}
 use Rattle.tp4_entity.specs.Association.{answers, is_called, refusal}
 use Rattle.tp4_entity.specs.Entity.{Acted, Entity, moved}
-use Rattle.law_tp4_pair.specs.Pair.{Asks_called, Happening, Pair}
+use Rattle.law_tp4_pair.specs.Pair.{Asks_called, Happening, Leads, Pair, next}
 use Rattle.law_recovery_opening.specs.Steps.{AreCrs}
 
 -- the calling end is in CrWait, and the called one in UserWait; nothing but CRs waits
@@ -26,6 +26,18 @@ pub record IsRequested (p : Pair) : Type 0 where
 abbrev pub IsAccept : Happening → Type 0
 IsAccept (Asks_called (Accept asked octets)) = Unit {0}
 IsAccept other = ⊥
+
+-- the user of the called end accepts among these, up to which the called end stood in UserWait
+pub record IsAccepted (first : Pair) (happenings : List Happening) (last : Pair) : Type 0 where
+  pub before : List Happening
+  pub accept : Happening
+  pub after : List Happening
+  pub happenings_are : happenings ≡ before ++ accept ∷ after
+  pub is : IsAccept accept
+  pub mid : Pair
+  pub early : Leads first before mid
+  pub waits : IsRequested mid
+  pub late : Leads (next mid accept) after last
 
 -- what the CR of a call does where it comes: an end for that caller is there, or is made and waits for its user; or a DR goes back
 pub data IsAnswered (now : ℕ) (e : Entity) (from : List ℕ) (call : ConnectCall) (m : Acted) : Type 0 where

@@ -1,6 +1,6 @@
 //! Two ends of which the called one is in AkWait, since when nothing is lost between them: how both are Opened (X.224, class 4 state tables).
 
-ghost use Rattle.law_recovery_opening.specs.Laws.{AsksBegin, DataOpens, OpeningsStep, PairsOpen, PairsOpenLevel, PairsOpenRest, RefusalsEnd, RequestsAgain, RequestsMet, RequestsStay};
+ghost use Rattle.law_recovery_opening.specs.Laws.{AsksBegin, DataOpens, OpeningsStep, PairsOpen, PairsOpenLevel, PairsOpenRest, RefusalsEnd, RequestsAgain, RequestsLast, RequestsMet, RequestsStay};
 
 /// An end in AkWait takes an AK, a DT, an ED or an EA: it is Opened, and both directions ride on; or it has left.
 pub fn data_opens()
@@ -28,7 +28,8 @@ pub fn pairs_open()
 
 /// Where the calling end is in CrWait and the called one in UserWait they are so, whatever happens in order, until the user accepts; or one has left.
 pub fn requests_stay()
-    ensures { RequestsStay }
+    ensures next { RequestsStay }
+    ensures last { RequestsLast }
 {}
 
 /// T1 ticks after any tick an end in CrWait that is not due has sent its CR since. Where that comes a called end is there, or is made and

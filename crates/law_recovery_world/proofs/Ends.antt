@@ -10,6 +10,7 @@ use Rattle.tp4_number.specs.Number.{whole}
 use Rattle.tp4_flow.specs.declared.step.Sent.{Sent}
 use Rattle.tp4_sending.specs.FlowSender.{FlowSender}
 use Rattle.law_recovery_pair.specs.Viewing.{IsWithin}
+use Rattle.tp4_conn.specs.Calls.{call_refusal}
 use Rattle.tp4_conn.specs.End.{End, Moved, end_of}
 use Rattle.tp4_conn.specs.Making.{connected, on_cr}
 use Rattle.tp4_conn.specs.Matching.{is_match}
@@ -29,8 +30,10 @@ use Rattle.tp4_entity.specs.Entity.{Acted, Entity, at, end_at, moved, with_end}
 use Rattle.tp4_entity.specs.References.{least_free}
 use Rattle.tp4_entity.specs.Step.{call_of, calling, calling_end, connecting, first_due, kept_end, ticking, ticking_at, ticking_end}
 use Rattle.law_tp4_proper.proofs.Ends.{same_end, set_ends}
-use Rattle.law_recovery_world.specs.Steady.{HasSteadyEnds, IsSteady, StageLate}
+use Rattle.law_recovery_world.specs.Steady.{HasSteadyEnds, IsSteady, StageLate, StageMade, StageUrges}
 use Rattle.law_recovery_world.proofs.LateRows.{row_late}
+use Rattle.law_recovery_world.proofs.Making.{row_made}
+use Rattle.law_recovery_world.proofs.Urging.{IsUnrefused, row_urges}
 
 -- ---- an end
 
@@ -64,14 +67,16 @@ module _ (credit now : ℕ) (low : credit ≤ 15) where
     steady : Steady (end_of m)
     gives : AllGive credit m.tpdus
 
-  row_does : (e : End) (event : Event) → Steady e → EventGives credit event → Does (stepped whole now e event)
-  row_does e event s is =
+  row_does : (e : End) (event : Event) → IsUnrefused e event → Steady e → EventGives credit event → Does (stepped whole now e event)
+  row_does e event allowed s is =
       let g : GivesRow credit (stepped whole now e event) = row_gives credit whole now e event s.gives is in
       record {
         steady = record {
           gives = g.gives;
           knows = stage_knows credit e.stage event (stepped whole now e event).stage (row_knows credit whole now e event s.gives is s.knows);
           late = row_late credit now e event (subst (λ (n : ℕ). n ≤ 15) (sym s.gives.timers) low) s.gives.timers s.late;
+          urges = row_urges now e event allowed s.urges;
+          made = row_made now e event s.made;
         };
         gives = g.tpdus;
       }
@@ -95,14 +100,19 @@ module _ (credit now : ℕ) (low : credit ≤ 15) where
   pub connecting_steps : (reference : ℕ) (e : Entity) (request : ConnectRequest) → e.timers.credit ≡ credit → HasSteadyEnds credit now e → Steps (connecting now e reference request)
   connecting_steps reference e request is all =
       let g : GivesRow credit (connected now (call_of e reference request)) = connect_gives credit now (call_of e reference request) is in
-      moves (at now e) reference (connected now (call_of e reference request)) all (record { steady = record { gives = g.gives; knows = tt; late = tt }; gives = g.tpdus })
+      moves (at now e) reference (connected now (call_of e reference request)) all (record { steady = record { gives = g.gives; knows = tt; late = tt; urges = tt; made = tt }; gives = g.tpdus })
 
-  called_end : (reference : ℕ) (e : Entity) (call : UserCall) (place : Option End) → end_at e reference ≡ place → HasSteadyEnds credit now e → Steps (calling_end whole now e reference call place)
-  called_end reference e call None is all = record { ends = all; gives = tt }
-  called_end reference e call (Some end) is all = moves e reference (stepped whole now end (Called call)) all (row_does end (Called call) (all reference end is) tt)
+  -- the call is not refused
+  abbrev pub IsAllowed : Entity → ℕ → UserCall → Type 0
+  IsAllowed e reference call = (end : End) → end_at e reference ≡ Some end → call_refusal end.base end.stage call ≡ None
 
-  pub calling_steps : (reference : ℕ) (e : Entity) (call : UserCall) → HasSteadyEnds credit now e → Steps (calling whole now e reference call)
-  calling_steps reference e call all = called_end reference (at now e) call (end_at e reference) refl all
+  called_end : (reference : ℕ) (e : Entity) (call : UserCall) (place : Option End) → IsAllowed e reference call → end_at e reference ≡ place → HasSteadyEnds credit now e
+      → Steps (calling_end whole now e reference call place)
+  called_end reference e call None allowed is all = record { ends = all; gives = tt }
+  called_end reference e call (Some end) allowed is all = moves e reference (stepped whole now end (Called call)) all (row_does end (Called call) (allowed end is) (all reference end is) tt)
+
+  pub calling_steps : (reference : ℕ) (e : Entity) (call : UserCall) → IsAllowed e reference call → HasSteadyEnds credit now e → Steps (calling whole now e reference call)
+  calling_steps reference e call allowed all = called_end reference (at now e) call (end_at e reference) allowed refl all
 
   -- ---- a tick
 
@@ -115,7 +125,7 @@ module _ (credit now : ℕ) (low : credit ≤ 15) where
   ticked_end e reference None is all = record { ends = all; gives = tt }
   ticked_end e reference (Some end) is all =
       let m : Moved = stepped whole now end Ticked in
-      ticked_place e reference m (due m.base m.stage) all (row_does end Ticked (all reference end is) tt)
+      ticked_place e reference m (due m.base m.stage) all (row_does end Ticked tt (all reference end is) tt)
 
   ticked_at : (e : Entity) (found : Option ℕ) → HasSteadyEnds credit now e → Steps (ticking_at whole now e found)
   ticked_at e None all = record { ends = all; gives = tt }
@@ -145,16 +155,16 @@ module _ (credit now : ℕ) (low : credit ≤ 15) where
   met_end e from tpdu sum reference None is all give = unmatched_steps e from tpdu all
   met_end e from tpdu sum reference (Some end) is all give =
       if_kept Steps (is_match end.base end.stage from tpdu) (moved e reference (stepped whole now end (Took tpdu sum))) (unmatched e from tpdu)
-      (λ _. moves e reference (stepped whole now end (Took tpdu sum)) all (row_does end (Took tpdu sum) (all reference end is) give))
+      (λ _. moves e reference (stepped whole now end (Took tpdu sum)) all (row_does end (Took tpdu sum) tt (all reference end is) give))
       (λ _. unmatched_steps e from tpdu all)
 
   some_same : (a b : Moved) → Some a ≡ Some b → a ≡ b
   some_same a b e = ap (λ (x : Option Moved). unwrap_or x a) e
 
   -- an end that a CR makes waits for its user
-  waiting : (own : ℕ) (from : List ℕ) (rules : Timers) (cr : Tpdu) (m : Moved) → on_cr now own from rules cr ≡ Some m → StageKnows credit m.stage × StageLate credit now m.stage
+  waiting : (own : ℕ) (from : List ℕ) (rules : Timers) (cr : Tpdu) (m : Moved) → on_cr now own from rules cr ≡ Some m → StageKnows credit m.stage × StageLate credit now m.stage × StageUrges m.base.agreed m.stage × StageMade now m.base m.stage
   waiting own from rules (Cr given source width calling called size preferred extra version classes ack_time text) m e =
-      subst (λ (x : Moved). StageKnows credit x.stage × StageLate credit now x.stage) (some_same _ m e) (tt, tt)
+      subst (λ (x : Moved). StageKnows credit x.stage × StageLate credit now x.stage × StageUrges x.base.agreed x.stage × StageMade now x.base x.stage) (some_same _ m e) (tt, tt, tt, tt)
   waiting own from rules other m e = absurd (none-some _ e)
 
   made_steps : (e : Entity) (reference : ℕ) (from : List ℕ) (cr : Tpdu) (made : Option Moved) → on_cr now reference from e.timers cr ≡ made → e.timers.credit ≡ credit → HasSteadyEnds credit now e
@@ -163,7 +173,7 @@ module _ (credit now : ℕ) (low : credit ≤ 15) where
   made_steps e reference from cr (Some m) is same all give =
       let g : GivesRow credit m = indicated_gives credit now reference from e.timers cr m same give is in
       let waits = waiting reference from e.timers cr m is in
-      moves e reference m all (record { steady = record { gives = g.gives; knows = waits.0; late = waits.1 }; gives = g.tpdus })
+      moves e reference m all (record { steady = record { gives = g.gives; knows = waits.0; late = waits.1; urges = waits.2; made = waits.3 }; gives = g.tpdus })
 
   new_steps : (e : Entity) (from : List ℕ) (source : ℕ) (cr : Tpdu) (found : Option ℕ) → e.timers.credit ≡ credit → HasSteadyEnds credit now e → GivesCredit credit cr
       → Steps (new_end now e from source cr found)

@@ -18,7 +18,7 @@ use Rattle.law_tp4_lawful.proofs.Worlds.{Explains}
 use Rattle.law_tp4_lawful.proofs.ReferencesHalves.{AreThere, are_there, known_at}
 use Rattle.law_tp4_lawful.proofs.WorldPlaces.{some_same}
 use Rattle.law_recovery_world.specs.Lines.{IsOfferedView, KnowsLine}
-use Rattle.law_recovery_world.specs.steps.Known.{StageSees}
+use Rattle.law_recovery_world.proofs.Known.{StageSees}
 use Rattle.law_recovery_world.proofs.Viewing.{views_known}
 
 module _ {C : Type 0} (link : C → Link (List ℕ)) (titles : List (List ℕ)) (timers : Timers) (w : Whole) (journal : List Event) (world : World C) (explains : Explains link titles timers w journal world)

@@ -14,11 +14,12 @@ use Rattle.law_tp4_history.specs.Tracks.{Whole}
 use Rattle.law_tp4_lawful.specs.References.{halves_at}
 use Rattle.law_tp4_lawful.proofs.ReferencesLater.{partners_on}
 use Rattle.law_recovery_world.specs.Lines.{IsOfferedView}
-use Rattle.law_recovery_world.specs.steps.Known.{StageSees}
+use Rattle.law_recovery_world.proofs.Known.{StageHas, StageSees}
+use Rattle.law_recovery_world.proofs.Telling.{tells_on}
 
 -- ---- a longer journal
 
-pub sees_on : (credit : ℕ) (w new : Whole) (journal made : List Told) (y : ℕ) (stage : StateData) → ((offer : Offer) → Contains w.base.offers offer → Contains new.base.offers offer)
+sees_on : (credit : ℕ) (w new : Whole) (journal made : List Told) (y : ℕ) (stage : StateData) → ((offer : Offer) → Contains w.base.offers offer → Contains new.base.offers offer)
     → StageSees credit w journal y stage → StageSees credit new (journal ++ made) y stage
 sees_on credit w new journal made y (Opened o) keeps (inl fresh) = inl fresh
 sees_on credit w new journal made y (Opened o) keeps (inr v) =
@@ -29,6 +30,10 @@ sees_on credit w new journal made y (WaitBeforeClose c) keeps sees = tt
 sees_on credit w new journal made y (UserWait since) keeps sees = tt
 sees_on credit w new journal made y (Closing c) keeps sees = tt
 sees_on credit w new journal made y (Frozen when) keeps sees = tt
+
+pub has_on : (credit : ℕ) (w new : Whole) (journal made : List Told) (y : ℕ) (stage : StateData) → ((offer : Offer) → Contains w.base.offers offer → Contains new.base.offers offer)
+    → StageHas credit w journal y stage → StageHas credit new (journal ++ made) y stage
+has_on credit w new journal made y stage keeps h = (sees_on credit w new journal made y stage keeps h.0, tells_on journal made y stage h.1)
 
 pub lift : (w new : Whole) (journal made : List Told) (y : ℕ) (t : FlowSender) → ((offer : Offer) → Contains w.base.offers offer → Contains new.base.offers offer)
     → (z : ℕ) × ArePartners journal (z + 1) y × IsOfferedView w z t → (z : ℕ) × ArePartners (journal ++ made) (z + 1) y × IsOfferedView new z t

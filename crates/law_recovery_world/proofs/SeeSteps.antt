@@ -35,9 +35,10 @@ use Rattle.law_tp4_lawful.specs.References.{halves_at}
 use Rattle.law_tp4_lawful.proofs.Acting.{IsLike}
 use Rattle.law_tp4_lawful.proofs.WorldPlaces.{some_same}
 use Rattle.law_recovery_world.specs.Lines.{IsOfferedView}
-use Rattle.law_recovery_world.specs.steps.Known.{AreSeeing, Known, StageSees}
-use Rattle.law_recovery_world.proofs.SeeRows.{HearsIn, lift, sees_on}
-use Rattle.law_recovery_world.proofs.Seeing.{More, all_see, ends_same, new_step, none_step, row_step}
+use Rattle.law_recovery_world.proofs.Known.{AreSeeing, Known, StageHas}
+use Rattle.law_recovery_world.proofs.SeeRows.{HearsIn, has_on, lift}
+use Rattle.law_recovery_world.proofs.Seeing.{More, all_see, ends_same, new_step, none_step, row_step, told}
+use Rattle.law_recovery_world.proofs.Telling.{none_told, row_told}
 
 kept_at : (m : Moved) (next : Option ℕ) (x : End) → kept_end m next ≡ Some x → x ≡ end_of m
 kept_at m None x is = absurd (none-some x is)
@@ -52,7 +53,7 @@ module _ (titles : List (List ℕ)) (timers : Timers) (w : Whole) (journal : Lis
   Sees first acted = AreSeeing timers.credit new ((journal ++ first) ++ events_after ends system entity.own acted.events) (with_entity entities system acted.entity) (ends_after ends system acted.events)
 
   more : (first rest : List Told) → More titles timers w journal entities ends known system entity is new keeps ((journal ++ first) ++ rest)
-  more first rest y stage sees = sees_on timers.credit new new (journal ++ first) rest y stage (λ offer there. there) (sees_on timers.credit w new journal first y stage keeps sees)
+  more first rest y stage has = has_on timers.credit new new (journal ++ first) rest y stage (λ offer there. there) (has_on timers.credit w new journal first y stage keeps has)
 
   abbrev here : Entity
   here = at w.base.clock entity
@@ -78,7 +79,9 @@ module _ (titles : List (List ℕ)) (timers : Timers) (w : Whole) (journal : Lis
       subst (λ (es : List EndAt). AreSeeing timers.credit new ((journal ++ first) ++ rest) (with_entity entities system (with_end b reference place)) es)
       (sym (ends_same titles timers w journal entities ends known system entity is new keeps reference e stands event gives))
       (all_see titles timers w journal entities ends known system entity is new keeps ((journal ++ first) ++ rest) ends (with_end b reference place) (more first rest)
-      (row_step titles timers w journal entities ends known system entity is new keeps reference e stands event gives ((journal ++ first) ++ rest) b like (more first rest) (hears rest) place kept))
+      (row_step titles timers w journal entities ends known system entity is new keeps reference e stands event gives ((journal ++ first) ++ rest) b like (more first rest) (hears rest)
+      (row_told system entity.own reference (latest ends system reference) w.base.clock ends e event journal first refl
+      (told titles timers w journal entities ends known system entity is new keeps reference e stands event gives) (known.seeing system entity is reference e stands).1) place kept))
 
   -- ---- a call and a tick
 
@@ -122,10 +125,10 @@ module _ (titles : List (List ℕ)) (timers : Timers) (w : Whole) (journal : Lis
 
   -- an end that a CR makes waits for its user
   waiting : (own : ℕ) (from : List ℕ) (rules : Timers) (cr : Tpdu) (m : Moved) → on_cr w.base.clock own from rules cr ≡ Some m
-      → (ends_after ends system m.events ≡ ends ++ record { system = system; reference = own } ∷ []) × ((made : List Told) (y : ℕ) → StageSees timers.credit new made y m.stage)
+      → (ends_after ends system m.events ≡ ends ++ record { system = system; reference = own } ∷ []) × ((made : List Told) (y : ℕ) → StageHas timers.credit new made y m.stage)
   waiting own from rules (Cr given source width calling called size preferred extra version classes ack_time text) m e =
-      subst (λ (x : Moved). (ends_after ends system x.events ≡ ends ++ record { system = system; reference = own } ∷ []) × ((made : List Told) (y : ℕ) → StageSees timers.credit new made y x.stage))
-      (some_same _ m e) (refl, λ made y. tt)
+      subst (λ (x : Moved). (ends_after ends system x.events ≡ ends ++ record { system = system; reference = own } ∷ []) × ((made : List Told) (y : ℕ) → StageHas timers.credit new made y x.stage))
+      (some_same _ m e) (refl, λ made y. (tt, none_told made y _ tt))
   waiting own from rules other m e = absurd (none-some _ e)
 
   made_sees : (reference : ℕ) (from : List ℕ) (cr : Tpdu) (made : Option Moved) → on_cr w.base.clock reference from entity.timers cr ≡ made → 1 ≤ reference → reference ≤ length entity.ends
@@ -177,4 +180,4 @@ module _ (titles : List (List ℕ)) (timers : Timers) (w : Whole) (journal : Lis
       let f = free_least w.base.clock reference entity free in
       all_see titles timers w journal entities ends known system entity is new keeps ((journal ++ first) ++ []) (ends ++ record { system = system; reference = reference } ∷ [])
       (connecting w.base.clock entity reference request).entity (more first [])
-      (new_step titles timers w journal entities ends known system entity is new keeps ((journal ++ first) ++ []) here reference (end_of (connected w.base.clock (call_of entity reference request))) refl f.least f.most (λ y. tt))
+      (new_step titles timers w journal entities ends known system entity is new keeps ((journal ++ first) ++ []) here reference (end_of (connected w.base.clock (call_of entity reference request))) refl f.least f.most (λ y. (tt, none_told ((journal ++ first) ++ []) y _ tt)))

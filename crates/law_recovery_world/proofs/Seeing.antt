@@ -24,8 +24,8 @@ use Rattle.law_tp4_lawful.proofs.ActsTold.{ends_stay}
 use Rattle.law_tp4_lawful.proofs.Frames.{entity_other, entity_set, place_other, place_there, same_ends}
 use Rattle.law_tp4_lawful.proofs.MakesPlaces.{at_other, at_same}
 use Rattle.law_tp4_lawful.proofs.WorldPlaces.{some_same}
-use Rattle.law_recovery_world.specs.Steady.{IsSteady}
-use Rattle.law_recovery_world.specs.steps.Known.{AreSeeing, Known, StageSees}
+use Rattle.law_recovery_world.specs.Steady.{IsSteady, StageTells}
+use Rattle.law_recovery_world.proofs.Known.{AreSeeing, Known, StageHas}
 use Rattle.law_recovery_world.proofs.SeeRows.{HearsIn, row_sees}
 
 -- ---- the latest end
@@ -53,7 +53,7 @@ latest_other ends system made other reference apart =
 module _ (titles : List (List ℕ)) (timers : Timers) (w : Whole) (journal : List Told) (entities : List Placed) (ends : List EndAt) (known : Known titles timers w journal entities ends)
     (system : ℕ) (entity : Entity) (is : entity_at entities system ≡ Some entity) (new : Whole) (keeps : (offer : Offer) → Contains w.base.offers offer → Contains new.base.offers offer) where
   abbrev pub Stage : List Told → ℕ → StateData → Type 0
-  Stage later y stage = StageSees timers.credit new later y stage
+  Stage later y stage = StageHas timers.credit new later y stage
 
   -- the ends of the entity afterwards
   pub record SeesStep (later : List Told) (after : List EndAt) (acted : Entity) : Type 0 where
@@ -62,7 +62,7 @@ module _ (titles : List (List ℕ)) (timers : Timers) (w : Whole) (journal : Lis
         → ((end_at entity reference ≡ Some e) × (latest after system reference ≡ latest ends system reference)) ⊎ Stage later (latest after system reference) e.stage
 
   abbrev pub More : List Told → Type 0
-  More later = (y : ℕ) (stage : StateData) → StageSees timers.credit w journal y stage → Stage later y stage
+  More later = (y : ℕ) (stage : StateData) → StageHas timers.credit w journal y stage → Stage later y stage
 
   pub all_see : (later : List Told) (after : List EndAt) (acted : Entity) → More later → SeesStep later after acted → AreSeeing timers.credit new later (with_entity entities system acted) after
   all_see later after acted on step other x there reference e stands = elim (cases_eq other system) [
@@ -92,7 +92,7 @@ module _ (titles : List (List ℕ)) (timers : Timers) (w : Whole) (journal : Lis
     kn : IsKnown w entity.own reference e
     kn = subst (IsThere w entity.own reference) stands ((known.plain.holds system entity is).there reference)
 
-    told : AreTold reference m.events
+    pub told : AreTold reference m.events
     told = subst (λ (r : ℕ). AreTold r m.events) (sym kn.sees.reference ∙ kn.at.reference_is)
         (row_of whole w.base.clock e.base.own e event (refl, stage_of (w.base.end kn.k).birth (w.base.end kn.k).took (w.base.end kn.k).latest e.base e.stage kn.sees.state)).told
 
@@ -100,8 +100,8 @@ module _ (titles : List (List ℕ)) (timers : Timers) (w : Whole) (journal : Lis
     ends_same = ends_stay system entity.own ends reference m.events told
 
     pub row_step : (later : List Told) (b : Entity) → IsLike w.base.clock entity b → More later → HearsIn timers.credit new later (latest ends system reference) event e.stage
-        → (place : Option End) → ((x : End) → place ≡ Some x → x ≡ end_of m) → SeesStep later ends (with_end b reference place)
-    row_step later b like on hears place kept = record {
+        → StageTells later (latest ends system reference) m.stage → (place : Option End) → ((x : End) → place ≡ Some x → x ≡ end_of m) → SeesStep later ends (with_end b reference place)
+    row_step later b like on hears tells place kept = record {
       others = λ other r apart. refl;
       here = λ r x there. elim (cases_eq r reference) [
         | inl same ↦
@@ -116,8 +116,11 @@ module _ (titles : List (List ℕ)) (timers : Timers) (w : Whole) (journal : Lis
         s = known.steady system entity is reference e stands
 
         sees : Stage later (latest ends system reference) m.stage
-        sees = row_sees timers.credit new later (latest ends system reference) event e.stage m.stage
-            (on (latest ends system reference) e.stage (known.seeing system entity is reference e stands)) hears (row_knows timers.credit whole w.base.clock e event s.gives gives s.knows)
+        sees = (
+          row_sees timers.credit new later (latest ends system reference) event e.stage m.stage
+              (on (latest ends system reference) e.stage (known.seeing system entity is reference e stands)).0 hears (row_knows timers.credit whole w.base.clock e event s.gives gives s.knows),
+          tells,
+        )
 
   -- a new end, which is not open
   pub new_step : (later : List Told) (b : Entity) (reference : ℕ) (x : End) → b.ends ≡ entity.ends → 1 ≤ reference → reference ≤ length b.ends → ((y : ℕ) → Stage later y x.stage)

@@ -36,7 +36,7 @@ use Rattle.law_tp4_lawful.proofs.WorldOutcomes.{one_unit}
 use Rattle.law_tp4_lawful.proofs.WorldPlaces.{some_same}
 use Rattle.law_recovery_world.specs.Lines.{HasViews, IsOfferedView}
 use Rattle.law_recovery_world.specs.Steady.{IsRoomy, StageLate, says_of}
-use Rattle.law_recovery_world.specs.steps.Known.{StageSees}
+use Rattle.law_recovery_world.proofs.Known.{StageSees}
 use Rattle.law_recovery_world.proofs.Viewing.{views_known}
 
 pub roomy_of : (credit now : ℕ) (stage : StateData) (h : Halves) → halves_at stage ≡ Some h → StageLate credit now stage → IsRoomy credit h.receiving

@@ -10,7 +10,7 @@ use Rattle.tp4_world.specs.declared.place.Placed.{Placed}
 use Rattle.tp4_world.proofs.Having.{with_any}
 use Rattle.law_tp4_lawful.proofs.Along.{Grows, IsKept}
 use Rattle.law_tp4_lawful.proofs.WorldKnown.{known_at as plain_at, plain_grows}
-use Rattle.law_recovery_world.specs.steps.Known.{HasSeeingEnds, IsOffered, Known}
+use Rattle.law_recovery_world.proofs.Known.{HasSeeingEnds, IsOffered, Known}
 use Rattle.law_recovery_world.specs.Steady.{AreSteady, HasSteadyEnds}
 
 -- all are steady, where they were and that entity is
@@ -31,6 +31,7 @@ known_at titles timers w journal entities ends known system entity is = record {
     | inl same ↦ subst (λ (e : Entity). HasSeeingEnds timers.credit w journal ends other e) (sym same.1) (known.seeing other entity (ap (entity_at entities) same.0 ∙ is))
     | inr there ↦ known.seeing other x there
   ];
+  short = known.short;
 }
 
 pub late_grows : (timers : Timers) → Grows (IsOffered timers)

@@ -1,6 +1,6 @@
 -- After any calls of a network its ends are steady, and each CR and CC afloat gives the credit of the timers.
 use Rattle.std.specs.List.{AllByRecursion}
-use Rattle.std.proofs.Common.{◌≡◌, ℕ, List, [], ◌∷◌, ◌++◌, sym, ◌∙◌, ap, subst, inl, inr, arith, Contains}
+use Rattle.std.proofs.Common.{◌≡◌, ℕ, List, [], ◌∷◌, ◌++◌, refl, sym, ◌∙◌, ap, subst, inl, inr, arith, Contains}
 use Rattle.std.proofs.lemmas.List.Elements.{Contains-push_cases}
 use Rattle.std.proofs.lemmas.Option.{none-some}
 use Rattle.osi_base.specs.declared.unit.Unit.{Unit as CarriedUnit}
@@ -9,13 +9,17 @@ use Rattle.osi_base.specs.Calls.{Call, Keeps}
 use Rattle.tpdu.specs.Values.{TpduAndSum}
 use Rattle.tp4_number.specs.Number.{whole}
 use Rattle.tp4_flow.specs.declared.step.EndEvent.{EndEvent}
+use Rattle.tp4_conn.specs.End.{End}
 use Rattle.tp4_conn.specs.declared.timers.Timers.{Timers}
 use Rattle.tp4_conn.specs.declared.halves.Halves.{Halves}
 use Rattle.law_tp4_credit.specs.Giving.{GivesCredit}
+use Rattle.tp4_entity.specs.Entity.{Entity}
 use Rattle.tp4_entity.specs.Unit.{EndsWith, Separates}
 use Rattle.law_tp4_proper.specs.Rest.{AreInTime, AreProper}
 use Rattle.script_journal.specs.Lawful.{ArePartners}
 use Rattle.script_journal.specs.declared.event.Event.{Event}
+use Rattle.script_journal.specs.declared.event.Event.TheVariants as events
+use Rattle.net_world.specs.Told.{told}
 use Rattle.law_tp4_history.specs.Ends.{Times}
 use Rattle.law_tp4_history.specs.Journals.{Written}
 use Rattle.law_tp4_history.specs.Tracks.{IsNothing, Whole}
@@ -26,20 +30,22 @@ use Rattle.tp4_world.specs.declared.place.EndAt.{EndAt}
 use Rattle.law_tp4_lawful.specs.Called.{AreCalls, AreHonestCalls, OnCalls}
 use Rattle.law_tp4_lawful.proofs.Worlds as worlds
 use Rattle.law_tp4_lawful.specs.Numbers.{IsOpenEnd}
+use Rattle.law_tp4_lawful.specs.References.{IsEnd}
 use Rattle.law_tp4_lawful.proofs.ActsLines.{Flowing}
 use Rattle.law_tp4_lawful.proofs.CalledStarts.{followed_by}
 use Rattle.law_tp4_lawful.proofs.MeetsOthers.{KnowsTaken}
 use Rattle.law_tp4_lawful.proofs.WorldOutcomes.{one_unit, outcomes}
 use Rattle.law_tp4_lawful.proofs.WorldStarts.{found, no_end_at, no_ends, started}
+use Rattle.law_tp4_lawful.proofs.WorldAsides.{are_aside, told_quiet}
 use Rattle.law_tp4_lawful.proofs.WorldCalls.{calls_hold}
 use Rattle.law_tp4_lawful.proofs.WorldFloats.{start_goes}
-use Rattle.law_recovery_world.specs.Laws.{CallsGive, CallsHaveViews, CallsKeepSteady, CallsKnow, EndsKeep}
-use Rattle.law_recovery_world.specs.Steady.{AreSteady, EndsAreSteady, FloatsGive, HasSteadyEnds}
+use Rattle.law_recovery_world.specs.Laws.{CallsAreShort, CallsGive, CallsTell, CallsHaveViews, CallsKeepSteady, CallsKnow, EndsKeep}
+use Rattle.law_recovery_world.specs.Steady.{AreShort, AreSteady, StageTells, EndsAreSteady, FloatsGive, HasSteadyEnds}
 use Rattle.law_recovery_world.specs.Lines.{HasKnowingHistory, HasViews, KnowsLine}
-use Rattle.law_recovery_world.specs.steps.Known.{AreSeeing, IsOffered, Known, StageSees}
-use Rattle.law_recovery_world.specs.steps.Worlds.{Carries, Followed, IsBacked, Rests}
+use Rattle.law_recovery_world.proofs.Known.{AreSeeing, IsOffered, Known, StageSees}
+use Rattle.law_recovery_world.proofs.Worlds.{Carries, Followed, IsBacked, Rests}
 use Rattle.law_recovery_world.proofs.Knowing.{by_stage}
-use Rattle.law_recovery_world.proofs.After.{followed, read_gives}
+use Rattle.law_recovery_world.proofs.After.{aside_short, followed, read_gives}
 use Rattle.law_recovery_world.proofs.Views.{roomy_of, views_by}
 use Rattle.law_recovery_world.proofs.WorldKnown.{late_grows, late_kept}
 
@@ -111,6 +117,8 @@ module _ {C : Type 0} (link : C → Link (List ℕ)) (steps : C → Call (List �
               (subst (λ (es : List Placed). AllByRecursion (λ (one : Placed). HasNoEnd one.entity) es) (sym entities_are) (no_ends titles r.placed r.is_first.entities));
           seeing = none_seeing timers.credit begun.w r.begun r.first.entities r.first.ends
               (subst (λ (es : List Placed). AllByRecursion (λ (one : Placed). HasNoEnd one.entity) es) (sym entities_are) (no_ends titles r.placed r.is_first.entities));
+          short = subst AreShort (sym r.starts.made_is)
+              (aside_short [] (events.Tick 0 ∷ told r.starts.ups) (λ end. tt) (are_aside (events.Tick 0 ∷ told r.starts.ups) (record { submits = λ end. refl; shows = λ end. refl; makes = refl }, told_quiet r.starts.ups)));
         };
         carries = subst (λ (c : C). Carries timers begun.w.base (link c)) (sym carrier_is)
             (start_goes (IsOffered timers) (late_grows timers) timers.life link steps law begun.w.base titles r.made r.starts.below r.starts.ups r.is_first.carrier_is at_zero r.starts.gathers);
@@ -123,6 +131,14 @@ module _ {C : Type 0} (link : C → Link (List ℕ)) (steps : C → Call (List �
 
     ends_steady : EndsAreSteady link timers last
     ends_steady = subst (λ (now : ℕ). AreSteady timers.credit now last.entities) (sym last_rests.explains.carries.clock) last_rests.explains.known.steady
+
+    journal_short : AreShort journal
+    journal_short = subst AreShort (sym r.journal_is) last_rests.explains.known.short
+
+    each_tells : (y system reference : ℕ) (entity : Entity) (e : End) → IsEnd last y system entity reference e → StageTells journal y e.stage
+    each_tells y system reference entity e is =
+        subst (λ (xs : List Event). StageTells xs y e.stage) (sym r.journal_is)
+        (subst (λ (n : ℕ). StageTells (r.begun ++ r.later) n e.stage) is.number (last_rests.explains.known.seeing system entity is.there reference e is.stands).1)
 
     floats_give : FloatsGive timers.credit (link last.carrier).floating
     floats_give entry there transport = one_gives timers last_rests.w entry.0 entry.1 (last_rests.explains.carries.backed entry there transport)
@@ -147,14 +163,14 @@ module _ {C : Type 0} (link : C → Link (List ℕ)) (steps : C → Call (List �
         by_stage link titles timers last_rests.w (r.begun ++ r.later) last explains y timers.credit halves o o.end.stage o.has
         (last_rests.explains.known.steady o.system o.entity o.is_end.there o.reference o.end o.is_end.stands).knows
         (subst (λ (n : ℕ). StageSees timers.credit last_rests.w (r.begun ++ r.later) n o.end.stage) o.is_end.number
-        (last_rests.explains.known.seeing o.system o.entity o.is_end.there o.reference o.end o.is_end.stands))
+        (last_rests.explains.known.seeing o.system o.entity o.is_end.there o.reference o.end o.is_end.stands).0)
 
     each_views : (x y : ℕ) (theirs halves : Halves) → ArePartners journal x y → IsOpenEnd last x theirs → IsOpenEnd last y halves → HasViews last_rests.w y halves theirs
     each_views x y theirs halves partners far o =
         views_by link titles timers last_rests.w (r.begun ++ r.later) last explains x y timers.credit theirs halves (subst (λ (xs : List Event). ArePartners xs x y) r.journal_is partners) far o o.end.stage o.has
         (last_rests.explains.known.steady o.system o.entity o.is_end.there o.reference o.end o.is_end.stands).knows
         (subst (λ (n : ℕ). StageSees timers.credit last_rests.w (r.begun ++ r.later) n o.end.stage) o.is_end.number
-        (last_rests.explains.known.seeing o.system o.entity o.is_end.there o.reference o.end o.is_end.stands))
+        (last_rests.explains.known.seeing o.system o.entity o.is_end.there o.reference o.end o.is_end.stands).0)
         (roomy_of timers.credit last_rests.w.base.clock far.end.stage theirs far.has
         (last_rests.explains.known.steady far.system far.entity far.is_end.there far.reference far.end far.is_end.stands).late)
 
@@ -196,6 +212,12 @@ module _ {C : Type 0} (link : C → Link (List ℕ)) (steps : C → Call (List �
 
   pub keep_steady : CallsKeepSteady link steps
   keep_steady titles timers journal last a = ends_steady titles timers journal last a
+
+  pub calls_short : CallsAreShort link steps
+  calls_short titles timers journal last a = journal_short titles timers journal last a
+
+  pub calls_tell : CallsTell link steps
+  calls_tell titles timers journal last a = each_tells titles timers journal last a
 
   pub calls_give : CallsGive link steps
   calls_give titles timers journal last a = floats_give titles timers journal last a

@@ -20,14 +20,23 @@ use Rattle.law_tp4_history.specs.Tracks.{Whole}
 use Rattle.tp4_world.specs.World.{World, entity_at}
 use Rattle.law_tp4_lawful.specs.Called.{AreHonestCalls}
 use Rattle.law_tp4_lawful.specs.Numbers.{IsOpenEnd}
-use Rattle.law_tp4_lawful.specs.References.{ComesTo, halves_at}
+use Rattle.law_tp4_lawful.specs.References.{ComesTo, IsEnd, halves_at}
 use Rattle.law_tp4_lawful.proofs.Worlds.{Explains}
-use Rattle.law_recovery_world.specs.Steady.{HasSteadyEnds, FloatsGive, EndsAreSteady, AfterCalls}
+use Rattle.law_recovery_world.specs.Steady.{AfterCalls, AreShort, EndsAreSteady, FloatsGive, HasSteadyEnds, StageTells}
 use Rattle.law_recovery_world.specs.Lines.{IsAk, IsSaid, IsOfferedView, HasView, StageView, KnowsLine, HasViews}
 
 -- each end keeps what it began with, what it knows, its places and its ticks
 abbrev pub CallsKeepSteady : {C : Type 0} → (C → Link (List ℕ)) → (C → Call (List ℕ) → C → Type 0) → Type 0
 CallsKeepSteady link steps = AfterCalls link steps (EndsAreSteady link)
+
+-- each normal unit that was submitted has at most 16,384 octets
+abbrev pub CallsAreShort : {C : Type 0} → (C → Link (List ℕ)) → (C → Call (List ℕ) → C → Type 0) → Type 0
+CallsAreShort {C} link steps = (titles : List (List ℕ)) (timers : Timers) (journal : List Event) (last : World C) → AreHonestCalls link steps whole titles timers journal last → AreShort journal
+
+-- each number that an end noted as held stands in the journal, under the number of the end
+abbrev pub CallsTell : {C : Type 0} → (C → Link (List ℕ)) → (C → Call (List ℕ) → C → Type 0) → Type 0
+CallsTell {C} link steps = (titles : List (List ℕ)) (timers : Timers) (journal : List Event) (last : World C) → AreHonestCalls link steps whole titles timers journal last
+    → (y system reference : ℕ) (entity : Entity) (e : End) → IsEnd last y system entity reference e → StageTells journal y e.stage
 
 -- and each CR and CC that floats gives the credit of the timers
 abbrev pub CallsGive : {C : Type 0} → (C → Link (List ℕ)) → (C → Call (List ℕ) → C → Type 0) → Type 0

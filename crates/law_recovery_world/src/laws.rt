@@ -1,6 +1,6 @@
 //! What the ends of a network keep along its calls (X.224, class 4 procedures).
 
-ghost use Rattle.law_recovery_world.specs.Laws.{AksAreOffered, AksWereSaid, CallsGive, CallsHaveViews, CallsKeepSteady, CallsKnow, EndsKeep, RowsKeepViews, ViewsAreKnown};
+ghost use Rattle.law_recovery_world.specs.Laws.{AksAreOffered, AksWereSaid, CallsAreShort, CallsGive, CallsHaveViews, CallsKeepSteady, CallsKnow, CallsTell, EndsKeep, RowsKeepViews, ViewsAreKnown};
 ghost use Rattle.law_tp4_lawful.specs.Called.{OfWhole, OnCalls};
 ghost use Rattle.law_recovery_world.specs.Lines.{HasKnowingHistory};
 ghost use Rattle.tp4_number.specs.Number.{wire};
@@ -9,10 +9,14 @@ use nsap::Nsap;
 use osi_base::Carrier;
 
 /// After any calls of a network after which its carrier is still honest, whatever that loses, repeats, delays and reorders: each end keeps
-/// the credit that all timers give, what it knows, its places and its ticks; and each CR and CC afloat gives that credit.
+/// the credit that all timers give, what it knows, its places and its ticks, and no expedited unit was submitted where that is not agreed; each
+/// CR and CC afloat gives that credit, and each normal unit that was submitted has at most 16,384 octets, and each number that
+/// an end noted as held was told.
 pub fn over_calls<C: Carrier<Addr = Nsap>>()
     ensures steady { CallsKeepSteady C.link C.steps }
     ensures gives { CallsGive C.link C.steps }
+    ensures short { CallsAreShort C.link C.steps }
+    ensures told { CallsTell C.link C.steps }
     ensures on_wire { OnCalls C.link C.steps wire (OfWhole (EndsKeep C.link)) }
 {
     tp4_world::whole_calls::<C>();

@@ -3,4 +3,4 @@
 
 mod laws;
 
-pub use laws::{lines_keep_order, scripts_are_ordered};
+pub use laws::{lines_keep_order, scripts_are_ordered, scripts_part};

@@ -15,7 +15,7 @@ use Rattle.law_tp4_history.specs.Ends.{Times, IsFit, Flow, Body, Plain, Dt, Ed, 
 use Rattle.law_tp4_history.specs.History.{History, set_end, IsCaller, IsPartner, Step, Tick, Connect, Indicate, Reply, Take, Act, Release, Restart, Note, May, next, Leads}
 use Rattle.script_journal.specs.Lawful.{normals, expediteds}
 use Rattle.law_tp4_history.specs.Line.{Line, Happening, Submit, Clock, Flows, Expedites, Can, Runs, next as next_line, empty}
-use Rattle.law_tp4_history.specs.Tracks.{Track, Starts, Accepted, CanOut, CanIn, RunsBy, Whole, set_track, Doing, Nothing, Start, Go, done, MayDo, Noted, clocked, Moment, MayAll, onward, LeadsAll, ReachedAll, IsTold, IsNumbered, IsNothing}
+use Rattle.law_tp4_history.specs.Tracks.{Track, Starts, IsAt, IsRun, Accepted, CanOut, CanIn, RunsBy, Whole, set_track, Doing, Nothing, Start, Go, done, MayDo, Noted, clocked, Moment, MayAll, onward, LeadsAll, ReachedAll, IsTold, IsNumbered, IsNothing}
 use Rattle.law_tp4_history.proofs.Sound.{at_end, Sound, one_partner}
 use Rattle.law_tp4_history.proofs.Later.{IsLater, partner_on, caller_on}
 use Rattle.law_tp4_history.proofs.Meets.{swap, Meets, Of_partner, Of_entity, meets}
@@ -91,10 +91,6 @@ grows_next rules size l (Expedites Sends_ed) = record { sends = λ x c. c; answe
 grows_next rules size l (Expedites Resends_ed) = record { sends = λ x c. c; answers = λ x c. c; eds = λ x c. Contains-append_left l.urgent.sends _ x c; eas = λ x c. c; pieces = λ n p e. e; units = λ n low. (low, refl) }
 grows_next rules size l (Expedites (Ed_comes n tick)) = let g = ed_grows rules.block l.urgent n in record { sends = λ x c. c; answers = λ x c. c; eds = g.0; eas = g.1; pieces = λ n p e. e; units = λ n low. (low, refl) }
 grows_next rules size l (Expedites (Ea_comes n tick)) = let g = ea_grows rules.block l.urgent n in record { sends = λ x c. c; answers = λ x c. c; eds = g.0; eas = g.1; pieces = λ n p e. e; units = λ n low. (low, refl) }
-
--- the clocks of a line
-abbrev pub IsAt : ℕ → Line → Type 0
-IsAt clock l = (l.world.clock ≡ clock) × (l.urgent.clock ≡ clock)
 
 -- what comes to a line was offered in it, and is afloat
 pub record Hears (taken : Option Offer) (life size clock : ℕ) (l : Line) : Type 0 where
@@ -186,17 +182,6 @@ module _ (taken : Option Offer) (clock : ℕ) (t : Track) where
 runs_on : (rules : Rules) (size : ℕ) (old mid new : Line) (happenings more : List Happening) → Runs rules size old happenings mid → Runs rules size mid more new → Runs rules size old (happenings ++ more) new
 runs_on rules size old mid new [] more a b = subst (λ (l : Line). Runs rules size l more new) a b
 runs_on rules size old mid new (happening ∷ happenings) more a b = (a.0, runs_on rules size (next_line rules old happening) mid new happenings more a.1 b)
-
--- a line that has begun is a run of its own
-pub record IsRun (times : Times) (clock : ℕ) (t : Track) : Type 0 where
-  pub long : IsLong t.rules
-  pub life : t.rules.life ≡ times.life
-  pub some : 0 < t.size
-  pub credit_low : t.credit < t.rules.block
-  pub room_low : t.room < t.rules.block
-  pub happenings : List Happening
-  pub runs : Runs t.rules t.size (empty t.tick t.credit t.places t.room) happenings t.line
-  pub at : IsAt clock t.line
 
 pub record GrowsTrack (t new : Track) : Type 0 where
   pub begun : t.is_begun ≡ true → new.is_begun ≡ true

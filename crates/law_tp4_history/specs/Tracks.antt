@@ -7,7 +7,7 @@ use Rattle.tp4_sending.specs.Pieces.{cut_at}
 use Rattle.script_journal.specs.Lawful.{normals, expediteds, IsQueue}
 use Rattle.law_tp4_history.specs.Ends.{Times, Terms, Flow, Body, Plain, Dt, Ed, Ak, Ea, Sent, Offer, End}
 use Rattle.law_tp4_history.specs.History.{History, nothing, IsPartner, Step, Tick, Connect, Indicate, Reply, Take, Act, Release, Restart, Note, May, next}
-use Rattle.law_tp4_history.specs.Line.{Line, Happening, Submit, Clock, Flows, Expedites, IsUnit, CarriesPiece, CarriesUnit, next as next_line, empty}
+use Rattle.law_tp4_history.specs.Line.{Line, Happening, Submit, Clock, Flows, Expedites, IsUnit, CarriesPiece, CarriesUnit, Runs, next as next_line, empty}
 
 -- the line of an end towards its partner, with what it began with: the rules of numbers, the most octets of a piece, and what `empty` takes
 pub record Track : Type 0 where
@@ -30,6 +30,21 @@ pub record Starts (times : Times) (clock : ℕ) (t : Track) : Type 0 where
   pub room_low : t.room < t.rules.block
   pub tick : t.tick ≡ clock
   pub line : t.line ≡ empty t.tick t.credit t.places t.room
+
+-- the clocks of a line, of its DTs and of its EDs
+abbrev pub IsAt : ℕ → Line → Type 0
+IsAt clock l = (l.world.clock ≡ clock) × (l.urgent.clock ≡ clock)
+
+-- a line that has begun came from its start by what may happen in it, and its clocks are those of the network
+pub record IsRun (times : Times) (clock : ℕ) (t : Track) : Type 0 where
+  pub long : IsLong t.rules
+  pub life : t.rules.life ≡ times.life
+  pub some : 0 < t.size
+  pub credit_low : t.credit < t.rules.block
+  pub room_low : t.room < t.rules.block
+  pub happenings : List Happening
+  pub runs : Runs t.rules t.size (empty t.tick t.credit t.places t.room) happenings t.line
+  pub at : IsAt clock t.line
 
 -- what an end may do to its own line: it takes an AK or an EA only as it comes
 abbrev pub CanFlowOut : Option Offer → Track → Line → Event → Type 0

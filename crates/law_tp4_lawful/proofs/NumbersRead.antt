@@ -24,11 +24,11 @@ use Rattle.law_tp4_history.specs.Ends.{Ak, Body, Ea, Flow, Tpdu}
 use Rattle.law_tp4_history.specs.History.{IsPartner}
 use Rattle.law_tp4_history.specs.Line.{Clock, Expedites, Flows, Happening, Line, Submit, Runs, empty, next}
 use Rattle.law_tp4_history.proofs.Outstanding.{IsOutstanding, outstanding_event, outstanding_quiet, urgently_more}
-use Rattle.law_tp4_history.specs.Tracks.{IsNumbered, Noted, Track, Whole}
+use Rattle.law_tp4_history.specs.Tracks.{IsNumbered, IsRun, Noted, Track, Whole}
 use Rattle.law_tp4_history.proofs.Lines.{line_sound, line_urged, line_whole}
 use Rattle.law_tp4_history.proofs.Meets.{swap}
 use Rattle.law_tp4_history.proofs.Sound.{one_partner}
-use Rattle.law_tp4_history.proofs.Tracked.{IsRun, numbered}
+use Rattle.law_tp4_history.proofs.Tracked.{numbered}
 use Rattle.law_tp4_history.proofs.Written.{Kept}
 use Rattle.law_tp4_moves.specs.Lines.{AreHalvesAt}
 use Rattle.law_tp4_moves.specs.Moves.{times_of}

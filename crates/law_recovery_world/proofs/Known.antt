@@ -18,24 +18,29 @@ use Rattle.tp4_world.specs.declared.place.EndAt.{EndAt}
 use Rattle.tp4_world.specs.declared.place.Placed.{Placed}
 use Rattle.law_tp4_lawful.proofs.Known as lawful
 use Rattle.law_recovery_world.specs.Lines.{IsOfferedView}
-use Rattle.law_recovery_world.specs.Steady.{AreSteady}
+use Rattle.law_recovery_world.specs.Steady.{AreShort, AreSteady, StageTells}
 
 -- the sending half of an Opened end knows what it began with, or what its partner by the journal offered
 abbrev pub StageSees : ℕ → Whole → List Event → ℕ → StateData → Type 0
 StageSees credit w journal y (Opened o) = IsFreshView credit o.halves.sending ⊎ ((z : ℕ) × ArePartners journal (z + 1) y × IsOfferedView w z o.halves.sending)
 StageSees credit w journal y stage = Unit {0}
 
+-- and what an end noted as held was told
+abbrev pub StageHas : ℕ → Whole → List Event → ℕ → StateData → Type 0
+StageHas credit w journal y stage = StageSees credit w journal y stage × StageTells journal y stage
+
 abbrev pub HasSeeingEnds : ℕ → Whole → List Event → List EndAt → ℕ → Entity → Type 0
-HasSeeingEnds credit w journal ends system entity = (reference : ℕ) (e : End) → end_at entity reference ≡ Some e → StageSees credit w journal (latest ends system reference) e.stage
+HasSeeingEnds credit w journal ends system entity = (reference : ℕ) (e : End) → end_at entity reference ≡ Some e → StageHas credit w journal (latest ends system reference) e.stage
 
 abbrev pub AreSeeing : ℕ → Whole → List Event → List Placed → List EndAt → Type 0
 AreSeeing credit w journal entities ends = (system : ℕ) (entity : Entity) → entity_at entities system ≡ Some entity → HasSeeingEnds credit w journal ends system entity
 
--- the history explains the entities, and their ends are steady
+-- the history explains the entities, their ends are steady, and what was submitted is short
 pub record Known (titles : List (List ℕ)) (timers : Timers) (w : Whole) (journal : List Event) (entities : List Placed) (ends : List EndAt) : Type 0 where
   pub plain : lawful.Known titles timers w journal entities ends
   pub steady : AreSteady timers.credit w.base.clock entities
   pub seeing : AreSeeing timers.credit w journal entities ends
+  pub short : AreShort journal
 
 -- a TPDU was offered; a CR or a CC gives the credit
 pub record IsOffered (timers : Timers) (h : History) (tick : ℕ) (own : List ℕ) (sent : Sent) : Type 0 where

@@ -13,7 +13,7 @@ use Rattle.tp4_world.specs.World.{World}
 use Rattle.tp4_world.specs.declared.place.EndAt.{EndAt}
 use Rattle.tp4_world.specs.declared.place.Placed.{Placed}
 use Rattle.law_tp4_lawful.proofs.Along as along
-use Rattle.law_recovery_world.specs.steps.Known.{IsOffered, Known}
+use Rattle.law_recovery_world.proofs.Known.{IsOffered, Known}
 
 abbrev pub Follows : List (List ℕ) → Timers → Whole → List Event → List Placed → List EndAt → ℕ → List ℕ → List Event → Acted → Type 0
 Follows titles timers = along.Follows timers (Known titles timers) (IsOffered timers)

@@ -1,0 +1,234 @@
+-- An end in AkWait keeps its halves as they were made when its user accepted, but for units that wait, and its clock; and it sent its CC no later than now.
+use Rattle.std.specs.Prelude.{not}
+use Rattle.std.proofs.Common.{◌≤◌, ◌+◌, ◌++◌, ◌==◌, ◌&&◌, ℕ, nat_le, nat_lt, List, [], ◌∷◌, refl, sym, subst, arith}
+use Rattle.tpdu.specs.declared.tpdu.Tpdu.{Tpdu}
+use Rattle.tpdu.specs.declared.tpdu.Tpdu.TheVariants.{Cr, Cc, Dr, Dc, Dt, Ed, Ak, Ea, Er}
+use Rattle.tp4_number.specs.Number.{whole}
+use Rattle.tp4_number.specs.declared.got.Got.{Got}
+use Rattle.tp4_number.specs.declared.got.Got.TheVariants.{Kept, Old, Outside, TooLarge}
+use Rattle.tp4_number.specs.declared.piece.Piece.{Piece}
+use Rattle.tp4_number.proofs.Past.{if_kept}
+use Rattle.tp4_flow.specs.Half.{dt_arrival, half_granted, taken_dt}
+use Rattle.tp4_flow.specs.declared.rules.Life.{Life}
+use Rattle.tp4_flow.specs.declared.rules.Life.TheVariants.{Goes, Exhausted}
+use Rattle.tp4_sending.specs.FlowSender.{at, life_of, opened, submitted, urged}
+use Rattle.tp4_conn.specs.declared.call.UserCall.{UserCall}
+use Rattle.tp4_conn.specs.declared.call.UserCall.TheVariants.{Accept, Refuse, Normal, Urgent, Window, Disconnect}
+use Rattle.tp4_conn.specs.declared.end_record.EndRecord.{EndRecord}
+use Rattle.tp4_conn.specs.declared.halves.Halves.{Halves}
+use Rattle.tp4_conn.specs.declared.states.InAkWait.{InAkWait}
+use Rattle.tp4_conn.specs.declared.states.InClosing.{InClosing}
+use Rattle.tp4_conn.specs.declared.states.InCrWait.{InCrWait}
+use Rattle.tp4_conn.specs.declared.states.InOpened.{InOpened}
+use Rattle.tp4_conn.specs.declared.states.InWaitBeforeClose.{InWaitBeforeClose}
+use Rattle.tp4_conn.specs.declared.states.StateData.{StateData}
+use Rattle.tp4_conn.specs.declared.states.StateData.TheVariants.{CrWait, WaitBeforeClose, UserWait, AkWait, Opened, Closing, Frozen}
+use Rattle.tp4_conn.specs.Agreeing.{agreed_by, is_within}
+use Rattle.tp4_conn.specs.AkWait.{ak_wait_tick, ak_wait_tpdu, opening}
+use Rattle.tp4_conn.specs.Closing.{closing_tick, closing_tpdu}
+use Rattle.tp4_conn.specs.CrWait.{cr_wait_tick, cr_wait_tpdu}
+use Rattle.tp4_conn.specs.End.{End, Moved, span}
+use Rattle.tp4_conn.specs.Matching.{wants_sum}
+use Rattle.tp4_conn.specs.Opened.{dt_as, hearing, is_expedited, opened_as, opened_tick, opened_tpdu}
+use Rattle.tp4_conn.specs.Table.{Called, Event, Ticked, Took, at as now_at, on_call, on_tick, on_tpdu, stepped}
+use Rattle.tp4_conn.specs.UserWait.{user_wait_accept, user_wait_refuse, user_wait_tick}
+use Rattle.tp4_conn.specs.WaitBeforeClose.{wait_before_close_tick, wait_before_close_tpdu}
+use Rattle.law_recovery_world.specs.Steady.{IsMade, StageMade}
+
+-- the clock of an end is no part of it
+made_at : (now : ℕ) (b : EndRecord) (h : Halves) → IsMade b h → IsMade (now_at now b) h
+made_at now b h m = record { options = m.options; agreed = m.agreed; clock = m.clock; units = m.units; expedited = m.expedited; halves = m.halves }
+
+stage_at : (now : ℕ) (b : EndRecord) (stage : StateData) → StageMade now b stage → StageMade now (now_at now b) stage
+stage_at now b (AkWait w) m = (m.0, made_at now b w.halves m.1)
+stage_at now b (CrWait w) m = tt
+stage_at now b (WaitBeforeClose w) m = tt
+stage_at now b (UserWait since) m = tt
+stage_at now b (Opened o) m = tt
+stage_at now b (Closing c) m = tt
+stage_at now b (Frozen when) m = tt
+
+-- nor is a later tick
+pub made_later : (now later : ℕ) (b : EndRecord) (stage : StateData) → now ≤ later → StageMade now b stage → StageMade later b stage
+made_later now later b (AkWait w) low m = (omega (arith, low, m.0), m.1)
+made_later now later b (CrWait w) low m = tt
+made_later now later b (WaitBeforeClose w) low m = tt
+made_later now later b (UserWait since) low m = tt
+made_later now later b (Opened o) low m = tt
+made_later now later b (Closing c) low m = tt
+made_later now later b (Frozen when) low m = tt
+
+module _ (b : EndRecord) where
+  abbrev Row : Moved → Type 0
+  Row m = StageMade b.clock m.base m.stage
+
+  -- ---- Opened
+
+  module _ (o : InOpened) where
+    dt_made : (got : Got) (w : ℕ) (piece : Piece) → Row (dt_as got b o (taken_dt whole o.halves.receiving w piece))
+    dt_made TooLarge w piece = tt
+    dt_made Kept w piece = tt
+    dt_made Old w piece = tt
+    dt_made Outside w piece = tt
+
+    opened_made : (tpdu : Tpdu) → Row (opened_tpdu whole b o tpdu)
+    unfolding opened_tpdu
+    opened_made (Cc given destination source width calling called size preferred extra version classes ack_time text) = tt
+    opened_made (Dr destination source reason info text) = tt
+    opened_made (Er destination cause rejected) = tt
+    opened_made (Dt destination last number text) = dt_made (dt_arrival o.halves.receiving number (record { last = last; octets = text })).got number (record { last = last; octets = text })
+    opened_made (Ed destination last number text) = if_kept Row (is_expedited b.agreed) _ _ (λ _. tt) (λ _. tt)
+    opened_made (Ak destination number given subsequence confirmation) = tt
+    opened_made (Ea destination number) = tt
+    opened_made (Cr given source width calling called size preferred extra version classes ack_time text) = tt
+    opened_made (Dc destination source) = tt
+
+    opened_later : Row (opened_tick b o)
+    unfolding opened_tick
+    opened_later = if_kept Row (nat_le (o.took + b.timers.inactive) b.clock) _ _ (λ _. tt) (λ _. by (life_of (at b.clock o.halves.sending)))
+      where
+        by : (life : Life) → Row (opened_as life b o)
+        by Exhausted = tt
+        by Goes = if_kept Row (nat_le (o.acked + b.timers.window) b.clock) _ _ (λ _. tt) (λ _. tt)
+
+    opened_call : (call : UserCall) → Row (on_call b (Opened o) call)
+    opened_call (Normal unit) = tt
+    opened_call (Urgent unit) = tt
+    opened_call (Window granted) =
+        if_kept Row ((half_granted o.halves.receiving granted).receiver.inbox.credit == o.halves.receiving.receiver.inbox.credit) _ _ (λ _. tt) (λ _. tt)
+    opened_call (Disconnect octets) = tt
+    opened_call (Accept options octets) = tt
+    opened_call (Refuse octets) = tt
+
+  -- ---- AkWait
+
+  module _ (w : InAkWait) (f : StageMade b.clock b (AkWait w)) where
+    opening_made : (tpdu : Tpdu) → Row (opening whole b w.halves tpdu)
+    opening_made tpdu = opened_made (record { took = b.clock; acked = b.clock; halves = record w.halves { sending = (opened (at b.clock w.halves.sending)).sender } }) tpdu
+
+    ak_wait_made : (tpdu : Tpdu) → Row (ak_wait_tpdu whole b w tpdu)
+    unfolding ak_wait_tpdu
+    ak_wait_made (Ak destination number given subsequence confirmation) = opening_made (Ak destination number given subsequence confirmation)
+    ak_wait_made (Dt destination last number text) = opening_made (Dt destination last number text)
+    ak_wait_made (Ed destination last number text) = opening_made (Ed destination last number text)
+    ak_wait_made (Ea destination number) = opening_made (Ea destination number)
+    ak_wait_made (Dr destination source reason info text) = tt
+    ak_wait_made (Er destination cause rejected) = tt
+    ak_wait_made (Cr given source width calling called size preferred extra version classes ack_time text) = f
+    ak_wait_made (Cc given destination source width calling called size preferred extra version classes ack_time text) = f
+    ak_wait_made (Dc destination source) = f
+
+    ak_wait_later : Row (ak_wait_tick b w)
+    unfolding ak_wait_tick
+    ak_wait_later = if_kept Row (nat_lt b.clock (w.tries.last + b.timers.t1)) _ _ (λ _. f) (λ _. if_kept Row (nat_lt w.tries.count b.timers.sendings) _ _ (λ _. (omega arith, f.1)) (λ _. tt))
+
+    normal_made : (unit : List ℕ) → IsMade b (record w.halves { sending = (submitted (at b.clock w.halves.sending) unit).sender })
+    normal_made unit = subst (λ (h : Halves). IsMade b (record h { sending = (submitted (at b.clock h.sending) unit).sender })) (sym f.1.halves)
+        (record { options = f.1.options; agreed = f.1.agreed; clock = b.clock; units = f.1.units ++ unit ∷ []; expedited = f.1.expedited; halves = refl })
+
+    urgent_made : (unit : List ℕ) → IsMade b (record w.halves { sending = (urged (at b.clock w.halves.sending) unit).sender })
+    urgent_made unit = subst (λ (h : Halves). IsMade b (record h { sending = (urged (at b.clock h.sending) unit).sender })) (sym f.1.halves)
+        (record { options = f.1.options; agreed = f.1.agreed; clock = b.clock; units = f.1.units; expedited = f.1.expedited ++ unit ∷ []; halves = refl })
+
+    ak_wait_call : (call : UserCall) → Row (on_call b (AkWait w) call)
+    ak_wait_call (Normal unit) = (f.0, normal_made unit)
+    ak_wait_call (Urgent unit) = (f.0, urgent_made unit)
+    ak_wait_call (Window granted) = f
+    ak_wait_call (Disconnect octets) = tt
+    ak_wait_call (Accept options octets) = f
+    ak_wait_call (Refuse octets) = f
+
+  -- ---- the other states
+
+  cr_wait_made : (w : InCrWait) (tpdu : Tpdu) → Row (cr_wait_tpdu b w tpdu)
+  unfolding cr_wait_tpdu
+  cr_wait_made w (Cc given destination source width calling called size preferred extra version classes ack_time text) =
+      if_kept Row (is_within b.proposed width size preferred extra) _ _ (λ _. tt) (λ _. tt)
+  cr_wait_made w (Dr destination source reason info text) = tt
+  cr_wait_made w other = tt
+
+  cr_wait_later : (w : InCrWait) → Row (cr_wait_tick b w)
+  unfolding cr_wait_tick
+  cr_wait_later w =
+      if_kept Row (nat_lt b.clock (w.tries.last + b.timers.t1)) _ _ (λ _. tt)
+      (λ _. if_kept Row (nat_lt w.tries.count b.timers.sendings) _ _ (λ _. tt) (λ _. tt))
+
+  parting_made : (w : InWaitBeforeClose) (tpdu : Tpdu) → Row (wait_before_close_tpdu b w tpdu)
+  unfolding wait_before_close_tpdu
+  parting_made w (Cc given destination source width calling called size preferred extra version classes ack_time text) = tt
+  parting_made w (Dr destination source reason info text) = tt
+  parting_made w other = tt
+
+  parting_later : (w : InWaitBeforeClose) → Row (wait_before_close_tick b w)
+  unfolding wait_before_close_tick
+  parting_later w =
+      if_kept Row (nat_lt b.clock (w.request.tries.last + b.timers.t1)) _ _ (λ _. tt)
+      (λ _. if_kept Row (nat_lt w.request.tries.count b.timers.sendings) _ _ (λ _. tt) (λ _. tt))
+
+  user_wait_later : (since : ℕ) → Row (user_wait_tick b since)
+  unfolding user_wait_tick
+  user_wait_later since = if_kept Row (nat_lt b.clock (since + b.timers.inactive)) _ _ (λ _. tt) (λ _. tt)
+
+  closing_made : (c : InClosing) (tpdu : Tpdu) → Row (closing_tpdu b c tpdu)
+  unfolding closing_tpdu
+  closing_made c (Dc destination source) = tt
+  closing_made c (Dr destination source reason info text) = tt
+  closing_made c other = tt
+
+  closing_later : (c : InClosing) → Row (closing_tick b c)
+  unfolding closing_tick
+  closing_later c =
+      if_kept Row (nat_le (c.from + span b.timers) b.clock) _ _ (λ _. tt)
+      (λ _. if_kept Row (nat_lt b.clock (c.last + b.timers.t1)) _ _ (λ _. tt) (λ _. tt))
+
+  user_wait_call : (since : ℕ) (call : UserCall) → Row (on_call b (UserWait since) call)
+  unfolding user_wait_accept user_wait_refuse
+  user_wait_call since (Accept asked octets) = (omega arith, record { options = agreed_by b.proposed asked; agreed = refl; clock = 0; units = []; expedited = []; halves = refl })
+  user_wait_call since (Refuse octets) = tt
+  user_wait_call since (Normal unit) = tt
+  user_wait_call since (Urgent unit) = tt
+  user_wait_call since (Window granted) = tt
+  user_wait_call since (Disconnect octets) = tt
+
+  cr_wait_call : (w : InCrWait) (call : UserCall) → Row (on_call b (CrWait w) call)
+  cr_wait_call w (Accept options octets) = tt
+  cr_wait_call w (Refuse octets) = tt
+  cr_wait_call w (Normal unit) = tt
+  cr_wait_call w (Urgent unit) = tt
+  cr_wait_call w (Window granted) = tt
+  cr_wait_call w (Disconnect octets) = tt
+
+  -- ---- all rows
+
+  tpdu_made : (stage : StateData) (tpdu : Tpdu) → StageMade b.clock b stage → Row (on_tpdu whole b stage tpdu)
+  tpdu_made (CrWait w) tpdu f = cr_wait_made w tpdu
+  tpdu_made (WaitBeforeClose w) tpdu f = parting_made w tpdu
+  tpdu_made (UserWait since) tpdu f = tt
+  tpdu_made (AkWait w) tpdu f = ak_wait_made w f tpdu
+  tpdu_made (Opened o) tpdu f = opened_made (hearing b o) tpdu
+  tpdu_made (Closing c) tpdu f = closing_made c tpdu
+  tpdu_made (Frozen when) tpdu f = tt
+
+  tick_made : (stage : StateData) → StageMade b.clock b stage → Row (on_tick b stage)
+  tick_made (CrWait w) f = cr_wait_later w
+  tick_made (WaitBeforeClose w) f = parting_later w
+  tick_made (UserWait since) f = user_wait_later since
+  tick_made (AkWait w) f = ak_wait_later w f
+  tick_made (Opened o) f = opened_later o
+  tick_made (Closing c) f = closing_later c
+  tick_made (Frozen when) f = tt
+
+  call_made : (stage : StateData) (call : UserCall) → StageMade b.clock b stage → Row (on_call b stage call)
+  call_made (CrWait w) call f = cr_wait_call w call
+  call_made (WaitBeforeClose w) call f = tt
+  call_made (UserWait since) call f = user_wait_call since call
+  call_made (AkWait w) call f = ak_wait_call w f call
+  call_made (Opened o) call f = opened_call o call
+  call_made (Closing c) call f = tt
+  call_made (Frozen when) call f = tt
+
+pub row_made : (now : ℕ) (e : End) (event : Event) → StageMade now e.base e.stage → StageMade now (stepped whole now e event).base (stepped whole now e event).stage
+row_made now e (Called call) f = call_made (now_at now e.base) e.stage call (stage_at now e.base e.stage f)
+row_made now e (Took tpdu sum) f =
+    if_kept (λ (m : Moved). StageMade now m.base m.stage) (wants_sum e.base e.stage tpdu && not sum) _ _ (λ _. f) (λ _. tpdu_made (now_at now e.base) e.stage tpdu (stage_at now e.base e.stage f))
+row_made now e Ticked f = tick_made (now_at now e.base) e.stage (stage_at now e.base e.stage f)
