@@ -5,14 +5,14 @@ use Rattle.std.specs.Prelude.{slice_range}
 use Rattle.std.specs.List.{All, AllByRecursion}
 use Rattle.std.specs.Cmp.Lexicographic.{nat_list_eq_equiv, pointwise, same_text}
 use Rattle.std.proofs.lemmas.Bool.{cases_lt, le-ltb}
-use Rattle.std.proofs.lemmas.List.{length-drop, length-take, take_more}
+use Rattle.std.proofs.lemmas.List.{get_or-drop, get_or-take, length-drop, length-take, take_more}
 use Rattle.std.proofs.Math.Seq.{take-length}
-use Rattle.std.proofs.lemmas.List.Elements.{All-from_get_or, All-get_or, All-push}
+use Rattle.std.proofs.lemmas.List.Elements.{All-from_get_or, All-from_recursion, All-get_or, All-push}
 use Rattle.clnp_segment.specs.declared.runs.Run.{Run}
 use Rattle.clnp_segment.specs.steps.Places.{is_clash}
 use Rattle.clnp_segment.specs.steps.Spans.{Agree, AreRuns, Meets, Rise, end_of, octet_in, octet_of, or_else, size, slots_from}
 use Rattle.clnp_segment.proofs.Fills.{same_slots, size_both, slots_at, slots_long}
-use Rattle.clnp_segment.proofs.Meetings.{rise_start}
+use Rattle.clnp_segment.proofs.Meetings.{rise_start, slice_empty, slice_push}
 use Rattle.clnp_segment.proofs.Slots.{clash_found, clash_none}
 use Rattle.clnp_segment.proofs.Spans.{below, from_start, get_drop, get_take, inside, past}
 
@@ -114,6 +114,29 @@ pub agree_more : (r : Run) (xs : List Run) (i : ℕ) (x : Run) → i < length xs
     → All (Agree r) (take (i + 1) xs)
 agree_more r xs i x low is all here =
     subst (All (Agree r)) (ap (λ (y : Run). take i xs ++ y ∷ []) is ∙ sym (take_more xs i x low)) (All-push (Agree r) (take i xs) x all here)
+
+-- one more of those from a place on
+pub agree_next : (r : Run) (xs : List Run) (first place : ℕ) (x : Run) → first ≤ place → place < length xs → x ≡ get_or xs place x → All (Agree r) (slice_range xs first place)
+    → Agree r x → All (Agree r) (slice_range xs first (place + 1))
+agree_next r xs first place x order low is all here =
+    subst (All (Agree r)) (ap (λ (y : Run). slice_range xs first place ++ y ∷ []) is ∙ sym (slice_push xs first place x order low))
+    (All-push (Agree r) (slice_range xs first place) x all here)
+
+-- each of those between two places
+pub agree_at : (r : Run) (xs : List Run) (first last place : ℕ) (x : Run) → first ≤ place → place < last → last ≤ length xs → x ≡ get_or xs place x
+    → All (Agree r) (slice_range xs first last) → Agree r x
+agree_at r xs first last place x order low within is all =
+    let there : first + (place - first) ≡ place = omega (arith, order) in
+    let short : place - first < length (slice_range xs first last) =
+    omega (arith, order, low, within, length-take (last - first) (drop first xs), length-drop first xs) in
+    let same : get_or (slice_range xs first last) (place - first) x ≡ x =
+    get_or-take (last - first) (drop first xs) (place - first) x (omega (arith, order, low)) ∙ get_or-drop first xs (place - first) x
+    ∙ ap (λ (n : ℕ). get_or xs n x) there ∙ sym is in
+    subst (Agree r) same (All-get_or (Agree r) (slice_range xs first last) (place - first) x short all)
+
+pub agree_none : (r : Run) (xs : List Run) (first : ℕ) → All (Agree r) (slice_range xs first first)
+agree_none r xs first =
+    subst (All (Agree r)) (sym (slice_empty xs first)) (All-from_recursion (Agree r) [] tt)
 
 pub agree_all : (r : Run) (xs : List Run) (i : ℕ) → i ≡ length xs → All (Agree r) (take i xs) → All (Agree r) xs
 agree_all r xs i whole all = subst (All (Agree r)) (ap (λ (n : ℕ). take n xs) whole ∙ take-length xs) all
@@ -255,6 +278,11 @@ one_whole x total first long =
     ∙ ap (λ (n : ℕ). Some (octet_in (x ∷ []) n)) (omega arith)
     ∙ ap Some (or_nothing (octet_of x k) ∙ from_start x k k (omega (arith, first)))
     ∙ sym (map_got x.octets k (omega (arith, within, long))))
+
+-- of no places there is no run
+pub no_run : (xs : List Run) (total : ℕ) → length xs ≡ 0 → size xs ≡ total → slots_from xs 0 total ≡ map Some []
+no_run [] total none whole = ap (λ (n : ℕ). slots_from [] 0 n) (sym whole)
+no_run (x ∷ xs) total none whole = absurd (omega (arith, none))
 
 pub last_whole : (xs rest : List Run) (x : Run) (total count : ℕ) → AreRuns xs total count → xs ≡ rest ++ x ∷ [] → size xs ≡ total
     → slots_from xs 0 total ≡ map Some x.octets

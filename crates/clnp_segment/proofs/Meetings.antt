@@ -2,6 +2,7 @@
 -- them is in their stead.
 use Rattle.std.proofs.Common.{◌≡◌, ◌⊎◌, ℕ, zero, suc, ◌+◌, ◌-◌, ◌<◌, ◌≤◌, max, min, Bool, nat_lt, cond, count_by, is_none, is_some, List, [], ◌∷◌, ◌++◌, drop, get_or, length, replicate, slice_get, slice_set, take, Option, Some, None, inl, inr, refl, sym, ap, subst, ◌∙◌, arith, append_assoc, drop-cons, length-append}
 use Rattle.std.specs.Prelude.{slice_range}
+use Rattle.std.specs.List.{remove}
 use Rattle.std.proofs.lemmas.Bool.{cases_lt, lt-ltb, le-ltb}
 use Rattle.std.proofs.lemmas.Option.{get_or_from_slice_get, slice_get-get_or, slice_get_within}
 use Rattle.std.proofs.lemmas.List.Sums.{count_by-le-length}
@@ -72,7 +73,7 @@ module _ (runs : List Run) (at first past middle : ℕ) (x : Run) (rise : Rise 0
   }
 
 -- ---- those that are met
-slice_push : (xs : List Run) (first last : ℕ) (d : Run) → first ≤ last → last < length xs
+pub slice_push : (xs : List Run) (first last : ℕ) (d : Run) → first ≤ last → last < length xs
     → slice_range xs first (last + 1) ≡ slice_range xs first last ++ get_or xs last d ∷ []
 slice_push xs first last d order low =
     let count : last + 1 - first ≡ (last - first) + 1 = omega (arith, order) in
@@ -86,7 +87,7 @@ slice_push xs first last d order low =
     get_drop (suc n) [] i d = refl
     get_drop (suc n) (x ∷ xs) i d = let e : suc (n + i) ≡ suc n + i = omega arith in get_drop n xs i d ∙ ap (λ (k : ℕ). get_or (x ∷ xs) k d) e
 
-slice_empty : (xs : List Run) (first : ℕ) → slice_range xs first first ≡ []
+pub slice_empty : (xs : List Run) (first : ℕ) → slice_range xs first first ≡ []
 slice_empty xs first = let none : first - first ≡ 0 = omega arith in ap (λ (n : ℕ). take n (drop first xs)) none
 
 drop_head : (xs : List Run) (i : ℕ) (d : Run) → i < length xs → drop i xs ≡ get_or xs i d ∷ drop (i + 1) xs
@@ -380,6 +381,19 @@ meets_all runs r first last start end held rise f h none =
         clash x e = cc e
 
 -- ---- those that are met go, and one is in their stead
+remove_parts : (xs : List Run) (i : ℕ) → remove xs i ≡ take i xs ++ drop (i + 1) xs
+remove_parts [] zero = refl
+remove_parts [] (suc i) = sym (drop_all (suc i + 1) [] (omega arith))
+remove_parts (x ∷ xs) zero = refl
+remove_parts (x ∷ xs) (suc i) =
+    let e : suc (i + 1) ≡ suc i + 1 = omega arith in
+    ap (λ (ys : List Run). x ∷ ys) (remove_parts xs i) ∙ ap (λ (n : ℕ). x ∷ take i xs ++ drop n (x ∷ xs)) e
+
+pub removed : (xs : List Run) (first last : ℕ) → last - first ≡ 1 → remove xs first ≡ take first xs ++ drop last xs
+removed xs first last one =
+    let next : first + 1 ≡ last = omega (arith, one) in
+    remove_parts xs first ∙ ap (λ (n : ℕ). take first xs ++ drop n xs) next
+
 drop_set : (xs : List Run) (i n : ℕ) (x : Run) → i < n → drop n (slice_set xs i x) ≡ drop n xs
 drop_set [] i n x low = refl
 drop_set (y ∷ xs) zero zero x low = absurd (omega (arith, low))

@@ -8,6 +8,7 @@ ghost use Rattle.clnp_segment.specs.steps.Spans.{Agree, IsFirst, IsSpanned, Meet
 
 use osi_base::{Bytes, NoMemory};
 use std::alloc::Global;
+use std::collections::VecDeque;
 use std::marker::Model;
 use std::mem;
 
@@ -42,7 +43,9 @@ pub struct Runs {
     alloc: Global,
     total: usize,
     count: usize,
-    runs: Vec<Run>,
+    // A ring, of which the shorter part moves: on `pieces-of-8` of benches/loads, where each run comes before all others, what a `Vec` moved took
+    // 135 of 571 million instructions.
+    runs: VecDeque<Run>,
 }
 
 // The runs rise, and none touches or overlaps another; they end within the places, and `count` is how many octets they have.
@@ -66,7 +69,7 @@ impl Runs {
             alloc,
             total,
             count: 0,
-            runs: Vec::new(alloc),
+            runs: VecDeque::new(alloc),
         }
     }
 
@@ -90,7 +93,7 @@ impl Runs {
         ensures { result ≡ is_clash self.now at octets.now }
     {
         let met = meet(&self.runs, at, octets.len());
-        any_differs(&self.runs[met.first..met.last], at, octets)
+        any_differs(&self.runs, met.first, met.last, at, octets)
     }
 
     /// How many of the places of these octets are empty.
@@ -128,7 +131,7 @@ impl Runs {
         ensures { self ≡ map Some result.items }
     {
         let mut runs = self.runs;
-        match runs.pop() {
+        match runs.pop_back() {
             Some(run) => run.octets.into_vec(),
             None => Vec::new(self.alloc),
         }
@@ -146,12 +149,12 @@ pub struct Met {
 }
 
 /// The runs that so many octets from that position on overlap or touch.
-fn meet(runs: &[Run], at: u16, count: usize) -> Met
-    requires rise { Rise 0 runs.now }
+fn meet(runs: &VecDeque<Run>, at: u16, count: usize) -> Met
+    requires rise { Rise 0 runs.now.items }
     requires fits { at + count < 18446744073709551616 }
     ensures order { result.first ≤ result.last }
-    ensures within { result.last ≤ length runs.now }
-    ensures met { (r : Run) → r.start ≡ at → length r.octets ≡ count → Meets runs.now r result.first result.last result.start result.end result.held }
+    ensures within { result.last ≤ length runs.now.items }
+    ensures met { (r : Run) → r.start ≡ at → length r.octets ≡ count → Meets runs.now.items r result.first result.last result.start result.end result.held }
 {
     let first = first_met(runs, at);
     let mut last = first;
@@ -178,9 +181,9 @@ fn meet(runs: &[Run], at: u16, count: usize) -> Met
 }
 
 /// How many runs end before that position, without touching it.
-fn first_met(runs: &[Run], at: u16) -> usize
-    requires { Rise 0 runs.now }
-    ensures { IsFirst runs.now at result }
+fn first_met(runs: &VecDeque<Run>, at: u16) -> usize
+    requires { Rise 0 runs.now.items }
+    ensures { IsFirst runs.now.items at result }
 {
     let mut first = 0;
     let mut past = runs.len();
@@ -195,12 +198,14 @@ fn first_met(runs: &[Run], at: u16) -> usize
     first
 }
 
-/// Whether one of the runs has another octet at a position of these.
-fn any_differs(runs: &[Run], at: u16, octets: &[u8]) -> bool
-    ensures { (r : Run) → r.start ≡ at → r.octets ≡ octets.now → MatchBool result (All (Agree r) runs.now → ⊥) (All (Agree r) runs.now) }
+/// Whether one of the runs from `first` up to `last` has another octet at a position of these.
+fn any_differs(runs: &VecDeque<Run>, first: usize, last: usize, at: u16, octets: &[u8]) -> bool
+    requires order { first ≤ last }
+    requires within { last ≤ length runs.now.items }
+    ensures { (r : Run) → r.start ≡ at → r.octets ≡ octets.now → MatchBool result (All (Agree r) (slice_range runs.now.items first last) → ⊥) (All (Agree r) (slice_range runs.now.items first last)) }
 {
-    for run in runs {
-        if differs(run, at, octets) {
+    for place in first..last {
+        if differs(&runs[place], at, octets) {
             return true;
         }
     }
@@ -221,7 +226,7 @@ fn differs(run: &Run, at: u16, octets: &[u8]) -> bool
 /// The octets from that position on are joined with the runs from `first` up to `last`, which they meet. At NoMemory the runs are unchanged.
 fn join(
     alloc: Global,
-    runs: &mut Vec<Run>,
+    runs: &mut VecDeque<Run>,
     first: usize,
     last: usize,
     at: u16,
@@ -265,7 +270,7 @@ fn append(alloc: Global, run: &mut Run, octets: &[u8]) -> Result<(), NoMemory>
 /// At NoMemory the runs are unchanged.
 fn span(
     alloc: Global,
-    runs: &mut Vec<Run>,
+    runs: &mut VecDeque<Run>,
     first: usize,
     last: usize,
     at: u16,
@@ -328,7 +333,7 @@ fn put(all: &mut [u8], from: usize, octets: &[u8])
 /// At NoMemory the runs are unchanged.
 fn lengthen(
     alloc: Global,
-    runs: &mut Vec<Run>,
+    runs: &mut VecDeque<Run>,
     first: usize,
     last: usize,
     at: u16,
@@ -372,15 +377,19 @@ fn extend(whole: &mut Vec<u8>, front: usize, octets: &[u8], back: &[u8]) -> Resu
     Ok(())
 }
 
-/// The runs from `first` up to `last` go, and those behind them move once.
-fn take_out(runs: &mut Vec<Run>, first: usize, last: usize)
+/// The runs from `first` up to `last` go, and the shorter part of the list beside them moves once.
+fn take_out(runs: &mut VecDeque<Run>, first: usize, last: usize)
     requires order { first ≤ last }
     requires within { last ≤ length runs.old.items }
     ensures { runs.new.items ≡ take first runs.old.items ++ drop last runs.old.items }
 {
     match last - first {
         0 => {}
-        1 => drop(runs.remove(first)),
+        1 => {
+            if let Some(run) = runs.remove(first) {
+                drop(run);
+            }
+        }
         _ => drop(runs.drain(first..last)),
     }
 }

@@ -88,10 +88,12 @@ impl HeldUnit {
     pub fn is_of(&self, incoming: &Incoming<'_>) -> bool
         ensures { result ≡ has_key (incoming_of incoming.now).key self.now }
     {
+        // The identifiers first: the units of two systems differ in them alone. On `pieces-of-8` of benches/loads the search took 66 of 571 million
+        // instructions with the addresses first.
         let pdu = incoming.pdu;
-        self.source == pdu.source
+        self.id == incoming.part.id
+            && self.source == pdu.source
             && self.destination == pdu.destination
-            && self.id == incoming.part.id
     }
 
     /// Until when it is held.

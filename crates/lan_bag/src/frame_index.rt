@@ -1,12 +1,12 @@
 //! An index of the frames by what they carry (IEEE 802.3).
 
-ghost use Rattle.std.specs.Prelude.{◌≡◌, ◌<◌, ◌≤◌, ◌+◌, ◌*◌, true, false, length, map, option_copied, OnOk, OnErr};
+ghost use Rattle.std.specs.Prelude.{◌≡◌, ◌<◌, ◌≤◌, ◌+◌, ◌*◌, true, false, length, map, option_copied, slice_get, OnOk, OnErr};
 ghost use Rattle.std.specs.BTreeSet.{IsUnchanged, Updates, contains, keys_between};
 ghost use Rattle.std.specs.List.{list_any};
 ghost use Rattle.std.specs.Ordering.{nat_cmp};
 ghost use Rattle.std.specs.declared.ops.Bound.TheVariants.{Included};
-ghost use Rattle.lan_bag.specs.Frames.{kept_at, carries_live};
-ghost use Rattle.lan_bag.specs.steps.Index.{AreIndexed, AreIndexedTo, carries_at, code_of, key_of, sum_from};
+ghost use Rattle.lan_bag.specs.Frames.{kept, kept_at, carries_live};
+ghost use Rattle.lan_bag.specs.steps.Index.{AreIndexed, AreIndexedTo, Joins, JoinsWhere, carries_at, code_of, key_of, sum_from};
 
 use crate::frame::Sent;
 use crate::frame_store::FrameStore;
@@ -58,7 +58,10 @@ impl FrameIndex {
     // Inlined: mostly one look tells.
     #[inline(always)]
     pub fn enlist(&mut self, frames: &FrameStore, place: u32) -> Result<(), NoMemory>
-        ensures { (self.old.wanted ≡ true → AreIndexedTo (contains nat_cmp self.old.codes) place frames.now)
+        ensures ok { OnOk result ((self.new.wanted ≡ self.old.wanted)
+            × JoinsWhere self.old.wanted (kept (slice_get frames.now place)) place self.old.codes self.new.codes) }
+        ensures err { OnErr result ((self.old.wanted ≡ true) × (self.new.wanted ≡ false) × IsUnchanged self.old.codes self.new.codes) }
+        ensures indexed { (self.old.wanted ≡ true → AreIndexedTo (contains nat_cmp self.old.codes) place frames.now)
             → self.new.wanted ≡ true → AreIndexedTo (contains nat_cmp self.new.codes) (place + 1) frames.now }
     {
         if !self.wanted {
@@ -71,7 +74,9 @@ impl FrameIndex {
     // Not inlined: where nothing was injected, as mostly, there is no room for its values to clear.
     #[inline(never)]
     fn enlist_wanted(&mut self, frames: &FrameStore, place: u32) -> Result<(), NoMemory>
-        ensures { AreIndexedTo (contains nat_cmp self.old.codes) place frames.now
+        ensures ok { OnOk result ((self.new.wanted ≡ true) × Joins (kept (slice_get frames.now place)) place self.old.codes self.new.codes) }
+        ensures err { OnErr result ((self.new.wanted ≡ false) × IsUnchanged self.old.codes self.new.codes) }
+        ensures indexed { AreIndexedTo (contains nat_cmp self.old.codes) place frames.now
             → self.new.wanted ≡ true → AreIndexedTo (contains nat_cmp self.new.codes) (place + 1) frames.now }
     {
         self.wanted = false;
@@ -127,7 +132,9 @@ fn enlist_all(codes: &mut BTreeSet<u64>, frames: &FrameStore) -> Result<(), NoMe
 
 /// What stands at a place is listed, behind what stands before it.
 fn enlist_at(codes: &mut BTreeSet<u64>, frames: &FrameStore, place: u32) -> Result<(), NoMemory>
-    ensures { OnOk result (AreIndexedTo (contains nat_cmp codes.old) place frames.now → AreIndexedTo (contains nat_cmp codes.new) (place + 1) frames.now) }
+    ensures ok { OnOk result (Joins (kept (slice_get frames.now place)) place codes.old codes.new) }
+    ensures err { OnErr result (IsUnchanged codes.old codes.new) }
+    ensures indexed { OnOk result (AreIndexedTo (contains nat_cmp codes.old) place frames.now → AreIndexedTo (contains nat_cmp codes.new) (place + 1) frames.now) }
 {
     match frames.at(place) {
         Some(sent) => put(codes, sent, place),

@@ -7,13 +7,13 @@ loop-first-preserved-then-end-from c =
     let middle : ℕ = c.loop-first.first + (c.loop-first.past - c.loop-first.first) / 2 in
     let low : c.loop-first.first ≤ middle = omega arith in
     let high : middle < c.loop-first.past = omega arith in
-    search_behind c.args.runs.now c.args.at c.loop-first.first c.loop-first.past middle c.index-runs-middle.result c.requires c.loop-first.invariant low high
-    c.index-runs-middle.is (omega (arith, c.end.ensures, c.from.ensures, c.if-end-from.true))
+    search_behind c.args.runs.now.items c.args.at c.loop-first.first c.loop-first.past middle c.index.result.now c.requires c.loop-first.invariant low high
+    c.index.ensures (omega (arith, c.end.ensures, c.from.ensures, c.if-end-from.true))
 
 pub loop-first-preserved : goal.loop-first-preserved
 loop-first-preserved c =
     let middle : ℕ = c.loop-first.first + (c.loop-first.past - c.loop-first.first) / 2 in
     let low : c.loop-first.first ≤ middle = omega arith in
     let high : middle < c.loop-first.past = omega arith in
-    search_before c.args.runs.now c.args.at c.loop-first.first c.loop-first.past middle c.index-runs-middle.result c.requires c.loop-first.invariant low high
-    c.index-runs-middle.is (omega (arith, c.end.ensures, c.from.ensures, c.if-end-from.false))
+    search_before c.args.runs.now.items c.args.at c.loop-first.first c.loop-first.past middle c.index.result.now c.requires c.loop-first.invariant low high
+    c.index.ensures (omega (arith, c.end.ensures, c.from.ensures, c.if-end-from.false))

@@ -5,9 +5,9 @@ use Rattle.clnp_segment.proofs.runs.meet.Given as goal
 
 abbrev pub invariant-loop-last : goal.invariant-loop-last
 invariant-loop-last l = record {
-  is_first : IsFirst l.runs l.at l.first;
-  met : (r : Run) → r.start ≡ l.at → length r.octets ≡ l.count → IsMeeting l.runs r l.first l.last l.start l.end l.held;
+  is_first : IsFirst l.runs.items l.at l.first;
+  met : (r : Run) → r.start ≡ l.at → length r.octets ≡ l.count → IsMeeting l.runs.items r l.first l.last l.start l.end l.held;
 }
 
 abbrev pub decreases-loop-last : goal.decreases-loop-last
-decreases-loop-last l = length l.runs - l.last
+decreases-loop-last l = length l.runs.items - l.last

@@ -1,4 +1,4 @@
-use Rattle.std.proofs.Common.{◌≡◌, ℕ, ◌≤◌, List, Option, MatchBool, ap, length, refl, subst, sym, ◌∙◌, arith}
+use Rattle.std.proofs.Common.{◌≡◌, ℕ, ◌≤◌, List, Option, MatchBool, ap, length, refl, sym, ◌∙◌, arith}
 use Rattle.std.specs.Prelude.{slice_range}
 use Rattle.std.specs.List.{All}
 use Rattle.clnp_segment.specs.declared.runs.Run.{Run}
@@ -17,12 +17,10 @@ returns c =
     let long : length c.args.self.now ≡ c.self.inside.total =
     ap (λ (slots : List (Option ℕ)). length slots) (sym c.self.view_is) ∙ slots_long runs 0 c.self.inside.total in
     let met : Meets runs r first last c.meet-met.result.start c.meet-met.result.end c.meet-met.result.held =
-    subst (λ (xs : List Run). Meets xs r first last c.meet-met.result.start c.meet-met.result.end c.meet-met.result.held) c.deref.ensures.value
-    (c.meet-met.ensures.met r refl refl) in
+    c.meet-met.ensures.met r refl refl in
     let fits : end_of r ≤ c.self.inside.total = omega (arith, c.requires, long) in
     let told : MatchBool c.any_differs.result (All (Agree r) (slice_range runs first last) → ⊥) (All (Agree r) (slice_range runs first last)) =
-    subst (λ (xs : List Run). MatchBool c.any_differs.result (All (Agree r) (slice_range xs first last) → ⊥) (All (Agree r) (slice_range xs first last)))
-    c.deref-2.ensures.value (c.any_differs.ensures r refl refl) in
+    c.any_differs.ensures r refl refl in
     clash_is runs r first last c.meet-met.result.start c.meet-met.result.end c.meet-met.result.held c.self.inside.total c.self.invariant.rise met fits
     c.any_differs.result told
     ∙ ap (λ (slots : List (Option ℕ)). is_clash slots c.args.at c.args.octets.now) c.self.view_is

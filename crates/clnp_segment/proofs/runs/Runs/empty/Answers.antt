@@ -1,4 +1,4 @@
-use Rattle.std.proofs.Common.{◌≡◌, ℕ, ◌≤◌, ◌<◌, List, Option, ap, count_by, drop, is_none, length, refl, subst, sym, take, ◌∙◌, arith}
+use Rattle.std.proofs.Common.{◌≡◌, ℕ, ◌≤◌, ◌<◌, List, Option, ap, count_by, drop, is_none, length, refl, sym, take, ◌∙◌, arith}
 use Rattle.clnp_segment.specs.declared.runs.Run.{Run}
 use Rattle.clnp_segment.specs.steps.Spans.{Meets, end_of}
 use Rattle.clnp_segment.proofs.Fills.{slots_long}
@@ -11,8 +11,7 @@ overflow_sub-result c =
     let long : length c.args.self.now ≡ c.self.inside.total =
     ap (λ (slots : List (Option ℕ)). length slots) (sym c.self.view_is) ∙ slots_long c.self.inside.runs.items 0 c.self.inside.total in
     let met : Meets c.self.inside.runs.items r c.meet-met.result.first c.meet-met.result.last c.meet-met.result.start c.meet-met.result.end c.meet-met.result.held =
-    subst (λ (xs : List Run). Meets xs r c.meet-met.result.first c.meet-met.result.last c.meet-met.result.start c.meet-met.result.end c.meet-met.result.held)
-    c.deref.ensures.value (c.meet-met.ensures.met r refl refl) in
+    c.meet-met.ensures.met r refl refl in
     let some : 0 < length r.octets = omega (arith, c.if-count-eq0.false) in
     let fits : end_of r ≤ c.self.inside.total = omega (arith, c.requires, long) in
     let x = exchanged c.self.inside.runs.items r c.meet-met.result.first c.meet-met.result.last c.meet-met.result.start c.meet-met.result.end
@@ -25,8 +24,7 @@ overflow_sub-result-2 c =
     let long : length c.args.self.now ≡ c.self.inside.total =
     ap (λ (slots : List (Option ℕ)). length slots) (sym c.self.view_is) ∙ slots_long c.self.inside.runs.items 0 c.self.inside.total in
     let met : Meets c.self.inside.runs.items r c.meet-met.result.first c.meet-met.result.last c.meet-met.result.start c.meet-met.result.end c.meet-met.result.held =
-    subst (λ (xs : List Run). Meets xs r c.meet-met.result.first c.meet-met.result.last c.meet-met.result.start c.meet-met.result.end c.meet-met.result.held)
-    c.deref.ensures.value (c.meet-met.ensures.met r refl refl) in
+    c.meet-met.ensures.met r refl refl in
     let some : 0 < length r.octets = omega (arith, c.if-count-eq0.false) in
     let fits : end_of r ≤ c.self.inside.total = omega (arith, c.requires, long) in
     let x = exchanged c.self.inside.runs.items r c.meet-met.result.first c.meet-met.result.last c.meet-met.result.start c.meet-met.result.end
@@ -39,8 +37,7 @@ returns c =
     let long : length c.args.self.now ≡ c.self.inside.total =
     ap (λ (slots : List (Option ℕ)). length slots) (sym c.self.view_is) ∙ slots_long c.self.inside.runs.items 0 c.self.inside.total in
     let met : Meets c.self.inside.runs.items r c.meet-met.result.first c.meet-met.result.last c.meet-met.result.start c.meet-met.result.end c.meet-met.result.held =
-    subst (λ (xs : List Run). Meets xs r c.meet-met.result.first c.meet-met.result.last c.meet-met.result.start c.meet-met.result.end c.meet-met.result.held)
-    c.deref.ensures.value (c.meet-met.ensures.met r refl refl) in
+    c.meet-met.ensures.met r refl refl in
     let some : 0 < length r.octets = omega (arith, c.if-count-eq0.false) in
     let fits : end_of r ≤ c.self.inside.total = omega (arith, c.requires, long) in
     let x = exchanged c.self.inside.runs.items r c.meet-met.result.first c.meet-met.result.last c.meet-met.result.start c.meet-met.result.end

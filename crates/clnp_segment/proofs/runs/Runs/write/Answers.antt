@@ -16,8 +16,7 @@ overflow_sub-self c =
     let long : length c.args.self.now ≡ c.self.inside.total =
     ap (λ (slots : List (Option ℕ)). length slots) (sym c.self.view_is) ∙ slots_long c.self.inside.runs.items 0 c.self.inside.total in
     let met : Meets c.self.inside.runs.items r c.meet-met.result.first c.meet-met.result.last c.meet-met.result.start c.meet-met.result.end c.meet-met.result.held =
-    subst (λ (xs : List Run). Meets xs r c.meet-met.result.first c.meet-met.result.last c.meet-met.result.start c.meet-met.result.end c.meet-met.result.held)
-    c.deref.ensures.value (c.meet-met.ensures.met r refl refl) in
+    c.meet-met.ensures.met r refl refl in
     let some : 0 < length r.octets = omega (arith, c.if-count-eq0.false) in
     let fits : end_of r ≤ c.self.inside.total = omega (arith, c.requires, long) in
     let x = exchanged c.self.inside.runs.items r c.meet-met.result.first c.meet-met.result.last c.meet-met.result.start c.meet-met.result.end
@@ -30,8 +29,7 @@ overflow_sub-self-2 c =
     let long : length c.args.self.now ≡ c.self.inside.total =
     ap (λ (slots : List (Option ℕ)). length slots) (sym c.self.view_is) ∙ slots_long c.self.inside.runs.items 0 c.self.inside.total in
     let met : Meets c.self.inside.runs.items r c.meet-met.result.first c.meet-met.result.last c.meet-met.result.start c.meet-met.result.end c.meet-met.result.held =
-    subst (λ (xs : List Run). Meets xs r c.meet-met.result.first c.meet-met.result.last c.meet-met.result.start c.meet-met.result.end c.meet-met.result.held)
-    c.deref.ensures.value (c.meet-met.ensures.met r refl refl) in
+    c.meet-met.ensures.met r refl refl in
     let some : 0 < length r.octets = omega (arith, c.if-count-eq0.false) in
     let fits : end_of r ≤ c.self.inside.total = omega (arith, c.requires, long) in
     let x = exchanged c.self.inside.runs.items r c.meet-met.result.first c.meet-met.result.last c.meet-met.result.start c.meet-met.result.end
@@ -44,8 +42,7 @@ overflow_add-self c =
     let long : length c.args.self.now ≡ c.self.inside.total =
     ap (λ (slots : List (Option ℕ)). length slots) (sym c.self.view_is) ∙ slots_long c.self.inside.runs.items 0 c.self.inside.total in
     let met : Meets c.self.inside.runs.items r c.meet-met.result.first c.meet-met.result.last c.meet-met.result.start c.meet-met.result.end c.meet-met.result.held =
-    subst (λ (xs : List Run). Meets xs r c.meet-met.result.first c.meet-met.result.last c.meet-met.result.start c.meet-met.result.end c.meet-met.result.held)
-    c.deref.ensures.value (c.meet-met.ensures.met r refl refl) in
+    c.meet-met.ensures.met r refl refl in
     let some : 0 < length r.octets = omega (arith, c.if-count-eq0.false) in
     let fits : end_of r ≤ c.self.inside.total = omega (arith, c.requires, long) in
     let x = exchanged c.self.inside.runs.items r c.meet-met.result.first c.meet-met.result.last c.meet-met.result.start c.meet-met.result.end
@@ -58,8 +55,7 @@ invariant_of-self-2 c =
     let long : length c.args.self.now ≡ c.self.inside.total =
     ap (λ (slots : List (Option ℕ)). length slots) (sym c.self.view_is) ∙ slots_long c.self.inside.runs.items 0 c.self.inside.total in
     let met : Meets c.self.inside.runs.items r c.meet-met.result.first c.meet-met.result.last c.meet-met.result.start c.meet-met.result.end c.meet-met.result.held =
-    subst (λ (xs : List Run). Meets xs r c.meet-met.result.first c.meet-met.result.last c.meet-met.result.start c.meet-met.result.end c.meet-met.result.held)
-    c.deref.ensures.value (c.meet-met.ensures.met r refl refl) in
+    c.meet-met.ensures.met r refl refl in
     let some : 0 < length r.octets = omega (arith, c.if-count-eq0.false) in
     let fits : end_of r ≤ c.self.inside.total = omega (arith, c.requires, long) in
     let x = exchanged c.self.inside.runs.items r c.meet-met.result.first c.meet-met.result.last c.meet-met.result.start c.meet-met.result.end
@@ -73,8 +69,7 @@ returns-clause-ok c =
     let long : length c.args.self.now ≡ c.self.inside.total =
     ap (λ (slots : List (Option ℕ)). length slots) (sym c.self.view_is) ∙ slots_long c.self.inside.runs.items 0 c.self.inside.total in
     let met : Meets c.self.inside.runs.items r c.meet-met.result.first c.meet-met.result.last c.meet-met.result.start c.meet-met.result.end c.meet-met.result.held =
-    subst (λ (xs : List Run). Meets xs r c.meet-met.result.first c.meet-met.result.last c.meet-met.result.start c.meet-met.result.end c.meet-met.result.held)
-    c.deref.ensures.value (c.meet-met.ensures.met r refl refl) in
+    c.meet-met.ensures.met r refl refl in
     let some : 0 < length r.octets = omega (arith, c.if-count-eq0.false) in
     let fits : end_of r ≤ c.self.inside.total = omega (arith, c.requires, long) in
     let x = exchanged c.self.inside.runs.items r c.meet-met.result.first c.meet-met.result.last c.meet-met.result.start c.meet-met.result.end

@@ -72,7 +72,7 @@ invariant_of-self-2 c = record {
       c.list.ensures.span c.in_ok-list.ensures.ok c.in_ok-push.ensures.ok;
   indexed = λ wanted.
       indexed_pushed (contains nat_cmp c.enlist-listed.new.self.codes) c.self.inside.frames c.push.new.self c.in_ok-sent.sent c.count-place.result c.count-place.ensures c.in_ok-push.ensures.ok
-      (c.enlist-listed.ensures
+      (c.enlist-listed.ensures.indexed
       (λ was. indexed_below (contains nat_cmp c.self.inside.index.codes) c.self.inside.frames c.push.new.self c.in_ok-sent.sent c.count-place.result c.count-place.ensures c.in_ok-push.ensures.ok
       (c.self.invariant.indexed was)) wanted);
 }
