@@ -1,4 +1,5 @@
 pub mod Advances
+pub mod Calls
 pub mod Counts
 pub mod Cuts
 pub mod Dues
