@@ -1,7 +1,7 @@
 # Completion of ./osi for bash: the words, options and templates, and then files. Switch it on by `. tools/completion.bash`, for each shell by a line
 # `. PLACE/tools/completion.bash` in ~/.bashrc.
 _osi() {
-    local words='run frames decode storm datagrams inactive relay help ladder annotate explain expect lossy sweep diff type of summary octets replay live together'
+    local words='run frames decode storm datagrams inactive relay help ladder annotate explain expect lossy sweep diff type of summary octets replay live together recovery'
     COMPREPLY=()
     if [ "$COMP_CWORD" = 1 ]; then
         mapfile -t COMPREPLY < <(compgen -W "$words --version --help" -- "$2")
@@ -13,6 +13,7 @@ _osi() {
         sweep) words='--csv --svg --on --help' ;;
         type) words='--from --step --help' ;;
         live) words='--tick --log --stay --skew --help' ;;
+        recovery) words='--seeds --outages --outage --less --help' ;;
         *) words=--help ;;
         esac
         mapfile -t COMPREPLY < <(compgen -W "$words" -- "$2")

@@ -35,7 +35,7 @@ function waits() {
 $1 == "lan" { lans[$2] }
 $1 == "es" || $1 == "is" { systems[$2] }
 $0 == "start" { started = 1 }
-/^#(when|losses|down|up|lan)( |$)/ {
+/^#(when|losses|calm|down|up|lan)( |$)/ {
     if (match($0, /  | $/)) fault(RSTART + 1, "fields", "one blank between fields, and none behind the last")
 }
 /^#when( |$)/ {
@@ -47,6 +47,12 @@ $0 == "start" { started = 1 }
 /^#losses( |$)/ {
     if (NF > 1) fault(place(2), "fields", "that word alone")
     if (losses++) fault(1, "repeat", "it stands above")
+    if (calm) fault(1, "order", "it stands above #calm")
+}
+/^#calm( |$)/ {
+    if (NF > 1) fault(place(2), "fields", "that word alone")
+    if (calm++) fault(1, "repeat", "it stands above")
+    if (!started) fault(1, "order", "it stands below start")
 }
 /^#(down|up)( |$)/ {
     if (NF == 1) fault(end(), "fields", "the name of a system")

@@ -34,7 +34,7 @@ function answers(   line) {
 }
 # A line of the new script, which the program is given too. A comment that losses read is a plain one there.
 function add(line) {
-    if (line ~ /^#(when|losses|down|up|lan)( |$)/) sub(/^#/, "# ", line)
+    if (line ~ /^#(when|losses|calm|down|up|lan)( |$)/) sub(/^#/, "# ", line)
     print line > lossy
     if (line == "" || line ~ /^#/) return
     if (unread + length(line) > 3000 && began) answers()
@@ -51,6 +51,7 @@ function release(   i, j, any) {
         is_given[i]
         for (j = first_condition[i]; j <= last_condition[i]; j++) add("# when " condition[j])
         add(held[i])
+        if (is_over) add("settle")
         holding--
         any = 1
     }
@@ -70,7 +71,7 @@ function sent(number, lan, sender, snpa,   i) {
         if (at[i] == snpa || snpa == "09002b00000" (kind[of[i]] == "es" ? 4 : 5)) waits[++waiting] = number " " of[i]
     }
 }
-# The rates of a LAN: those of its comment `#lan`, else those of the words. Above `#losses` nothing is lost.
+# The rates of a LAN: those of its comment `#lan`, else those of the words. Above `#losses` and below `#calm` nothing is lost.
 function rate(lan, what, other) { return (lan, what) in rates ? rates[lan, what] : other }
 function keeps_order(lan) { return is_calm || rates[lan, "order"] == "keep" }
 function is_down(pair,   part) {
@@ -140,7 +141,7 @@ function deliver(   i, j, part, lan, places, place, first, queue, taken) {
     }
     count = 0
 }
-# Rounds, until nothing waits. Above `#losses` the line itself, but where a system is down.
+# Rounds, until nothing waits. Above `#losses` and below `#calm` the line itself, but where a system is down.
 function settle(   any) {
     if (is_calm && !downs) {
         do { add("settle"); is_stopped = 0; answers() } while (holding && release())
@@ -204,6 +205,7 @@ BEGIN {
         if (line == "start") { mark = "deliver 999999999 " any; answer = "nosuch 999999999 " any }
         if (line ~ /^#when /) { above++; continue }
         if (line == "#losses") is_calm = 0
+        if (line == "#calm") { is_calm = is_over = 1; waiting = laters = 0 }
         if (field[1] == "#lan") set_rates(fields, field)
         if (field[1] == "#down") { down[field[2]]; downs++ }
         if (field[1] == "#up") { delete down[field[2]]; downs-- }
@@ -211,7 +213,7 @@ BEGIN {
         else if (line != "settle" || any == "") add(line)
         else settle()
         if (line == "start" && any != "") began = 1
-        else if (holding && line !~ /^(#.*|settle)?$/) catch_up()
+        else if (holding && !is_over && line !~ /^(#.*|settle)?$/) catch_up()
     }
     if (holding) catch_up()
     for (i = 1; i <= helds; i++) if (!(i in is_given)) {

@@ -4,7 +4,7 @@ if exists("b:current_syntax")
 endif
 syn match osiComment "^#.*" contains=osiForeign
 syn match osiExpected "^#= .*" contains=osiForeign
-syn match osiLosses "^#\(when\|losses\|down\|up\|lan\)\>.*" contains=osiForeign
+syn match osiLosses "^#\(when\|losses\|calm\|down\|up\|lan\)\>.*" contains=osiForeign
 syn match osiCommand "^# osi \(run\|datagrams\|inactive\|relay\):.*" contains=osiForeign
 syn match osiSetup "^\(version\|set\|lan\|es\|is\|port\|route\|path\|tsap\|relay\|start\)\>"
 syn match osiEvent "^\(unit\|connect\|accept\|refuse\|data\|expedite\|window\|disconnect\|tick\|deliver\|settle\|inject\|restart\|send\)\>"
