@@ -54,12 +54,23 @@ def of_pair(claim, pair):
     return "%s: at t0 %s; %s" % (names, states, became)
 
 
+def ticks(count):
+    return "1 tick" if count == 1 else "%d ticks" % count
+
+
+def spared(longest):
+    """How long an outage may be that ends no connection."""
+    if longest < 1:
+        return "with these T1, N, W and I none is so short that it surely ends no open connection"
+    return "one of at most %s ends no open connection" % ticks(longest)
+
+
 def of_claim(claim):
     """What became of each connection, and whether what is claimed of them holds."""
     lines = [of_pair(claim, pair) for pair in claim.ends.pairs]
     if claim.is_outage:
-        lines.append("all came up to tick %d, so the outage has %d ticks; one of at most %d ends no open connection" %
-                     (claim.tick(claim.parts.calm), claim.outage(), claim.longest + claim.less))
+        lines.append("all came up to tick %d, so the outage has %s; %s" %
+                     (claim.tick(claim.parts.calm), ticks(claim.outage()), spared(claim.longest + claim.less)))
     return lines + (["%d broken" % len(claim.broken)] if claim.broken else ["the claim holds"])
 
 
