@@ -1,0 +1,5 @@
+mod Aiming
+mod Aside
+mod Going
+mod Ordered
+mod Rivals

@@ -1,0 +1,5 @@
+pub mod Aside
+pub mod Laws
+pub mod Ordered
+pub mod Rivals
+pub mod Run
