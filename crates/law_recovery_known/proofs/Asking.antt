@@ -28,7 +28,7 @@ use Rattle.law_recovery_world.specs.Laws.{CallsTell}
 use Rattle.law_recovery_world.specs.Steady.{AreSteady, IsSteady, StageMade, StageTells}
 use Rattle.law_recovery_known.specs.Asking.{IsAskingPairOf, IsEndOf, IsKnownToAsk}
 use Rattle.law_recovery_known.specs.Laws.{AskersAreKnown, AskersOpen, AskersShow, KnownAreCarried, PartnersAreKnown}
-use Rattle.law_recovery_known.specs.Partners.{IsOpenedEnd, IsPairOf}
+use Rattle.law_recovery_known.specs.Partners.{IsOpenedEnd}
 use Rattle.law_recovery_known.proofs.Showing.{rest_shows}
 
 module _ {C : Type 0} (link : C → Link (List ℕ)) (titles : List (List ℕ)) (timers : Timers) (w : Whole) (journal : List Event) (last : World C) (explains : Explains link titles timers w journal last)

@@ -1,11 +1,13 @@
--- One direction between two partners that are Opened: the line of its sender is a run, in which both halves stand.
+-- One direction between two partners that are open: the line of its sender is a run, in which both halves stand. Where the sender is Opened, all is known of it; and where
+-- it is in AkWait, what is known of one that has sent nothing.
 use Rattle.std.specs.Prelude.{option_map}
 use Rattle.std.specs.List.{sum_by}
-use Rattle.std.proofs.Common.{◌≡◌, inl, inr, ℕ, ◌+◌, ◌<◌, ◌≤◌, List, [], ◌++◌, length, length-append, get_or, take, Option, Some, None, refl, sym, ◌∙◌, ap, subst, arith}
+use Rattle.std.proofs.Common.{◌≡◌, ◌≢◌, inl, inr, ℕ, ◌+◌, ◌<◌, ◌≤◌, List, [], ◌++◌, length, length-append, get_or, take, true, Option, Some, None, refl, sym, ◌∙◌, ap, subst, arith}
 use Rattle.std.proofs.lemmas.List.Sums.{sum_by-append}
 use Rattle.std.proofs.lemmas.Option.{same_Some}
 use Rattle.osi_base.specs.Link.{Link}
 use Rattle.tp4_number.specs.declared.piece.Piece.{Piece}
+use Rattle.tp4_number.specs.Formats.{most_of}
 use Rattle.tp4_number.specs.Expedited.{LeadsUrgently, quiet}
 use Rattle.tp4_number.specs.Receiver.{Inbox}
 use Rattle.tp4_number.specs.Sender.{Sender}
@@ -15,11 +17,13 @@ use Rattle.law_tp4_recovery.specs.Views.{AreViews}
 use Rattle.tp4_flow.specs.Half.{Half}
 use Rattle.tp4_flow.specs.declared.rules.FlowRules.{FlowRules}
 use Rattle.tpdu.specs.declared.service.Options.{Options}
-use Rattle.tp4_sending.specs.FlowSender.{FlowSender}
+use Rattle.tp4_sending.specs.FlowSender.{FlowSender, fresh}
+use Rattle.tp4_sending.proofs.Settles.{new_settled}
 use Rattle.tp4_sending.specs.Kept.{urgent_base}
 use Rattle.tp4_sending.specs.Pieces.{count_in, cut_at}
 use Rattle.tp4_sending.specs.declared.tries.Tries.{Tries}
 use Rattle.law_recovery_pair.specs.Riding.{Aside, road_of, rules_by}
+use Rattle.tp4_conn.specs.declared.halves.Halves.{Halves}
 use Rattle.tp4_conn.specs.declared.states.InOpened.{InOpened}
 use Rattle.tp4_conn.specs.declared.timers.Timers.{Timers}
 use Rattle.tp4_conn.specs.End.{End}
@@ -36,18 +40,21 @@ use Rattle.law_tp4_history.proofs.Meets.{swap}
 use Rattle.law_tp4_history.proofs.Sound.{one_partner}
 use Rattle.law_tp4_history.proofs.Written.{Kept}
 use Rattle.law_tp4_moves.specs.Lines.{IsReceivingAt, IsSendingAt}
-use Rattle.law_tp4_moves.specs.Moves.{IsOpened, IsSeenIn, times_of}
+use Rattle.law_tp4_moves.specs.Moves.{times_of}
 use Rattle.law_tp4_moves.specs.Seen.{terms_of}
 use Rattle.law_tp4_pair.specs.Pair.{Account}
 use Rattle.law_tp4_pair.specs.steps.Flowing.{HasUnit}
 use Rattle.law_recovery_steps.specs.Beginning.{IsFull}
 use Rattle.law_recovery_steps.specs.Known.{IsKnownAt}
+use Rattle.law_recovery_steps.specs.Resting.{IsBegun}
+use Rattle.law_recovery_opening.specs.Opening.{IsQueued, unsent}
 use Rattle.tp4_world.specs.World.{World}
+use Rattle.law_tp4_lawful.specs.Numbers.{IsOpenEnd}
 use Rattle.law_tp4_lawful.specs.References.{halves_at}
 use Rattle.law_tp4_lawful.proofs.Known.{IsKnown}
 use Rattle.law_tp4_lawful.proofs.Worlds.{Explains}
 use Rattle.law_tp4_lawful.proofs.FramesKnown.{keeps}
-use Rattle.law_tp4_lawful.proofs.ReferencesHalves.{AreThere, are_there, known_at}
+use Rattle.law_tp4_lawful.proofs.ReferencesHalves.{AreThere, are_there, known_at, own_in}
 use Rattle.law_tp4_lawful.proofs.ReferencesMet.{same_format}
 use Rattle.law_tp4_lawful.proofs.ReferencesOwn.{are_partners}
 use Rattle.law_tp4_lawful.proofs.WorldOutcomes.{one_unit}
@@ -76,8 +83,18 @@ Holds units size expected inbox = (d : ℕ) (piece : Piece) → get_or inbox.hel
 abbrev Shows : List (List ℕ) → List (List ℕ) → ℕ → ℕ → Inbox → Type 0
 Shows units out size expected inbox = Complete size units expected out inbox.held.begun
 
+-- an Opened end is open
+abbrev pub opened_is : {C : Type 0} (last : World C) (x : ℕ) (e : End) (o : InOpened) → IsOpenedEnd last x e o → IsOpenEnd last x o.halves
+opened_is last x e o a = record { system = a.system; reference = a.reference; entity = a.entity; end = e; is_end = a.is_end; has = ap halves_at a.stage }
+
 module _ {C : Type 0} (link : C → Link (List ℕ)) (titles : List (List ℕ)) (timers : Timers) (w : Whole) (journal : List Event) (world : World C) (explains : Explains link titles timers w journal world)
-    (x y : ℕ) (partners : ArePartners journal x y) (e f : End) (o q : InOpened) (a : IsOpenedEnd world x e o) (b : IsOpenedEnd world y f q) where
+    (x y : ℕ) (partners : ArePartners journal x y) (mine theirs : Halves) (a : IsOpenEnd world x mine) (b : IsOpenEnd world y theirs) where
+  abbrev e : End
+  e = a.end
+
+  abbrev f : End
+  f = b.end
+
   kept : Kept (times_of timers) titles w journal
   kept = keeps titles timers w journal world.entities world.ends explains.known
 
@@ -87,11 +104,11 @@ module _ {C : Type 0} (link : C → Link (List ℕ)) (titles : List (List ℕ)) 
   pub far : (is : IsKnown w b.entity.own b.reference f) × (is.k + 1 ≡ y)
   far = known_at link titles timers w journal world explains y b.system b.entity b.reference f b.is_end
 
-  pub there : AreThere w here.0.k e.base o.halves
-  there = are_there link titles timers w journal world explains a.entity.own a.reference e here.0 o.halves (ap halves_at a.stage)
+  pub there : AreThere w here.0.k e.base mine
+  there = are_there link titles timers w journal world explains a.entity.own a.reference e here.0 mine a.has
 
-  pub there_far : AreThere w far.0.k f.base q.halves
-  there_far = are_there link titles timers w journal world explains b.entity.own b.reference f far.0 q.halves (ap halves_at b.stage)
+  pub there_far : AreThere w far.0.k f.base theirs
+  there_far = are_there link titles timers w journal world explains b.entity.own b.reference f far.0 theirs b.has
 
   back : ArePartners journal y x
   back = elim partners [ inl p ↦ inr p | inr p ↦ inl p ]
@@ -116,20 +133,20 @@ module _ {C : Type 0} (link : C → Link (List ℕ)) (titles : List (List ℕ)) 
     | inr p ↦ same_Some _ _ (sym agreed_here ∙ kept.agreed.both far.0.k here.0.k (terms_of there_far.own.terms) p agreed_far)
   ]
 
-  pub format_same : o.halves.sending.rules.format ≡ q.halves.sending.rules.format
+  pub format_same : mine.sending.rules.format ≡ theirs.sending.rules.format
   format_same =
       ap (λ (r : FlowRules). r.format) there.own.sending ∙ formats_same there.own.terms there_far.own.terms terms_same ∙ sym (ap (λ (r : FlowRules). r.format) there_far.own.sending)
 
-  pub sum_same : o.halves.sending.rules.sum ≡ q.halves.sending.rules.sum
+  pub sum_same : mine.sending.rules.sum ≡ theirs.sending.rules.sum
   sum_same = ap (λ (r : FlowRules). r.sum) there.own.sending ∙ sums_same there.own.terms there_far.own.terms terms_same ∙ sym (ap (λ (r : FlowRules). r.sum) there_far.own.sending)
 
   -- each knows the reference of the other
-  opened_here : IsOpened (w.base.end here.0.k).took (w.base.end here.0.k).latest e.base o
-  opened_here = subst (IsSeenIn (w.base.end here.0.k).birth (w.base.end here.0.k).took (w.base.end here.0.k).latest e.base) a.stage here.0.sees.state
+  knows_one : e.base.partner ≢ 0
+  knows_one = (own_in (w.base.end here.0.k).birth (w.base.end here.0.k).took (w.base.end here.0.k).latest e.base e.stage mine a.has here.0.sees.state).1
 
   pub named : e.base.partner ≡ f.base.own
   named =
-      let p = (kept.sound.own here.0.k here.0.at.low).known (λ none. opened_here.known (sym here.0.sees.known ∙ none)) in
+      let p = (kept.sound.own here.0.k here.0.at.low).known (λ none. knows_one (sym here.0.sees.known ∙ none)) in
       let same : p.0 ≡ far.0.k = one_partner (times_of timers) w.base kept.sound here.0.k p.0 far.0.k p.1 partner in
       sym here.0.sees.known ∙ p.2 ∙ ap (λ (j : ℕ). (w.base.end j).birth.reference) same ∙ far.0.sees.reference
 
@@ -139,10 +156,10 @@ module _ {C : Type 0} (link : C → Link (List ℕ)) (titles : List (List ℕ)) 
   t = w.track here.0.k
 
   abbrev s : FlowSender
-  s = o.halves.sending
+  s = mine.sending
 
   abbrev h : Half
-  h = q.halves.receiving
+  h = theirs.receiving
 
   sending : IsSendingAt s t
   sending = there.halves.sending
@@ -183,8 +200,7 @@ module _ {C : Type 0} (link : C → Link (List ℕ)) (titles : List (List ℕ)) 
       ap (sum_by (count_in s.rules.piece)) sending.normal ∙ sum_by-append (count_in s.rules.piece) sending.acknowledged s.queue.units in
       omega (arith, all, high, sized, parts, sending.pieces)
 
-  module _ (now : ℕ) (now_is : w.base.clock ≡ now) (proper : AreOpen e.base.agreed o.halves) (late : AreLate timers.credit now o.halves) (late_far : AreLate timers.credit now q.halves)
-      (views : HasViews w x o.halves q.halves) where
+  module _ (now : ℕ) (now_is : w.base.clock ≡ now) (views : HasViews w x mine theirs) where
     abbrev aside : Aside
     aside = record { urgent = t.line.world.receiver.urgent; sends = t.line.world.sends; answers = t.line.world.answers; dts = []; aks = [] }
 
@@ -205,68 +221,130 @@ module _ {C : Type 0} (link : C → Link (List ℕ)) (titles : List (List ℕ)) 
         subst (λ (r : Rules). Leads r (start t.tick t.credit t.places t.room) fine.events (road_of now s.numbers h aside).traffic) rules_are
         (subst (λ (v : Traffic). Leads t.rules (start t.tick t.credit t.places t.room) fine.events v) world_is fine.leads)
 
-    edge : s.numbers.next ≤ s.numbers.base + s.numbers.credit
-    edge = subst (λ (n : Sender). n.next ≤ n.base + n.credit) sending.numbers views_here.edge
+    format_there : h.rules.format ≡ s.rules.format
+    format_there = ap (λ (r : FlowRules). r.format) there_far.own.receiving ∙ sym (ap (λ (r : FlowRules). r.format) there_far.own.sending) ∙ sym format_same
 
-    high : s.numbers.next ≤ s.numbers.blocks.high
-    high = subst (λ (n : Sender). n.next ≤ n.blocks.high) sending.numbers sound.order.next_to
+    urgent_leads : LeadsUrgently (rules_by timers.life s.rules) (quiet t.tick) fine.expedites t.line.urgent
+    urgent_leads = subst (λ (r : Rules). LeadsUrgently r (quiet t.tick) fine.expedites t.line.urgent) rules_are fine.expedites_lead
 
-    by_receiver : (P : ℕ → ℕ → Inbox → Type 0) → P t.size t.line.world.receiver.expected t.line.world.receiver.inbox → P s.rules.piece h.receiver.expected h.receiver.inbox
-    by_receiver P p =
-        subst (λ (i : Inbox). P s.rules.piece h.receiver.expected i) receiving.inbox
-        (subst (λ (n : ℕ). P s.rules.piece n t.line.world.receiver.inbox) receiving.expected
-        (subst (λ (n : ℕ). P n t.line.world.receiver.expected t.line.world.receiver.inbox) sending.size p))
+    -- an Opened sender
+    module _ (proper : AreOpen e.base.agreed mine) (late : AreLate timers.credit now mine) (late_far : AreLate timers.credit now theirs) where
+      edge : s.numbers.next ≤ s.numbers.base + s.numbers.credit
+      edge = subst (λ (n : Sender). n.next ≤ n.base + n.credit) sending.numbers views_here.edge
 
-    on_line : IsKnownAt timers.life now s h (record { gave = t.line.submitted; showed = t.line.shown })
-    on_line = record {
-      aside = aside;
-      no_dts = refl;
-      no_aks = refl;
-      format = ap (λ (r : FlowRules). r.format) there_far.own.receiving ∙ sym (ap (λ (r : FlowRules). r.format) there_far.own.sending) ∙ sym format_same;
-      fit = subst IsFit rules_are run.long;
-      tick = t.tick;
-      credit = t.credit;
-      places = t.places;
-      room = t.room;
-      credit_low = subst (λ (r : Rules). t.credit < r.block) rules_are run.credit_low;
-      room_low = subst (λ (r : Rules). t.room < r.block) rules_are run.room_low;
-      events = fine.events;
-      leads = leads;
-      views = subst AreViews world_is views_here;
-      fits = late_far.fits;
-      ordered = record {
-        is_open = proper.is_open;
-        first = sending.first;
-        window = sending.window;
-        high = high;
-        edge = edge;
-        unit = has_unit s (expediteds t.line.submitted) sending.answered t.line.urgent.base s.urgent.out sending.base sending.expedited sending.answers sending.sent;
-      };
-      settled = proper.settled;
-      tried = late.tried.window;
-      expedites = fine.expedites;
-      urgent = t.line.urgent;
-      urgent_leads = subst (λ (r : Rules). LeadsUrgently r (quiet t.tick) fine.expedites t.line.urgent) rules_are fine.expedites_lead;
-      urgent_clock = run.at.1 ∙ now_is;
-      urgent_next = sending.next;
-      urgent_blocks = sending.blocks;
-      urgent_expected = receiving.urgent;
-      urgent_base_is = sending.base;
-      urgent_tried = late.tried.urgent;
-      some = subst (λ (n : ℕ). 0 < n) sending.size run.some;
-      full = fine.filled.full;
-      acknowledged = sending.acknowledged;
-      normal = sending.normal;
-      first = sending.pieces;
-      answered = sending.answered;
-      expedited = sending.expedited;
-      answers = sending.answers;
-      complete = by_receiver (Shows (normals t.line.submitted) (normals t.line.shown)) fine.filled.complete;
-      held = by_receiver (Holds (normals t.line.submitted)) fine.filled.held;
-      urged = fine.urged ∙ ap (λ (n : ℕ). take n (expediteds t.line.submitted)) receiving.urgent;
-    }
+      high : s.numbers.next ≤ s.numbers.blocks.high
+      high = subst (λ (n : Sender). n.next ≤ n.blocks.high) sending.numbers sound.order.next_to
 
-    pub known_direction : (units : Account) → units.gave ≡ submitted x journal → units.showed ≡ shown y journal → IsKnownAt timers.life now s h units
-    known_direction units gave_is showed_is =
-        let same : record { gave = t.line.submitted; showed = t.line.shown } ≡ units = λ i. record { gave = (gave ∙ sym gave_is) i; showed = (showed ∙ sym showed_is) i } in
-        subst (λ (u : Account). IsKnownAt timers.life now s h u) same on_line
+      by_receiver : (P : ℕ → ℕ → Inbox → Type 0) → P t.size t.line.world.receiver.expected t.line.world.receiver.inbox → P s.rules.piece h.receiver.expected h.receiver.inbox
+      by_receiver P p =
+          subst (λ (i : Inbox). P s.rules.piece h.receiver.expected i) receiving.inbox
+          (subst (λ (n : ℕ). P s.rules.piece n t.line.world.receiver.inbox) receiving.expected
+          (subst (λ (n : ℕ). P n t.line.world.receiver.expected t.line.world.receiver.inbox) sending.size p))
+
+      on_line : IsKnownAt timers.life now s h (record { gave = t.line.submitted; showed = t.line.shown })
+      on_line = record {
+        aside = aside;
+        no_dts = refl;
+        no_aks = refl;
+        format = format_there;
+        fit = subst IsFit rules_are run.long;
+        tick = t.tick;
+        credit = t.credit;
+        places = t.places;
+        room = t.room;
+        credit_low = subst (λ (r : Rules). t.credit < r.block) rules_are run.credit_low;
+        room_low = subst (λ (r : Rules). t.room < r.block) rules_are run.room_low;
+        events = fine.events;
+        leads = leads;
+        views = subst AreViews world_is views_here;
+        fits = late_far.fits;
+        ordered = record {
+          is_open = proper.is_open;
+          first = sending.first;
+          window = sending.window;
+          high = high;
+          edge = edge;
+          unit = has_unit s (expediteds t.line.submitted) sending.answered t.line.urgent.base s.urgent.out sending.base sending.expedited sending.answers sending.sent;
+        };
+        settled = proper.settled;
+        tried = late.tried.window;
+        expedites = fine.expedites;
+        urgent = t.line.urgent;
+        urgent_leads = urgent_leads;
+        urgent_clock = run.at.1 ∙ now_is;
+        urgent_next = sending.next;
+        urgent_blocks = sending.blocks;
+        urgent_expected = receiving.urgent;
+        urgent_base_is = sending.base;
+        urgent_tried = late.tried.urgent;
+        some = subst (λ (n : ℕ). 0 < n) sending.size run.some;
+        full = fine.filled.full;
+        acknowledged = sending.acknowledged;
+        normal = sending.normal;
+        first = sending.pieces;
+        answered = sending.answered;
+        expedited = sending.expedited;
+        answers = sending.answers;
+        complete = by_receiver (Shows (normals t.line.submitted) (normals t.line.shown)) fine.filled.complete;
+        held = by_receiver (Holds (normals t.line.submitted)) fine.filled.held;
+        urged = fine.urged ∙ ap (λ (n : ℕ). take n (expediteds t.line.submitted)) receiving.urgent;
+      }
+
+      pub known_direction : (units : Account) → units.gave ≡ submitted x journal → units.showed ≡ shown y journal → IsKnownAt timers.life now s h units
+      known_direction units gave_is showed_is =
+          let same : record { gave = t.line.submitted; showed = t.line.shown } ≡ units = λ i. record { gave = (gave ∙ sym gave_is) i; showed = (showed ∙ sym showed_is) i } in
+          subst (λ (u : Account). IsKnownAt timers.life now s h u) same on_line
+
+    -- a sender in AkWait, as if it were open without what waits
+    module _ (late_far : AreLate timers.credit now theirs) (waits : IsQueued s) where
+      abbrev v : FlowSender
+      v = record (fresh s.rules waits.credit) { is_open = true }
+
+      numbers_are : s.numbers ≡ v.numbers
+      numbers_are = ap (λ (z : FlowSender). z.numbers) waits.is
+
+      most : most_of s.rules.format ≡ most_of h.rules.format
+      most = ap most_of (sym format_there)
+
+      fresh_begins : (acked : ℕ) → acked ≤ now → IsBegun timers.life (most_of s.rules.format) now v h acked
+      fresh_begins acked spoke = record {
+        aside = aside;
+        no_dts = refl;
+        no_aks = refl;
+        past = record {
+          fit = subst IsFit rules_are run.long;
+          tick = t.tick;
+          credit = t.credit;
+          places = t.places;
+          room = t.room;
+          credit_low = subst (λ (r : Rules). t.credit < r.block) rules_are run.credit_low;
+          room_low = subst (λ (r : Rules). t.room < r.block) rules_are run.room_low;
+          events = fine.events;
+          leads = subst (λ (n : Sender). Leads (rules_by timers.life s.rules) (start t.tick t.credit t.places t.room) fine.events (road_of now n h aside).traffic) numbers_are leads;
+          views = subst (λ (n : Sender). AreViews (road_of now n h aside).traffic) numbers_are (subst AreViews world_is views_here);
+          fits = record { places = late_far.fits.places ∙ sym most; room = omega (arith, late_far.fits.room, most); free = late_far.fits.free };
+        };
+        format = format_there;
+        places = most;
+        fits = late_far.fits;
+        fed = record { is_open = refl; first = omega arith; window = refl; high = omega arith; reach = omega arith };
+        settled = new_settled v refl;
+        tried = tt;
+        spoke = inl (omega (arith, spoke));
+        asked = record {
+          tick = t.tick;
+          events = fine.expedites;
+          urgent = t.line.urgent;
+          leads = urgent_leads;
+          clock = run.at.1 ∙ now_is;
+          next = sending.next ∙ ap (λ (z : FlowSender). z.urgent.next) waits.is;
+          blocks = sending.blocks ∙ ap (λ (z : FlowSender). z.urgent.blocks) waits.is;
+          expected = receiving.urgent;
+          base_is = subst (λ (z : FlowSender). urgent_base z.urgent z.urgent.out t.line.urgent.base) waits.is sending.base;
+          unit = tt;
+          tried = tt;
+        };
+      }
+
+      pub unsent_begins : (acked : ℕ) → acked ≤ now → IsBegun timers.life (most_of s.rules.format) now (unsent s) h acked
+      unsent_begins acked spoke = subst (λ (z : FlowSender). IsBegun timers.life (most_of s.rules.format) now z h acked) (sym (ap unsent waits.is)) (fresh_begins acked spoke)

@@ -1,5 +1,6 @@
 pub mod Asking
 pub mod Carried
+pub mod Confirmed
 pub mod Directions
 pub mod Lined
 pub mod Parting

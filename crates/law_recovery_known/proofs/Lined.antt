@@ -1,20 +1,19 @@
 -- Two partners that are Opened stand in the lines of their connection, with what their users submitted.
 use Rattle.std.specs.List.{AllByRecursion}
-use Rattle.std.proofs.Common.{◌≡◌, ◌≤◌, ◌+◌, ℕ, false, List, [], ◌∷◌, ◌++◌, length, refl, sym, ◌∙◌, ap, subst, inl, inr}
+use Rattle.std.proofs.Common.{◌≡◌, ◌≤◌, ◌+◌, ℕ, List, [], ◌∷◌, ◌++◌, length, refl, sym, ◌∙◌, ap, subst}
 use Rattle.osi_base.specs.Link.{Link}
 use Rattle.tp4_sending.specs.FlowSender.{UrgentSender, no_urgent}
 use Rattle.tp4_sending.specs.Kept.{urgent_base}
 use Rattle.tp4_conn.specs.declared.states.InOpened.{InOpened}
 use Rattle.tp4_conn.specs.declared.states.StateData.{StateData}
-use Rattle.tp4_conn.specs.declared.states.StateData.TheVariants.{Opened}
 use Rattle.tp4_conn.specs.declared.timers.Timers.{Timers}
 use Rattle.tp4_conn.specs.End.{End, agreed_format}
 use Rattle.tp4_conn.specs.Opened.{is_expedited}
-use Rattle.script_journal.specs.Lawful.{ArePartners, Marked, expediteds, normals, submitted}
+use Rattle.script_journal.specs.Lawful.{Marked, expediteds, normals, submitted}
 use Rattle.script_journal.specs.declared.event.Event.{Event}
 use Rattle.law_tp4_history.specs.Ends.{Terms}
 use Rattle.law_tp4_history.specs.History.{IsPartner}
-use Rattle.law_tp4_history.specs.Tracks.{IsRun, Track, Whole}
+use Rattle.law_tp4_history.specs.Tracks.{IsRun, Whole}
 use Rattle.law_tp4_history.proofs.Meets.{swap}
 use Rattle.law_tp4_history.proofs.Sound.{one_partner}
 use Rattle.law_tp4_history.proofs.Written.{Kept}
@@ -32,7 +31,7 @@ use Rattle.law_tp4_lawful.proofs.FramesKnown.{keeps}
 use Rattle.law_tp4_lawful.proofs.ReferencesHalves.{AreThere, are_there}
 use Rattle.law_recovery_world.specs.Steady.{AreShort, AreSteady, StageUrges}
 use Rattle.law_recovery_known.specs.Partners.{IsOpenedEnd, IsPairOf}
-use Rattle.law_recovery_known.proofs.Directions.{far, here, partner, terms_same, there, there_far}
+use Rattle.law_recovery_known.proofs.Directions.{far, here, opened_is, partner, terms_same, there, there_far}
 
 all_short : (units : List (List ℕ)) → AllByRecursion (λ (unit : List ℕ). length unit ≤ 16384) units → AllShort units
 all_short [] s = tt
@@ -86,13 +85,13 @@ module _ {C : Type 0} (link : C → Link (List ℕ)) (titles : List (List ℕ)) 
     b = pair.called
 
     abbrev mine : (is : IsKnown w a.entity.own a.reference p.calling) × (is.k + 1 ≡ x)
-    mine = here link titles timers w journal world explains x y pair.partners p.calling p.called o q a b
+    mine = here link titles timers w journal world explains x y pair.partners o.halves q.halves (opened_is world x p.calling o a) (opened_is world y p.called q b)
 
     abbrev theirs : (is : IsKnown w b.entity.own b.reference p.called) × (is.k + 1 ≡ y)
-    theirs = far link titles timers w journal world explains x y pair.partners p.calling p.called o q a b
+    theirs = far link titles timers w journal world explains x y pair.partners o.halves q.halves (opened_is world x p.calling o a) (opened_is world y p.called q b)
 
     both : IsPartner w.base mine.0.k theirs.0.k
-    both = partner link titles timers w journal world explains x y pair.partners p.calling p.called o q a b
+    both = partner link titles timers w journal world explains x y pair.partners o.halves q.halves (opened_is world x p.calling o a) (opened_is world y p.called q b)
 
     now_is : w.base.clock ≡ p.clock
     now_is = sym explains.carries.clock ∙ sym pair.clock
@@ -107,7 +106,7 @@ module _ {C : Type 0} (link : C → Link (List ℕ)) (titles : List (List ℕ)) 
       calling = side x p.calling o a mine.0 mine.1 theirs.0.k both p.clock now_is (urges x p.calling o a) short p.calling_gave pair.calling_gave;
       called = side y p.called q b theirs.0 theirs.1 mine.0.k (swap w.base mine.0.k theirs.0.k both) p.clock now_is (urges y p.called q b) short p.called_gave pair.called_gave;
       expedited =
-          ap is_expedited (there link titles timers w journal world explains x y pair.partners p.calling p.called o q a b).own.agreed
-          ∙ ap (λ (t : Terms). t.has_expedited) (terms_same link titles timers w journal world explains x y pair.partners p.calling p.called o q a b)
-          ∙ sym (ap is_expedited (there_far link titles timers w journal world explains x y pair.partners p.calling p.called o q a b).own.agreed);
+          ap is_expedited (there link titles timers w journal world explains x y pair.partners o.halves q.halves (opened_is world x p.calling o a) (opened_is world y p.called q b)).own.agreed
+          ∙ ap (λ (t : Terms). t.has_expedited) (terms_same link titles timers w journal world explains x y pair.partners o.halves q.halves (opened_is world x p.calling o a) (opened_is world y p.called q b))
+          ∙ sym (ap is_expedited (there_far link titles timers w journal world explains x y pair.partners o.halves q.halves (opened_is world x p.calling o a) (opened_is world y p.called q b)).own.agreed);
     }

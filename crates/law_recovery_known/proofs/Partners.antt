@@ -18,15 +18,14 @@ use Rattle.law_recovery_steps.specs.Beginning.{AreAgreed}
 use Rattle.law_recovery_steps.specs.Known.{AreKnown}
 use Rattle.tp4_world.specs.World.{World}
 use Rattle.law_tp4_lawful.specs.Numbers.{IsOpenEnd}
-use Rattle.law_tp4_lawful.specs.References.{halves_at}
 use Rattle.law_tp4_lawful.proofs.Worlds.{Explains}
 use Rattle.law_recovery_world.specs.Lines.{HasViews}
 use Rattle.law_recovery_world.specs.Steady.{AreLate, AreSteady, StageLate}
 use Rattle.law_recovery_known.specs.Partners.{AreTimed, IsOpenedEnd, IsPairOf}
-use Rattle.law_recovery_known.proofs.Directions.{far, format_same, full, here, known_direction, named, sum_same, there, there_far}
+use Rattle.law_recovery_known.proofs.Directions.{far, format_same, full, here, known_direction, named, opened_is, sum_same, there, there_far}
 
 -- the halves work as the end agreed
-works_as : (b : EndRecord) (h : Halves) (own : AreOwn b h) → IsAgreed own.terms h.sending.rules (party b) h
+pub works_as : (b : EndRecord) (h : Halves) (own : AreOwn b h) → IsAgreed own.terms h.sending.rules (party b) h
 works_as b h own = record {
   agreed_is = own.agreed;
   sending = refl;
@@ -37,9 +36,6 @@ works_as b h own = record {
   partner = ap (λ (r : FlowRules). r.partner) own.sending;
 }
 
-opened_is : {C : Type 0} (last : World C) (x : ℕ) (e : End) (o : InOpened) → IsOpenedEnd last x e o → IsOpenEnd last x o.halves
-opened_is last x e o a = record { system = a.system; reference = a.reference; entity = a.entity; end = e; is_end = a.is_end; has = ap halves_at a.stage }
-
 module _ {C : Type 0} (link : C → Link (List ℕ)) (titles : List (List ℕ)) (timers : Timers) (w : Whole) (journal : List Event) (last : World C) (explains : Explains link titles timers w journal last)
     (views : (x y : ℕ) (theirs halves : Halves) → ArePartners journal x y → IsOpenEnd last x theirs → IsOpenEnd last y halves → HasViews w y halves theirs)
     (steady : AreSteady timers.credit (link last.carrier).clock last.entities) (x y : ℕ) (p : Pair) (o q : InOpened) (pair : IsPairOf link journal last x y p o q) where
@@ -48,6 +44,12 @@ module _ {C : Type 0} (link : C → Link (List ℕ)) (titles : List (List ℕ)) 
 
   abbrev b : IsOpenedEnd last y p.called q
   b = pair.called
+
+  abbrev open_a : IsOpenEnd last x o.halves
+  open_a = opened_is last x p.calling o a
+
+  abbrev open_b : IsOpenEnd last y q.halves
+  open_b = opened_is last y p.called q b
 
   back : ArePartners journal y x
   back = elim pair.partners [ inl m ↦ inr m | inr m ↦ inl m ]
@@ -62,10 +64,10 @@ module _ {C : Type 0} (link : C → Link (List ℕ)) (titles : List (List ℕ)) 
       (subst (StageLate timers.credit (link last.carrier).clock) c.stage (steady c.system c.entity c.is_end.there c.reference e c.is_end.stands).late)
 
   proper_here : AreOpen p.calling.base.agreed o.halves
-  proper_here = subst (IsProperStage p.calling.base.agreed) a.stage (here link titles timers w journal last explains x y pair.partners p.calling p.called o q a b).0.proper.state
+  proper_here = subst (IsProperStage p.calling.base.agreed) a.stage (here link titles timers w journal last explains x y pair.partners o.halves q.halves open_a open_b).0.proper.state
 
   proper_far : AreOpen p.called.base.agreed q.halves
-  proper_far = subst (IsProperStage p.called.base.agreed) b.stage (far link titles timers w journal last explains x y pair.partners p.calling p.called o q a b).0.proper.state
+  proper_far = subst (IsProperStage p.called.base.agreed) b.stage (far link titles timers w journal last explains x y pair.partners o.halves q.halves open_a open_b).0.proper.state
 
   pub partners_known : AreKnown timers.life p o q
   partners_known = record {
@@ -75,20 +77,20 @@ module _ {C : Type 0} (link : C → Link (List ℕ)) (titles : List (List ℕ)) 
     acked = ((late x p.calling o a).1, (late y p.called q b).1);
     took = ((late x p.calling o a).0, (late y p.called q b).0);
     named = (
-      named link titles timers w journal last explains x y pair.partners p.calling p.called o q a b,
-      named link titles timers w journal last explains y x back p.called p.calling q o b a,
+      named link titles timers w journal last explains x y pair.partners o.halves q.halves open_a open_b,
+      named link titles timers w journal last explains y x back q.halves o.halves open_b open_a,
     );
-    there = known_direction link titles timers w journal last explains x y pair.partners p.calling p.called o q a b p.clock now_is proper_here (late x p.calling o a).2 (late y p.called q b).2
-        (views y x q.halves o.halves back (opened_is last y p.called q b) (opened_is last x p.calling o a)) (forth_units p) pair.calling_gave pair.called_showed;
-    here = known_direction link titles timers w journal last explains y x back p.called p.calling q o b a p.clock now_is proper_far (late y p.called q b).2 (late x p.calling o a).2
-        (views x y o.halves q.halves pair.partners (opened_is last x p.calling o a) (opened_is last y p.called q b)) (back_units p) pair.called_gave pair.calling_showed;
+    there = known_direction link titles timers w journal last explains x y pair.partners o.halves q.halves open_a open_b p.clock now_is
+        (views y x q.halves o.halves back open_b open_a) proper_here (late x p.calling o a).2 (late y p.called q b).2 (forth_units p) pair.calling_gave pair.called_showed;
+    here = known_direction link titles timers w journal last explains y x back q.halves o.halves open_b open_a p.clock now_is
+        (views x y o.halves q.halves pair.partners open_a open_b) proper_far (late y p.called q b).2 (late x p.calling o a).2 (back_units p) pair.called_gave pair.calling_showed;
   }
 
   own_here : AreOwn p.calling.base o.halves
-  own_here = (there link titles timers w journal last explains x y pair.partners p.calling p.called o q a b).own
+  own_here = (there link titles timers w journal last explains x y pair.partners o.halves q.halves open_a open_b).own
 
   own_far : AreOwn p.called.base q.halves
-  own_far = (there_far link titles timers w journal last explains x y pair.partners p.calling p.called o q a b).own
+  own_far = (there_far link titles timers w journal last explains x y pair.partners o.halves q.halves open_a open_b).own
 
   pub partners_agreed : AreAgreed p o q
   partners_agreed = record {
@@ -96,10 +98,10 @@ module _ {C : Type 0} (link : C → Link (List ℕ)) (titles : List (List ℕ)) 
     their_options = own_far.terms;
     ours = works_as p.calling.base o.halves own_here;
     theirs = works_as p.called.base q.halves own_far;
-    format = format_same link titles timers w journal last explains x y pair.partners p.calling p.called o q a b;
-    sum = sum_same link titles timers w journal last explains x y pair.partners p.calling p.called o q a b;
-    full = full link titles timers w journal last explains x y pair.partners p.calling p.called o q a b;
-    full_there = full link titles timers w journal last explains y x back p.called p.calling q o b a;
+    format = format_same link titles timers w journal last explains x y pair.partners o.halves q.halves open_a open_b;
+    sum = sum_same link titles timers w journal last explains x y pair.partners o.halves q.halves open_a open_b;
+    full = full link titles timers w journal last explains x y pair.partners o.halves q.halves open_a open_b;
+    full_there = full link titles timers w journal last explains y x back q.halves o.halves open_b open_a;
   }
 
   timers_of : (n : ℕ) (e : End) (i : InOpened) (c : IsOpenedEnd last n e i) → e.base.timers ≡ timers

@@ -6,8 +6,6 @@ use Rattle.script_journal.specs.declared.event.Event.{Event}
 use Rattle.tp4_conn.specs.End.{End}
 use Rattle.tp4_conn.specs.declared.states.InOpened.{InOpened}
 use Rattle.tp4_conn.specs.declared.states.StateData.{StateData}
-use Rattle.tp4_conn.specs.declared.states.StateData.TheVariants.{Opened}
-use Rattle.tp4_conn.specs.declared.timers.Timers.{Timers}
 use Rattle.law_tp4_pair.specs.Claim.{HasShown}
 use Rattle.law_tp4_pair.specs.Pair.{Pair, back_units, forth_units}
 use Rattle.law_tp4_pair.specs.Telling.{Tells}

@@ -25,6 +25,7 @@ use Rattle.law_recovery_fitting.specs.Lined.{AreLined}
 use Rattle.tp4_world.specs.World.{World}
 use Rattle.law_tp4_lawful.specs.Called.{AreHonestCalls}
 use Rattle.law_recovery_known.specs.Asking.{IsAskingPairOf, IsKnownToAsk}
+use Rattle.law_recovery_known.specs.Confirmed.{IsConfirmedPairOf, IsKnownConfirmed}
 use Rattle.law_recovery_known.specs.Partners.{AreTimed, IsArrival, IsPairOf}
 
 -- after any calls after which the carrier is honest, over whole numbers: of each pair of partners all is known, they agreed, and their timers are those of the network
@@ -86,6 +87,30 @@ abbrev pub AskersShow : {C : Type 0} → (C → Link (List ℕ)) → (C → Call
 AskersShow {C} link steps = (titles : List (List ℕ)) (timers : Timers) (journal later : List Event) (first second : World C) → AreHonestCalls link steps whole titles timers journal first
     → AreHonestCalls link steps whole titles timers later second
     → (x y : ℕ) (p last : Pair) (r : InCrWait) (w : InAkWait) (calling called : Bool) (happenings : List Happening) → IsAskingPairOf link journal first x y p r w
+    → ((i k : InOpened) → last.calling.stage ≡ Opened i → last.called.stage ≡ Opened k → IsPairOf link later second x y last i k)
+    → Leads p (Clock calling called ∷ happenings) last → IsIdle last → AreLater last → p.clock + max timers.t1 timers.window ≤ last.clock
+    → IsParted last ⊎ ((i k : InOpened) × (last.calling.stage ≡ Opened i) × (last.called.stage ≡ Opened k) × HasShown last.clock later x y i.halves.sending k.halves.receiving
+    × HasShown last.clock later y x k.halves.sending i.halves.receiving)
+
+-- ---- one that is Opened, and one in AkWait
+
+-- after any calls after which the carrier is honest: of each two such partners is known what such a pair begins with
+abbrev pub ConfirmedAreKnown : {C : Type 0} → (C → Link (List ℕ)) → (C → Call (List ℕ) → C → Type 0) → Type 0
+ConfirmedAreKnown {C} link steps = (titles : List (List ℕ)) (timers : Timers) (journal : List Event) (last : World C) → AreHonestCalls link steps whole titles timers journal last
+    → (x y : ℕ) (p : Pair) (o : InOpened) (w : InAkWait) → IsConfirmedPairOf link journal last x y p o w → IsKnownConfirmed timers p o w
+
+-- So whatever happens to the two in order from there on, first of all a tick: where nothing waits, no end is due, and T1 has passed, both are Opened; or one of them has left
+abbrev pub ConfirmedOpen : {C : Type 0} → (C → Link (List ℕ)) → (C → Call (List ℕ) → C → Type 0) → Type 0
+ConfirmedOpen {C} link steps = (titles : List (List ℕ)) (timers : Timers) (journal : List Event) (first : World C) → AreHonestCalls link steps whole titles timers journal first
+    → (x y : ℕ) (p last : Pair) (o : InOpened) (w : InAkWait) (calling called : Bool) (happenings : List Happening) → IsConfirmedPairOf link journal first x y p o w
+    → Leads p (Clock calling called ∷ happenings) last → IsIdle last → AreLater last → p.clock + timers.t1 ≤ last.clock
+    → IsParted last ⊎ ((i k : InOpened) × (last.calling.stage ≡ Opened i) × (last.called.stage ≡ Opened k))
+
+-- and where the longer of T1 and W has passed, each has shown what the other submitted, as `PartnersShow` has it of two that were Opened
+abbrev pub ConfirmedShow : {C : Type 0} → (C → Link (List ℕ)) → (C → Call (List ℕ) → C → Type 0) → Type 0
+ConfirmedShow {C} link steps = (titles : List (List ℕ)) (timers : Timers) (journal later : List Event) (first second : World C) → AreHonestCalls link steps whole titles timers journal first
+    → AreHonestCalls link steps whole titles timers later second
+    → (x y : ℕ) (p last : Pair) (o : InOpened) (w : InAkWait) (calling called : Bool) (happenings : List Happening) → IsConfirmedPairOf link journal first x y p o w
     → ((i k : InOpened) → last.calling.stage ≡ Opened i → last.called.stage ≡ Opened k → IsPairOf link later second x y last i k)
     → Leads p (Clock calling called ∷ happenings) last → IsIdle last → AreLater last → p.clock + max timers.t1 timers.window ≤ last.clock
     → IsParted last ⊎ ((i k : InOpened) × (last.calling.stage ≡ Opened i) × (last.called.stage ≡ Opened k) × HasShown last.clock later x y i.halves.sending k.halves.receiving

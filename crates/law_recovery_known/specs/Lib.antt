@@ -1,3 +1,4 @@
 pub mod Asking
+pub mod Confirmed
 pub mod Laws
 pub mod Partners

@@ -1,6 +1,6 @@
 //! What is known of two partner ends where nothing waits between them (X.224, class 4 procedures; X.214, queue model).
 
-ghost use Rattle.law_recovery_known.specs.Laws.{AskersAreKnown, AskersOpen, AskersShow, KnownAreCarried, PartnersAreKnown, PartnersAreLined, PartnersPart, PartnersRecover, PartnersShow};
+ghost use Rattle.law_recovery_known.specs.Laws.{AskersAreKnown, AskersOpen, AskersShow, ConfirmedAreKnown, ConfirmedOpen, ConfirmedShow, KnownAreCarried, PartnersAreKnown, PartnersAreLined, PartnersPart, PartnersRecover, PartnersShow};
 ghost use Rattle.law_recovery_known.specs.Partners.{PairsAreKnown};
 ghost use Rattle.law_tp4_lawful.specs.Called.{OfWhole, OnCalls};
 ghost use Rattle.tp4_number.specs.Number.{wire};
@@ -84,5 +84,27 @@ pub fn askers_open<C: Carrier<Addr = Nsap>>()
     known_are_carried();
     law_recovery_world::over_calls::<C>();
     law_recovery_opening::asks_begin();
+    law_recovery_opening::pairs_open();
+}
+
+/// After any calls of a network after which its carrier is honest: of each two partners of which the one is Opened and the other in AkWait, since its
+/// first AK was lost, where nothing waits between them, all is known that such a pair begins with, and their timers are those of the network.
+pub fn confirmed_are_known<C: Carrier<Addr = Nsap>>()
+    ensures { ConfirmedAreKnown C.link C.steps }
+{
+    law_recovery_world::over_calls::<C>();
+    law_recovery_world::calls_know::<C>();
+}
+
+/// So T1 ticks later both are Opened, or one has left; and where the longer of T1 and W has passed, each has shown by the journal what the other
+/// submitted, but for want of credit or by the number rule.
+pub fn confirmed_open<C: Carrier<Addr = Nsap>>()
+    ensures opened { ConfirmedOpen C.link C.steps }
+    ensures shown { ConfirmedShow C.link C.steps }
+{
+    confirmed_are_known::<C>();
+    partners_are_known::<C>();
+    known_are_carried();
+    law_recovery_world::over_calls::<C>();
     law_recovery_opening::pairs_open();
 }

@@ -4,6 +4,6 @@
 mod laws;
 
 pub use laws::{
-    askers_are_known, askers_open, known_are_carried, partners_are_known, partners_are_lined,
-    partners_part, partners_recover, partners_show,
+    askers_are_known, askers_open, confirmed_are_known, confirmed_open, known_are_carried,
+    partners_are_known, partners_are_lined, partners_part, partners_recover, partners_show,
 };

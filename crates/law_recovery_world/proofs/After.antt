@@ -152,7 +152,7 @@ module _ (titles : List (List ℕ)) (timers : Timers) (timed : IsTimed timers) (
   later_all : (now : ℕ) (entities : List Placed) → AreSteady timers.credit now entities → AreSteady timers.credit (now + 1) entities
   later_all now entities all system entity is reference e there =
       let s : IsSteady timers.credit now e.base e.stage = all system entity is reference e there in
-      record { gives = s.gives; knows = s.knows; late = stage_later timers.credit now (now + 1) e.stage (omega arith) s.late; urges = s.urges; made = made_later now (now + 1) e.base e.stage (omega arith) s.made }
+      record { gives = s.gives; knows = s.knows; late = stage_later timers.credit now (now + 1) e.stage (omega arith) s.late; urges = s.urges; made = made_later now (now + 1) e.base e.stage (omega arith) s.made; rises = s.rises }
 
   none_steady : (now : ℕ) (entity : Entity) → HasSteadyEnds timers.credit now (restarted now entity)
   none_steady now entity reference e is = absurd (none-some e (sym (none_stands now reference entity) ∙ is))

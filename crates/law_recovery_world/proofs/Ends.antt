@@ -30,9 +30,10 @@ use Rattle.tp4_entity.specs.Entity.{Acted, Entity, at, end_at, moved, with_end}
 use Rattle.tp4_entity.specs.References.{least_free}
 use Rattle.tp4_entity.specs.Step.{call_of, calling, calling_end, connecting, first_due, kept_end, ticking, ticking_at, ticking_end}
 use Rattle.law_tp4_proper.proofs.Ends.{same_end, set_ends}
-use Rattle.law_recovery_world.specs.Steady.{HasSteadyEnds, IsSteady, StageLate, StageMade, StageUrges}
+use Rattle.law_recovery_world.specs.Steady.{HasSteadyEnds, IsSteady, StageLate, StageMade, StageRises, StageUrges}
 use Rattle.law_recovery_world.proofs.LateRows.{row_late}
 use Rattle.law_recovery_world.proofs.Making.{row_made}
+use Rattle.law_recovery_world.proofs.Rising.{row_rises}
 use Rattle.law_recovery_world.proofs.Urging.{IsUnrefused, row_urges}
 
 -- ---- an end
@@ -70,13 +71,15 @@ module _ (credit now : ℕ) (low : credit ≤ 15) where
   row_does : (e : End) (event : Event) → IsUnrefused e event → Steady e → EventGives credit event → Does (stepped whole now e event)
   row_does e event allowed s is =
       let g : GivesRow credit (stepped whole now e event) = row_gives credit whole now e event s.gives is in
+      let knew : RowKnows credit e.stage event (stepped whole now e event).stage = row_knows credit whole now e event s.gives is s.knows in
       record {
         steady = record {
           gives = g.gives;
-          knows = stage_knows credit e.stage event (stepped whole now e event).stage (row_knows credit whole now e event s.gives is s.knows);
+          knows = stage_knows credit e.stage event (stepped whole now e event).stage knew;
           late = row_late credit now e event (subst (λ (n : ℕ). n ≤ 15) (sym s.gives.timers) low) s.gives.timers s.late;
           urges = row_urges now e event allowed s.urges;
           made = row_made now e event s.made;
+          rises = row_rises credit now e event s.knows s.rises knew;
         };
         gives = g.tpdus;
       }
@@ -100,7 +103,7 @@ module _ (credit now : ℕ) (low : credit ≤ 15) where
   pub connecting_steps : (reference : ℕ) (e : Entity) (request : ConnectRequest) → e.timers.credit ≡ credit → HasSteadyEnds credit now e → Steps (connecting now e reference request)
   connecting_steps reference e request is all =
       let g : GivesRow credit (connected now (call_of e reference request)) = connect_gives credit now (call_of e reference request) is in
-      moves (at now e) reference (connected now (call_of e reference request)) all (record { steady = record { gives = g.gives; knows = tt; late = tt; urges = tt; made = tt }; gives = g.tpdus })
+      moves (at now e) reference (connected now (call_of e reference request)) all (record { steady = record { gives = g.gives; knows = tt; late = tt; urges = tt; made = tt; rises = tt }; gives = g.tpdus })
 
   -- the call is not refused
   abbrev pub IsAllowed : Entity → ℕ → UserCall → Type 0
@@ -162,9 +165,9 @@ module _ (credit now : ℕ) (low : credit ≤ 15) where
   some_same a b e = ap (λ (x : Option Moved). unwrap_or x a) e
 
   -- an end that a CR makes waits for its user
-  waiting : (own : ℕ) (from : List ℕ) (rules : Timers) (cr : Tpdu) (m : Moved) → on_cr now own from rules cr ≡ Some m → StageKnows credit m.stage × StageLate credit now m.stage × StageUrges m.base.agreed m.stage × StageMade now m.base m.stage
+  waiting : (own : ℕ) (from : List ℕ) (rules : Timers) (cr : Tpdu) (m : Moved) → on_cr now own from rules cr ≡ Some m → StageKnows credit m.stage × StageLate credit now m.stage × StageUrges m.base.agreed m.stage × StageMade now m.base m.stage × StageRises credit m.stage
   waiting own from rules (Cr given source width calling called size preferred extra version classes ack_time text) m e =
-      subst (λ (x : Moved). StageKnows credit x.stage × StageLate credit now x.stage × StageUrges x.base.agreed x.stage × StageMade now x.base x.stage) (some_same _ m e) (tt, tt, tt, tt)
+      subst (λ (x : Moved). StageKnows credit x.stage × StageLate credit now x.stage × StageUrges x.base.agreed x.stage × StageMade now x.base x.stage × StageRises credit x.stage) (some_same _ m e) (tt, tt, tt, tt, tt)
   waiting own from rules other m e = absurd (none-some _ e)
 
   made_steps : (e : Entity) (reference : ℕ) (from : List ℕ) (cr : Tpdu) (made : Option Moved) → on_cr now reference from e.timers cr ≡ made → e.timers.credit ≡ credit → HasSteadyEnds credit now e
@@ -173,7 +176,7 @@ module _ (credit now : ℕ) (low : credit ≤ 15) where
   made_steps e reference from cr (Some m) is same all give =
       let g : GivesRow credit m = indicated_gives credit now reference from e.timers cr m same give is in
       let waits = waiting reference from e.timers cr m is in
-      moves e reference m all (record { steady = record { gives = g.gives; knows = waits.0; late = waits.1; urges = waits.2; made = waits.3 }; gives = g.tpdus })
+      moves e reference m all (record { steady = record { gives = g.gives; knows = waits.0; late = waits.1; urges = waits.2; made = waits.3; rises = waits.4 }; gives = g.tpdus })
 
   new_steps : (e : Entity) (from : List ℕ) (source : ℕ) (cr : Tpdu) (found : Option ℕ) → e.timers.credit ≡ credit → HasSteadyEnds credit now e → GivesCredit credit cr
       → Steps (new_end now e from source cr found)

@@ -7,6 +7,7 @@ pub mod Known
 pub mod Late
 pub mod LateRows
 pub mod Making
+pub mod Rising
 pub mod SeeRows
 pub mod SeeSteps
 pub mod Seeing

@@ -13,7 +13,6 @@ use Rattle.tp4_conn.specs.declared.states.StateData.{StateData}
 use Rattle.script_journal.specs.declared.event.Event.{Event as JournalEvent}
 use Rattle.script_journal.specs.declared.event.Event.TheVariants as events
 use Rattle.law_tp4_pair.specs.Telling.{Tells}
-use Rattle.law_tp4_pair.specs.steps.Pairs.{IsToldIn}
 use Rattle.law_tp4_pair.proofs.ToldRows.{row_tells}
 use Rattle.tp4_world.specs.Telling.{ends_after, events_after}
 use Rattle.tp4_world.specs.World.{latest}

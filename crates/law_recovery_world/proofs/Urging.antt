@@ -1,6 +1,6 @@
 -- Where expedited data is not agreed no row of an end has to do with it: none is submitted, so none is sent.
 use Rattle.std.specs.Prelude.{not, is_some}
-use Rattle.std.proofs.Common.{◌≡◌, ◌-◌, ◌==◌, ◌||◌, ◌&&◌, ◌+◌, ◌++◌, ℕ, zero, suc, Bool, true, false, nat_le, nat_lt, List, [], ◌∷◌, length, Option, Some, None, refl, sym, ◌∙◌, ap, subst, true≢false}
+use Rattle.std.proofs.Common.{◌≡◌, ◌-◌, ◌==◌, ◌||◌, ◌&&◌, ◌+◌, ◌++◌, ℕ, zero, suc, Bool, true, false, nat_le, nat_lt, List, [], ◌∷◌, length, Option, Some, None, refl, sym, ◌∙◌, ap, true≢false}
 use Rattle.tpdu.specs.declared.tpdu.Tpdu.{Tpdu}
 use Rattle.tpdu.specs.declared.tpdu.Tpdu.TheVariants.{Cr, Cc, Dr, Dc, Dt, Ed, Ak, Ea, Er}
 use Rattle.tp4_number.specs.Number.{near, whole, wire}
@@ -13,7 +13,7 @@ use Rattle.tp4_flow.specs.declared.rules.Life.{Life}
 use Rattle.tp4_flow.specs.declared.rules.Life.TheVariants.{Goes, Exhausted}
 use Rattle.tp4_flow.specs.declared.rules.SubmitRefusal.{SubmitRefusal}
 use Rattle.tp4_flow.specs.declared.rules.SubmitRefusal.TheVariants as submits
-use Rattle.tp4_sending.specs.FlowSender.{FlowSender, Sendings, UrgentSender, acknowledged, acknowledged_to, at, block_in, has_next, is_noted, is_outstanding, is_taken, is_urgent, life_of, new_sends, no_urgent, normals, normals_where, one_urgent, opened, resends, resends_urgent_as, rule_allows, sent_normal, submitted, ticked, ticked_as, urgent_done, urgent_refusal}
+use Rattle.tp4_sending.specs.FlowSender.{FlowSender, Sendings, UrgentSender, acknowledged, acknowledged_to, at, block_in, has_next, is_noted, is_outstanding, is_taken, is_urgent, life_of, new_sends, normals, normals_where, one_urgent, opened, resends, resends_urgent_as, rule_allows, sent_normal, submitted, ticked, ticked_as, urgent_done, urgent_refusal}
 use Rattle.tp4_sending.specs.Pieces.{end_of}
 use Rattle.tp4_sending.specs.declared.tries.Tries.{Tries}
 use Rattle.tp4_conn.specs.declared.call.UserCall.{UserCall}

@@ -50,6 +50,15 @@ pub record AreLate (credit now : ℕ) (h : Halves) : Type 0 where
   pub fits : Fits h.receiving
   pub roomy : IsRoomy credit h.receiving
 
+-- what a sending half knows of its receiver
+abbrev pub knows_of : FlowSender → View
+knows_of s = record { number = s.numbers.base; credit = s.numbers.credit; subsequence = s.numbers.subsequence }
+
+-- what an Opened end knows is no older than what its sending half began with
+abbrev pub StageRises : ℕ → StateData → Type 0
+StageRises credit (Opened o) = IsNoOlder (record { number = 0; credit = credit; subsequence = 0 }) (knows_of o.halves.sending)
+StageRises credit stage = Unit {0}
+
 -- an end by its state
 abbrev pub StageLate : ℕ → ℕ → StateData → Type 0
 StageLate credit now (AkWait w) = AreLate credit now w.halves
@@ -89,6 +98,7 @@ pub record IsSteady (credit now : ℕ) (b : EndRecord) (stage : StateData) : Typ
   pub late : StageLate credit now stage
   pub urges : StageUrges b.agreed stage
   pub made : StageMade now b stage
+  pub rises : StageRises credit stage
 
 -- each end of an entity
 abbrev pub HasSteadyEnds : ℕ → ℕ → Entity → Type 0
