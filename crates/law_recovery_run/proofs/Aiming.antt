@@ -48,7 +48,7 @@ numbered f (wires.Ak destination number credit subsequence confirmation) a = in_
 numbered f (wires.Ea destination number) a = in_block f number a
 numbered f other a = tt
 
-offers_of : (now : ℕ) (own : List ℕ) (tpdus : List Sent) → AreSendable tpdus → (offered : List Offer) × AreOffersOf now 0 own tpdus offered
+pub offers_of : (now : ℕ) (own : List ℕ) (tpdus : List Sent) → AreSendable tpdus → (offered : List Offer) × AreOffersOf now 0 own tpdus offered
 offers_of now own [] s = ([], refl)
 offers_of now own (sent ∷ tpdus) s =
     let rest = offers_of now own tpdus s.1 in
@@ -56,13 +56,13 @@ offers_of now own (sent ∷ tpdus) s =
 
 -- ---- names
 
-named_cc : (t : WireTpdu) (r : ℕ) → (seen 0 t).kind ≡ Cc → (seen 0 t).source ≡ r → Names r t
+pub named_cc : (t : WireTpdu) (r : ℕ) → (seen 0 t).kind ≡ Cc → (seen 0 t).source ≡ r → Names r t
 named_cc (wires.Cc credit destination source width calling called size preferred extra version classes ack_time text) r kind is = is
 named_cc (wires.Cr credit source width calling called size preferred extra version classes ack_time text) r kind is = is
 named_cc (wires.Dr destination source reason info text) r kind is = is
 named_cc other r kind is = absurd (cc kind)
 
-named_dr : (t : WireTpdu) (r : ℕ) → (seen 0 t).kind ≡ Dr → (seen 0 t).source ≡ r → Names r t
+pub named_dr : (t : WireTpdu) (r : ℕ) → (seen 0 t).kind ≡ Dr → (seen 0 t).source ≡ r → Names r t
 named_dr (wires.Cc credit destination source width calling called size preferred extra version classes ack_time text) r kind is = is
 named_dr (wires.Cr credit source width calling called size preferred extra version classes ack_time text) r kind is = is
 named_dr (wires.Dr destination source reason info text) r kind is = is

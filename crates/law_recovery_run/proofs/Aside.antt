@@ -42,7 +42,7 @@ use Rattle.law_recovery_run.proofs.Aiming.{Going, row_aims}
 use Rattle.law_recovery_run.proofs.Rivals.{far, here, partner_there, sound}
 
 -- an end that takes a TPDU is not frozen
-going_of : (b : EndRecord) (stage : StateData) (t : WireTpdu) → fits b stage t ≡ true → stop_of stage ≡ None
+pub going_of : (b : EndRecord) (stage : StateData) (t : WireTpdu) → fits b stage t ≡ true → stop_of stage ≡ None
 going_of b (CrWait w) t fit = refl
 going_of b (WaitBeforeClose w) t fit = refl
 going_of b (UserWait since) t fit = refl
@@ -52,7 +52,7 @@ going_of b (Closing c) t fit = refl
 going_of b (Frozen when) t fit = absurd (cc fit)
 
 -- the reference of an end that goes on is not free
-kept_place : (now ticks : ℕ) (stage : StateData) → stop_of stage ≡ None → was_frozen now ticks stage ≡ true → ⊥
+pub kept_place : (now ticks : ℕ) (stage : StateData) → stop_of stage ≡ None → was_frozen now ticks stage ≡ true → ⊥
 kept_place now ticks (CrWait w) goes free = cc free
 kept_place now ticks (WaitBeforeClose w) goes free = cc free
 kept_place now ticks (UserWait since) goes free = cc free
@@ -61,12 +61,12 @@ kept_place now ticks (Opened o) goes free = cc free
 kept_place now ticks (Closing c) goes free = cc free
 kept_place now ticks (Frozen when) goes free = none-some when (sym goes)
 
-both_are : (a b : Bool) → (a && b) ≡ true → (a ≡ true) × (b ≡ true)
+pub both_are : (a b : Bool) → (a && b) ≡ true → (a ≡ true) × (b ≡ true)
 both_are true true is = (refl, refl)
 both_are true false is = absurd (cc is)
 both_are false b is = absurd (cc is)
 
-either : (P : Acted → Type 0) (b : Bool) (one other : Acted) → P one → P other → P (if b then one else other)
+pub either : (P : Acted → Type 0) (b : Bool) (one other : Acted) → P one → P other → P (if b then one else other)
 either P true one other p q = p
 either P false one other p q = q
 

@@ -1,5 +1,5 @@
-mod Aiming
-mod Aside
-mod Going
-mod Ordered
-mod Rivals
+pub mod Aiming
+pub mod Aside
+pub mod Going
+pub mod Ordered
+pub mod Rivals

@@ -1,0 +1,11 @@
+pub mod Beginning
+pub mod Beside
+pub mod Coming
+pub mod Delivering
+pub mod Leaving
+pub mod Naming
+pub mod Settling
+pub mod Sides
+pub mod Speaking
+pub mod Taking
+pub mod Waiting
