@@ -21,8 +21,8 @@ use Rattle.law_tp4_moves.specs.Seen.{terms_of}
 use Rattle.law_tp4_pair.specs.Pair.{Pair}
 use Rattle.tp4_world.specs.World.{World}
 use Rattle.law_tp4_lawful.specs.References.{halves_at}
-use Rattle.law_tp4_lawful.specs.steps.Known.{IsKnown}
-use Rattle.law_tp4_lawful.specs.steps.Worlds.{Explains}
+use Rattle.law_tp4_lawful.proofs.Known.{IsKnown}
+use Rattle.law_tp4_lawful.proofs.Worlds.{Explains}
 use Rattle.law_tp4_lawful.proofs.FramesKnown.{keeps}
 use Rattle.law_tp4_lawful.proofs.ReferencesHalves.{AreThere, are_there, known_at}
 use Rattle.law_tp4_lawful.proofs.ReferencesMet.{same_format}

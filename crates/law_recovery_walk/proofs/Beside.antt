@@ -35,8 +35,8 @@ use Rattle.law_tp4_moves.specs.Seen.{seen}
 use Rattle.tp4_world.specs.Telling.{ends_after, events_after}
 use Rattle.tp4_world.specs.World.{World, entity_at, is_at, latest, latest_from}
 use Rattle.tp4_world.specs.declared.place.EndAt.{EndAt}
-use Rattle.law_tp4_lawful.specs.steps.Known.{IsKnown, IsThere}
-use Rattle.law_tp4_lawful.specs.steps.Worlds.{Explains}
+use Rattle.law_tp4_lawful.proofs.Known.{IsKnown, IsThere}
+use Rattle.law_tp4_lawful.proofs.Worlds.{Explains}
 use Rattle.law_tp4_lawful.proofs.Acts.{stage_of}
 use Rattle.law_tp4_lawful.proofs.ActsRows.{AreTold, row_of}
 use Rattle.law_tp4_lawful.proofs.ActsTold.{ends_stay, others_show_none}

@@ -43,8 +43,8 @@ use Rattle.law_tp4_lawful.proofs.ActsTold.{lines_give_none}
 use Rattle.law_tp4_lawful.proofs.WorldAsides.{AreQuiet, are_aside, picked_quiet, told_quiet}
 use Rattle.law_tp4_lawful.proofs.WorldOutcomes.{one_unit}
 use Rattle.law_tp4_lawful.proofs.WorldPlaces.{some_same}
-use Rattle.law_calm_run.specs.steps.Hall.{Hall, IsAddress, Post, after}
-use Rattle.law_calm_run.specs.steps.Posting.{AreUnitsOf, IsHall, IsKept, IsUnitOf}
+use Rattle.law_calm_run.proofs.Hall.{Hall, IsAddress, Post, after}
+use Rattle.law_calm_run.proofs.Posting.{AreUnitsOf, IsHall, IsKept, IsUnitOf}
 use Rattle.law_calm_run.proofs.Going.{Stands, acts_go, have_after, kept_after, waiting_after}
 use Rattle.law_calm_run.proofs.Queueing.{all_parts, none_dropped}
 use Rattle.law_calm_run.proofs.Reading.{heard_as}

@@ -38,10 +38,10 @@ use Rattle.law_tp4_pair.specs.Pair.{Comes_back, Comes_forth, Happening, Leads, P
 use Rattle.tp4_world.specs.Telling.{ends_after, events_after}
 use Rattle.tp4_world.specs.World.{World, entity_at, latest, with_entity}
 use Rattle.tp4_world.specs.declared.place.EndAt.{EndAt}
-use Rattle.law_tp4_lawful.specs.steps.Known.{IsReadAs}
-use Rattle.law_tp4_lawful.specs.steps.Worlds.{Explains}
+use Rattle.law_tp4_lawful.proofs.Known.{IsReadAs}
+use Rattle.law_tp4_lawful.proofs.Worlds.{Explains}
 use Rattle.law_tp4_lawful.proofs.MakesPlaces.{at_same}
-use Rattle.law_calm_run.specs.steps.Hall.{Post, posted}
+use Rattle.law_calm_run.proofs.Hall.{Post, posted}
 use Rattle.law_recovery_run.specs.Aside.{AreFacing, IsSentTo, Names}
 use Rattle.law_recovery_run.specs.Rivals.{IsGoing}
 use Rattle.law_recovery_run.proofs.Aiming.{Going}

@@ -22,7 +22,7 @@ use Rattle.law_tp4_moves.specs.Seen.{seen}
 use Rattle.tp4_world.specs.Telling.{ends_after, events_after}
 use Rattle.tp4_world.specs.World.{World, entity_at, latest}
 use Rattle.tp4_world.specs.declared.place.EndAt.{EndAt}
-use Rattle.law_tp4_lawful.specs.steps.Worlds.{Explains}
+use Rattle.law_tp4_lawful.proofs.Worlds.{Explains}
 use Rattle.law_recovery_run.specs.Aside.{AreFacing, IsBeside, IsSentTo, LeavesAside, Names}
 use Rattle.law_recovery_run.proofs.Aiming.{Going}
 use Rattle.law_recovery_run.proofs.Aside.{stays_aside}

@@ -24,15 +24,15 @@ use Rattle.tp4_world.specs.Run.{Delivers, NoneLeft, OneMore, Settles, TooMany}
 use Rattle.tp4_world.specs.World.{World, entity_at, latest}
 use Rattle.tp4_world.specs.declared.place.EndAt.{EndAt}
 use Rattle.tp4_world.specs.declared.place.Placed.{Placed}
-use Rattle.law_tp4_lawful.specs.steps.Along.{AreAtRest}
-use Rattle.law_tp4_lawful.specs.steps.Known.{IsOffered, Known}
-use Rattle.law_tp4_lawful.specs.steps.Worlds.{Explains, Followed}
+use Rattle.law_tp4_lawful.proofs.Along.{AreAtRest}
+use Rattle.law_tp4_lawful.proofs.Known.{IsOffered, Known}
+use Rattle.law_tp4_lawful.proofs.Worlds.{Explains, Followed}
 use Rattle.law_tp4_lawful.proofs.ReferencesHalves.{known_at}
 use Rattle.law_tp4_lawful.proofs.WorldHears as hears
 use Rattle.law_tp4_lawful.proofs.WorldKnown.{plain_kept}
 use Rattle.law_tp4_lawful.proofs.WorldOutcomes.{one_unit, outcomes}
-use Rattle.law_calm_run.specs.steps.Hall.{Hall, Post, after}
-use Rattle.law_calm_run.specs.steps.Posting.{AreUnitsOf}
+use Rattle.law_calm_run.proofs.Hall.{Hall, Post, after}
+use Rattle.law_calm_run.proofs.Posting.{AreUnitsOf}
 use Rattle.law_calm_run.proofs.Queueing.{all_parts}
 use Rattle.law_recovery_run.proofs.Aiming.{Going}
 use Rattle.law_recovery_walk.specs.Following.{IsFollowed, IsLive, IsSide, Stands}

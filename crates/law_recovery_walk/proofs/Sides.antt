@@ -14,7 +14,7 @@ use Rattle.tp4_world.proofs.Addressees.{all_append}
 use Rattle.tp4_world.proofs.Having.{with_first, with_other}
 use Rattle.tp4_world.specs.World.{World, entity_at, latest, with_entity}
 use Rattle.tp4_world.specs.declared.place.Placed.{Placed}
-use Rattle.law_calm_run.specs.steps.Hall.{Post, posted}
+use Rattle.law_calm_run.proofs.Hall.{Post, posted}
 use Rattle.law_recovery_run.specs.Aside.{IsSentTo}
 use Rattle.law_recovery_walk.specs.Following.{IsBy, IsForPartner, IsSide, IsSpoken, KeepsParty, Stands, sent_to}
 use Rattle.law_recovery_walk.proofs.Waiting.{first_is, first_other, waits_append}

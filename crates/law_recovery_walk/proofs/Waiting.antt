@@ -6,7 +6,7 @@ use Rattle.std.specs.Cmp.Lexicographic.{bytes_decides, pointwise}
 use Rattle.std.proofs.lemmas.Bool.{eq-eqb, eqb-true}
 use Rattle.tpdu.specs.Values.{destination_of}
 use Rattle.tp4_flow.specs.declared.step.Sent.{Sent}
-use Rattle.law_calm_run.specs.steps.Hall.{Post, posted}
+use Rattle.law_calm_run.proofs.Hall.{Post, posted}
 use Rattle.law_recovery_run.specs.Aside.{IsSentTo}
 use Rattle.law_recovery_walk.specs.Following.{is_sent_to, is_target, sent_to}
 

@@ -27,8 +27,8 @@ use Rattle.law_tp4_moves.specs.Seen.{seen}
 use Rattle.law_tp4_pair.specs.Pair.{Pair}
 use Rattle.tp4_world.specs.World.{World}
 use Rattle.law_tp4_lawful.specs.References.{IsEnd}
-use Rattle.law_tp4_lawful.specs.steps.Known.{IsReadAs}
-use Rattle.law_calm_run.specs.steps.Hall.{IsReadBy, Post}
+use Rattle.law_tp4_lawful.proofs.Known.{IsReadAs}
+use Rattle.law_calm_run.proofs.Hall.{IsReadBy, Post}
 use Rattle.law_recovery_run.specs.Aside.{IsSentTo, Names}
 
 -- ---- what waits

@@ -16,7 +16,7 @@ use Rattle.law_tp4_pair.specs.Pair.{Pair}
 use Rattle.tp4_world.specs.Run.{Settles}
 use Rattle.tp4_world.specs.World.{World}
 use Rattle.law_tp4_lawful.specs.Called.{AreHonestCalls, OnCalls}
-use Rattle.law_calm_run.specs.steps.Hall.{Hall}
+use Rattle.law_calm_run.proofs.Hall.{Hall}
 use Rattle.law_recovery_run.specs.Ordered.{InOrder, OnPrompt}
 use Rattle.law_recovery_walk.specs.Following.{HasOwn, IsFollowed, IsFromPartner, IsLive, Speaks}
 use Rattle.law_recovery_walk.specs.Settling.{AreAtHand, HasGoneOn, IsRunning}

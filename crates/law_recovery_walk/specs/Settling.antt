@@ -9,8 +9,8 @@ use Rattle.tp4_conn.specs.declared.states.StateData.TheVariants.{Opened}
 use Rattle.law_tp4_pair.specs.Pair.{Happening, IsIdle, Leads, Pair}
 use Rattle.tp4_world.specs.World.{World}
 use Rattle.law_calm_run.specs.Run.{HaveEntities}
-use Rattle.law_calm_run.specs.steps.Hall.{AreWaiting, Hall}
-use Rattle.law_calm_run.specs.steps.Posting.{AreKept, IsHall}
+use Rattle.law_calm_run.proofs.Hall.{AreWaiting, Hall}
+use Rattle.law_calm_run.proofs.Posting.{AreKept, IsHall}
 use Rattle.law_recovery_walk.specs.Following.{IsFollowed, IsLive, Stands}
 
 -- one of the two is neither Opened nor Closing
