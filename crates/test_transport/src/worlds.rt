@@ -1,6 +1,6 @@
 //! A user of a network with transport entities, who makes one call after another: what the calls tell is lawful, over any carrier.
 
-ghost use Rattle.std.specs.Prelude.{◌≡◌, ◌≤◌, ◌++◌, List, ℕ, [], ◌∷◌, length, true, IfOk};
+ghost use Rattle.std.specs.Prelude.{◌≡◌, ◌≤◌, ◌++◌, List, ℕ, [], ◌∷◌, length, true, IfOk, IsSome};
 ghost use Rattle.std.specs.List.{AllByRecursion};
 ghost use Rattle.lan_bag.specs.Bag.{new_bag};
 ghost use Rattle.script_journal.specs.Lawful.{Lawful};
@@ -8,6 +8,7 @@ ghost use Rattle.tp4_conn.specs.End.{IsSized, IsTimed, frozen_for};
 ghost use Rattle.tp4_conn.specs.declared.timers.Timers.{Timers as Times};
 ghost use Rattle.tp4_entity.specs.Dues.{AreLater};
 ghost use Rattle.tp4_world.specs.First.{IsFirst};
+ghost use Rattle.tp4_world.specs.World.{entity_at};
 ghost use Rattle.tp4_world.specs.steps.Parts.{AreBehind, AreLaterAll};
 ghost use Rattle.law_tp4_lawful.specs.First.{AreDistinct, IsUntouched};
 
@@ -72,6 +73,7 @@ fn talk<C: Carrier<Addr = Nsap> + Drop>(
     unit: Bytes,
 ) -> Result<Told, NoMemory>
     requires low { (C.link carrier).clock ≤ 4000000000 }
+    requires listed { IsSome (entity_at systems.items 1) }
     requires behind { AreBehind (C.link carrier).clock systems.items }
     requires later { AreLaterAll (C.link carrier).clock systems.items }
     requires asked { IsSized request.options }
@@ -181,6 +183,7 @@ fn net(alloc: Global) -> Result<InactiveNet<LanBag>, NoMemory> {
 
 /// The transport entity of a system, where connections are taken at one selector.
 fn placed(alloc: Global, system: u8, own: Nsap, selector: &[u8]) -> Result<Placed, NoMemory>
+    ensures system { IfOk result (λ one. one.system ≡ system) }
     ensures clock { IfOk result (λ one. one.entity.clock ≡ 0) }
     ensures later { IfOk result (λ one. AreLater 0 one.entity.ends) }
 {
@@ -210,6 +213,7 @@ fn shows(events: &[Event], at: u32, unit: &[u8]) -> bool {
 
 /// The transport entities of both end systems.
 fn both(alloc: Global) -> Result<Vec<Placed>, NoMemory>
+    ensures listed { IfOk result (λ systems. IsSome (entity_at systems.items 1)) }
     ensures behind { IfOk result (λ systems. AreBehind 0 systems.items) }
     ensures later { IfOk result (λ systems. AreLaterAll 0 systems.items) }
 {

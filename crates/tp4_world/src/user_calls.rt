@@ -34,6 +34,7 @@ pub fn begin<C: Carrier<Addr = Nsap>>(
 ) -> Result<(), NoMemory>
     requires low { now ≤ 4000000000 }
     requires clock { (C.link carrier.old).clock ≡ now }
+    requires listed { IsSome (entity_at transport.old.entities.items system) }
     requires behind { AreBehind now transport.old.entities.items }
     requires later { AreLaterAll now transport.old.entities.items }
     requires size { IsSized request.options }
@@ -45,9 +46,8 @@ pub fn begin<C: Carrier<Addr = Nsap>>(
     ensures later { OnOk result (AreLaterAll now transport.new.entities.items) }
 {
     let alloc = transport.alloc;
-    // A caller may name a system without an entity. The run ends then.
     let Some(place) = place_of(&transport.entities, system) else {
-        return Err(NoMemory);
+        unreachable!();
     };
     let own = own_at(&transport.entities, place);
     let line = connect_line(alloc, system, &own, &request)?;

@@ -106,7 +106,7 @@ impl<C: Carrier<Addr = Nsap> + Drop> TpWorld<C> {
 
     /// A user of a system asks for a connection.
     ///
-    /// At NoMemory, and where the system has no transport entity, the run ends.
+    /// At NoMemory the run ends.
     // Not inlined: it is none of the lines that come most (above).
     #[inline(never)]
     pub fn connect(
@@ -115,6 +115,7 @@ impl<C: Carrier<Addr = Nsap> + Drop> TpWorld<C> {
         request: ConnectRequest,
         events: &mut Vec<Event>,
     ) -> Result<(), NoMemory>
+        requires listed { IsSome (entity_at self.old.entities system) }
         requires size { IsSized request.options }
         requires none { events.old.items ≡ [] }
         ensures { OnOk result (Connects C.link C.steps self.old system request events.new.items self.new) }

@@ -91,3 +91,6 @@ returns g c = λ titles timers timed distinct is untouched calling called.
         ),
       ),
     )
+
+pub connect-requires-clause-listed : goal.connect-requires-clause-listed
+connect-requires-clause-listed g c = rw c.in_ok-world.ensures.becomes c.requires.listed

@@ -6,6 +6,7 @@ use Rattle.script_journal.specs.declared.event.Request.{Request}
 use Rattle.tp4_world.specs.World.{is_of}
 use Rattle.tp4_world.specs.declared.place.Placed.{Placed}
 use Rattle.tp4_world.proofs.Asked.{connect_begun, connect_memory, connect_refused}
+use Rattle.tp4_world.proofs.Entities.{listed_place}
 use Rattle.tp4_world.specs.steps.Parts.{AreLaterAll}
 use Rattle.tp4_world.proofs.Later.{later_changed, later_place}
 use Rattle.tp4_world.proofs.Places.{first_within}
@@ -30,6 +31,11 @@ returns-in_ok-refuse-in-Err-clause-connects g c =
     connect_refused g.C.Carrier.link g.C.Carrier.steps c.args.carrier.now c.args.transport.now.entities.items c.connect_at.new.entities.items c.args.transport.now.ends c.args.system c.in-Some.place c.args.now
     c.args.request why.0 c.in-Err.why told.0 c.refuse.new.events.items (ap (position (is_of c.args.system)) (sym c.deref.ensures.value) ∙ sym c.place_of.ensures ∙ c.in-Some.is) why.1 c.requires.clock why.2
     (c.in-Err.ensures.err memory) is told.2
+
+pub unreachable-requires : goal.unreachable-requires
+unreachable-requires g c =
+    listed_place c.args.transport.now.entities.items c.args.system c.requires.listed
+    (ap (position (is_of c.args.system)) (sym c.deref.ensures.value) ∙ sym c.place_of.ensures ∙ c.in_default.is)
 
 pub own_at-own-requires : goal.own_at-own-requires
 own_at-own-requires g c =
