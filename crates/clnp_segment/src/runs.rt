@@ -1,6 +1,6 @@
 //! The octets of a unit that came, in runs (X.233, reassembly).
 
-ghost use Rattle.std.specs.Prelude.{◌≡◌, ◌≢◌, ◌<◌, ◌≤◌, ◌+◌, ◌-◌, ◌++◌, ◌∷◌, true, false, length, count_by, drop, ℕ, is_none, is_some, map, replicate, slice_index_or, slice_range, slice_set, take, IfOk, MatchBool, None, OnErr, OnOk, Some};
+ghost use Rattle.std.specs.Prelude.{◌≡◌, ◌≢◌, ◌<◌, ◌≤◌, ◌+◌, ◌-◌, ◌++◌, ◌∷◌, true, false, length, count_by, drop, ℕ, is_none, is_some, map, replicate, slice_index_or, slice_range, slice_set, take, IfOk, IfSome, MatchBool, None, OnErr, OnOk, Some};
 ghost use Rattle.std.specs.List.{All};
 ghost use Rattle.clnp_segment.specs.steps.Places.{is_clash, written};
 ghost use Rattle.clnp_segment.specs.declared.runs.Run.{Run};
@@ -87,26 +87,21 @@ impl Runs {
         self.count
     }
 
-    /// Whether an octet is another than that in its place.
-    pub fn clash(&self, at: u16, octets: &[u8]) -> bool
+    /// How many of the places of these octets are empty; none where an octet is another than that in its place.
+    pub fn fresh(&self, at: u16, octets: &[u8]) -> Option<usize>
         requires { at + length octets.now ≤ length self.now }
-        ensures { result ≡ is_clash self.now at octets.now }
-    {
-        let met = meet(&self.runs, at, octets.len());
-        any_differs(&self.runs, met.first, met.last, at, octets)
-    }
-
-    /// How many of the places of these octets are empty.
-    pub fn empty(&self, at: u16, octets: &[u8]) -> usize
-        requires { at + length octets.now ≤ length self.now }
-        ensures { result ≡ count_by is_none (take (length octets.now) (drop at self.now)) }
+        ensures clash { is_clash self.now at octets.now ≡ is_none result }
+        ensures empty { IfSome result (λ fresh. fresh ≡ count_by is_none (take (length octets.now) (drop at self.now))) }
     {
         let count = octets.len();
-        if count == 0 {
-            return 0;
-        }
         let met = meet(&self.runs, at, count);
-        met.end - met.start - met.held
+        if any_differs(&self.runs, met.first, met.last, at, octets) {
+            return None;
+        }
+        if count == 0 {
+            return Some(0);
+        }
+        Some(met.end - met.start - met.held)
     }
 
     /// Writes the octets into their places. At NoMemory they are unchanged.
@@ -156,6 +151,19 @@ fn meet(runs: &VecDeque<Run>, at: u16, count: usize) -> Met
     ensures within { result.last ≤ length runs.now.items }
     ensures met { (r : Run) → r.start ≡ at → length r.octets ≡ count → Meets runs.now.items r result.first result.last result.start result.end result.held }
 {
+    // Mostly a segment begins where the last run ends, and meets it alone.
+    if let Some(run) = runs.back()
+        && run.end() == usize::from(at)
+    {
+        let last = runs.len();
+        return Met {
+            first: last - 1,
+            last,
+            start: usize::from(run.start),
+            end: usize::from(at) + count,
+            held: run.octets.as_slice().len(),
+        };
+    }
     let first = first_met(runs, at);
     let mut last = first;
     let mut start = usize::from(at);
@@ -185,8 +193,12 @@ fn first_met(runs: &VecDeque<Run>, at: u16) -> usize
     requires { Rise 0 runs.now.items }
     ensures { IsFirst runs.now.items at result }
 {
-    let mut first = 0;
     let mut past = runs.len();
+    // Of segments that come in reverse order, none comes behind the first run.
+    if past > 0 && usize::from(at) <= runs[0].end() {
+        return 0;
+    }
+    let mut first = 0;
     while first < past {
         let middle = first + (past - first) / 2;
         if runs[middle].end() < usize::from(at) {
