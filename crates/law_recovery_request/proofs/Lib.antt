@@ -1,0 +1,4 @@
+pub mod Coming
+pub mod Meeting
+pub mod Settling
+pub mod Ticking
