@@ -209,7 +209,7 @@ module _ (Read : WireTpdu → Bool → Type 0) (now : ℕ) (e : Entity) (from : 
 
 -- ---- the rows
 
-no_fit : (b : EndRecord) (stage : StateData) (t : WireTpdu) → IsUnanswered stage → fits b stage t ≡ true → ⊥
+pub no_fit : (b : EndRecord) (stage : StateData) (t : WireTpdu) → IsUnanswered stage → fits b stage t ≡ true → ⊥
 no_fit b (UserWait since) t un fit = cc fit
 no_fit b (Frozen when) t un fit = cc fit
 no_fit b stage t un fit = un

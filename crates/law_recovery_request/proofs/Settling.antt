@@ -1,5 +1,5 @@
 -- A settle, delivery after delivery: the CR of an end in CrWait makes its called end, or a DR comes back, whatever else waits.
-use Rattle.std.proofs.Common.{◌≡◌, ◌⊎◌, inl, inr, ℕ, ◌+◌, List, [], ◌++◌, true, Some, None, refl, sym, ◌∙◌, ap, subst, append_assoc}
+use Rattle.std.proofs.Common.{◌≡◌, ◌⊎◌, inl, inr, ℕ, ◌+◌, List, [], ◌∷◌, ◌++◌, true, Some, None, refl, sym, ◌∙◌, ap, subst, append_assoc}
 use Rattle.std.specs.List.{AllByRecursion, Contains}
 use Rattle.osi_base.specs.Calls.{Call, Keeps}
 use Rattle.osi_base.specs.Link.{IsLeastFresh, Link}
@@ -38,13 +38,15 @@ use Rattle.law_calm_run.proofs.Hall.{Hall, Post, after}
 use Rattle.law_calm_run.proofs.Posting.{AreUnitsOf}
 use Rattle.law_calm_run.proofs.Queueing.{all_parts}
 use Rattle.law_recovery_run.specs.Rivals.{IsGoing}
+use Rattle.law_recovery_run.proofs.Aiming.{Going}
 use Rattle.law_recovery_run.proofs.Aside.{both_are}
 use Rattle.law_recovery_run.proofs.Rivals.{no_rival}
 use Rattle.law_recovery_walk.specs.Following.{Stands}
 use Rattle.law_recovery_walk.proofs.Coming.{StandsSo, delivered}
 use Rattle.law_recovery_walk.proofs.Settling.{IsExplained}
-use Rattle.law_recovery_request.specs.Requesting.{AreUnanswered, HasTaken, IsAnswered, IsIndicated, cr_from, in_cr_wait}
-use Rattle.law_recovery_request.proofs.Coming.{Asking, IsHere, IsPending, IsUnsettled, IsWaiting, Refusing, Waiting, none_there, unsettled_on}
+use Rattle.law_recovery_request.specs.Requesting.{AreUnanswered, HasTaken, IsAnswered, IsApart, IsIndicated, IsRefusal, cr_from, in_cr_wait}
+use Rattle.law_recovery_request.proofs.Coming.{Asking, IsHere, IsPending, IsUnsettled, IsWaiting, Refusing, Waiting, none_there}
+use Rattle.law_recovery_request.proofs.Keeping.{IsKeptApart, unsettled_so}
 
 -- ---- where nothing waits
 
@@ -113,9 +115,13 @@ indicated_on {C} journal made world x b r i = record {
 module _ {C : Type 0} (link : C → Link (List ℕ)) (steps : C → Call (List ℕ) → C → Type 0)
     (law : (old : C) (call : Call (List ℕ)) (new : C) → steps old call new → Keeps (link old) call (link new))
     (titles : List (List ℕ)) (Waits : C → List (CarriedUnit (List ℕ)) → Type 0) (fifo : IsFifo link steps titles Waits)
-    (followed : (titles : List (List ℕ)) (timers : Timers) → Followed titles timers) (system x : ℕ) (from : List ℕ) (b : EndRecord) (r : InCrWait) where
+    (followed : (titles : List (List ℕ)) (timers : Timers) → Followed titles timers) (going : Going) (system x : ℕ) (from : List ℕ) (b : EndRecord) (r : InCrWait) (P : Type 0) where
   abbrev IsUnsettledSo : World C → List Post → Type 0
   IsUnsettledSo world posts = IsUnsettled system x from b r world posts
+
+  -- and what waits beside it
+  abbrev IsBeside : List Post → Type 0
+  IsBeside posts = P → AllByRecursion (IsKeptApart system from b r) posts
 
   -- the timers of an end that stands are those of the network
   timed : (journal : List Event) (world : World C) (ex : IsExplained link journal world) → IsHere system x from b r world → IsTimed ex.timers
@@ -178,23 +184,25 @@ module _ {C : Type 0} (link : C → Link (List ℕ)) (steps : C → Call (List �
     queue : List (CarriedUnit (List ℕ))
     stands : StandsSo link steps law titles Waits fifo mid hall queue
     unsettled : IsUnsettledSo mid hall.posts
+    beside : IsBeside hall.posts
 
   one_goes : (old mid : World C) (journal made : List Event) (hall : Hall) (queue : List (CarriedUnit (List ℕ))) (pair : ℕ × ℕ)
       → StandsSo link steps law titles Waits fifo old hall queue → IsLeastFresh (link old.carrier) (Some pair) → IsExplained link journal old → AllByRecursion IsUndropped made
-      → IsUnsettledSo old hall.posts → Delivers link steps whole old pair.0 pair.1 WasPicked made mid → HasGone mid ⊎ HasTaken link mid x b r
-  one_goes old mid journal made hall queue pair s fresh ex all o d = elim (delivered link steps law titles Waits fifo old mid hall queue made pair s fresh all d) [
-    | inl still ↦ inl (record { hall = hall; queue = still.queue; stands = still.stands; unsettled = unsettled_still old mid hall.posts still.entities still.ends o })
+      → IsUnsettledSo old hall.posts → IsBeside hall.posts → Delivers link steps whole old pair.0 pair.1 WasPicked made mid → HasGone mid ⊎ ((has : HasTaken link mid x b r) × (P → IsRefusal from b.own has.tpdu))
+  one_goes old mid journal made hall queue pair s fresh ex all o beside d = elim (delivered link steps law titles Waits fifo old mid hall queue made pair s fresh all d) [
+    | inl still ↦ inl (record { hall = hall; queue = still.queue; stands = still.stands; unsettled = unsettled_still old mid hall.posts still.entities still.ends o; beside = beside })
     | inr come ↦
-        elim (unsettled_on link ex.titles ex.timers ex.w journal old ex.explains mid come.post come.rest made come.a system x from b r (subst (IsUnsettledSo old) come.posts_are o)) [
-          | inl next ↦ inl (record { hall = after (record hall { posts = come.rest }) come.a.system come.a.acted; queue = come.queue; stands = come.stands; unsettled = next })
-          | inr taken ↦ inr taken.has
+        elim (unsettled_so link ex.titles ex.timers ex.w journal old ex.explains going mid come.post come.rest made come.a system x from b r P (subst (IsUnsettledSo old) come.posts_are o)
+        (subst IsBeside come.posts_are beside)) [
+          | inl next ↦ inl (record { hall = after (record hall { posts = come.rest }) come.a.system come.a.acted; queue = come.queue; stands = come.stands; unsettled = next.0; beside = next.1 })
+          | inr taken ↦ inr taken
         ]
   ]
 
   pub settles_on : (count : ℕ) (old : World C) (made : List Event) (new : World C) → Settles link steps whole count old made new → (journal : List Event) (hall : Hall) (queue : List (CarriedUnit (List ℕ)))
-      → StandsSo link steps law titles Waits fifo old hall queue → IsExplained link journal old → AllByRecursion IsUndropped made → IsUnsettledSo old hall.posts
-      → IsIndicated (journal ++ made) new x b r ⊎ IsAnswered link steps made new x b r
-  settles_on count old made new (NoneLeft n o m l fresh made_is same) journal hall queue s ex all unsettled =
+      → StandsSo link steps law titles Waits fifo old hall queue → IsExplained link journal old → AllByRecursion IsUndropped made → IsUnsettledSo old hall.posts → IsBeside hall.posts
+      → IsIndicated (journal ++ made) new x b r ⊎ ((a : IsAnswered link steps made new x b r) × (P → IsRefusal from b.own a.took.tpdu))
+  settles_on count old made new (NoneLeft n o m l fresh made_is same) journal hall queue s ex all unsettled beside =
       let none : queue ≡ [] = fifo.none old.carrier queue s.shows.waits fresh in
       let posts : hall.posts ≡ [] = subst (λ (q : List (CarriedUnit (List ℕ))). AreUnitsOf titles q hall.posts) none s.shows.units in
       let last : IsUnsettledSo old [] = subst (IsUnsettledSo old) posts unsettled in
@@ -204,25 +212,28 @@ module _ {C : Type 0} (link : C → Link (List ℕ)) (steps : C → Call (List �
       by last (Asking waits) = absurd (none_there (cr_from system b r) waits)
       by last (Refusing d) = absurd (none_there (record { system = d.at_system; sent = refusal from b.own d.reason }) d.waits)
       by last (Waiting d) = is_indicated link journal old ex system x from b r last.here last.unanswered d
-  settles_on count old made new (TooMany n o m l pair fresh most made_is same) journal hall queue s ex all unsettled =
+  settles_on count old made new (TooMany n o m l pair fresh most made_is same) journal hall queue s ex all unsettled beside =
       absurd (subst (λ (es : List Event). AllByRecursion IsUndropped es) made_is all).0
-  settles_on count old made new (OneMore n o m l pair mid here rest fresh low delivers settles made_is) journal hall queue s ex all unsettled =
+  settles_on count old made new (OneMore n o m l pair mid here rest fresh low delivers settles made_is) journal hall queue s ex all unsettled beside =
       let parts = all_parts IsUndropped here rest (subst (λ (es : List Event). AllByRecursion IsUndropped es) made_is all) in
       let ex_mid : IsExplained link (journal ++ here) mid = explained_on old mid journal here hall queue pair s ex (timed journal old ex unsettled.here) delivers in
-      elim (one_goes old mid journal here hall queue pair s fresh ex parts.0 unsettled delivers) [
-        | inl went ↦ elim (settles_on (count + 1) mid rest new settles (journal ++ here) went.hall went.queue went.stands ex_mid parts.1 went.unsettled) [
+      elim (one_goes old mid journal here hall queue pair s fresh ex parts.0 unsettled beside delivers) [
+        | inl went ↦ elim (settles_on (count + 1) mid rest new settles (journal ++ here) went.hall went.queue went.stands ex_mid parts.1 went.unsettled went.beside) [
           | inl done ↦ inl (subst (λ (es : List Event). IsIndicated es new x b r) (append_assoc journal here rest ∙ ap (λ (es : List Event). journal ++ es) (sym made_is)) done)
-          | inr answered ↦ inr (record {
-            front = here ++ answered.front;
-            rest = answered.rest;
-            made_is = made_is ∙ ap (λ (es : List Event). here ++ es) answered.made_is ∙ sym (append_assoc here answered.front answered.rest);
-            mid = answered.mid;
-            took = answered.took;
-            count = answered.count;
-            settles = answered.settles;
-          })
+          | inr answered ↦ inr (
+            record {
+              front = here ++ answered.0.front;
+              rest = answered.0.rest;
+              made_is = made_is ∙ ap (λ (es : List Event). here ++ es) answered.0.made_is ∙ sym (append_assoc here answered.0.front answered.0.rest);
+              mid = answered.0.mid;
+              took = answered.0.took;
+              count = answered.0.count;
+              settles = answered.0.settles;
+            },
+            answered.1,
+          )
         ]
-        | inr taken ↦ inr (record { front = here; rest = rest; made_is = made_is; mid = mid; took = taken; count = count + 1; settles = settles })
+        | inr taken ↦ inr (record { front = here; rest = rest; made_is = made_is; mid = mid; took = taken.0; count = count + 1; settles = settles }, taken.1)
       ]
 
 -- ---- where it begins
@@ -266,3 +277,9 @@ goes_on {C} link journal world ex x b r posts i =
         called = subst (λ (n : ℕ). is_called_by i.end.base i.calling.entity.own n ≡ true) own i.names;
       });
     }
+
+-- what waits beside it there
+pub begins_apart : (system : ℕ) (from : List ℕ) (b : EndRecord) (r : InCrWait) (posts : List Post) → AllByRecursion (IsApart system from b r) posts → AllByRecursion (IsKeptApart system from b r) posts
+begins_apart system from b r [] all = tt
+begins_apart system from b r (post ∷ posts) all =
+    (record { refused = λ to_it. absurd (all.0.none to_it); named = all.0.named; sourced = all.0.sourced }, begins_apart system from b r posts all.1)

@@ -20,10 +20,13 @@ use Rattle.tp4_conn.specs.declared.states.StateData.{StateData}
 use Rattle.tp4_conn.specs.declared.states.StateData.TheVariants.{CrWait, Frozen, Opened, UserWait}
 use Rattle.tp4_entity.specs.Association.{refusal}
 use Rattle.tp4_entity.specs.Entity.{Entity, end_at}
+use Rattle.law_tp4_moves.specs.Moves.{HasSource}
+use Rattle.law_tp4_moves.specs.Seen.{seen}
 use Rattle.law_tp4_pair.specs.steps.Standing.{HasLeft}
 use Rattle.tp4_world.specs.Run.{Settles}
 use Rattle.tp4_world.specs.World.{World, entity_at}
 use Rattle.law_calm_run.proofs.Hall.{Hall, Post}
+use Rattle.law_recovery_run.specs.Aside.{IsSentTo, Names}
 use Rattle.law_recovery_walk.specs.Following.{Stands}
 
 -- ---- before a settle
@@ -62,6 +65,12 @@ pub record IsRequesting {C : Type 0} (last : World C) (posts : List Post) (x : �
   pub calling : Stands last x (in_cr_wait b r)
   pub waits : Contains posts (cr_from calling.system b r)
   pub unanswered : AreUnanswered last b.to calling.entity.own calling.reference
+
+-- of what waits in a network: it is not for the end of that reference at that address, it is in the name of the end only if it is its CR, and a CC has a source
+pub record IsApart (system : ℕ) (from : List ℕ) (b : EndRecord) (r : InCrWait) (post : Post) : Type 0 where
+  pub none : IsSentTo from b.own post.sent → ⊥
+  pub named : post.system ≡ system → Names b.own post.sent.tpdu → post ≡ cr_from system b r
+  pub sourced : HasSource (seen 0 post.sent.tpdu)
 
 -- ---- after it
 
