@@ -34,7 +34,7 @@ left_over world number end is left e o there is_open =
     subst HasLeft (ap (λ (x : End). x.stage) same ∙ is_open) left
 
 pub followed_back : {C : Type 0} (link : C → Link (List ℕ)) (steps : C → Call (List ℕ) → C → Type 0) → EndsHaveNumbers link steps → FollowedShow link steps → FollowedPart link steps → FollowedAreBack link steps
-followed_back {C} link steps numbers show part titles timers early later first second one two low rest x y p last o q happenings f is_open is_open_there g ticked leads =
+followed_back {C} link steps numbers show part titles timers early later first second one two low x y p last o q happenings f is_open is_open_there g ticked leads =
     elim (part titles timers early first one low x y p last o q happenings f is_open is_open_there ticked leads) [
       | inl opened ↦ inl (record {
         x = last.calling;
@@ -70,7 +70,7 @@ followed_back {C} link steps numbers show part titles timers early later first s
     shown : (opened : AreBothOpened last) → (link first.carrier).clock + max timers.t1 timers.window ≤ (link second.carrier).clock
         → HasShown (link second.carrier).clock later x y opened.o.halves.sending opened.q.halves.receiving
         × HasShown (link second.carrier).clock later y x opened.q.halves.sending opened.o.halves.receiving
-    shown opened late = elim (show titles timers early later first second one two rest x y p last o q happenings f is_open is_open_there g leads late) [
+    shown opened late = elim (show titles timers early later first second one two x y p last o q happenings f is_open is_open_there g leads late) [
       | inl left ↦ absurd (not_parted last opened left)
       | inr h ↦ as_opened h
     ]

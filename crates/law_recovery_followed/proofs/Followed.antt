@@ -21,7 +21,7 @@ use Rattle.law_recovery_known.specs.Partners.{IsArrival, IsPairOf}
 use Rattle.law_recovery_walk.specs.Following.{Stands}
 use Rattle.law_recovery_walk.specs.Laws.{PartnersAreFollowed}
 use Rattle.law_recovery_walk.specs.Settling.{AreAtHand}
-use Rattle.law_recovery_ready.specs.Laws.{EndsHaveNumbers}
+use Rattle.law_recovery_ready.specs.Laws.{CallsRest, EndsHaveNumbers}
 use Rattle.law_recovery_followed.specs.Laws.{FollowedArePairs, FollowedPart, FollowedShow}
 
 -- ---- field by field
@@ -67,8 +67,8 @@ module _ {C : Type 0} (link : C → Link (List ℕ)) (steps : C → Call (List �
   in_time : (last : World C) (now : ℕ) → AreWaiting now last.entities → (n : ℕ) (e : End) → Stands last n e → IsInTime (due e.base e.stage) (now + 1)
   in_time last now rest n e s = (waits now s.entity (rest s.system s.entity s.is_end.there)).1 s.reference e s.is_end.stands
 
-  pub followed_show : FollowedArePairs link steps → EndsHaveNumbers link steps → PartnersShow link steps → FollowedShow link steps
-  followed_show pairs numbers show titles timers early later first second one two rest x y p last o q happenings f is_open is_open_there g leads late =
+  pub followed_show : CallsRest link steps → FollowedArePairs link steps → EndsHaveNumbers link steps → PartnersShow link steps → FollowedShow link steps
+  followed_show rests pairs numbers show titles timers early later first second one two x y p last o q happenings f is_open is_open_there g leads late =
       elim (show titles timers early later first second one two x y p last o q happenings begins stands leads idle undue past) [
         | inl left ↦ inl left
         | inr r ↦ inr (record {
@@ -91,6 +91,9 @@ module _ {C : Type 0} (link : C → Link (List ℕ)) (steps : C → Call (List �
 
       idle : IsIdle last
       idle = record { forth = g.forth.waits_are; back = g.back.waits_are }
+
+      rest : AreWaiting (link second.carrier).clock second.entities
+      rest = rests titles timers later second two
 
       undue : AreLater last
       undue =

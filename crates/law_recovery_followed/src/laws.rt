@@ -12,12 +12,13 @@ pub fn followed_are_pairs<C: Carrier<Addr = Nsap>>()
     law_recovery_walk::partners_are_followed::<C>();
 }
 
-/// So where a pair is followed from two Opened ends on, and nothing waits and no end is due at a later tick, from the longer of T1 and W on: one has left, or each has shown by the journal what
+/// So where a pair is followed from two Opened ends on, and nothing waits at a later tick, from the longer of T1 and W on: one has left, or each has shown by the journal what
 /// the other submitted, but for want of credit or by the number rule at that tick; over whole numbers.
 pub fn followed_show<C: Carrier<Addr = Nsap>>()
     ensures { FollowedShow C.link C.steps }
 {
     followed_are_pairs::<C>();
+    law_recovery_ready::calls_rest::<C>();
     law_recovery_ready::ends_have_numbers::<C>();
     law_recovery_known::partners_show::<C>();
 }
