@@ -17,7 +17,9 @@ use Rattle.law_tp4_lawful.specs.Laws.{ReceivesWhatWasSubmitted}
 use Rattle.script_datagrams.specs.Claims.{ShownWasSent, TellsDatagrams}
 use Rattle.script_datagrams.specs.Laws.{RunsGiveEach}
 use Rattle.script_datagrams.proofs.Ends.{net_ends}
-use Rattle.osi_commands.specs.Kinds.{IsLawfulRun, datagram_acts, inactive_acts}
+use Rattle.script_relays.specs.Claims.{RelaysLawfully}
+use Rattle.script_relays.specs.Giving.{PumpsGiveAll, TellsRelays}
+use Rattle.osi_commands.specs.Kinds.{IsLawfulRun, datagram_acts, inactive_acts, relay_acts}
 
 no_injection : (line : Line) → HasLine dialects.Inactive line → IsNoInjection line
 no_injection (lines.Inject lan system octets) has = absurd has
@@ -46,3 +48,12 @@ datagram_law sent gives =
       runs = λ texts script names journal last says run. record { sent = sent.runs texts script names journal last says run; each = each.runs texts script names journal last says run };
       front = λ script before after last h. record { sent = sent.front script before after last h.sent; each = each.front script before after last h.each };
     }
+
+-- ---- relays
+
+-- the journal is lawful, and after each pump what was shown was submitted
+pub relay_law : IsLaw relay_acts RelaysLawfully → IsLaw relay_acts (PumpsGiveAll link_of_net NetDoes MakesNet) → IsLaw relay_acts (TellsRelays link_of_net NetDoes MakesNet)
+relay_law lawful gives = record {
+  runs = λ texts script names journal last says run. record { lawful = lawful.runs texts script names journal last says run; gives = gives.runs texts script names journal last says run };
+  front = λ script before after last h. record { lawful = lawful.front script before after last h.lawful; gives = gives.front script before after last h.gives };
+}

@@ -19,7 +19,7 @@ use Rattle.script_world.specs.Transports.{TransportRun, frozen_of, titles_of, tp
 use Rattle.script_world.specs.declared.play.World.{World}
 use Rattle.script_datagrams.specs.Claims.{TellsDatagrams}
 use Rattle.law_datagram_run.specs.Datagrams.{DatagramRun, cl_play}
-use Rattle.script_relays.specs.Claims.{RelaysLawfully}
+use Rattle.script_relays.specs.Giving.{TellsRelays}
 use Rattle.law_relay_run.specs.Relays.{RelayRun, relay_play}
 use Rattle.osi_commands.specs.declared.kinds.Kind.{Kind}
 use Rattle.osi_commands.specs.declared.kinds.Kind.TheVariants as kinds
@@ -53,11 +53,12 @@ IsLawfulRun script journal last = Lawful (frozen_of last) (titles_of last) journ
 
 -- of the octets read, what was written is told as the status says, and tells the run for the lines of the script; and whatever part of the octets was
 -- run, each datagram that is shown was sent, and each unit that came up gave one event; or the journal is lawful; or it is lawful, and so are the connections
--- of each pair that a relay joined
+-- of each pair that a relay joined, and after each pump all that was shown at an open pair was submitted, unless this pump's own call for the next unit was
+-- refused
 abbrev pub IsToldBy : Kind → Type 0 → List ℕ → List ℕ → Status → Type 0
 IsToldBy kinds.Datagrams end read written status = IsTold datagram_acts (TellsDatagrams link_of_net NetDoes MakesNet) end read written status
 IsToldBy kinds.Inactive end read written status = IsTold inactive_acts IsLawfulRun end read written status
-IsToldBy kinds.Relay end read written status = IsTold relay_acts RelaysLawfully end read written status
+IsToldBy kinds.Relay end read written status = IsTold relay_acts (TellsRelays link_of_net NetDoes MakesNet) end read written status
 
 -- ---- what octets ask for
 

@@ -79,6 +79,7 @@ pub fn run_kind<S: Source, K: Sink>(
         }
         Kind::Relay => {
             script_relays::relays_lawfully::<RoutedNet>();
+            script_relays::pumps_give_all::<RoutedNet>();
             run_script::<RelayWorld, S, K>(alloc, source, sink)
         }
     }

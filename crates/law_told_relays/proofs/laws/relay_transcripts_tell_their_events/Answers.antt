@@ -1,10 +1,10 @@
 use Rattle.law_setup.specs.ClnpNets.{MakesNet, NetDoes, link_of_net}
 use Rattle.law_setup.proofs.Made.{net_law, net_laws}
-use Rattle.script_relays.specs.Claims.{RelaysLawfully}
+use Rattle.script_relays.specs.Giving.{TellsRelays}
 use Rattle.law_told.proofs.Network.{StandsTold}
 use Rattle.law_told.proofs.Routed.{routed_tells}
 use Rattle.law_told_relays.proofs.Played.{relays_legible}
 use Rattle.law_told_relays.proofs.laws.relay_transcripts_tell_their_events.Goals as goal
 
 pub returns : goal.returns
-returns c = relays_legible link_of_net NetDoes net_law MakesNet net_laws StandsTold routed_tells RelaysLawfully
+returns c = relays_legible link_of_net NetDoes net_law MakesNet net_laws StandsTold routed_tells (TellsRelays link_of_net NetDoes MakesNet)

@@ -5,10 +5,10 @@ use Rattle.osi_base.specs.declared.status.Status.TheVariants.{Done, NoMemory}
 use Rattle.script_bench.proofs.Telling.{told}
 use Rattle.law_setup.specs.ClnpNets.{MakesNet, NetDoes, link_of_net}
 use Rattle.script_datagrams.specs.Claims.{TellsDatagrams}
-use Rattle.script_relays.specs.Claims.{RelaysLawfully}
+use Rattle.script_relays.specs.Giving.{TellsRelays}
 use Rattle.osi_commands.specs.Kinds.{AsksOf, IsAcceptedBy, IsLawfulRun, IsToldBy, datagram_acts, inactive_acts, relay_acts}
 use Rattle.osi_commands.specs.declared.kinds.Kind.{Kind}
-use Rattle.osi_commands.proofs.KindLaws.{datagram_law, inactive_law}
+use Rattle.osi_commands.proofs.KindLaws.{datagram_law, inactive_law, relay_law}
 use Rattle.osi_commands.proofs.kinds.run_kind.Goals as goal
 
 pub returns-in-Datagrams-clause-told : goal.returns-in-Datagrams-clause-told
@@ -50,7 +50,7 @@ returns-in-Inactive-clause-complete g c =
 pub returns-in-Relay-clause-told : goal.returns-in-Relay-clause-told
 returns-in-Relay-clause-told g c =
     let w =
-    told relay_acts RelaysLawfully c.relays_lawfully.ensures g.S.Source.left g.K.Sink.held c.args.source.now c.args.sink.now c.run_script-in-Relay.new.source c.run_script-in-Relay.new.sink c.run_script-in-Relay.result
+    told relay_acts (TellsRelays link_of_net NetDoes MakesNet) (relay_law c.relays_lawfully.ensures c.pumps_give_all.ensures) g.S.Source.left g.K.Sink.held c.args.source.now c.args.sink.now c.run_script-in-Relay.new.source c.run_script-in-Relay.new.sink c.run_script-in-Relay.result
     c.run_script-in-Relay.ensures.outcome in
     (w.0, w.1, w.2, w.3, subst (λ (k : Kind). IsToldBy k (IsAtEnd (g.S.Source.left c.run_script-in-Relay.new.source)) w.0 w.1 c.run_script-in-Relay.result) (sym c.in-Relay.is) w.4)
 
