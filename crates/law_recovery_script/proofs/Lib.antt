@@ -1,6 +1,5 @@
 pub mod Asking
 pub mod Clocks
-pub mod Doing
 pub mod Lasting
 pub mod Lines
 pub mod Numbers

@@ -74,7 +74,7 @@ use Rattle.law_recovery_script.proofs.Outlasting.{Row, Same, end_keeps, kept_is,
 use Rattle.law_recovery_script.proofs.Releasing.{frozen_left}
 use Rattle.law_recovery_going.specs.Going.{AreBothLeft}
 use Rattle.law_recovery_script.proofs.Asking.{at_place, idle_of}
-use Rattle.law_recovery_script.proofs.Doing.{HasDone, at_two, beside, calling_did, calling_does, facing_called, facing_calling, lines_gave, lines_showed, turn, turned}
+use Rattle.law_recovery_walk.proofs.Doing.{HasDone, at_two, beside, calling_did, calling_does, facing_called, facing_calling, lines_gave, lines_showed, turn, turned}
 use Rattle.law_recovery_script.proofs.Rowing.{tick_leaves}
 
 -- ---- an end that is due
