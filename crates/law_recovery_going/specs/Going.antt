@@ -1,16 +1,13 @@
 -- Two Opened ends since when nothing is lost between them: why the first of them leaves that does, and when (X.224, class 4 state tables; retransmission on time-out, inactivity
 -- control).
-use Rattle.std.specs.Prelude.{◌≡◌, ◌⊎◌, ◌<◌, ◌≤◌, ℕ, ◌+◌, true, false, List, [], ◌∷◌, ◌++◌, Some, Contains}
+use Rattle.std.specs.Prelude.{◌≡◌, ◌<◌, ◌≤◌, ℕ, ◌+◌, true, false, List, [], ◌∷◌, ◌++◌}
 use Rattle.tpdu.specs.declared.tpdu.Tpdu.{Tpdu}
 use Rattle.tpdu.specs.declared.tpdu.Tpdu.TheVariants.{Dt, Ed}
 use Rattle.tp4_number.specs.Number.{whole}
 use Rattle.tp4_number.specs.declared.got.Got.TheVariants.{TooLarge}
 use Rattle.tp4_flow.specs.Half.{dt_arrival}
 use Rattle.tpdu.specs.declared.service.GoneCause.{GoneCause}
-use Rattle.tpdu.specs.declared.service.GoneCause.TheVariants.{Exhausted, Inactive}
 use Rattle.tp4_flow.specs.declared.step.Sent.{Sent}
-use Rattle.tp4_sending.specs.FlowSender.{FlowSender}
-use Rattle.tp4_sending.specs.declared.tries.Tries.{Tries}
 use Rattle.tp4_conn.specs.declared.call.UserCall.{UserCall}
 use Rattle.tp4_conn.specs.declared.call.UserCall.TheVariants.{Disconnect}
 use Rattle.tp4_conn.specs.declared.end_record.EndRecord.{EndRecord}
@@ -24,6 +21,7 @@ use Rattle.law_tp4_pair.specs.Pair.{Asks_called, Asks_calling, Clock, Comes_back
 use Rattle.law_tp4_pair.specs.steps.Standing.{HasLeft}
 use Rattle.law_recovery_steps.specs.Resting.{AreLater}
 use Rattle.law_recovery_steps.specs.Steps.{IsParted}
+pub use Rattle.law_recovery_going.specs.Causes.{IsCause, IsTryOf}
 
 -- both ends have these timers, and their halves the T1 and the N of them
 pub record HaveTimers (t : Timers) (p : Pair) (o q : InOpened) : Type 0 where
@@ -52,16 +50,6 @@ abbrev pub AreTicked : Pair → List Happening → Type 0
 AreTicked p [] = Unit {0}
 AreTicked p (Clock calling called ∷ happenings) = (AreBothOpened p → AreLater p) × AreTicked (next p (Clock calling called)) happenings
 AreTicked p (happening ∷ happenings) = AreTicked (next p happening) happenings
-
--- what a sending half has tried and is not acknowledged: a DT of its window, or its ED
-abbrev pub IsTryOf : FlowSender → Tries → Type 0
-IsTryOf s tries = Contains s.window tries ⊎ (s.urgent.out ≡ Some tries)
-
--- Why an end that stood as `o` at tick t0 goes at a tick: it gives up what it had tried N times by t0, the last time T1 ticks before; or it took nothing for I ticks, the last one before t0
-abbrev pub IsCause : Timers → ℕ → ℕ → InOpened → GoneCause → Type 0
-IsCause t t0 tick o Exhausted = (tries : Tries) × IsTryOf o.halves.sending tries × (t.sendings ≤ tries.count) × (tries.last + t.t1 ≡ tick) × (tick ≤ t0 + t.t1)
-IsCause t t0 tick o Inactive = (o.took + t.inactive ≡ tick) × (tick ≤ t0 + t.window)
-IsCause t t0 tick o other = ⊥
 
 -- by its tick the end goes for such a cause: gone with that cause, DR 128, Closing
 pub record GoesItself (t : Timers) (t0 tick : ℕ) (o : InOpened) (e : End) : Type 0 where

@@ -1,3 +1,4 @@
+pub mod Causes
 pub mod Fitting
 pub mod Going
 pub mod Laws

@@ -4,7 +4,7 @@ use Rattle.line_loop.specs.Course.{Runs}
 use Rattle.line_loop.specs.Lines.{open_line, last_line}
 use Rattle.script_journal.specs.declared.event.Event.{Event}
 use Rattle.tp4_conn.specs.declared.timers.Timers.{Timers}
-use Rattle.law_recovery_service.specs.Service.{Recovered}
+use Rattle.law_recovery_service.specs.Recovered.{Recovered}
 use Rattle.script_bench.proofs.Runs.{ran}
 use Rattle.script_bench.specs.Claims.{AllLines, ToLimit, ToLimitAtEnd, WholeLines}
 use Rattle.law_run.specs.Bench.{Bench, bench_meaning, first_bench}

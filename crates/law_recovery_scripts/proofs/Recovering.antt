@@ -28,7 +28,8 @@ use Rattle.script_world.specs.Transports.{TransportRun}
 use Rattle.script_world.specs.declared.play.World.TheVariants.{Running}
 use Rattle.script_world.proofs.Headline.{distinct, untouched}
 use Rattle.law_recovery_run.specs.Run.{RunsOn}
-use Rattle.law_recovery_service.specs.Service.{Recovered, RecoversFrom}
+use Rattle.law_recovery_service.specs.Recovered.{Recovered}
+use Rattle.law_recovery_service.specs.Service.{RecoversFrom}
 use Rattle.law_recovery_wire.specs.Laws.{RecoversOnWire}
 use Rattle.law_run.specs.World.{Net, NetDoes, Started, TransportNet, World, WorldRuns, link_of_net, running}
 use Rattle.law_run.proofs.Calm.{have}

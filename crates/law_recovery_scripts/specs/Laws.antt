@@ -14,7 +14,8 @@ use Rattle.script_lines.specs.declared.line.Line.{Line}
 use Rattle.script_lines.specs.declared.words.Dialect.TheVariants as dialects
 use Rattle.tp4_conn.specs.declared.timers.Timers.{Timers}
 use Rattle.law_recovery_run.specs.Ordered.{ReachedFrom}
-use Rattle.law_recovery_service.specs.Service.{Recovered, RecoversFrom}
+use Rattle.law_recovery_service.specs.Recovered.{Recovered}
+use Rattle.law_recovery_service.specs.Service.{RecoversFrom}
 use Rattle.law_run.specs.World.{Net, NetDoes, TransportNet, link_of_net}
 use Rattle.law_recovery_scripts.specs.Recovery.{RecoversWhereKept, RunsRecovering}
 

@@ -11,7 +11,7 @@ use Rattle.tp4_conn.specs.declared.timers.Timers.{Timers}
 use Rattle.line_loop.specs.Writing.{IsPrefix}
 use Rattle.law_tp4_pair.specs.Calm.{IsOneLan}
 use Rattle.law_recovery_run.specs.Run.{IsKept, Recovers}
-use Rattle.law_recovery_service.specs.Service.{Recovered}
+use Rattle.law_recovery_service.specs.Recovered.{Recovered}
 use Rattle.law_run.specs.Bench.{Bench}
 use Rattle.law_run.specs.Transcript.{IsRun, RanWhole, lines_handled}
 use Rattle.law_run.specs.World.{TransportNet, WorldRun, WorldRuns, link_of_net, running}

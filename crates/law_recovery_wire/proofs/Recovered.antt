@@ -14,8 +14,8 @@ use Rattle.tp4_world.specs.Wire.{world_on_wire}
 use Rattle.tp4_world.specs.World.{World, end_numbered}
 use Rattle.law_calm_run.specs.Service.{end_at_number}
 use Rattle.law_calm_service.proofs.WiredEnds.{placed_on, upper_end, upper_open}
-use Rattle.law_recovery_going.specs.Going.{IsCause}
-use Rattle.law_recovery_service.specs.Service.{AreBack, By_itself, By_user, Goes, HaveGone, IsOver, Recovered}
+use Rattle.law_recovery_going.specs.Causes.{IsCause}
+use Rattle.law_recovery_service.specs.Recovered.{AreBack, By_itself, By_user, Goes, HaveGone, IsOver, Recovered}
 
 abbrev opened_on_wire : InOpened → InOpened
 opened_on_wire o = record o { halves = halves_on_wire o.halves }

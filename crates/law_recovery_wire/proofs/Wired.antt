@@ -16,7 +16,7 @@ use Rattle.tp4_world.specs.World.{World}
 use Rattle.tp4_world.specs.declared.place.Placed.{Placed}
 use Rattle.law_calm_service.proofs.Wired.{no_ends}
 use Rattle.law_recovery_run.specs.Run.{RunsOn}
-use Rattle.law_recovery_service.specs.Service.{Recovered}
+use Rattle.law_recovery_service.specs.Recovered.{Recovered}
 use Rattle.law_recovery_wire.specs.Laws.{RecoversOnWire}
 use Rattle.law_recovery_wire.proofs.Recovered.{recovered_on_wire}
 
