@@ -9,4 +9,5 @@ pub mod Releasing
 pub mod Rowing
 pub mod Starting
 pub mod Staying
+pub mod Stepping
 pub mod Ticking
