@@ -33,12 +33,12 @@ kind_is [] kind h = absurd (cc)
 kind_is (word ∷ []) kind h = elim (pick (bytes_eq word (codes "datagrams")) kinds.Datagrams kind _ h) [
   | inl is ↦ one_word word kinds.Datagrams kind is.0 is.1
   | inr h ↦ elim (pick (bytes_eq word (codes "inactive")) kinds.Inactive kind _ h) [
-      | inl is ↦ one_word word kinds.Inactive kind is.0 is.1
-      | inr h ↦ elim (pick (bytes_eq word (codes "relay")) kinds.Relay kind None h) [
-          | inl is ↦ one_word word kinds.Relay kind is.0 is.1
-          | inr h ↦ absurd (cc)
-        ]
+    | inl is ↦ one_word word kinds.Inactive kind is.0 is.1
+    | inr h ↦ elim (pick (bytes_eq word (codes "relay")) kinds.Relay kind None h) [
+      | inl is ↦ one_word word kinds.Relay kind is.0 is.1
+      | inr h ↦ absurd (cc)
     ]
+  ]
 ]
 kind_is (word ∷ other ∷ words) kind h = absurd (cc)
 

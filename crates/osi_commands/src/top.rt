@@ -35,7 +35,7 @@ pub fn osi<S: Source, K: Sink>(
     // What each command does stands in specs/Commands.antt.
     ensures does { (command : Called) → IsCalled (map string_bytes words.now) command
         → Does command (S.left source.old) (S.left source.new) (K.held sink.old) (K.held sink.new)
-          (S.faults source.old) (S.faults source.new) (K.faults sink.old) (K.faults sink.new) result }
+        (S.faults source.old) (S.faults source.new) (K.faults sink.old) (K.faults sink.new) result }
     // Other words: the usage line was written, or a front of it, and nothing was read.
     ensures words { ((command : Called) → IsCalled (map string_bytes words.now) command → ⊥)
         → (S.left source.new ≡ S.left source.old) × IsWritten K.held sink.old usage_line Status.RefusedWords sink.new result }

@@ -418,10 +418,10 @@ module _ {S : Type 0} (has : S → ℕ → Type 0) (ends : S → ℕ) (honest : 
       record {
         now = b.now;
         left = λ h. (
-            subst (λ (end : ℕ). NoneLeft (PairRefuses connects calls old kept place done made new s On end) (b.now).on.waiting) (sym (b.outbound ∙ a.outbound))
-                (subst (NoneLeft (PairRefuses connects calls old kept place done made new s On pair.outbound)) (sym (b.other h)) (a.leaves (b.opens h))),
-            subst (λ (end : ℕ). NoneLeft (PairRefuses connects calls old kept place done made new s Back end) (b.now).back.waiting) (sym b.inbound) (b.leaves h),
-          );
+          subst (λ (end : ℕ). NoneLeft (PairRefuses connects calls old kept place done made new s On end) (b.now).on.waiting) (sym (b.outbound ∙ a.outbound))
+              (subst (NoneLeft (PairRefuses connects calls old kept place done made new s On pair.outbound)) (sym (b.other h)) (a.leaves (b.opens h))),
+          subst (λ (end : ℕ). NoneLeft (PairRefuses connects calls old kept place done made new s Back end) (b.now).back.waiting) (sym b.inbound) (b.leaves h),
+        );
         steps = subst (λ (es : List Event). Steps kept place (kept_after kept es) b.now) (sym s.made_is)
             (steps_at kept (kept_after (kept_after kept s.here) s.rest) (kept_after kept (s.here ++ s.rest)) place b.now (sym (kept_more kept s.here s.rest))
             (steps_more kept (kept_after kept s.here) (kept_after (kept_after kept s.here) s.rest) place a.now b.now a.steps b.steps));
@@ -448,8 +448,7 @@ module _ {S : Type 0} (has : S → ℕ → Type 0) (ends : S → ℕ) (honest : 
   both_more : (Refused More : Heading → ℕ → List MarkedUnit → Type 0) (pair : Pair) → ((heading : Heading) (end : ℕ) (units : List MarkedUnit) → Refused heading end units → More heading end units) → BothLeft Refused pair
       → BothLeft More pair
   both_more Refused More pair more both h =
-      let b = both h in
-      (
+      let b = both h in (
         none_more (Refused On pair.outbound) (More On pair.outbound) pair.on.waiting (more On pair.outbound pair.on.waiting) b.0,
         none_more (Refused Back pair.inbound) (More Back pair.inbound) pair.back.waiting (more Back pair.inbound pair.back.waiting) b.1,
       )
