@@ -44,7 +44,6 @@ use Rattle.law_calm_run.proofs.Hall.{Calling, Calls as HallCalls, Connecting, Ha
 use Rattle.law_calm_run.proofs.Posting.{AreUnitsOf, IsHall}
 use Rattle.law_calm_run.proofs.Going.{Stands, Went, acts_go, have_after, kept_after, one_step, still, waiting_after}
 use Rattle.law_calm_run.proofs.Queueing.{all_parts, none_dropped, raw_behind}
-use Rattle.tp4_entity.proofs.Restarts.{calling_same, connecting_same}
 
 -- what a connect line may ask: one of the sizes, selectors of 32 octets at most, and the address of a system
 pub record IsAsked (titles : List (List ℕ)) (request : ConnectRequest) : Type 0 where
@@ -120,7 +119,7 @@ module _ {C : Type 0} (link : C → Link (List ℕ)) (steps : C → Call (List �
           made_is = step.2 ∙ ap (λ (es : List EndAt). connect_event (length es + 1) system reference entity.own request ∷ step.0) s.shows.ends;
         }));
         shows = a.shows;
-        kept = kept_after titles hall.entities system entity acted s.kept there_now (connecting_same hall.clock reference entity request) goes.rest.proper fine;
+        kept = kept_after titles hall.entities system entity acted s.kept there_now goes.rest.proper fine;
         have = have_after titles hall.entities system acted.entity s.have;
         rest = waiting_after link steps law titles Waits fifo hall system acted s.rest goes.rest.idle;
       }
@@ -190,7 +189,7 @@ module _ {C : Type 0} (link : C → Link (List ℕ)) (steps : C → Call (List �
         call_is = refl;
         stands = record {
           shows = a.shows;
-          kept = kept_after titles hall.entities end.system entity acted s.kept there_now (calling_same whole hall.clock end.reference entity call) goes.rest.proper fine;
+          kept = kept_after titles hall.entities end.system entity acted s.kept there_now goes.rest.proper fine;
           have = have_after titles hall.entities end.system acted.entity s.have;
           rest = waiting_after link steps law titles Waits fifo hall end.system acted s.rest goes.rest.idle;
         };

@@ -23,16 +23,17 @@ use Rattle.tp4_conn.specs.Proper.{AreSendable}
 use Rattle.tp4_entity.specs.Association.{met}
 use Rattle.tp4_entity.specs.Entity.{Acted, Entity, at}
 use Rattle.tp4_entity.specs.Step.{first_due}
-use Rattle.tp4_entity.specs.Unit.{HearsUnit, TakesBy, TakesUnit}
+use Rattle.tp4_entity.specs.References.{is_silent}
+use Rattle.tp4_entity.specs.Unit.{TakesBy, TakesUnit}
 use Rattle.law_tp4_proper.specs.Rest.{AreProper, IsProperStep}
-use Rattle.law_tp4_proper.proofs.Heards.{heard_rests}
+use Rattle.law_tp4_proper.proofs.Heards.{taken_rests}
 use Rattle.law_tp4_pair.specs.Claim.{IsUndropped}
 use Rattle.tp4_world.specs.Run.{Acts, Delivers, Hears, HearsAll, HearsIf, NoneLeft, OneMore, Settles, TooMany, is_for, transport_address}
 use Rattle.tp4_world.specs.Telling.{ends_after, events_after}
 use Rattle.tp4_world.specs.World.{World, entity_at, with_entity}
 use Rattle.tp4_world.specs.declared.place.EndAt.{EndAt}
 use Rattle.tp4_world.specs.declared.place.Placed.{Placed}
-use Rattle.tp4_world.proofs.Destinations.{ActsFine, hearing_fine}
+use Rattle.tp4_world.proofs.Destinations.{ActsFine, taking_fine}
 use Rattle.tp4_world.proofs.Having.{found, with_any, with_some}
 use Rattle.law_tp4_lawful.proofs.WorldAsides.{AreQuiet, are_aside, picked_quiet, told_quiet}
 use Rattle.law_calm_run.specs.Run.{HaveEntities}
@@ -40,26 +41,27 @@ use Rattle.law_calm_run.proofs.Hall.{AreWaiting, Does, Done, Goes, Hall, IsAddre
 use Rattle.law_calm_run.proofs.Posting.{AreKept, AreUnitsOf, IsHall, IsKept, IsUnitOf}
 use Rattle.law_calm_run.proofs.Queueing.{all_parts, all_sent, none_dropped}
 use Rattle.law_calm_run.proofs.Reading.{heard_as, was}
-use Rattle.tp4_entity.specs.References.{is_within}
-use Rattle.tp4_conn.specs.End.{frozen_for}
 use Rattle.tp4_entity.proofs.Restarts.{hearing_same}
 
 -- ---- entities
 
--- an entity that never began again hears each unit
-never_silent : (wrap : ℕ → ℕ → ℕ) (now : ℕ) (e : Entity) (from octets : List ℕ) (acted : Acted) → e.restarted ≡ None → TakesUnit wrap now e from octets acted → HearsUnit wrap now e from octets acted
-never_silent wrap now e from octets acted never takes =
-    subst (λ (silent : Bool). TakesBy silent wrap now e from octets acted) (ap (is_within now (frozen_for e.timers)) never) takes
+-- what comes to an entity leaves when it last began again
+takes_same : (wrap : ℕ → ℕ → ℕ) (now : ℕ) (e : Entity) (from octets : List ℕ) (acted : Acted) → TakesUnit wrap now e from octets acted → acted.entity.restarted ≡ e.restarted
+takes_same wrap now e from octets acted takes = by (is_silent now e) takes
+  where
+    by : (silent : Bool) → TakesBy silent wrap now e from octets acted → acted.entity.restarted ≡ e.restarted
+    by true is = ap (λ (a : Acted). a.entity.restarted) is
+    by false heard = hearing_same wrap now e from octets acted heard
 
 -- what an entity did leaves all as they have to be
 pub kept_after : (titles : List (List ℕ)) (placed : List Placed) (system : ℕ) (entity : Entity) (acted : Acted) → AreKept titles placed → entity_at placed system ≡ Some entity
-    → acted.entity.restarted ≡ entity.restarted → AreProper acted.entity → ActsFine (IsAddress titles) entity.own acted → AreKept titles (with_entity placed system acted.entity)
-kept_after titles placed system entity acted kept there same proper fine other x is = elim (with_any placed system other acted.entity x is) [
+    → AreProper acted.entity → ActsFine (IsAddress titles) entity.own acted → AreKept titles (with_entity placed system acted.entity)
+kept_after titles placed system entity acted kept there proper fine other x is = elim (with_any placed system other acted.entity x is) [
   | inl here ↦
       let was = kept system entity there in
       subst (λ (n : ℕ). IsKept titles n x) (sym here.0)
       (subst (IsKept titles system) (sym here.1)
-      (record { title = was.title; title_is = was.title_is; own = fine.own_is ∙ was.own; proper = proper; ends = fine.ends; never = same ∙ was.never }))
+      (record { title = was.title; title_is = was.title_is; own = fine.own_is ∙ was.own; proper = proper; ends = fine.ends }))
   | inr before ↦ kept other x before
 ]
 
@@ -249,11 +251,12 @@ module _ {C : Type 0} (link : C → Link (List ℕ)) (steps : C → Call (List �
 
         takes : (acted : Acted) → TakesUnit whole (link below).clock here.0 unit.from unit.octets acted → Acts link steps mid system here.0.own acted later new → Went hall made new
         takes acted heard acts =
-            let now : HearsUnit whole hall.clock here.0 unit.from unit.octets acted =
-            never_silent whole hall.clock here.0 unit.from unit.octets acted kept.never (subst (λ (n : ℕ). TakesUnit whole n here.0 unit.from unit.octets acted) (clock ∙ s.shows.clock) heard) in
-            let proper : IsProperStep hall.clock acted = heard_rests whole hall.clock here.0 unit.from unit.octets acted (record { proper = kept.proper; idle = s.rest system here.0 here.1 }) now in
+            let now : TakesUnit whole hall.clock here.0 unit.from unit.octets acted = subst (λ (n : ℕ). TakesUnit whole n here.0 unit.from unit.octets acted) (clock ∙ s.shows.clock) heard in
+            let so : (silent : Bool) → is_silent hall.clock here.0 ≡ silent → TakesBy silent whole hall.clock here.0 unit.from unit.octets acted =
+            λ silent is. subst (λ (b : Bool). TakesBy b whole hall.clock here.0 unit.from unit.octets acted) is now in
+            let proper : IsProperStep hall.clock acted = taken_rests whole hall.clock here.0 unit.from unit.octets acted (record { proper = kept.proper; idle = s.rest system here.0 here.1 }) now in
             let from : IsAddress titles unit.from = record { system = post.system; title = is.title; title_is = is.title_is; address_is = is.from } in
-            let fine : ActsFine (IsAddress titles) here.0.own acted = hearing_fine (IsAddress titles) unit.from from whole hall.clock here.0 unit.octets acted kept.ends now in
+            let fine : ActsFine (IsAddress titles) here.0.own acted = taking_fine (IsAddress titles) unit.from from whole hall.clock here.0 unit.octets acted kept.ends now in
             let a = acts_go mid new left_hall queue system kept.title here.0.own acted later shows kept.title_is kept.own fine proper.tpdus all acts in
             let next : Hall = after left_hall system acted in
             let meets : Meets titles hall later next = record {
@@ -267,8 +270,10 @@ module _ {C : Type 0} (link : C → Link (List ℕ)) (steps : C → Call (List �
               there = here.1;
               own_is = own ∙ is.to;
               acted = acted;
-              heard = λ read. heard_as hall.clock here.0 unit.from unit.octets post.sent acted is.sendable is.written now read
+              heard = λ awake read. heard_as hall.clock here.0 unit.from unit.octets post.sent acted is.sendable is.written (so false awake) read
                   ∙ ap (λ (f : List ℕ). met whole hall.clock (at hall.clock here.0) f (was post.sent)) is.from;
+              ignores = λ silent. so true silent;
+              same = takes_same whole hall.clock here.0 unit.from unit.octets acted now;
               does = a.does;
             } in
             record {
@@ -276,7 +281,7 @@ module _ {C : Type 0} (link : C → Link (List ℕ)) (steps : C → Call (List �
               queue = a.queue;
               goes = goes_then titles hall hall next made front later (one_step titles hall hall front s.kept (Still (are_aside front quiet) refl)) (one_step titles hall next later s.kept (Meeting meets)) made_is;
               shows = a.shows;
-              kept = kept_after titles hall.entities system here.0 acted s.kept here.1 (hearing_same whole hall.clock here.0 unit.from unit.octets acted now) proper.rest.proper fine;
+              kept = kept_after titles hall.entities system here.0 acted s.kept here.1 proper.rest.proper fine;
               have = have_after titles hall.entities system acted.entity s.have;
               rest = waiting_after hall system acted s.rest proper.rest.idle;
             }

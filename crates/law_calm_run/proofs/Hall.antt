@@ -1,6 +1,6 @@
 -- A network of transport entities without its carrier: the TPDUs that wait, in the order in which they were sent, are handed over one after
 -- another (X.214, queue model; X.224, class 4 procedures).
-use Rattle.std.specs.Prelude.{◌≡◌, ◌⊎◌, ℕ, ◌+◌, false, List, [], ◌∷◌, ◌++◌, length, slice_get, Some, None}
+use Rattle.std.specs.Prelude.{◌≡◌, ◌⊎◌, ℕ, ◌+◌, true, false, List, [], ◌∷◌, ◌++◌, length, slice_get, Some, None}
 use Rattle.tpdu.specs.Kinds.{has_number}
 use Rattle.tpdu.specs.Values.{destination_of, format_for}
 use Rattle.tpdu.specs.Writing.{is_summed, kind_for}
@@ -12,9 +12,9 @@ use Rattle.tp4_conn.specs.declared.call.ConnectRequest.{ConnectRequest}
 use Rattle.tp4_conn.specs.declared.call.UserCall.{UserCall}
 use Rattle.tp4_entity.specs.Association.{met}
 use Rattle.tp4_entity.specs.Entity.{Acted, Entity, at}
-use Rattle.tp4_entity.specs.References.{least_free}
+use Rattle.tp4_entity.specs.References.{is_silent, least_free}
 use Rattle.tp4_entity.specs.Step.{call_of, calling, connecting, first_due, ticking, user_refusal}
-use Rattle.tp4_entity.specs.Unit.{extended_of}
+use Rattle.tp4_entity.specs.Unit.{extended_of, ignored}
 use Rattle.script_journal.specs.declared.event.Event.{Event}
 use Rattle.law_tp4_history.specs.Journals.{IsAside}
 use Rattle.law_tp4_proper.specs.Rest.{AreProper}
@@ -149,7 +149,7 @@ pub record Clocks (old : Hall) (made : List Event) (new : Hall) : Type 0 where
 abbrev pub IsReadBy : Entity → Sent → Type 0
 IsReadBy entity sent = (has_number (kind_for sent.tpdu) ≡ false) ⊎ (format_for (extended_of entity) (destination_of sent.tpdu) ≡ sent.format)
 
--- the first TPDU that waits is handed to the entity at its address, which takes it, where it reads it so
+-- the first TPDU that waits is handed to the entity at its address, which takes it, where it is not silent and reads it so; a silent one does nothing with it
 pub record Meets (titles : List (List ℕ)) (old : Hall) (made : List Event) (new : Hall) : Type 0 where
   pub post : Post
   pub rest : List Post
@@ -161,8 +161,10 @@ pub record Meets (titles : List (List ℕ)) (old : Hall) (made : List Event) (ne
   pub there : entity_at old.entities system ≡ Some entity
   pub own_is : entity.own ≡ post.sent.to
   pub acted : Acted
-  pub heard : IsReadBy entity post.sent
+  pub heard : is_silent old.clock entity ≡ false → IsReadBy entity post.sent
       → acted ≡ met whole old.clock (at old.clock entity) (transport_address title) (post.sent.tpdu, is_summed post.sent.sum post.sent.tpdu)
+  pub ignores : is_silent old.clock entity ≡ true → acted ≡ ignored old.clock entity
+  pub same : acted.entity.restarted ≡ entity.restarted
   pub does : Does (record old { posts = rest }) system entity.own acted made new
 
 -- one of these, or nothing of which an entity knows

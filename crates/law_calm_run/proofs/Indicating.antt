@@ -48,11 +48,12 @@ use Rattle.tp4_entity.proofs.Beginning.{short}
 use Rattle.law_calm_run.proofs.Asking.{IsAsked}
 use Rattle.law_calm_run.proofs.Going.{HasSettled, Stands, acts_go, have_after, kept_after, settled, stands_then, waiting_after}
 use Rattle.law_calm_run.proofs.Queueing.{all_parts}
-use Rattle.law_calm_run.proofs.Starting.{first_hall, run_settles}
+use Rattle.law_calm_run.proofs.Starting.{first_hall, first_never, run_settles}
 use Rattle.law_tp4_lawful.specs.First.{AreDistinct}
 use Rattle.law_tp4_lawful.proofs.WorldPlaces.{some_same}
 use Rattle.tp4_conn.specs.declared.timers.Timers.{Timers}
 use Rattle.tp4_entity.proofs.Restarts.{connecting_same}
+use Rattle.law_calm_run.proofs.Never.{AreNever, awake, never_after, never_goes}
 
 -- ---- what waits first is met first
 
@@ -143,7 +144,7 @@ module _ {C : Type 0} (link : C → Link (List ℕ)) (steps : C → Call (List �
         queue = a.queue;
         stands = record {
           shows = a.shows;
-          kept = kept_after titles hall.entities system entity acted s.kept there_now (connecting_same hall.clock reference entity request) goes.rest.proper fine;
+          kept = kept_after titles hall.entities system entity acted s.kept there_now goes.rest.proper fine;
           have = have_after titles hall.entities system acted.entity s.have;
           rest = waiting_after link steps law titles Waits fifo hall system acted s.rest goes.rest.idle;
         };
@@ -169,7 +170,7 @@ module _ {C : Type 0} (link : C → Link (List ℕ)) (steps : C → Call (List �
     posts_are = ap (λ (ps : List Post). ps ++ post ∷ []) none
 
     -- it is met by the entity of the called system
-    module _ (here : List Event) (new : Hall) (m : Meets titles next here new) (stands : AreKept titles next.entities) where
+    module _ (here : List Event) (new : Hall) (m : Meets titles next here new) (stands : AreKept titles next.entities) (never : AreNever next.entities) where
       post_is : m.post ≡ post
       post_is = first_same m.post post m.rest [] (sym m.posts_are ∙ posts_are)
         where
@@ -197,7 +198,7 @@ module _ {C : Type 0} (link : C → Link (List ℕ)) (steps : C → Call (List �
       indicates : IsSized request.options → (may : MayIndicate hall.clock m.entity entity.own reference request.to_selector)
           → m.acted ≡ moved (at hall.clock m.entity) may.own (indicated (called_end hall.clock may.own entity.own m.entity.timers entity.timers.credit reference request.from_selector request.to_selector (proposed_by request.options)) request.octets)
       indicates sized may =
-          m.heard reads
+          m.heard (awake hall.clock next.entities never m.system m.entity m.there) reads
           ∙ ap (λ (f : List ℕ). met whole hall.clock (at hall.clock m.entity) f (m.post.sent.tpdu, is_summed m.post.sent.sum m.post.sent.tpdu)) from_is
           ∙ ap (λ (p : Post). met whole hall.clock (at hall.clock m.entity) entity.own (p.sent.tpdu, is_summed p.sent.sum p.sent.tpdu)) post_is
           ∙ incoming hall.clock hall.clock may.own (at hall.clock m.entity) entity.own (call_of entity reference request) (is_summed cr.sum cr.tpdu) sized may.none may.none_frozen may.registered may.free
@@ -263,11 +264,14 @@ module _ {C : Type 0} (link : C → Link (List ℕ)) (steps : C → Call (List �
         let there_now : entity_at done.went.next.entities system ≡ Some entity = sym (ap (λ (ps : List Placed). entity_at ps system) known.shows.entities) ∙ there in
         let r = requested before c.between done.went.next done.went.queue system reference entity request begins.0 known (subst (λ (es : List Event). AllByRecursion IsUndropped es) (sym later_is) parts.0) there is_asked short_enough least begins.1 in
         let after_it : Hall = after (with_new done.went.next system reference) system (connecting done.went.next.clock entity reference request) in
+        let never : AreNever after_it.entities = never_after done.went.next.entities system entity (connecting done.went.next.clock entity reference request).entity
+        (never_goes titles (first_hall titles timers Waits first start link steps law fifo) journal done.went.next done.went.goes (first_never titles timers Waits first start)) there_now
+        (connecting_same done.went.next.clock reference entity request) in
         let over = settled link steps law titles Waits fifo 0 c.between settled_by last c.settles after_it r.queue r.stands parts.1 in
         let over_none : over.went.next.posts ≡ [] = subst (λ (q : List (CarriedUnit (List ℕ))). AreUnitsOf titles q over.went.next.posts) over.none over.went.shows.units in
         let m = met_first titles after_it settled_by over.went.next over.went.goes (record { system = system; sent = cr_of (caller done.went.next.clock (call_of entity reference request)) request.octets }) []
         (ap (λ (ps : List Post). ps ++ record { system = system; sent = cr_of (caller done.went.next.clock (call_of entity reference request)) request.octets } ∷ []) idle) over_none in
-        let at_to : m.meets.system ≡ to = system_is start.distinct done.went.next idle system to receiver to_is reference entity request address there_now known.kept m.here m.next m.meets r.stands.kept in
+        let at_to : m.meets.system ≡ to = system_is start.distinct done.went.next idle system to receiver to_is reference entity request address there_now known.kept m.here m.next m.meets r.stands.kept never in
         let same : m.meets.entity ≡ c.entity =
         some_same m.meets.entity c.entity (sym m.meets.there ∙ ap (entity_at after_it.entities) at_to ∙ ap (λ (ps : List Placed). entity_at ps to) (sym r.stands.shows.entities) ∙ c.entity_is) in
         let may : MayIndicate done.went.next.clock m.meets.entity entity.own reference request.to_selector =
@@ -275,7 +279,7 @@ module _ {C : Type 0} (link : C → Link (List ℕ)) (steps : C → Call (List �
         (subst (λ (n : ℕ). MayIndicate n c.entity entity.own reference request.to_selector) r.stands.shows.clock
         (subst (λ (s : List ℕ). MayIndicate (link c.between.carrier).clock c.entity entity.own reference s) (sym selects)
         (subst (λ (q : Request). MayIndicate (link c.between.carrier).clock c.entity q.calling q.reference called) asked_is c.may))) in
-        let found = told start.distinct done.went.next idle system to receiver to_is reference entity request address there_now known.kept m.here m.next m.meets r.stands.kept is_asked.size may in (
+        let found = told start.distinct done.went.next idle system to receiver to_is reference entity request address there_now known.kept m.here m.next m.meets r.stands.kept never is_asked.size may in (
           found.0,
           subst (λ (es : List Event). Contains es (events.Incoming found.0)) (sym m.made_is) (Contains-append_right m.before (m.here ++ m.rest) (events.Incoming found.0) (Contains-append_left m.here m.rest (events.Incoming found.0) found.1)),
           record {

@@ -3,6 +3,7 @@ pub mod Going
 pub mod Hall
 pub mod Indicating
 pub mod Lines
+pub mod Never
 pub mod Posting
 pub mod Queueing
 pub mod Reading

@@ -1,6 +1,6 @@
 -- How a network over a carrier shows what waits: each unit in the queue of the carrier is a raw one, or the next TPDU that waits, written
 -- (X.213, queue model; X.224, structure and encoding of TPDUs).
-use Rattle.std.specs.Prelude.{◌≡◌, ◌⊎◌, ℕ, List, [], ◌∷◌, slice_get, Some, None}
+use Rattle.std.specs.Prelude.{◌≡◌, ◌⊎◌, ℕ, List, [], ◌∷◌, slice_get, Some}
 use Rattle.nsap.specs.Address.{selector_of}
 use Rattle.osi_base.specs.Link.{Link}
 use Rattle.osi_base.specs.declared.unit.Unit.{Unit as CarriedUnit}
@@ -40,14 +40,13 @@ pub record IsHall {C : Type 0} (link : C → Link (List ℕ)) (titles : List (Li
   pub waits : Waits world.carrier queue
   pub units : AreUnitsOf titles queue hall.posts
 
--- an entity at the address of its system that never began again, whose ends are proper and have partners at such addresses
+-- an entity at the address of its system, whose ends are proper and have partners at such addresses
 pub record IsKept (titles : List (List ℕ)) (system : ℕ) (entity : Entity) : Type 0 where
   pub title : List ℕ
   pub title_is : slice_get titles system ≡ Some title
   pub own : entity.own ≡ transport_address title
   pub proper : AreProper entity
   pub ends : EndsFine (IsAddress titles) entity.ends
-  pub never : entity.restarted ≡ None
 
 abbrev pub AreKept : List (List ℕ) → List Placed → Type 0
 AreKept titles placed = (system : ℕ) (entity : Entity) → entity_at placed system ≡ Some entity → IsKept titles system entity

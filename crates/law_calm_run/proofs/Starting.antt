@@ -25,6 +25,7 @@ use Rattle.law_calm_run.proofs.Hall.{Hall, IsAddress}
 use Rattle.law_calm_run.proofs.Posting.{IsKept}
 use Rattle.law_calm_run.proofs.Going.{HasSettled, Stands}
 use Rattle.law_calm_run.proofs.Lines.{lines_go}
+use Rattle.law_calm_run.proofs.Never.{AreNever}
 
 -- the entity of a system is one of those placed there
 pub record IsOne (P : Placed → Type 0) (system : ℕ) (e : Entity) : Type 0 where
@@ -73,8 +74,11 @@ module _ {C : Type 0} (titles : List (List ℕ)) (timers : Timers) (Waits : C �
         own = ap (λ (x : Entity). x.own) (sym new.entity_is) ∙ new.holds.own;
         proper = (rests 0 system e is).proper;
         ends = none_fine (IsAddress titles) e.ends none;
-        never = ap (λ (x : Entity). x.restarted) (sym new.entity_is) ∙ new.holds.never;
       }
+
+  -- none of its entities ever began again
+  pub first_never : AreNever first.entities
+  first_never system e is = let new = found (IsNew titles) first.entities system e start.entities is in ap (λ (x : Entity). x.restarted) (sym new.entity_is) ∙ new.holds.never
 
   module _ (link : C → Link (List ℕ)) (steps : C → Call (List ℕ) → C → Type 0)
       (law : (old : C) (call : Call (List ℕ)) (new : C) → steps old call new → Keeps (link old) call (link new)) (fifo : IsFifo link steps titles Waits) where

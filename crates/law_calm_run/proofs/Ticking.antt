@@ -26,7 +26,6 @@ use Rattle.law_calm_run.proofs.Hall.{AreWaiting, Clocking, Hall, IsAddress, Over
 use Rattle.law_calm_run.proofs.Posting.{AreKept, AreUnitsOf, IsHall}
 use Rattle.law_calm_run.proofs.Going.{Stands, Went, acts_go, have_after, kept_after, one_step}
 use Rattle.law_calm_run.proofs.Queueing.{all_parts, none_dropped}
-use Rattle.tp4_entity.proofs.Restarts.{ticking_same}
 
 equal : (n m : ℕ) → (n == m) ≡ true → n ≡ m
 equal n m is = grind arith
@@ -97,7 +96,7 @@ module _ {C : Type 0} (link : C → Link (List ℕ)) (steps : C → Call (List �
           goes = one_tick titles hall next made kept (Over (record { system = system; entity = entity; there = there_now; none_due = none_now; made_is = made_is; becomes = refl }));
           shows = subst (λ (x : World C). IsHall link titles Waits x next queue) (sym after_is)
               (record { clock = shows.clock; entities = ap (λ (ps : List Placed). with_entity ps system (at hall.clock entity)) shows.entities; ends = shows.ends; waits = shows.waits; units = shows.units });
-          kept = kept_after titles hall.entities system entity (record { entity = at hall.clock entity; events = []; tpdus = [] }) kept there_now refl proper fine;
+          kept = kept_after titles hall.entities system entity (record { entity = at hall.clock entity; events = []; tpdus = [] }) kept there_now proper fine;
           have = have_after titles hall.entities system (at hall.clock entity) have;
           clock = refl;
         };
@@ -118,7 +117,7 @@ module _ {C : Type 0} (link : C → Link (List ℕ)) (steps : C → Call (List �
       let a = acts_go link steps law titles Waits fifo old mid hall queue system was.title entity.own acted here shows was.title_is was.own fine proper.tpdus parts.0 acts_now in
       let next : Hall = after hall system acted in
       let first : entity_at next.entities system ≡ Some acted.entity = with_first hall.entities system acted.entity entity there_now in
-      let t : Ticked system next rest new = entity_ticked system mid rest new more next a.queue a.shows (kept_after titles hall.entities system entity acted kept there_now (ticking_same whole hall.clock entity) proper.proper fine)
+      let t : Ticked system next rest new = entity_ticked system mid rest new more next a.queue a.shows (kept_after titles hall.entities system entity acted kept there_now proper.proper fine)
       (have_after titles hall.entities system acted.entity have)
       (λ x x_is. subst (λ (e : Entity). AreInTime hall.clock e) (some_same acted.entity x (sym first ∙ x_is)) proper.in_time) parts.1 in
       record {

@@ -52,13 +52,14 @@ use Rattle.law_tp4_associations.specs.steps.Together.{Laws}
 use Rattle.law_tp4_associations.specs.Standing.{IsParty, Standing}
 use Rattle.law_tp4_associations.specs.Ticking.{IsTicking}
 use Rattle.law_tp4_associations.proofs.Together.{all_laws}
-use Rattle.law_calm_run.proofs.Hall.{AreAllProper, Calls, Goes, Hall, IsReadBy, Meets, Post, after, posted}
+use Rattle.law_calm_run.proofs.Hall.{AreAllProper, Calling as CallingStep, Calls, Goes, Hall, IsReadBy, Meets, Post, after, posted}
 use Rattle.law_calm_run.proofs.Posting.{AreUnitsOf}
 use Rattle.law_calm_run.proofs.Asking.{TookCall, taken}
 use Rattle.law_calm_run.proofs.Going.{HasSettled, Stands, settled, stands_then}
 use Rattle.law_calm_run.proofs.Indicating.{met_first}
 use Rattle.law_calm_run.proofs.Queueing.{all_parts}
-use Rattle.law_calm_run.proofs.Starting.{first_hall, run_settles}
+use Rattle.law_calm_run.proofs.Never.{AreNever, awake, never_goes, never_then}
+use Rattle.law_calm_run.proofs.Starting.{first_hall, first_never, run_settles}
 use Rattle.law_calm_service.specs.steps.Confirms.{AcceptsAreConfirmed}
 use Rattle.law_calm_service.proofs.Story.{ArePosts, Story, address_of}
 use Rattle.law_calm_service.proofs.Continuing.{get_set_same, some_same}
@@ -126,7 +127,7 @@ or_false false = refl
 module _ (titles : List (List ℕ)) (timers : Timers) (laws : Laws timers (address_of titles) (IsTicking timers (address_of titles))) (hall : Hall) (journal : List Event) (proper : AreAllProper hall.entities)
     (s : Story timers (address_of titles) hall journal) (calling called : ℕ) (are : AreEnds journal calling called) (x : End) (r : InCrWait) (x_at : IsWhere hall.entities hall.ends calling x) (x_waits : x.stage ≡ CrWait r)
     (options : Options) (octets : List ℕ) (made : List Event) (next : Hall) (c : Calls hall made next) (number_is : c.number ≡ called) (call_is : c.call ≡ Accept options octets) (size : IsSized options)
-    (proper_then : AreAllProper next.entities) where
+    (proper_then : AreAllProper next.entities) (never : AreNever next.entities) where
   abbrev own : ℕ → List ℕ
   own = address_of titles
 
@@ -266,7 +267,7 @@ module _ (titles : List (List ℕ)) (timers : Timers) (laws : Laws timers (addre
 
     heard : meets.acted ≡ met whole hall.clock (at hall.clock meets.entity) (own a.to) (answer.tpdu, answer.sum)
     heard =
-        meets.heard reads
+        meets.heard (awake next.clock next.entities never meets.system meets.entity meets.there) reads
         ∙ ap (λ (h : Hall). met whole h.clock (at h.clock meets.entity) (transport_address meets.title) (meets.post.sent.tpdu, is_summed meets.post.sent.sum meets.post.sent.tpdu)) becomes
         ∙ ap (λ (from : List ℕ). met whole hall.clock (at hall.clock meets.entity) from (meets.post.sent.tpdu, is_summed meets.post.sent.sum meets.post.sent.tpdu)) from_is
         ∙ ap (λ (p : Post). met whole hall.clock (at hall.clock meets.entity) (own a.to) (p.sent.tpdu, is_summed p.sent.sum p.sent.tpdu)) post_is
@@ -360,8 +361,10 @@ all_confirmed link steps law titles Waits fifo timers first before last script b
     (subst (λ (ps : List Placed). IsWhere ps before.ends calling c.unanswered.end) known.shows.entities (where_it_stands before calling c.unanswered.end c.unanswered.stands)) in
     let proper : AreAllProper hall.entities = λ system e is. (known.kept system e is).proper in
     let proper_then : AreAllProper took.next.entities = λ system e is. (took.stands.kept system e is).proper in
+    let never : AreNever took.next.entities = never_then titles hall took.next made (CallingStep took.calls)
+    (never_goes titles begins journal hall done.went.goes (first_never titles timers Waits first start)) in
     let confirms_it = confirms_then titles timers (all_laws timers (address_of titles)) hall (begun ++ journal) proper story calling called are c.unanswered.end c.unanswered.request x_at c.unanswered.waits options octets made took.next
-    took.calls took.number_is took.call_is c.proper proper_then settled_by over.went.next over.went.goes none in
+    took.calls took.number_is took.call_is c.proper proper_then never settled_by over.went.next over.went.goes none in
     let says = says_agreed titles timers (all_laws timers (address_of titles)) hall (begun ++ journal) proper story calling called are c.unanswered.end c.unanswered.request x_at c.unanswered.waits options octets made took.next
-    took.calls took.number_is took.call_is c.proper proper_then agreed c.later refl in
+    took.calls took.number_is took.call_is c.proper proper_then never agreed c.later refl in
     subst (λ (o : Options). Contains settled_by (events.End calling (tells.Confirm o octets))) says confirms_it

@@ -24,6 +24,7 @@ use Rattle.law_tp4_associations.specs.Laws.{Addressed, Formatted, Handed}
 use Rattle.law_tp4_associations.specs.Handing.{AreProperEnds, Hands}
 use Rattle.law_tp4_associations.specs.Standing.{Standing}
 use Rattle.law_calm_run.proofs.Hall.{AreAllProper, Hall, IsReadBy, Meets, after}
+use Rattle.law_calm_run.proofs.Never.{AreNever, awake}
 use Rattle.law_calm_service.proofs.Story.{IsRunning, Story, Tells, address_of}
 use Rattle.law_calm_service.proofs.Meeting.{story_handed}
 use Rattle.law_calm_service.proofs.Queued.{IsFirst, first_posted}
@@ -46,7 +47,7 @@ same_sum now e from (Ea destination number) sum = ap (λ (b : Bool). met whole n
 same_sum now e from (Er destination cause rejected) sum = ap (λ (b : Bool). met whole now e from (Er destination cause rejected, b)) (or_false sum)
 
 module _ (titles : List (List ℕ)) (timers : Timers) (handed : Handed timers (address_of titles)) (addressed : Addressed timers (address_of titles)) (formatted : Formatted timers (address_of titles))
-    (old new : Hall) (journal made : List Event) (proper : AreAllProper old.entities) (s : Story timers (address_of titles) old journal) (m : Meets titles old made new)
+    (old new : Hall) (journal made : List Event) (proper : AreAllProper old.entities) (never : AreNever old.entities) (s : Story timers (address_of titles) old journal) (m : Meets titles old made new)
     (f : IsFirst s.all s.queue m.post m.rest) where
   abbrev own : ℕ → List ℕ
   own = address_of titles
@@ -89,7 +90,7 @@ module _ (titles : List (List ℕ)) (timers : Timers) (handed : Handed timers (a
 
   acted_is : m.acted ≡ met whole old.clock (at old.clock m.entity) (own (system_of f.a f.first.by)) (f.first.sent.tpdu, f.first.sent.sum)
   acted_is =
-      m.heard reads
+      m.heard (awake old.clock old.entities never m.system m.entity m.there) reads
       ∙ ap (λ (from : List ℕ). met whole old.clock (at old.clock m.entity) from (m.post.sent.tpdu, is_summed m.post.sent.sum m.post.sent.tpdu)) from_is
       ∙ ap (λ (x : Sent). met whole old.clock (at old.clock m.entity) (own (system_of f.a f.first.by)) (x.tpdu, is_summed x.sum x.tpdu)) f.sent_is
       ∙ same_sum old.clock (at old.clock m.entity) (own (system_of f.a f.first.by)) f.first.sent.tpdu f.first.sent.sum
@@ -118,6 +119,6 @@ module _ (titles : List (List ℕ)) (timers : Timers) (handed : Handed timers (a
 
 -- what is handed over keeps what stands beside the network
 pub meets_keeps : (titles : List (List ℕ)) (timers : Timers) → Handed timers (address_of titles) → Addressed timers (address_of titles) → Formatted timers (address_of titles) → (old new : Hall) (journal made : List Event)
-    → AreAllProper old.entities → Story timers (address_of titles) old journal → Meets titles old made new → Story timers (address_of titles) new (journal ++ made)
-meets_keeps titles timers handed addressed formatted old new journal made proper s m =
-    heard_keeps titles timers handed addressed formatted old new journal made proper s m (first_posted s.all s.queue old.posts m.post m.rest s.posts m.posts_are)
+    → AreAllProper old.entities → AreNever old.entities → Story timers (address_of titles) old journal → Meets titles old made new → Story timers (address_of titles) new (journal ++ made)
+meets_keeps titles timers handed addressed formatted old new journal made proper never s m =
+    heard_keeps titles timers handed addressed formatted old new journal made proper never s m (first_posted s.all s.queue old.posts m.post m.rest s.posts m.posts_are)

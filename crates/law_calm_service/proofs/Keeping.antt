@@ -14,6 +14,8 @@ use Rattle.law_tp4_associations.proofs.Together.{all_laws}
 use Rattle.law_calm_run.specs.Run.{HaveEntities, IsStart}
 use Rattle.law_calm_run.proofs.Hall.{AreAllProper, Calling, Clocking, Connecting, Hall, Meeting, Over, Step, Still, TickGoes, TickStep, Ticking, TicksDone, TicksMore}
 use Rattle.law_calm_run.proofs.Going.{have_after}
+use Rattle.law_calm_run.proofs.Never.{AreNever, never_then}
+use Rattle.law_calm_run.proofs.Starting.{first_never}
 use Rattle.law_calm_service.proofs.Story.{HasStory, IsRunning, Story, address_of}
 use Rattle.law_calm_service.proofs.Asking.{calls_keeps}
 use Rattle.law_calm_service.proofs.Beginning.{holds_after, story_begins}
@@ -62,23 +64,23 @@ module _ (titles : List (List ℕ)) where
         })
 
     -- a step keeps the story
-    step_keeps : (old new : Hall) (journal made : List Event) → AreAllProper old.entities → HaveEntities titles old.entities → Story timers (address_of titles) old journal → Step titles old made new
-        → Story timers (address_of titles) new (journal ++ made)
-    step_keeps old new journal made proper have s (Still aside same) = still_keeps old new journal made s aside same
-    step_keeps old new journal made proper have s (Connecting c) = connects_keeps titles timers laws.connects old new journal made proper have s c
-    step_keeps old new journal made proper have s (Calling c) = calls_keeps timers (address_of titles) laws.calls laws.answerable laws.accepts old new journal made proper s c
-    step_keeps old new journal made proper have s (Clocking c) = clocks_keep timers (address_of titles) IsAt laws.ticks old new journal made proper s c
-    step_keeps old new journal made proper have s (Meeting m) = meets_keeps titles timers laws.handed laws.addressed laws.formatted old new journal made proper s m
+    step_keeps : (old new : Hall) (journal made : List Event) → AreAllProper old.entities → HaveEntities titles old.entities → AreNever old.entities → Story timers (address_of titles) old journal
+        → Step titles old made new → Story timers (address_of titles) new (journal ++ made)
+    step_keeps old new journal made proper have never s (Still aside same) = still_keeps old new journal made s aside same
+    step_keeps old new journal made proper have never s (Connecting c) = connects_keeps titles timers laws.connects old new journal made proper have s c
+    step_keeps old new journal made proper have never s (Calling c) = calls_keeps timers (address_of titles) laws.calls laws.answerable laws.accepts old new journal made proper s c
+    step_keeps old new journal made proper have never s (Clocking c) = clocks_keep timers (address_of titles) IsAt laws.ticks old new journal made proper s c
+    step_keeps old new journal made proper have never s (Meeting m) = meets_keeps titles timers laws.handed laws.addressed laws.formatted old new journal made proper never s m
 
     abbrev Holds : Hall → List Event → Type 0
-    Holds hall journal = HaveEntities titles hall.entities × Story timers (address_of titles) hall journal
+    Holds hall journal = HaveEntities titles hall.entities × AreNever hall.entities × Story timers (address_of titles) hall journal
 
     keeps : (old new : Hall) (journal made : List Event) → AreAllProper old.entities → Holds old journal → Step titles old made new → Holds new (journal ++ made)
-    keeps old new journal made proper h step = (have_then old new made step h.0, step_keeps old new journal made proper h.0 h.1 step)
+    keeps old new journal made proper h step = (have_then old new made step h.0, never_then titles old new made step h.1, step_keeps old new journal made proper h.0 h.1 h.2 step)
 
     story_by_laws : {C : Type 0} (Waits : C → List (CarriedUnit (List ℕ)) → Type 0) (first : World C) → IsStart titles timers Waits first → (now : ℕ) → HasStory now timers titles first.entities first.ends
     story_by_laws Waits first start now begun made new aside goes =
-        (holds_after titles Holds keeps _ made new goes begun (start.have, story_begins titles timers Waits first start now begun aside)).1
+        (holds_after titles Holds keeps _ made new goes begun (start.have, first_never titles timers Waits first start, story_begins titles timers Waits first start now begun aside)).2
 
 -- beside each network to which steps lead from a start the story stands
 pub has_story : {C : Type 0} (titles : List (List ℕ)) (timers : Timers) (Waits : C → List (CarriedUnit (List ℕ)) → Type 0) (first : World C) → IsStart titles timers Waits first → (now : ℕ)

@@ -33,7 +33,7 @@ use Rattle.law_calm_run.specs.Run.{IsUnrouted}
 use Rattle.law_calm_run.proofs.Queueing.{all_parts}
 use Rattle.law_recovery_run.specs.Run.{RunsOn}
 use Rattle.law_recovery_ready.specs.Laws.{CallsRest, LinesAreCalls, RunsAreCalls, RunsAreReady, RunsGoOn}
-use Rattle.law_recovery_ready.specs.Ready.{HasNoRestart, HasStarted}
+use Rattle.law_recovery_ready.specs.Ready.{HasStarted}
 use Rattle.law_recovery_ready.proofs.Usual.{Fits, lines_fit, settle_fits, start_fits}
 
 -- ---- lines
@@ -130,22 +130,22 @@ module _ {C : Type 0} (link : C → Link (List ℕ)) (steps : C → Call (List �
   calls_rest flowing knows begins titles timers journal last a system e there = (rested flowing knows begins titles timers journal last a system e there).1
 
   pub runs_ready : Flowing → KnowsTaken → ((times : Times) (titles : List (List ℕ)) (w : Whole) → IsNothing w → Written times titles w []) → RunsAreCalls link steps whole → RunsAreReady link steps
-  runs_ready flowing knows begins called titles timers begun early late first at_t0 last script s run once =
+  runs_ready flowing knows begins called titles timers begun early late first at_t0 last script s run =
       let calls = (called titles timers begun early late first at_t0 last script s run).0 in
       let rests = rested flowing knows begins titles timers (begun ++ early) at_t0 calls in
       let path = parts link steps whole titles IsUnrouted first at_t0 last script early late run run.unrouted in
-      let start : Fits link steps law whole titles first.carrier (HasNoRestart run.recovers.before) first =
-      start_fits link steps law whole titles (HasNoRestart run.recovers.before) timers.life s.made s.placed begun first s.is_first s.have s.starts in
-      let old : Fits link steps law whole titles first.carrier (HasNoRestart run.recovers.before) run.old =
-      lines_fit link steps law whole titles first.carrier (HasNoRestart run.recovers.before) run.recovers.before first run.old run.front start run.recovers.no_inject (λ is. is) path.0 run.early_run in
-      let now : Fits link steps law whole titles first.carrier (HasNoRestart run.recovers.before) at_t0 =
-      settle_fits link steps law whole titles first.carrier (HasNoRestart run.recovers.before) run.old at_t0 run.here old run.settle_run in
+      let start : Fits link steps law whole titles first.carrier first =
+      start_fits link steps law whole titles timers.life s.made s.placed begun first s.is_first s.have s.starts in
+      let old : Fits link steps law whole titles first.carrier run.old =
+      lines_fit link steps law whole titles first.carrier run.recovers.before first run.old run.front start run.recovers.no_inject path.0 run.early_run in
+      let now : Fits link steps law whole titles first.carrier at_t0 =
+      settle_fits link steps law whole titles first.carrier run.old at_t0 run.here old run.settle_run in
       record {
         reached = now.bears.reached;
         none_left = run.none_left;
         kept = λ system e there.
             let is = now.placed system e there in
-            record { title = is.title; title_is = is.title_is; own = is.own; proper = (rests system e there).0; ends = is.ends; never = is.never once };
+            record { title = is.title; title_is = is.title_is; own = is.own; proper = (rests system e there).0; ends = is.ends };
         have = now.have;
         rest = λ system e there. (rests system e there).1;
       }

@@ -33,12 +33,10 @@ use Rattle.tp4_conn.specs.declared.call.ConnectRequest.{ConnectRequest}
 use Rattle.tp4_conn.specs.declared.call.UserCall.{UserCall}
 use Rattle.tp4_conn.specs.declared.call.UserCall.TheVariants as asks
 use Rattle.tp4_entity.specs.Entity.{Acted, Entity}
-use Rattle.tp4_entity.specs.References.{is_silent, least_free}
+use Rattle.tp4_entity.specs.References.{least_free}
 use Rattle.tp4_entity.specs.Step.{calling, connect_refusal, connecting, restarted, ticking, user_refusal}
-use Rattle.tp4_entity.specs.Unit.{TakesBy, TakesUnit}
 use Rattle.tp4_entity.specs.declared.refusal.ConnectRefusal.{ConnectRefusal}
 use Rattle.tp4_entity.specs.declared.refusal.EntityRefusal.{EntityRefusal}
-use Rattle.tp4_entity.proofs.Restarts.{calling_same, connecting_same, hearing_same, ticking_same}
 use Rattle.tp4_world.specs.First.{IsFirst, IsNew}
 use Rattle.tp4_world.specs.Run.{Acts, BeginsAt, Calls, CallsAt, CallsBy, CallsEnd, Connects, ConnectsBy, Delivers, Hears, HearsAll, HearsIf, IsRefused, NoneDue, NoneLeft, OneDue, OneMore, Restarts, RunsLine, RunsLines, SendsRaw, SendsTpdu, SendsTpdus, Settles, Starts, Ticks, TicksAll, TicksEntity, TooMany, clock_of, has_ended, is_for, transport_address, transport_wish}
 use Rattle.tp4_world.specs.Telling.{told_connect, told_refusal}
@@ -53,7 +51,6 @@ use Rattle.law_calm_run.proofs.Going.{have_after}
 use Rattle.law_calm_run.proofs.Hall.{IsAddress}
 use Rattle.law_calm_run.proofs.Starting.{found}
 use Rattle.law_recovery_run.specs.Ordered.{LeadsOn, ReachedFrom}
-use Rattle.law_recovery_ready.specs.Ready.{HasNoRestart, IsNoRestart}
 
 -- ---- ends that are none
 
@@ -65,14 +62,6 @@ none_fine Fine (Some end ∷ ends) none = absurd (none_some end (sym none.0))
 empty_fine : (Fine : List ℕ → Type 0) (count : ℕ) → EndsFine Fine (replicate count (let none : Option End = None in none))
 empty_fine Fine zero = tt
 empty_fine Fine (suc count) = (tt, empty_fine Fine count)
-
--- no unit comes to an entity since when it changed but by steps that leave its last restart
-takes_same : (wrap : ℕ → ℕ → ℕ) (now : ℕ) (e : Entity) (from octets : List ℕ) (acted : Acted) → TakesUnit wrap now e from octets acted → acted.entity.restarted ≡ e.restarted
-takes_same wrap now e from octets acted takes = by (is_silent now e) takes
-  where
-    by : (silent : Bool) → TakesBy silent wrap now e from octets acted → acted.entity.restarted ≡ e.restarted
-    by true is = ap (λ (a : Acted). a.entity.restarted) is
-    by false heard = hearing_same wrap now e from octets acted heard
 
 first_true : (one other : Bool) → (one && other) ≡ true → one ≡ true
 first_true true other is = refl
@@ -94,7 +83,7 @@ leads_more link steps titles (one ∷ calls) old mid new call ups leads usual pa
     (leads.0, (leads.1.0, leads.1.1, leads.1.2, leads_more link steps titles calls leads.1.0 mid new call ups leads.1.3 usual pass))
 
 module _ {C : Type 0} (link : C → Link (List ℕ)) (steps : C → Call (List ℕ) → C → Type 0)
-    (law : (old : C) (call : Call (List ℕ)) (new : C) → steps old call new → Keeps (link old) call (link new)) (wrap : ℕ → ℕ → ℕ) (titles : List (List ℕ)) (first : C) (Never : Type 0) where
+    (law : (old : C) (call : Call (List ℕ)) (new : C) → steps old call new → Keeps (link old) call (link new)) (wrap : ℕ → ℕ → ℕ) (titles : List (List ℕ)) (first : C) where
   -- a unit for transport users is from transport users of a system
   abbrev pub IsFromSystem : CarriedUnit (List ℕ) → Type 0
   IsFromSystem unit = (selector_of unit.to == 1) ≡ true → IsAddress titles unit.from
@@ -188,13 +177,12 @@ module _ {C : Type 0} (link : C → Link (List ℕ)) (steps : C → Call (List �
 
   -- ---- the network
 
-  -- an entity at the address of its system, whose ends have partners at such addresses; where no entity began again it did not
+  -- an entity at the address of its system, whose ends have partners at such addresses
   pub record IsPlaced (system : ℕ) (entity : Entity) : Type 0 where
     pub title : List ℕ
     pub title_is : slice_get titles system ≡ Some title
     pub own : entity.own ≡ transport_address title
     pub ends : EndsFine (IsAddress titles) entity.ends
-    pub never : Never → entity.restarted ≡ None
 
   abbrev pub ArePlaced : List Placed → Type 0
   ArePlaced placed = (system : ℕ) (entity : Entity) → entity_at placed system ≡ Some entity → IsPlaced system entity
@@ -221,18 +209,17 @@ module _ {C : Type 0} (link : C → Link (List ℕ)) (steps : C → Call (List �
     have = have_after titles world.entities system new f.have;
   }
 
-  acted_placed : (system : ℕ) (entity : Entity) (acted : Acted) → IsPlaced system entity → ActsFine (IsAddress titles) entity.own acted → acted.entity.restarted ≡ entity.restarted → IsPlaced system acted.entity
-  acted_placed system entity acted was fine same =
-      record { title = was.title; title_is = was.title_is; own = fine.own_is ∙ was.own; ends = fine.ends; never = λ never. same ∙ was.never never }
+  acted_placed : (system : ℕ) (entity : Entity) (acted : Acted) → IsPlaced system entity → ActsFine (IsAddress titles) entity.own acted → IsPlaced system acted.entity
+  acted_placed system entity acted was fine = record { title = was.title; title_is = was.title_is; own = fine.own_is ∙ was.own; ends = fine.ends }
 
   -- what an entity does
   acts : (old new : World C) (system : ℕ) (entity : Entity) (acted : Acted) (made : List Event) → Fits old → IsPlaced system entity → ActsFine (IsAddress titles) entity.own acted
-      → acted.entity.restarted ≡ entity.restarted → Acts link steps old system entity.own acted made new → Fits new
-  acts old new system entity acted made f was fine same a =
+      → Acts link steps old system entity.own acted made new → Fits new
+  acts old new system entity acted made f was fine a =
       subst Fits (sym a.becomes)
       (record {
         bears = tpdus_sent acted.tpdus old.carrier a.below system was.title entity.own a.sent f.bears was.title_is was.own fine.tpdus a.sends;
-        placed = placed_after old.entities system acted.entity f.placed (acted_placed system entity acted was fine same);
+        placed = placed_after old.entities system acted.entity f.placed (acted_placed system entity acted was fine);
         have = have_after titles old.entities system acted.entity f.have;
       })
 
@@ -250,8 +237,7 @@ module _ {C : Type 0} (link : C → Link (List ℕ)) (steps : C → Call (List �
       let was = f.placed system entity there in
       let begins : World C = record old { ends = old.ends ++ record { system = system; reference = reference } ∷ [] } in
       let fits : Fits begins = record { bears = f.bears; placed = f.placed; have = f.have } in
-      acts begins new system entity (connecting now entity reference request) step.0 fits was (connecting_fine (IsAddress titles) now entity reference request was.ends to)
-      (connecting_same now reference entity request) step.1
+      acts begins new system entity (connecting now entity reference request) step.0 fits was (connecting_fine (IsAddress titles) now entity reference request was.ends to) step.1
 
   connects_by : (old new : World C) (made : List Event) (system : ℕ) (entity : Entity) (request : ConnectRequest) (why : Option ConnectRefusal) → Fits old → entity_at old.entities system ≡ Some entity
       → IsAddress titles request.to → ConnectsBy link steps old system entity request why made new → Fits new
@@ -268,8 +254,7 @@ module _ {C : Type 0} (link : C → Link (List ℕ)) (steps : C → Call (List �
   call_by old new made number end entity call None f there step =
       let now : ℕ = clock_of link steps old in
       let was = f.placed end.system entity there in
-      acts old new end.system entity (calling wrap now entity end.reference call) step.0 f was (calling_fine (IsAddress titles) wrap now entity end.reference call was.ends)
-      (calling_same wrap now end.reference entity call) step.1
+      acts old new end.system entity (calling wrap now entity end.reference call) step.0 f was (calling_fine (IsAddress titles) wrap now entity end.reference call was.ends) step.1
 
   call_end : (old new : World C) (made : List Event) (number : ℕ) (end : EndAt) (entity : Entity) (call : UserCall) (ended : Bool) → Fits old → entity_at old.entities end.system ≡ Some entity
       → CallsEnd link steps wrap old number end entity call ended made new → Fits new
@@ -295,8 +280,7 @@ module _ {C : Type 0} (link : C → Link (List ℕ)) (steps : C → Call (List �
           let was = f.placed arrival.system e there in
           let address : IsAddress titles arrival.unit.from = from (first_true (selector_of arrival.unit.to == 1) (pointwise nat_eq e.own arrival.unit.to) is) in
           let now : ℕ = clock_of link steps old in
-          acts old new arrival.system e h.0 made f was (taking_fine (IsAddress titles) arrival.unit.from address wrap now e arrival.unit.octets h.0 was.ends h.1)
-          (takes_same wrap now e arrival.unit.from arrival.unit.octets h.0 h.1) h.2
+          acts old new arrival.system e h.0 made f was (taking_fine (IsAddress titles) arrival.unit.from address wrap now e arrival.unit.octets h.0 was.ends h.1) h.2
 
       by_place : (place : Option Entity) → entity_at old.entities arrival.system ≡ place → HearsIf link steps wrap old arrival place (is_for link steps wrap arrival.unit.to place) made new → Fits new
       by_place None there h = same_fits old new f h.1
@@ -330,11 +314,10 @@ module _ {C : Type 0} (link : C → Link (List ℕ)) (steps : C → Call (List �
       let acted : Acted = ticking wrap (clock_of link steps old) entity in
       subst Fits (sym becomes)
       (became old system acted.entity f
-      (acted_placed system entity acted (f.placed system entity there) (end_ticked old system entity f there) (ticking_same wrap (clock_of link steps old) entity)))
+      (acted_placed system entity acted (f.placed system entity there) (end_ticked old system entity f there)))
   entity_ticked system old made new (OneDue o m n entity reference mid here rest there due does more made_is) f =
       entity_ticked system mid rest new more
-      (acts old mid system entity (ticking wrap (clock_of link steps old) entity) here f (f.placed system entity there) (end_ticked old system entity f there)
-      (ticking_same wrap (clock_of link steps old) entity) does)
+      (acts old mid system entity (ticking wrap (clock_of link steps old) entity) here f (f.placed system entity there) (end_ticked old system entity f there) does)
 
   all_ticked : (placed : List Placed) (old new : World C) (made : List Event) → Fits old → TicksAll link steps wrap old placed made new → Fits new
   all_ticked [] old new made f t = same_fits old new f t.1
@@ -367,44 +350,43 @@ module _ {C : Type 0} (link : C → Link (List ℕ)) (steps : C → Call (List �
       record { bears = unit_sent old.carrier s.0 system to sender receiver wish octets made f.bears title_is to_is path s.1; placed = f.placed; have = f.have } in
       subst Fits (sym s.2) fits
 
-  again : (old new : World C) (system : ℕ) (made : List Event) → Fits old → (Never → ⊥) → Restarts link steps old system made new → Fits new
-  again old new system made f once r =
+  again : (old new : World C) (system : ℕ) (made : List Event) → Fits old → Restarts link steps old system made new → Fits new
+  again old new system made f r =
       let was = f.placed system r.0 r.1 in
       let is : IsPlaced system (restarted (clock_of link steps old) r.0) = record {
         title = was.title;
         title_is = was.title_is;
         own = was.own;
         ends = empty_fine (IsAddress titles) (length r.0.ends);
-        never = λ never. absurd (once never);
       } in
       subst Fits (sym r.3) (became old system (restarted (clock_of link steps old) r.0) f is)
 
   -- ---- the lines
 
-  line_fits : (line : Line) (old new : World C) (made : List Event) → Fits old → IsNoInjection line → (Never → IsNoRestart line) → IsUnrouted line → RunsLine link steps wrap titles old line made new → Fits new
-  line_fits lines.Nothing old new made f none never path step = same_fits old new f step.1
-  line_fits (lines.Connect system selector to called_selector options octets) old new made f none never path step =
+  line_fits : (line : Line) (old new : World C) (made : List Event) → Fits old → IsNoInjection line → IsUnrouted line → RunsLine link steps wrap titles old line made new → Fits new
+  line_fits lines.Nothing old new made f none path step = same_fits old new f step.1
+  line_fits (lines.Connect system selector to called_selector options octets) old new made f none path step =
       let asked = step.4 in
       connected old new made system step.1 f (record { system = to; title = step.0; title_is = step.2; address_is = asked.1 }) asked.4
-  line_fits (lines.Accept end options octets) old new made f none never path step = called old new made end (asks.Accept options octets) f step
-  line_fits (lines.Refuse end octets) old new made f none never path step = called old new made end (asks.Refuse octets) f step
-  line_fits (lines.Disconnect end octets) old new made f none never path step = called old new made end (asks.Disconnect octets) f step
-  line_fits (lines.Data end octets) old new made f none never path step = called old new made end (asks.Normal octets) f step
-  line_fits (lines.Expedite end octets) old new made f none never path step = called old new made end (asks.Urgent octets) f step
-  line_fits (lines.Window end credit) old new made f none never path step = called old new made end (asks.Window credit) f step
-  line_fits (lines.Unit system to wish octets) old new made f none never path step = raw old new system to step.0 step.1 wish octets made f step.2 step.3 path step.4
-  line_fits lines.Tick old new made f none never path step = ticked old new made f step
-  line_fits (lines.Deliver number system) old new made f none never path step = delivered old new number system step.0 made f step.1
-  line_fits lines.Settle old new made f none never path step = settled 0 old made new step f
-  line_fits (lines.Inject lan system octets) old new made f none never path step = absurd none
-  line_fits (lines.Restart system) old new made f none never path step = again old new system made f never step
-  line_fits line old new made f none never path step = absurd step
+  line_fits (lines.Accept end options octets) old new made f none path step = called old new made end (asks.Accept options octets) f step
+  line_fits (lines.Refuse end octets) old new made f none path step = called old new made end (asks.Refuse octets) f step
+  line_fits (lines.Disconnect end octets) old new made f none path step = called old new made end (asks.Disconnect octets) f step
+  line_fits (lines.Data end octets) old new made f none path step = called old new made end (asks.Normal octets) f step
+  line_fits (lines.Expedite end octets) old new made f none path step = called old new made end (asks.Urgent octets) f step
+  line_fits (lines.Window end credit) old new made f none path step = called old new made end (asks.Window credit) f step
+  line_fits (lines.Unit system to wish octets) old new made f none path step = raw old new system to step.0 step.1 wish octets made f step.2 step.3 path step.4
+  line_fits lines.Tick old new made f none path step = ticked old new made f step
+  line_fits (lines.Deliver number system) old new made f none path step = delivered old new number system step.0 made f step.1
+  line_fits lines.Settle old new made f none path step = settled 0 old made new step f
+  line_fits (lines.Inject lan system octets) old new made f none path step = absurd none
+  line_fits (lines.Restart system) old new made f none path step = again old new system made f step
+  line_fits line old new made f none path step = absurd step
 
-  pub lines_fit : (script : List Line) (old last : World C) (journal : List Event) → Fits old → HasNoInject script → (Never → HasNoRestart script) → AllByRecursion IsUnrouted script
+  pub lines_fit : (script : List Line) (old last : World C) (journal : List Event) → Fits old → HasNoInject script → AllByRecursion IsUnrouted script
       → RunsLines link steps wrap titles old script journal last → Fits last
-  lines_fit [] old last journal f none never path run = same_fits old last f run.1
-  lines_fit (line ∷ script) old last journal f none never path run =
-      lines_fit script run.0 last run.2 (line_fits line old run.0 run.1 f none.0 (λ is. (never is).0) path.0 run.3) none.1 (λ is. (never is).1) path.1 run.5
+  lines_fit [] old last journal f none path run = same_fits old last f run.1
+  lines_fit (line ∷ script) old last journal f none path run =
+      lines_fit script run.0 last run.2 (line_fits line old run.0 run.1 f none.0 path.0 run.3) none.1 path.1 run.5
 
   pub settle_fits : (old new : World C) (made : List Event) → Fits old → RunsLine link steps wrap titles old lines.Settle made new → Fits new
   settle_fits old new made f step = settled 0 old made new step f
@@ -412,11 +394,11 @@ module _ {C : Type 0} (link : C → Link (List ℕ)) (steps : C → Call (List �
 -- ---- the start
 
 pub start_fits : {C : Type 0} (link : C → Link (List ℕ)) (steps : C → Call (List ℕ) → C → Type 0)
-    (law : (old : C) (call : Call (List ℕ)) (new : C) → steps old call new → Keeps (link old) call (link new)) (wrap : ℕ → ℕ → ℕ) (titles : List (List ℕ)) (Never : Type 0)
+    (law : (old : C) (call : Call (List ℕ)) (new : C) → steps old call new → Keeps (link old) call (link new)) (wrap : ℕ → ℕ → ℕ) (titles : List (List ℕ))
     (life : ℕ) (made : C) (placed : List Placed) (begun : List Event) (first : World C) → IsFirst life titles (link made) placed → HaveEntities titles placed
-    → Starts link steps made placed begun first → Fits link steps law wrap titles first.carrier Never first
-start_fits {C} link steps law wrap titles Never life made placed begun first is have s =
-    subst (λ (w : World C). Fits link steps law wrap titles w.carrier Never w) (sym s.becomes)
+    → Starts link steps made placed begun first → Fits link steps law wrap titles first.carrier first
+start_fits {C} link steps law wrap titles life made placed begun first is have s =
+    subst (λ (w : World C). Fits link steps law wrap titles w.carrier w) (sym s.becomes)
     (record {
       bears = record {
         reached = ([], refl);
@@ -431,7 +413,6 @@ start_fits {C} link steps law wrap titles Never life made placed begun first is 
             title_is = ap (slice_get titles) (sym new.system_is) ∙ new.holds.title_is;
             own = ap (λ (x : Entity). x.own) (sym new.entity_is) ∙ new.holds.own;
             ends = subst (λ (x : Entity). EndsFine (IsAddress titles) x.ends) new.entity_is (none_fine (IsAddress titles) new.one.entity.ends new.holds.none);
-            never = λ never. ap (λ (x : Entity). x.restarted) (sym new.entity_is) ∙ new.holds.never;
           };
       have = have;
     })

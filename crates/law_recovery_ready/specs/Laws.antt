@@ -21,7 +21,7 @@ use Rattle.law_calm_run.proofs.Hall.{AreWaiting}
 use Rattle.law_recovery_run.specs.Ordered.{IsReady, RunsInOrder}
 use Rattle.law_recovery_run.specs.Run.{RunsOn}
 use Rattle.law_recovery_walk.specs.Following.{IsFollowed, Stands}
-use Rattle.law_recovery_ready.specs.Ready.{HasNoRestart, HasStarted, pair_at}
+use Rattle.law_recovery_ready.specs.Ready.{HasStarted, pair_at}
 
 -- ---- the run
 
@@ -37,11 +37,10 @@ RunsAreCalls {C} link steps wrap = (titles : List (List ℕ)) (timers : Timers) 
     → HasStarted link steps titles timers begun first → RunsOn link steps wrap titles first at_t0 last script early late
     → AreHonestCalls link steps wrap titles timers (begun ++ early) at_t0 × AreHonestCalls link steps wrap titles timers ((begun ++ early) ++ late) last
 
--- where no entity began again before it, the network at the recovering settle is one from which it goes on in order, whatever was lost before
+-- the network at the recovering settle is one from which it goes on in order, whatever was lost before and whichever systems began again
 abbrev pub RunsAreReady : {C : Type 0} → (C → Link (List ℕ)) → (C → Call (List ℕ) → C → Type 0) → Type 0
 RunsAreReady {C} link steps = (titles : List (List ℕ)) (timers : Timers) (begun early late : List Event) (first at_t0 last : World C) (script : List Line)
-    → HasStarted link steps titles timers begun first → (run : RunsOn link steps whole titles first at_t0 last script early late) → HasNoRestart run.recovers.before
-    → IsReady link steps titles first.carrier at_t0
+    → HasStarted link steps titles timers begun first → RunsOn link steps whole titles first at_t0 last script early late → IsReady link steps titles first.carrier at_t0
 
 -- and the lines since are settled and lose nothing
 abbrev pub RunsGoOn : {C : Type 0} → (C → Link (List ℕ)) → (C → Call (List ℕ) → C → Type 0) → Type 0

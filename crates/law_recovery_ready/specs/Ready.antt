@@ -6,8 +6,6 @@ use Rattle.osi_base.specs.Calls.{Call}
 use Rattle.osi_base.specs.Link.{Link}
 use Rattle.script_journal.specs.Lawful.{shown, submitted}
 use Rattle.script_journal.specs.declared.event.Event.{Event}
-use Rattle.script_lines.specs.declared.line.Line.{Line}
-use Rattle.script_lines.specs.declared.line.Line.TheVariants as lines
 use Rattle.tp4_conn.specs.End.{End, IsTimed}
 use Rattle.tp4_conn.specs.declared.timers.Timers.{Timers}
 use Rattle.law_tp4_pair.specs.Pair.{Pair}
@@ -19,15 +17,6 @@ use Rattle.law_tp4_lawful.specs.First.{AreDistinct, IsUntouched}
 use Rattle.law_calm_run.specs.Run.{HaveEntities}
 
 -- ---- the run
-
--- the transport entity of no system begins again
-abbrev pub IsNoRestart : Line → Type 0
-IsNoRestart (lines.Restart system) = ⊥
-IsNoRestart line = Prim.Unit {0}
-
--- no line of the script is a `restart` line
-abbrev pub HasNoRestart : List Line → Type 0
-HasNoRestart script = AllByRecursion IsNoRestart script
 
 -- A network of systems with these titles and timers, each of which has an entity, to which nothing happened before it started so
 pub record HasStarted {C : Type 0} (link : C → Link (List ℕ)) (steps : C → Call (List ℕ) → C → Type 0) (titles : List (List ℕ)) (timers : Timers) (begun : List Event) (first : World C) : Type 0 where

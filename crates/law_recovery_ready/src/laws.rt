@@ -12,8 +12,8 @@ pub fn lines_are_calls<C: Carrier<Addr = Nsap>>()
     ensures wire_numbers { LinesAreCalls C.link C.steps wire }
 {}
 
-/// Of a run that recovers, whatever was lost before its recovering settle: what came up to that settle are calls after which the carrier is honest, and so is all; where no transport entity
-/// began again before, the network there is one from which it goes on in order (`goes_in_order` of law_recovery_run); and the lines since are settled and lose nothing. Over whole numbers.
+/// Of a run that recovers, whatever was lost before its recovering settle and whichever transport entities began again: what came up to that settle are calls after which the carrier is honest,
+/// and so is all; the network there is one from which it goes on in order (`goes_in_order` of law_recovery_run); and the lines since are settled and lose nothing. Over whole numbers.
 pub fn runs_are_ready<C: Carrier<Addr = Nsap>>()
     ensures calls { RunsAreCalls C.link C.steps whole }
     ensures ready { RunsAreReady C.link C.steps }

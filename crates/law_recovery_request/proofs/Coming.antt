@@ -27,7 +27,7 @@ use Rattle.tp4_conn.specs.declared.states.StateData.TheVariants as stages
 use Rattle.tp4_conn.specs.declared.timers.Timers.{Timers}
 use Rattle.tp4_entity.specs.Association.{met, met_by, refusal, unmatched}
 use Rattle.tp4_entity.specs.Entity.{Acted, Entity, at, end_at, moved}
-use Rattle.tp4_entity.specs.References.{is_free_place}
+use Rattle.tp4_entity.specs.References.{is_free_place, is_silent}
 use Rattle.tp4_entity.proofs.Standings.{within}
 use Rattle.law_tp4_associations.specs.Phase.{IsAsking}
 use Rattle.law_tp4_history.specs.Ends.{Birth}
@@ -44,11 +44,14 @@ use Rattle.law_tp4_lawful.proofs.ActsTold.{ends_stay}
 use Rattle.law_tp4_lawful.proofs.Known.{IsKnown, IsReadAs, IsThere}
 use Rattle.law_tp4_lawful.proofs.MakesPlaces.{at_same, entity_other, entity_same}
 use Rattle.law_tp4_lawful.proofs.Worlds.{Explains}
+use Rattle.law_tp4_ended.proofs.Entities.{did_take}
+use Rattle.law_tp4_ended.proofs.Places.{silent_like}
+use Rattle.law_tp4_ended.proofs.Worlds.{IsFitWorld}
 use Rattle.law_calm_run.proofs.Hall.{Post, posted}
 use Rattle.law_recovery_run.proofs.Aside.{both_are, kept_place}
 use Rattle.law_recovery_walk.specs.Following.{Stands}
 use Rattle.law_recovery_walk.proofs.Delivering.{HasActed}
-use Rattle.law_recovery_request.specs.Requesting.{AreUnanswered, HasTaken, IsPast, IsReason, IsRefusal, IsUnanswered, cr_from, in_cr_wait}
+use Rattle.law_recovery_request.specs.Requesting.{AreListening, AreUnanswered, HasTaken, IsPast, IsReason, IsRefusal, IsUnanswered, cr_from, in_cr_wait}
 use Rattle.law_recovery_request.proofs.Meeting.{ComesFrom, IsAsked, IsFound, IsMet, Made, Makes, New, Refused, Stays, Takes, There, Was, Went, answer_row, asks, comes_from, cr_wait_row, found, goes_on, met_is, unanswered_row, user_waits, waits_on}
 
 -- ---- lists
@@ -144,7 +147,8 @@ module _ {C : Type 0} (link : C → Link (List ℕ)) (titles : List (List ℕ)) 
   pub met_so : IsMet Read now e a.sender.own a.acted
   met_so = elim a.heard.any [
     | inl h ↦ subst (IsMet Read now e a.sender.own) (sym h.2) (met_is Read now e a.sender.own h.0 h.1 h.3)
-    | inr bad ↦ subst (IsMet Read now e a.sender.own) (sym bad.2) (Stays refl (λ ends system. refl) tt)
+    | inr (inl bad) ↦ subst (IsMet Read now e a.sender.own) (sym bad.2) (Stays refl (λ ends system. refl) tt)
+    | inr (inr silent) ↦ subst (IsMet Read now e a.sender.own) (sym silent) (Stays refl (λ ends system. refl) tt)
   ]
 
   known_of : (reference : ℕ) (o : End) → end_at a.entity reference ≡ Some o → IsKnown w a.entity.own reference o
@@ -202,11 +206,11 @@ module _ {C : Type 0} (link : C → Link (List ℕ)) (titles : List (List ℕ)) 
           kept_place now (frozen_for o.base.timers) o.stage goes (ap (is_free_place now) (sym stands ∙ (λ i. end_at (owner i) ((same ∙ own_is) i))) ∙ free.free))
           ∙ number
 
-  -- what came, where it has no number
-  pub came_as : (other : Sent) (address : List ℕ) → post.sent ≡ other → a.sender.own ≡ address → has_number (kind_for other.tpdu) ≡ false
+  -- what came, where it has no number and the entity is not silent
+  pub came_as : (other : Sent) (address : List ℕ) → post.sent ≡ other → a.sender.own ≡ address → has_number (kind_for other.tpdu) ≡ false → is_silent now a.entity ≡ false
       → a.acted ≡ met whole now e address (other.tpdu, is_summed other.sum other.tpdu)
-  came_as other address is from_is plain =
-      a.heard.as_sent (inl (ap (λ (s : Sent). has_number (kind_for s.tpdu)) is ∙ plain))
+  came_as other address is from_is plain awake =
+      a.heard.as_sent awake (inl (ap (λ (s : Sent). has_number (kind_for s.tpdu)) is ∙ plain))
       ∙ (λ i. met whole now e (from_is i) ((is i).tpdu, is_summed (is i).sum (is i).tpdu))
 
   -- ---- the two ends
@@ -268,6 +272,17 @@ module _ {C : Type 0} (link : C → Link (List ℕ)) (titles : List (List ℕ)) 
             (subst (λ (i : End). is_called_by i.base from b.own ≡ true) is called))
         by to_is (New base octets is) = subst (λ (i : End). IsUnanswered i.stage) (sym is) tt
 
+    -- the entities there listen still
+    pub listens_on : IsFitWorld link old → AreListening now old b.to → AreListening (link new.carrier).clock new b.to
+    listens_on fit was s z there own_is =
+        subst (λ (n : ℕ). is_silent n z ≡ false) (sym a.clock)
+        (elim (with_any old.entities a.system s a.acted.entity z (ap (λ (ps : List Placed). entity_at ps s) (sym a.entities) ∙ there)) [
+          | inl here ↦
+              ap (is_silent now) here.1 ∙ silent_like now a.entity a.acted.entity (did_take a.system now whole a.sender.own a.entity a.octets a.acted (fit a.system a.entity a.there) a.takes).like
+              ∙ was a.system a.entity a.there (sym a.kept ∙ ap (λ (i : Entity). i.own) (sym here.1) ∙ own_is)
+          | inr before ↦ was s z before own_is
+        ])
+
     -- its called end
     waiting_on : IsWaiting system x from b r old → IsWaiting system x from b r new
     waiting_on d = elim (placed d.at_system d.entity d.there) [
@@ -328,8 +343,8 @@ module _ {C : Type 0} (link : C → Link (List ℕ)) (titles : List (List ℕ)) 
     ]
 
     -- the CR comes
-    cr_comes : IsHere system x from b r old → AreUnanswered old b.to from b.own → post ≡ cr_from system b r → IsPending system x from b r new posts_now
-    cr_comes h was is = by (subst (IsAsked now e from b.own) (sym acted_is) (asks now e from b r.octets (is_summed sent.sum sent.tpdu)))
+    cr_comes : IsHere system x from b r old → AreUnanswered old b.to from b.own → AreListening now old b.to → post ≡ cr_from system b r → IsPending system x from b r new posts_now
+    cr_comes h was listens is = by (subst (IsAsked now e from b.own) (sym acted_is) (asks now e from b r.octets (is_summed sent.sum sent.tpdu)))
       where
         sent : Sent
         sent = request b r.octets
@@ -340,11 +355,11 @@ module _ {C : Type 0} (link : C → Link (List ℕ)) (titles : List (List ℕ)) 
         sender_is : a.sender ≡ h.entity
         sender_is = same_Some a.sender h.entity (sym a.sender_there ∙ ap (λ (p : Post). entity_at old.entities p.system) is ∙ h.there)
 
-        acted_is : a.acted ≡ met whole now e from (sent.tpdu, is_summed sent.sum sent.tpdu)
-        acted_is = came_as sent from sent_is (ap (λ (z : Entity). z.own) sender_is ∙ h.own_is) refl
-
         to_is : a.entity.own ≡ b.to
         to_is = a.own_is ∙ ap (λ (s : Sent). s.to) sent_is
+
+        acted_is : a.acted ≡ met whole now e from (sent.tpdu, is_summed sent.sum sent.tpdu)
+        acted_is = came_as sent from sent_is (ap (λ (z : Entity). z.own) sender_is ∙ h.own_is) refl (listens a.system a.entity a.there to_is)
 
         by : IsAsked now e from b.own a.acted → IsPending system x from b r new posts_now
         by (There any acted) =
@@ -387,8 +402,8 @@ module _ {C : Type 0} (link : C → Link (List ℕ)) (titles : List (List ℕ)) 
         })
 
     -- the DR comes
-    dr_comes : IsHere system x from b r old → (d : IsRefused system x from b r old (post ∷ rest)) → post ≡ record { system = d.at_system; sent = refusal from b.own d.reason } → IsTakenHere
-    dr_comes h d is = record {
+    dr_comes : IsFitWorld link old → IsHere system x from b r old → (d : IsRefused system x from b r old (post ∷ rest)) → post ≡ record { system = d.at_system; sent = refusal from b.own d.reason } → IsTakenHere
+    dr_comes fit h d is = record {
       has = record {
         tpdu = dr;
         sum = sum;
@@ -414,9 +429,6 @@ module _ {C : Type 0} (link : C → Link (List ℕ)) (titles : List (List ℕ)) 
         sender_is : a.sender ≡ d.entity
         sender_is = same_Some a.sender d.entity (sym a.sender_there ∙ ap (λ (p : Post). entity_at old.entities p.system) is ∙ d.there)
 
-        acted_is : a.acted ≡ met whole now e b.to (dr, sum)
-        acted_is = came_as sent b.to sent_is (ap (λ (z : Entity). z.own) sender_is ∙ d.own_is) refl
-
         at_it : a.system ≡ system
         at_it = explains.known.apart a.system system a.entity h.entity a.there h.there (a.own_is ∙ ap (λ (s : Sent). s.to) sent_is ∙ sym h.own_is)
 
@@ -425,6 +437,9 @@ module _ {C : Type 0} (link : C → Link (List ℕ)) (titles : List (List ℕ)) 
 
         stands : end_at a.entity b.own ≡ Some asking
         stands = ap (λ (z : Entity). end_at z b.own) entity_is ∙ h.stands
+
+        acted_is : a.acted ≡ met whole now e b.to (dr, sum)
+        acted_is = came_as sent b.to sent_is (ap (λ (z : Entity). z.own) sender_is ∙ d.own_is) refl ((fit a.system a.entity a.there).audible b.own asking stands)
 
         m : Moved
         m = stepped whole now asking (Took dr sum)
@@ -442,8 +457,8 @@ module _ {C : Type 0} (link : C → Link (List ℕ)) (titles : List (List ℕ)) 
             ap (λ (z : Acted). end_at z.entity b.own) moved_is ∙ at_same e b.own (Some (end_of m)) inside.least inside.most
 
     -- one delivery
-    pub unsettled_on : IsUnsettled system x from b r old (post ∷ rest) → IsUnsettled system x from b r new posts_now ⊎ IsTakenHere
-    unsettled_on o = by o.pending
+    pub unsettled_on : IsFitWorld link old → AreListening now old b.to → IsUnsettled system x from b r old (post ∷ rest) → IsUnsettled system x from b r new posts_now ⊎ IsTakenHere
+    unsettled_on fit listens o = by o.pending
       where
         stays : IsPending system x from b r new posts_now → IsUnsettled system x from b r new posts_now ⊎ IsTakenHere
         stays pending = elim (here_on o.here) [
@@ -453,11 +468,11 @@ module _ {C : Type 0} (link : C → Link (List ℕ)) (titles : List (List ℕ)) 
 
         by : IsPending system x from b r old (post ∷ rest) → IsUnsettled system x from b r new posts_now ⊎ IsTakenHere
         by (Asking waits) = elim (first_or_rest post (cr_from system b r) rest waits) [
-          | inl first ↦ stays (cr_comes o.here o.unanswered first)
+          | inl first ↦ stays (cr_comes o.here o.unanswered listens first)
           | inr later ↦ stays (Asking (Contains-append_left rest (posted a.system a.acted.tpdus) _ later))
         ]
         by (Refusing d) = elim (first_or_rest post (record { system = d.at_system; sent = refusal from b.own d.reason }) rest d.waits) [
-          | inl first ↦ inr (dr_comes o.here d first)
+          | inl first ↦ inr (dr_comes fit o.here d first)
           | inr later ↦ stays (Refusing (refused_on d later))
         ]
         by (Waiting d) = stays (Waiting (waiting_on d))

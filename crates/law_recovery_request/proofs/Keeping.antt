@@ -44,9 +44,10 @@ use Rattle.law_recovery_run.proofs.Aiming.{Going}
 use Rattle.law_recovery_run.proofs.Aside.{both_are, going_of}
 use Rattle.law_recovery_run.proofs.Rivals.{far, here, partner_there, sound}
 use Rattle.law_recovery_walk.proofs.Delivering.{HasActed}
+use Rattle.law_tp4_ended.proofs.Worlds.{IsFitWorld}
 use Rattle.law_recovery_walk.proofs.Naming.{NamedBy, row_aims, row_named, row_sourced}
 use Rattle.law_recovery_walk.proofs.Waiting.{posted_each}
-use Rattle.law_recovery_request.specs.Requesting.{AreUnanswered, HasTaken, IsReason, IsRefusal, cr_from, in_cr_wait}
+use Rattle.law_recovery_request.specs.Requesting.{AreListening, AreUnanswered, HasTaken, IsReason, IsRefusal, cr_from, in_cr_wait}
 use Rattle.law_recovery_request.proofs.Coming.{IsHere, IsUnsettled, came_as, met_so, unsettled_on}
 use Rattle.law_recovery_request.proofs.Meeting.{IsAnswerTo, IsAsked, IsMet, Made, Makes, Refused, Stays, Takes, There, asks, no_fit}
 
@@ -101,7 +102,8 @@ both_of P Q R (sent ∷ sents) f ps qs = (f sent ps.0 qs.0, both_of P Q R sents 
 
 module _ {C : Type 0} (link : C → Link (List ℕ)) (titles : List (List ℕ)) (timers : Timers) (w : Whole) (journal : List JournalEvent) (old : World C) (explains : Explains link titles timers w journal old)
     (going : Going) (new : World C) (post : Post) (rest : List Post) (made : List JournalEvent) (a : HasActed link old new post made) (system x : ℕ) (from : List ℕ) (b : EndRecord) (r : InCrWait)
-    (h : IsHere system x from b r old) (was : AreUnanswered old b.to from b.own) (quiet : AllByRecursion (IsKeptApart system from b r) (post ∷ rest)) where
+    (h : IsHere system x from b r old) (was : AreUnanswered old b.to from b.own) (listens : AreListening (link old.carrier).clock old b.to)
+    (quiet : AllByRecursion (IsKeptApart system from b r) (post ∷ rest)) where
   abbrev now : ℕ
   now = (link old.carrier).clock
 
@@ -137,6 +139,7 @@ module _ {C : Type 0} (link : C → Link (List ℕ)) (titles : List (List ℕ)) 
 
       acted_is : a.acted ≡ met whole now e from (sent.tpdu, is_summed sent.sum sent.tpdu)
       acted_is = came_as link titles timers w journal old explains new post rest made a sent from (ap (λ (p : Post). p.sent) is) (ap (λ (z : Entity). z.own) sender_is ∙ h.own_is) refl
+          (listens a.system a.entity a.there (a.own_is ∙ ap (λ (p : Post). p.sent.to) is))
 
       by : IsAsked now e from b.own a.acted → AllByRecursion (IsRefusalTo from b.own) a.acted.tpdus
       by (There any acted) = subst (AllByRecursion (IsRefusalTo from b.own)) (sym (ap (λ (z : Acted). z.tpdus) acted)) tt
@@ -286,19 +289,19 @@ module _ {C : Type 0} (link : C → Link (List ℕ)) (titles : List (List ℕ)) 
 
 -- one delivery, where it was so before
 pub unsettled_so : {C : Type 0} (link : C → Link (List ℕ)) (titles : List (List ℕ)) (timers : Timers) (w : Whole) (journal : List JournalEvent) (old : World C)
-    (explains : Explains link titles timers w journal old) (going : Going) (new : World C) (post : Post) (rest : List Post) (made : List JournalEvent) (a : HasActed link old new post made)
-    (system x : ℕ) (from : List ℕ) (b : EndRecord) (r : InCrWait) (P : Type 0) → IsUnsettled system x from b r old (post ∷ rest)
+    (explains : Explains link titles timers w journal old) (fit : IsFitWorld link old) (going : Going) (new : World C) (post : Post) (rest : List Post) (made : List JournalEvent)
+    (a : HasActed link old new post made) (system x : ℕ) (from : List ℕ) (b : EndRecord) (r : InCrWait) (P : Type 0) → AreListening (link old.carrier).clock old b.to → IsUnsettled system x from b r old (post ∷ rest)
     → (P → AllByRecursion (IsKeptApart system from b r) (post ∷ rest))
     → (IsUnsettled system x from b r new (rest ++ posted a.system a.acted.tpdus) × (P → AllByRecursion (IsKeptApart system from b r) (rest ++ posted a.system a.acted.tpdus)))
     ⊎ ((has : HasTaken link new x b r) × (P → IsRefusal from b.own has.tpdu))
-unsettled_so {C} link titles timers w journal old explains going new post rest made a system x from b r P u quiet =
-    elim (unsettled_on link titles timers w journal old explains new post rest made a system x from b r u) [
-      | inl next ↦ inl (next, λ p. apart_on link titles timers w journal old explains going new post rest made a system x from b r u.here u.unanswered (quiet p))
+unsettled_so {C} link titles timers w journal old explains fit going new post rest made a system x from b r P listens u quiet =
+    elim (unsettled_on link titles timers w journal old explains new post rest made a system x from b r fit listens u) [
+      | inl next ↦ inl (next, λ p. apart_on link titles timers w journal old explains going new post rest made a system x from b r u.here u.unanswered listens (quiet p))
       | inr taken ↦ inr (
         taken.has,
         λ p. elim taken.whence [
           | inl is ↦ is
-          | inr q ↦ turned link titles timers w journal old explains going new post rest made a system x from b r u.here u.unanswered (quiet p) taken.has.tpdu q.0 q.1 q.2 q.3
+          | inr q ↦ turned link titles timers w journal old explains going new post rest made a system x from b r u.here u.unanswered listens (quiet p) taken.has.tpdu q.0 q.1 q.2 q.3
         ],
       )
     ]

@@ -1,5 +1,5 @@
 -- A settle, delivery after delivery: the CR of an end in CrWait makes its called end, or a DR comes back, whatever else waits.
-use Rattle.std.proofs.Common.{◌≡◌, ◌⊎◌, inl, inr, ℕ, ◌+◌, List, [], ◌∷◌, ◌++◌, true, Some, None, refl, sym, ◌∙◌, ap, subst, append_assoc}
+use Rattle.std.proofs.Common.{◌≡◌, ◌⊎◌, inl, inr, ℕ, ◌+◌, List, [], ◌∷◌, ◌++◌, true, false, Some, None, refl, sym, ◌∙◌, ap, subst, append_assoc}
 use Rattle.std.specs.List.{AllByRecursion, Contains}
 use Rattle.osi_base.specs.Calls.{Call, Keeps}
 use Rattle.osi_base.specs.Link.{IsLeastFresh, Link}
@@ -9,6 +9,7 @@ use Rattle.net_world.specs.Fifo.{IsFifo}
 use Rattle.script_journal.specs.Lawful.{ArePartners}
 use Rattle.script_journal.specs.declared.event.Event.{Event}
 use Rattle.std.proofs.lemmas.Bool.{eqb-true}
+use Rattle.std.proofs.lemmas.Option.{same_Some}
 use Rattle.std.specs.Prelude.{◌==◌, ◌&&◌, nat_eq}
 use Rattle.std.specs.Cmp.Lexicographic.{bytes_decides, pointwise}
 use Rattle.tp4_number.specs.Number.{whole}
@@ -18,7 +19,8 @@ use Rattle.tp4_conn.specs.declared.end_record.EndRecord.{EndRecord}
 use Rattle.tp4_conn.specs.declared.states.InCrWait.{InCrWait}
 use Rattle.tp4_conn.specs.declared.timers.Timers.{Timers}
 use Rattle.tp4_entity.specs.Association.{refusal}
-use Rattle.tp4_entity.specs.Entity.{end_at}
+use Rattle.tp4_entity.specs.Entity.{Entity, end_at}
+use Rattle.tp4_entity.specs.References.{is_silent}
 use Rattle.tp4_entity.specs.Step.{first_due}
 use Rattle.law_tp4_moves.specs.Moves.{stop_of}
 use Rattle.law_tp4_pair.specs.Claim.{IsUndropped}
@@ -34,6 +36,7 @@ use Rattle.law_tp4_lawful.proofs.WorldHears as hears
 use Rattle.law_tp4_lawful.proofs.WorldKnown.{plain_kept}
 use Rattle.law_tp4_lawful.proofs.WorldOutcomes.{one_unit, outcomes}
 use Rattle.law_tp4_lawful.proofs.Worlds.{Followed}
+use Rattle.law_tp4_ended.proofs.Worlds as ended
 use Rattle.law_calm_run.proofs.Hall.{Hall, Post, after}
 use Rattle.law_calm_run.proofs.Posting.{AreUnitsOf}
 use Rattle.law_calm_run.proofs.Queueing.{all_parts}
@@ -44,8 +47,8 @@ use Rattle.law_recovery_run.proofs.Rivals.{no_rival}
 use Rattle.law_recovery_walk.specs.Following.{Stands}
 use Rattle.law_recovery_walk.proofs.Coming.{StandsSo, delivered}
 use Rattle.law_recovery_walk.proofs.Settling.{IsExplained}
-use Rattle.law_recovery_request.specs.Requesting.{AreUnanswered, HasTaken, IsAnswered, IsApart, IsIndicated, IsRefusal, cr_from, in_cr_wait}
-use Rattle.law_recovery_request.proofs.Coming.{Asking, IsHere, IsPending, IsUnsettled, IsWaiting, Refusing, Waiting, none_there}
+use Rattle.law_recovery_request.specs.Requesting.{AreListening, AreUnanswered, HasTaken, IsAnswered, IsApart, IsIndicated, IsRefusal, cr_from, in_cr_wait}
+use Rattle.law_recovery_request.proofs.Coming.{Asking, IsHere, IsPending, IsUnsettled, IsWaiting, Refusing, Waiting, listens_on, none_there}
 use Rattle.law_recovery_request.proofs.Keeping.{IsKeptApart, unsettled_so}
 
 -- ---- where nothing waits
@@ -138,7 +141,7 @@ module _ {C : Type 0} (link : C → Link (List ℕ)) (steps : C → Call (List �
       ((s.kept place e there).proper, subst (λ (n : ℕ). first_due n e ≡ None) (sym s.shows.clock ∙ ex.explains.carries.clock) (s.rest place e there)) in
       let ran = hears.delivered ex.titles ex.timers (Known ex.titles ex.timers) IsOffered (plain_kept ex.titles ex.timers) is_timed link steps law f.aside f.meets one_unit AreProper AreInTime outcomes ex.w old new journal made
       pair.0 pair.1 WasPicked ex.explains rested d in
-      record { titles = ex.titles; timers = ex.timers; w = ran.went.next; explains = ran.went.explains }
+      record { titles = ex.titles; timers = ex.timers; w = ran.went.next; explains = ran.went.explains; fit = (ended.delivered link steps law whole old new made pair.0 pair.1 WasPicked ex.fit d).fit }
 
   -- where nothing came to an entity
   unsettled_still : (old new : World C) (posts : List Post) → new.entities ≡ old.entities → new.ends ≡ old.ends → IsUnsettledSo old posts → IsUnsettledSo new posts
@@ -183,26 +186,41 @@ module _ {C : Type 0} (link : C → Link (List ℕ)) (steps : C → Call (List �
     hall : Hall
     queue : List (CarriedUnit (List ℕ))
     stands : StandsSo link steps law titles Waits fifo mid hall queue
+    listens : AreListening (link mid.carrier).clock mid b.to
     unsettled : IsUnsettledSo mid hall.posts
     beside : IsBeside hall.posts
 
   one_goes : (old mid : World C) (journal made : List Event) (hall : Hall) (queue : List (CarriedUnit (List ℕ))) (pair : ℕ × ℕ)
       → StandsSo link steps law titles Waits fifo old hall queue → IsLeastFresh (link old.carrier) (Some pair) → IsExplained link journal old → AllByRecursion IsUndropped made
-      → IsUnsettledSo old hall.posts → IsBeside hall.posts → Delivers link steps whole old pair.0 pair.1 WasPicked made mid → HasGone mid ⊎ ((has : HasTaken link mid x b r) × (P → IsRefusal from b.own has.tpdu))
-  one_goes old mid journal made hall queue pair s fresh ex all o beside d = elim (delivered link steps law titles Waits fifo old mid hall queue made pair s fresh all d) [
-    | inl still ↦ inl (record { hall = hall; queue = still.queue; stands = still.stands; unsettled = unsettled_still old mid hall.posts still.entities still.ends o; beside = beside })
+      → AreListening (link old.carrier).clock old b.to → IsUnsettledSo old hall.posts → IsBeside hall.posts → Delivers link steps whole old pair.0 pair.1 WasPicked made mid → HasGone mid ⊎ ((has : HasTaken link mid x b r) × (P → IsRefusal from b.own has.tpdu))
+  one_goes old mid journal made hall queue pair s fresh ex all listens o beside d = elim (delivered link steps law titles Waits fifo old mid hall queue made pair s fresh all d) [
+    | inl still ↦ inl (record {
+      hall = hall;
+      queue = still.queue;
+      stands = still.stands;
+      listens = λ place e there own. subst (λ (n : ℕ). is_silent n e ≡ false) (sym still.clock) (listens place e (ap (λ (ps : List Placed). entity_at ps place) (sym still.entities) ∙ there) own);
+      unsettled = unsettled_still old mid hall.posts still.entities still.ends o;
+      beside = beside;
+    })
     | inr come ↦
-        elim (unsettled_so link ex.titles ex.timers ex.w journal old ex.explains going mid come.post come.rest made come.a system x from b r P (subst (IsUnsettledSo old) come.posts_are o)
+        elim (unsettled_so link ex.titles ex.timers ex.w journal old ex.explains ex.fit going mid come.post come.rest made come.a system x from b r P listens (subst (IsUnsettledSo old) come.posts_are o)
         (subst IsBeside come.posts_are beside)) [
-          | inl next ↦ inl (record { hall = after (record hall { posts = come.rest }) come.a.system come.a.acted; queue = come.queue; stands = come.stands; unsettled = next.0; beside = next.1 })
+          | inl next ↦ inl (record {
+            hall = after (record hall { posts = come.rest }) come.a.system come.a.acted;
+            queue = come.queue;
+            stands = come.stands;
+            listens = listens_on link ex.titles ex.timers ex.w journal old ex.explains mid come.post come.rest made come.a system x from b r ex.fit listens;
+            unsettled = next.0;
+            beside = next.1;
+          })
           | inr taken ↦ inr taken
         ]
   ]
 
   pub settles_on : (count : ℕ) (old : World C) (made : List Event) (new : World C) → Settles link steps whole count old made new → (journal : List Event) (hall : Hall) (queue : List (CarriedUnit (List ℕ)))
-      → StandsSo link steps law titles Waits fifo old hall queue → IsExplained link journal old → AllByRecursion IsUndropped made → IsUnsettledSo old hall.posts → IsBeside hall.posts
-      → IsIndicated (journal ++ made) new x b r ⊎ ((a : IsAnswered link steps made new x b r) × (P → IsRefusal from b.own a.took.tpdu))
-  settles_on count old made new (NoneLeft n o m l fresh made_is same) journal hall queue s ex all unsettled beside =
+      → StandsSo link steps law titles Waits fifo old hall queue → IsExplained link journal old → AllByRecursion IsUndropped made → IsUnsettledSo old hall.posts
+      → AreListening (link old.carrier).clock old b.to → IsBeside hall.posts → IsIndicated (journal ++ made) new x b r ⊎ ((a : IsAnswered link steps made new x b r) × (P → IsRefusal from b.own a.took.tpdu))
+  settles_on count old made new (NoneLeft n o m l fresh made_is same) journal hall queue s ex all unsettled listens beside =
       let none : queue ≡ [] = fifo.none old.carrier queue s.shows.waits fresh in
       let posts : hall.posts ≡ [] = subst (λ (q : List (CarriedUnit (List ℕ))). AreUnitsOf titles q hall.posts) none s.shows.units in
       let last : IsUnsettledSo old [] = subst (IsUnsettledSo old) posts unsettled in
@@ -212,13 +230,13 @@ module _ {C : Type 0} (link : C → Link (List ℕ)) (steps : C → Call (List �
       by last (Asking waits) = absurd (none_there (cr_from system b r) waits)
       by last (Refusing d) = absurd (none_there (record { system = d.at_system; sent = refusal from b.own d.reason }) d.waits)
       by last (Waiting d) = is_indicated link journal old ex system x from b r last.here last.unanswered d
-  settles_on count old made new (TooMany n o m l pair fresh most made_is same) journal hall queue s ex all unsettled beside =
+  settles_on count old made new (TooMany n o m l pair fresh most made_is same) journal hall queue s ex all unsettled listens beside =
       absurd (subst (λ (es : List Event). AllByRecursion IsUndropped es) made_is all).0
-  settles_on count old made new (OneMore n o m l pair mid here rest fresh low delivers settles made_is) journal hall queue s ex all unsettled beside =
+  settles_on count old made new (OneMore n o m l pair mid here rest fresh low delivers settles made_is) journal hall queue s ex all unsettled listens beside =
       let parts = all_parts IsUndropped here rest (subst (λ (es : List Event). AllByRecursion IsUndropped es) made_is all) in
       let ex_mid : IsExplained link (journal ++ here) mid = explained_on old mid journal here hall queue pair s ex (timed journal old ex unsettled.here) delivers in
-      elim (one_goes old mid journal here hall queue pair s fresh ex parts.0 unsettled beside delivers) [
-        | inl went ↦ elim (settles_on (count + 1) mid rest new settles (journal ++ here) went.hall went.queue went.stands ex_mid parts.1 went.unsettled went.beside) [
+      elim (one_goes old mid journal here hall queue pair s fresh ex parts.0 listens unsettled beside delivers) [
+        | inl went ↦ elim (settles_on (count + 1) mid rest new settles (journal ++ here) went.hall went.queue went.stands ex_mid parts.1 went.unsettled went.listens went.beside) [
           | inl done ↦ inl (subst (λ (es : List Event). IsIndicated es new x b r) (append_assoc journal here rest ∙ ap (λ (es : List Event). journal ++ es) (sym made_is)) done)
           | inr answered ↦ inr (
             record {
@@ -277,6 +295,14 @@ goes_on {C} link journal world ex x b r posts i =
         called = subst (λ (n : ℕ). is_called_by i.end.base i.calling.entity.own n ≡ true) own i.names;
       });
     }
+
+-- and the entity of its called end is not silent
+pub listening : {C : Type 0} (link : C → Link (List ℕ)) (journal : List Event) (world : World C) (ex : IsExplained link journal world) (x : ℕ) (b : EndRecord) (r : InCrWait) → IsIndicated journal world x b r
+    → AreListening (link world.carrier).clock world b.to
+listening {C} link journal world ex x b r i system entity there own =
+    let at_it : system ≡ i.called.system = ex.explains.known.apart system i.called.system entity i.called.entity there i.called.is_end.there (own ∙ sym i.address) in
+    let entity_is : entity ≡ i.called.entity = same_Some entity i.called.entity (sym there ∙ ap (entity_at world.entities) at_it ∙ i.called.is_end.there) in
+    (ex.fit system entity there).audible i.called.reference i.end (ap (λ (e : Entity). end_at e i.called.reference) entity_is ∙ i.called.is_end.stands)
 
 -- what waits beside it there
 pub begins_apart : (system : ℕ) (from : List ℕ) (b : EndRecord) (r : InCrWait) (posts : List Post) → AllByRecursion (IsApart system from b r) posts → AllByRecursion (IsKeptApart system from b r) posts

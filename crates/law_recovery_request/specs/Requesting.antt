@@ -1,6 +1,6 @@
 -- An end in CrWait of a network whose CR waits, and the end that it calls: there is none yet, or its user has not answered (X.224, class 4: connection establishment, retransmission on
 -- time-out).
-use Rattle.std.specs.Prelude.{◌≡◌, ◌⊎◌, ℕ, Bool, true, List, ◌++◌, Some}
+use Rattle.std.specs.Prelude.{◌≡◌, ◌⊎◌, ℕ, Bool, true, false, List, ◌++◌, Some}
 use Rattle.std.specs.List.{Contains}
 use Rattle.osi_base.specs.Calls.{Call}
 use Rattle.osi_base.specs.Link.{Link}
@@ -20,6 +20,7 @@ use Rattle.tp4_conn.specs.declared.states.StateData.{StateData}
 use Rattle.tp4_conn.specs.declared.states.StateData.TheVariants.{CrWait, Frozen, Opened, UserWait}
 use Rattle.tp4_entity.specs.Association.{refusal}
 use Rattle.tp4_entity.specs.Entity.{Entity, end_at}
+use Rattle.tp4_entity.specs.References.{is_silent}
 use Rattle.law_tp4_moves.specs.Moves.{HasSource}
 use Rattle.law_tp4_moves.specs.Seen.{seen}
 use Rattle.law_tp4_pair.specs.steps.Standing.{HasLeft}
@@ -59,6 +60,10 @@ IsUnanswered stage = ⊥
 abbrev pub AreUnanswered : {C : Type 0} → World C → List ℕ → List ℕ → ℕ → Type 0
 AreUnanswered last to from reference = (system own : ℕ) (entity : Entity) (end : End) → entity_at last.entities system ≡ Some entity → entity.own ≡ to → end_at entity own ≡ Some end
     → is_called_by end.base from reference ≡ true → IsUnanswered end.stage
+
+-- none of the entities at that address is silent at that tick
+abbrev pub AreListening : {C : Type 0} → ℕ → World C → List ℕ → Type 0
+AreListening now last to = (system : ℕ) (entity : Entity) → entity_at last.entities system ≡ Some entity → entity.own ≡ to → is_silent now entity ≡ false
 
 -- the end of the number x is in CrWait, and its CR waits
 pub record IsRequesting {C : Type 0} (last : World C) (posts : List Post) (x : ℕ) (b : EndRecord) (r : InCrWait) : Type 0 where

@@ -10,8 +10,8 @@ pub fn requests_are_sent_again()
     ensures { RequestsAreSentAgain }
 {}
 
-/// An end in CrWait whose CR waits, and whose called end, where there is one, has no answer of its user yet, in a network in which the TPDUs of others wait too: after a settle in which
-/// nothing is lost its called end stands in UserWait, and is its partner; or it took a CC or a DR meanwhile, and is Opened or has left, and where none waited for it before,
+/// An end in CrWait whose CR waits, that calls an entity which is not silent, and whose called end, where there is one, has no answer of its user yet, in a network in which the TPDUs of others wait
+/// too: after a settle in which nothing is lost its called end stands in UserWait, and is its partner; or it took a CC or a DR meanwhile, and is Opened or has left, and where none waited for it before,
 /// that is the DR by which the entity that it calls refused its CR: since that end is frozen, its selector is not registered, or no reference is free. And where its called end stands so before a
 /// settle, it does after it, or the calling one was answered; over whole numbers.
 pub fn requests_are_carried<C: Carrier<Addr = Nsap>>()

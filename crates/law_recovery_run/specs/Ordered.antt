@@ -51,8 +51,8 @@ OnPrompt {C} link steps Holds = (titles : List (List ℕ)) (first : C) (queue_of
 
 -- ---- the network
 
--- A network in which nothing is left to deliver, whatever was lost before: calls without an injection led to its carrier; each system has an entity, at its address, none of which began
--- again; its ends are proper and have partners at such addresses; and no end is due
+-- A network in which nothing is left to deliver, whatever was lost before: calls without an injection led to its carrier; each system has an entity, at its address; its ends are proper and have
+-- partners at such addresses; and no end is due
 pub record IsReady {C : Type 0} (link : C → Link (List ℕ)) (steps : C → Call (List ℕ) → C → Type 0) (titles : List (List ℕ)) (first : C) (world : World C) : Type 0 where
   pub reached : ReachedFrom link steps titles first world.carrier
   pub none_left : IsLeastFresh (link world.carrier) None

@@ -35,7 +35,6 @@ use Rattle.tp4_entity.specs.Entity.{Acted, Entity, at, moved}
 use Rattle.tp4_entity.specs.References.{least_free}
 use Rattle.tp4_entity.specs.Step.{call_of, calling, calling_end, connect_refusal, connecting, first_due, user_refusal}
 use Rattle.tp4_entity.proofs.Beginning.{short}
-use Rattle.tp4_entity.proofs.Restarts.{calling_same, connecting_same}
 use Rattle.law_tp4_proper.specs.Rest.{AreInTime, AreProper, IsAtRest, IsProperStep}
 use Rattle.law_tp4_proper.proofs.Ends.{calling_rests, connecting_rests}
 use Rattle.law_tp4_pair.specs.Calm.{IsSettledScript}
@@ -148,7 +147,7 @@ module _ {C : Type 0} (link : C → Link (List ℕ)) (steps : C → Call (List �
       queue = a.queue;
       stands = record {
         shows = a.shows;
-        kept = kept_after titles hall.entities end.system entity A s.kept (there_in end.system entity there) (calling_same whole now end.reference entity call) goes.rest.proper fine;
+        kept = kept_after titles hall.entities end.system entity A s.kept (there_in end.system entity there) goes.rest.proper fine;
         have = have_after titles hall.entities end.system A.entity s.have;
         rest = waiting_after link steps law titles Waits fifo hall end.system A s.rest (subst (λ (n : ℕ). first_due n A.entity ≡ None) s.shows.clock goes.rest.idle);
       };
@@ -203,7 +202,7 @@ module _ {C : Type 0} (link : C → Link (List ℕ)) (steps : C → Call (List �
       queue = a.queue;
       stands = record {
         shows = a.shows;
-        kept = kept_after titles hall.entities system entity A s.kept (there_in system entity there) (connecting_same now reference entity request) goes.rest.proper fine;
+        kept = kept_after titles hall.entities system entity A s.kept (there_in system entity there) goes.rest.proper fine;
         have = have_after titles hall.entities system A.entity s.have;
         rest = waiting_after link steps law titles Waits fifo hall system A s.rest (subst (λ (n : ℕ). first_due n A.entity ≡ None) s.shows.clock goes.rest.idle);
       };

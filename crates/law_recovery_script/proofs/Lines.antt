@@ -22,6 +22,8 @@ use Rattle.tp4_world.specs.World.{World, entity_at}
 use Rattle.tp4_world.specs.declared.place.Placed.{Placed}
 use Rattle.law_tp4_lawful.specs.Limits.{IsProperLine}
 use Rattle.law_tp4_lawful.proofs.Worlds.{Followed, Rests}
+use Rattle.law_tp4_ended.proofs.Lines.{line_went}
+use Rattle.law_tp4_ended.proofs.Worlds.{IsFitWorld}
 use Rattle.law_calm_run.specs.Run.{IsUnrouted}
 use Rattle.law_calm_run.proofs.Going.{HasSettled, settled}
 use Rattle.law_calm_run.proofs.Hall.{Hall, Post}
@@ -81,10 +83,10 @@ module _ {C : Type 0} (link : C → Link (List ℕ)) (steps : C → Call (List �
       keeps = settle_keeps link steps law titles Waits fifo ex.titles ex.timers going follow (timed_by link steps law titles Waits fifo going follow stopped.journal stopped.mid ex x p.calling stopped.follows.calling) stopped.count
           stopped.mid stopped.rest new stopped.left stopped.journal stopped.hall stopped.queue stopped.stands rests stopped.all
 
-  settle_steps : (old new : World C) (journal made : List Event) (hall : Hall) (queue : List (CarriedUnit (List ℕ))) (x y : ℕ) (p : Pair) → So old hall queue → Resting journal old → AllByRecursion IsUndropped made
-      → IsFollowed link journal old hall.posts x y p → IsLive p.calling.stage → IsLive p.called.stage → Settles link steps whole 0 old made new
+  settle_steps : (old new : World C) (journal made : List Event) (hall : Hall) (queue : List (CarriedUnit (List ℕ))) (x y : ℕ) (p : Pair) → So old hall queue → Resting journal old → IsFitWorld link old
+      → AllByRecursion IsUndropped made → IsFollowed link journal old hall.posts x y p → IsLive p.calling.stage → IsLive p.called.stage → Settles link steps whole 0 old made new
       → (stepped : Stepped (journal ++ made) new x y p) × (stepped.queue ≡ [])
-  settle_steps old new journal made hall queue x y p s r all f live live_there step = (
+  settle_steps old new journal made hall queue x y p s r fit all f live live_there step = (
     record {
       hall = done.went.next;
       queue = done.went.queue;
@@ -108,7 +110,7 @@ module _ {C : Type 0} (link : C → Link (List ℕ)) (steps : C → Call (List �
 
       on : WentOn link steps law titles Waits fifo going follow (journal ++ made) new x y p
       on = settles_so link steps law titles Waits fifo going follow 0 old made new step journal hall queue x y p s
-          (record { titles = names; timers = timers; w = r.w; explains = r.explains }) all f live live_there
+          (record { titles = names; timers = timers; w = r.w; explains = r.explains; fit = fit }) all f live live_there
 
   -- ---- the lines
 
@@ -123,9 +125,9 @@ module _ {C : Type 0} (link : C → Link (List ℕ)) (steps : C → Call (List �
     calm : IsSettledScript script
 
   line_passes : (line : Line) (script : List Line) (old new : World C) (journal made : List Event) (hall : Hall) (queue : List (CarriedUnit (List ℕ))) (x y : ℕ) (p : Pair) → So old hall queue → Resting journal old
-      → MayGo queue (line ∷ script) → IsSettledScript (line ∷ script) → IsProperLine line → IsUnrouted line → AllByRecursion IsUndropped made → IsFollowed link journal old hall.posts x y p
+      → IsFitWorld link old → MayGo queue (line ∷ script) → IsSettledScript (line ∷ script) → IsProperLine line → IsUnrouted line → AllByRecursion IsUndropped made → IsFollowed link journal old hall.posts x y p
       → IsLive p.calling.stage → IsLive p.called.stage → RunsLine link steps whole titles old line made new → Passed (journal ++ made) new x y p script
-  line_passes lines.Nothing script old new journal made hall queue x y p s r may calm proper path all f live live_there step = record {
+  line_passes lines.Nothing script old new journal made hall queue x y p s r fit may calm proper path all f live live_there step = record {
     stepped = record {
       hall = hall;
       queue = queue;
@@ -136,19 +138,19 @@ module _ {C : Type 0} (link : C → Link (List ℕ)) (steps : C → Call (List �
     may = may;
     calm = calm;
   }
-  line_passes lines.Settle script old new journal made hall queue x y p s r may calm proper path all f live live_there step =
-      let on = settle_steps old new journal made hall queue x y p s r all f live live_there step in
+  line_passes lines.Settle script old new journal made hall queue x y p s r fit may calm proper path all f live live_there step =
+      let on = settle_steps old new journal made hall queue x y p s r fit all f live live_there step in
       record { stepped = on.0; may = inl on.1; calm = calm }
-  line_passes (lines.Deliver number system) script old new journal made hall queue x y p s r may calm proper path all f live live_there step = absurd calm
-  line_passes (lines.Inject lan system octets) script old new journal made hall queue x y p s r may calm proper path all f live live_there step = absurd calm
-  line_passes (lines.Restart system) script old new journal made hall queue x y p s r may calm proper path all f live live_there step = absurd calm
-  line_passes line script old new journal made hall queue x y p s r (inl none) calm proper path all f live live_there step = record {
+  line_passes (lines.Deliver number system) script old new journal made hall queue x y p s r fit may calm proper path all f live live_there step = absurd calm
+  line_passes (lines.Inject lan system octets) script old new journal made hall queue x y p s r fit may calm proper path all f live live_there step = absurd calm
+  line_passes (lines.Restart system) script old new journal made hall queue x y p s r fit may calm proper path all f live live_there step = absurd calm
+  line_passes line script old new journal made hall queue x y p s r fit (inl none) calm proper path all f live live_there step = record {
     stepped = asked link steps law titles Waits fifo names timers going follow timed old new journal made hall queue x y p s none r all (subst (λ (ps : List Post). IsFollowed link journal old ps x y p) (none_waits link steps law titles Waits fifo names timers going follow timed hall queue none s.shows.units) f) live live_there line script calm proper
         path step (λ is. absurd cc);
     may = inr calm.0;
     calm = calm.1;
   }
-  line_passes line script old new journal made hall queue x y p s r (inr next) calm proper path all f live live_there step = absurd next
+  line_passes line script old new journal made hall queue x y p s r fit (inr next) calm proper path all f live live_there step = absurd next
 
   -- the pair went on, and then on
   lasts_then : (journal journal_now : List Event) (world : World C) (x y : ℕ) (p mid : Pair) (first : List Happening) → Leads p first mid → AreTicked p first → HasLasted link journal world x y mid → journal ≡ journal_now
@@ -163,10 +165,10 @@ module _ {C : Type 0} (link : C → Link (List ℕ)) (steps : C → Call (List �
   })
 
   pub lines_last : (script : List Line) (old last : World C) (journal late : List Event) (hall : Hall) (queue : List (CarriedUnit (List ℕ))) (x y : ℕ) (p : Pair) → So old hall queue → Resting journal old
-      → MayGo queue script → IsSettledScript script → AllByRecursion IsProperLine script → AllByRecursion IsUnrouted script → AllByRecursion IsUndropped late → IsFollowed link journal old hall.posts x y p
+      → IsFitWorld link old → MayGo queue script → IsSettledScript script → AllByRecursion IsProperLine script → AllByRecursion IsUnrouted script → AllByRecursion IsUndropped late → IsFollowed link journal old hall.posts x y p
       → IsLive p.calling.stage → IsLive p.called.stage → RunsLines link steps whole titles old script late last → HasLasted link (journal ++ late) last x y p
-  lines_last [] old last journal late hall queue x y p s r (inr next) calm proper path all f live live_there run = absurd next
-  lines_last [] old last journal late hall queue x y p s r (inl none) calm proper path all f live live_there run =
+  lines_last [] old last journal late hall queue x y p s r fit (inr next) calm proper path all f live live_there run = absurd next
+  lines_last [] old last journal late hall queue x y p s r fit (inl none) calm proper path all f live live_there run =
       let idle : IsFollowed link journal old [] x y p = subst (λ (ps : List Post). IsFollowed link journal old ps x y p) (none_waits link steps law titles Waits fifo names timers going follow timed hall queue none s.shows.units) f in
       let tells : TellsNoUnits late = subst TellsNoUnits (sym run.0) (record { gave = λ n. refl; showed = λ n. refl }) in
       let now : IsFollowed link (journal ++ late) last [] x y p =
@@ -182,12 +184,13 @@ module _ {C : Type 0} (link : C → Link (List ℕ)) (steps : C → Call (List �
           end_keeps old last y (same_keeps old last run.1) (left_end link names timers r.w journal old r.explains y p.called f.called both.1),
         );
       }
-  lines_last (line ∷ script) old last journal late hall queue x y p s r may calm proper path all f live live_there run =
+  lines_last (line ∷ script) old last journal late hall queue x y p s r fit may calm proper path all f live live_there run =
       let parts = all_parts IsUndropped run.1 run.2 (subst (λ (es : List Event). AllByRecursion IsUndropped es) run.4 all) in
-      let first : Passed (journal ++ run.1) run.0 x y p script = line_passes line script old run.0 journal run.1 hall queue x y p s r may calm proper.0 path.0 parts.0 f live live_there run.3 in
+      let first : Passed (journal ++ run.1) run.0 x y p script = line_passes line script old run.0 journal run.1 hall queue x y p s r fit may calm proper.0 path.0 parts.0 f live live_there run.3 in
       let moved = first.stepped.moved in
       let honest = line_honest link steps law titles Waits fifo names timers going follow timed line script old run.0 run.1 calm r.explains.carries.honest run.3 in
       let rests : Resting (journal ++ run.1) run.0 = line_rests link steps law titles Waits fifo names timers going follow timed line script old run.0 journal run.1 calm proper.0 honest r run.3 in
+      let fits : IsFitWorld link run.0 = (line_went link steps law whole titles line old run.0 run.1 fit run.3).fit in
       let keeps : KeepsLeft run.0 last = lines_keep link steps law titles Waits fifo names timers going follow timed script run.0 last (journal ++ run.1) run.2 first.stepped.hall first.stepped.queue first.stepped.stands rests
       first.may first.calm proper.1 path.1 parts.1 run.5 in
       let ended : IsEnded moved.next → (AreBothLeft moved.next → HaveLeft run.0 x y) → HasLasted link (journal ++ late) last x y p = λ over left.
@@ -211,7 +214,7 @@ module _ {C : Type 0} (link : C → Link (List ℕ)) (steps : C → Call (List �
             | inr over ↦ ended (λ one other. over other) (frozen on)
             | inl other ↦
                 lasts_then ((journal ++ run.1) ++ run.2) (journal ++ late) last x y p moved.next moved.happenings moved.leads moved.ticked
-                (lines_last script run.0 last (journal ++ run.1) run.2 first.stepped.hall first.stepped.queue x y moved.next first.stepped.stands rests first.may first.calm proper.1 path.1 parts.1 on one other run.5)
+                (lines_last script run.0 last (journal ++ run.1) run.2 first.stepped.hall first.stepped.queue x y moved.next first.stepped.stands rests fits first.may first.calm proper.1 path.1 parts.1 on one other run.5)
                 (append_assoc journal run.1 run.2 ∙ ap (λ (es : List Event). journal ++ es) (sym run.4))
           ]
         ]

@@ -249,9 +249,12 @@ module _ {C : Type 0} (link : C → Link (List ℕ)) (steps : C → Call (List �
             left_on old mid now a.system a.entity (met whole now (at now a.entity) a.sender.own (h.0, h.1)).entity a.there (a.entities ∙ ap (λ (z : Acted). with_entity old.entities a.system z.entity) h.2)
             (subst (λ (es : List EndAt). Kind now old.ends es a.system a.entity (met whole now (at now a.entity) a.sender.own (h.0, h.1)).entity) (sym (a.ends ∙ ap (λ (z : Acted). ends_after old.ends a.system z.events) h.2))
             (met_kind link names timers r.w journal old r.explains a.system a.entity a.there a.sender.own h.0 h.1))
-        | inr bad ↦
+        | inr (inl bad) ↦
             left_on old mid now a.system a.entity (at now a.entity) a.there (a.entities ∙ ap (λ (z : Acted). with_entity old.entities a.system z.entity) bad.2)
             (Same refl (a.ends ∙ ap (λ (z : Acted). ends_after old.ends a.system z.events) bad.2))
+        | inr (inr silent) ↦
+            left_on old mid now a.system a.entity (at now a.entity) a.there (a.entities ∙ ap (λ (z : Acted). with_entity old.entities a.system z.entity) silent)
+            (Same refl (a.ends ∙ ap (λ (z : Acted). ends_after old.ends a.system z.events) silent))
       ]
 
   -- a delivery, and how the network stands then

@@ -26,7 +26,6 @@ use Rattle.tp4_conn.specs.declared.timers.Timers.{Timers}
 use Rattle.tp4_entity.specs.Entity.{Acted, Entity, at, end_at, there, with_end}
 use Rattle.tp4_entity.specs.Step.{first_due, is_due, kept_end, ticked_to, ticking, ticking_at, ticking_end}
 use Rattle.tp4_entity.proofs.PlaceLaws.{end_at_of}
-use Rattle.tp4_entity.proofs.Restarts.{ticking_same}
 use Rattle.tp4_entity.proofs.Standings.{within}
 use Rattle.law_tp4_history.proofs.Appended.{shown-append, submitted-append}
 use Rattle.law_tp4_history.specs.History.{Tick as HistoryTick}
@@ -381,7 +380,7 @@ module _ {C : Type 0} (link : C → Link (List ℕ)) (steps : C → Call (List �
           waits = subst (λ (v : World C). Waits v.carrier t.queue) (sym becomes_so) t.shows.waits;
           units = t.shows.units;
         };
-        kept = kept_after titles t.hall.entities system entity (record { entity = at t.hall.clock entity; events = []; tpdus = [] }) t.kept there_now refl proper fine;
+        kept = kept_after titles t.hall.entities system entity (record { entity = at t.hall.clock entity; events = []; tpdus = [] }) t.kept there_now proper fine;
         in_time = in_time_with t.hall.clock t.hall.entities system (at t.hall.clock entity) t.in_time (t.in_time system entity there_now);
         ticked = none_ticks link names timers t.w journal old t.explains going new made system entity there_it (ap (λ (v : World C). v.entities) becomes_so) (ap (λ (v : World C). v.ends) becomes_so)
             (ap (λ (v : World C). (link v.carrier).clock) becomes_so) made_is t.hall.posts x y p t.ticked;
@@ -397,7 +396,7 @@ module _ {C : Type 0} (link : C → Link (List ℕ)) (steps : C → Call (List �
     hall = after t.hall system A;
     queue = a.queue;
     shows = a.shows;
-    kept = kept_after titles t.hall.entities system entity A t.kept there_now (ticking_same whole now entity) proper.proper fine;
+    kept = kept_after titles t.hall.entities system entity A t.kept there_now proper.proper fine;
     in_time = in_time_with t.hall.clock t.hall.entities system A.entity t.in_time (subst (λ (n : ℕ). AreInTime n A.entity) t.shows.clock proper.in_time);
     ticked = subst (λ (z : Acted). HasTicked link (journal ++ here) mid (t.hall.posts ++ posted system z.tpdus) x y p) (sym is)
         (elim t.ticked.goes [

@@ -1,5 +1,5 @@
 -- A delivery of a settle: nothing that an entity hears, or the first TPDU that waits, which the entity at its address hears.
-use Rattle.std.proofs.Common.{◌≡◌, ◌⊎◌, ℕ, Bool, true, false, List, [], ◌∷◌, ◌++◌, Option, Some, None, sym, ◌∙◌, ap, subst, inl, inr, append-nil}
+use Rattle.std.proofs.Common.{◌≡◌, ◌⊎◌, ℕ, Bool, true, false, List, [], ◌∷◌, ◌++◌, Option, Some, None, refl, sym, ◌∙◌, ap, subst, inl, inr, append-nil}
 use Rattle.std.specs.Prelude.{◌==◌, ◌&&◌, nat_eq}
 use Rattle.std.specs.Cmp.Lexicographic.{bytes_decides, pointwise}
 use Rattle.std.specs.List.{AllByRecursion}
@@ -21,24 +21,22 @@ use Rattle.tpdu.specs.Writing.{IsWritten}
 use Rattle.tp4_number.specs.Number.{whole}
 use Rattle.tp4_flow.specs.declared.step.EndEvent.{EndEvent}
 use Rattle.tp4_flow.specs.declared.step.Sent.{Sent}
-use Rattle.tp4_conn.specs.End.{frozen_for}
 use Rattle.tp4_conn.specs.Proper.{IsSendable}
 use Rattle.tp4_entity.specs.Association.{met}
 use Rattle.tp4_entity.specs.Entity.{Acted, Entity, at}
-use Rattle.tp4_entity.specs.References.{is_within}
+use Rattle.tp4_entity.specs.References.{is_silent}
 use Rattle.tp4_entity.specs.Unit.{HearsUnit, TakesBy, TakesUnit, all_met, extended_of}
-use Rattle.tp4_entity.proofs.Restarts.{hearing_same}
 use Rattle.law_tp4_history.proofs.Appended.{shown-append, submitted-append}
 use Rattle.law_tp4_history.specs.Journals.{IsAside}
 use Rattle.law_tp4_proper.specs.Rest.{IsProperStep}
-use Rattle.law_tp4_proper.proofs.Heards.{heard_rests}
+use Rattle.law_tp4_proper.proofs.Heards.{taken_rests}
 use Rattle.law_tp4_pair.specs.Claim.{IsUndropped}
 use Rattle.tp4_world.specs.Run.{Acts, Delivers, Hears, HearsAll, HearsIf, is_for, transport_address}
 use Rattle.tp4_world.specs.Telling.{events_after}
 use Rattle.tp4_world.specs.World.{World, entity_at}
 use Rattle.tp4_world.specs.declared.place.EndAt.{EndAt}
 use Rattle.tp4_world.specs.declared.place.Placed.{Placed}
-use Rattle.tp4_world.proofs.Destinations.{ActsFine, hearing_fine}
+use Rattle.tp4_world.proofs.Destinations.{ActsFine, taking_fine}
 use Rattle.law_tp4_lawful.proofs.ActsTold.{lines_give_none}
 use Rattle.law_tp4_lawful.proofs.WorldAsides.{AreQuiet, are_aside, picked_quiet, told_quiet}
 use Rattle.law_tp4_lawful.proofs.WorldOutcomes.{one_unit}
@@ -53,10 +51,6 @@ use Rattle.law_recovery_walk.proofs.Delivering.{HasActed}
 
 -- ---- what an entity hears
 
-never_silent : (now : ℕ) (e : Entity) (from octets : List ℕ) (acted : Acted) → e.restarted ≡ None → TakesUnit whole now e from octets acted → HearsUnit whole now e from octets acted
-never_silent now e from octets acted never takes =
-    subst (λ (silent : Bool). TakesBy silent whole now e from octets acted) (ap (is_within now (frozen_for e.timers)) never) takes
-
 acted_same : (a b : Acted) → a.entity ≡ b.entity → a.events ≡ b.events → a.tpdus ≡ b.tpdus → a ≡ b
 acted_same a b one told tpdus =
     ap (λ (x : Entity). record { entity = x; events = a.events; tpdus = a.tpdus }) one
@@ -66,17 +60,17 @@ acted_same a b one told tpdus =
 heard_is : (now : ℕ) (e : Entity) (from octets : List ℕ) (sent : Sent) (acted : Acted) → IsSendable sent → IsWritten sent.format sent.sum sent.tpdu octets → HearsUnit whole now e from octets acted
     → IsHeard now e from sent acted
 heard_is now e from octets sent acted fits written h = record {
-  as_sent = λ read. heard_as now e from octets sent acted fits written h read;
+  as_sent = λ awake read. heard_as now e from octets sent acted fits written h read;
   any = elim (one_unit (extended_of e) octets h.rest sent h.tpdus h.told fits written h.separates h.ends) [
     | inl r ↦ inl (r.0.0, r.0.1, one r.0 r.1 r.2, record { kind = r.3; target = r.4; control = r.5; flow = r.6; allowed = r.7 })
-    | inr bad ↦ inr (
+    | inr bad ↦ inr (inl (
       bad.0,
       bad.1,
       acted_same acted _
           (h.entity ∙ ap (λ (ts : List TpduAndSum). (all_met whole now (at now e) from ts).entity) bad.2)
           (h.events ∙ (λ i. (all_met whole now (at now e) from (bad.2 i)).events ++ bad.3 i))
           (h.tpdus_are ∙ ap (λ (ts : List TpduAndSum). (all_met whole now (at now e) from ts).tpdus) bad.2),
-    )
+    ))
   ];
 }
   where
@@ -89,6 +83,18 @@ heard_is now e from octets sent acted fits written h = record {
         (h.events ∙ ap (λ (es : List EndEvent). (all_met whole now (at now e) from h.tpdus).events ++ es) none ∙ append-nil (all_met whole now (at now e) from h.tpdus).events
         ∙ ap (λ (a : Acted). a.events) all ∙ append-nil m.events)
         (h.tpdus_are ∙ ap (λ (a : Acted). a.tpdus) all ∙ append-nil m.tpdus)
+
+-- a unit that comes, silent or not
+taken_is : (now : ℕ) (e : Entity) (from octets : List ℕ) (sent : Sent) (acted : Acted) → IsSendable sent → IsWritten sent.format sent.sum sent.tpdu octets → TakesUnit whole now e from octets acted
+    → IsHeard now e from sent acted
+taken_is now e from octets sent acted fits written takes = by (is_silent now e) refl takes
+  where
+    apart : true ≡ false → ⊥
+    apart is = cc is
+
+    by : (silent : Bool) → is_silent now e ≡ silent → TakesBy silent whole now e from octets acted → IsHeard now e from sent acted
+    by true is ignores = record { as_sent = λ awake read. absurd (apart (sym is ∙ awake)); any = inr (inr ignores) }
+    by false is h = heard_is now e from octets sent acted fits written h
 
 -- ---- arrivals
 
@@ -239,11 +245,10 @@ module _ {C : Type 0} (link : C → Link (List ℕ)) (steps : C → Call (List �
 
         takes : (acted : Acted) → TakesUnit whole (link below).clock here.0 unit.from unit.octets acted → Acts link steps mid system here.0.own acted later new → HasCome old hall made new
         takes acted heard acts =
-            let now : HearsUnit whole hall.clock here.0 unit.from unit.octets acted =
-            never_silent hall.clock here.0 unit.from unit.octets acted kept.never (subst (λ (n : ℕ). TakesUnit whole n here.0 unit.from unit.octets acted) (clock ∙ s.shows.clock) heard) in
-            let proper : IsProperStep hall.clock acted = heard_rests whole hall.clock here.0 unit.from unit.octets acted (record { proper = kept.proper; idle = s.rest system here.0 here.1 }) now in
+            let now : TakesUnit whole hall.clock here.0 unit.from unit.octets acted = subst (λ (n : ℕ). TakesUnit whole n here.0 unit.from unit.octets acted) (clock ∙ s.shows.clock) heard in
+            let proper : IsProperStep hall.clock acted = taken_rests whole hall.clock here.0 unit.from unit.octets acted (record { proper = kept.proper; idle = s.rest system here.0 here.1 }) now in
             let from : IsAddress titles unit.from = record { system = post.system; title = is.title; title_is = is.title_is; address_is = is.from } in
-            let fine : ActsFine (IsAddress titles) here.0.own acted = hearing_fine (IsAddress titles) unit.from from whole hall.clock here.0 unit.octets acted kept.ends now in
+            let fine : ActsFine (IsAddress titles) here.0.own acted = taking_fine (IsAddress titles) unit.from from whole hall.clock here.0 unit.octets acted kept.ends now in
             let a = acts_go link steps law titles Waits fifo mid new left_hall queue system kept.title here.0.own acted later shows kept.title_is kept.own fine proper.tpdus all acts in
             let told : List Event = events_after hall.ends system here.0.own acted.events in
             let told_old : events_after hall.ends system here.0.own acted.events ≡ events_after old.ends system here.0.own acted.events = ap (λ (es : List EndAt). events_after es system here.0.own acted.events) (sym s.shows.ends) in
@@ -260,8 +265,11 @@ module _ {C : Type 0} (link : C → Link (List ℕ)) (steps : C → Call (List �
                 sender = sender.0;
                 sender_there = ap (λ (ps : List Placed). entity_at ps post.system) s.shows.entities ∙ sender.1;
                 acted = acted;
+                octets = unit.octets;
+                takes = subst (λ (n : ℕ). TakesUnit whole n here.0 sender.0.own unit.octets acted) (sym s.shows.clock)
+                    (subst (λ (f : List ℕ). TakesUnit whole hall.clock here.0 f unit.octets acted) from_is now);
                 heard = subst (λ (n : ℕ). IsHeard n here.0 sender.0.own post.sent acted) (sym s.shows.clock)
-                    (subst (λ (f : List ℕ). IsHeard hall.clock here.0 f post.sent acted) from_is (heard_is hall.clock here.0 unit.from unit.octets post.sent acted is.sendable is.written now));
+                    (subst (λ (f : List ℕ). IsHeard hall.clock here.0 f post.sent acted) from_is (taken_is hall.clock here.0 unit.from unit.octets post.sent acted is.sendable is.written now));
                 kept = fine.own_is;
                 sendable = is.sendable;
                 entities = ap (λ (x : World C). x.entities) acts.becomes;
@@ -277,7 +285,7 @@ module _ {C : Type 0} (link : C → Link (List ℕ)) (steps : C → Call (List �
               queue = a.queue;
               stands = record {
                 shows = a.shows;
-                kept = kept_after titles hall.entities system here.0 acted s.kept here.1 (hearing_same whole hall.clock here.0 unit.from unit.octets acted now) proper.rest.proper fine;
+                kept = kept_after titles hall.entities system here.0 acted s.kept here.1 proper.rest.proper fine;
                 have = have_after titles hall.entities system acted.entity s.have;
                 rest = waiting_after link steps law titles Waits fifo hall system acted s.rest proper.rest.idle;
               };

@@ -14,7 +14,7 @@ use Rattle.tpdu.specs.declared.tpdu.Tpdu.{Tpdu as WireTpdu}
 use Rattle.tpdu.specs.declared.tpdu.Tpdu.TheVariants as wires
 use Rattle.tp4_number.specs.Number.{whole}
 use Rattle.tp4_flow.specs.declared.step.Sent.{Sent}
-use Rattle.tp4_flow.specs.declared.step.What.TheVariants.{BadTpdu}
+use Rattle.tp4_flow.specs.declared.step.What.TheVariants.{BadTpdu, Silent}
 use Rattle.tp4_conn.specs.End.{End, Moved, agreed_format, end_of}
 use Rattle.tp4_conn.specs.Matching.{is_source}
 use Rattle.tp4_conn.specs.Proper.{IsSendable}
@@ -23,7 +23,8 @@ use Rattle.tp4_conn.specs.declared.end_record.EndRecord.{EndRecord}
 use Rattle.tp4_conn.specs.declared.timers.Timers.{Timers}
 use Rattle.tp4_entity.specs.Association.{met}
 use Rattle.tp4_entity.specs.Entity.{Acted, Entity, at, end_at, moved}
-use Rattle.tp4_entity.specs.Unit.{extended_of}
+use Rattle.tp4_entity.specs.References.{is_silent}
+use Rattle.tp4_entity.specs.Unit.{TakesUnit, extended_of}
 use Rattle.tp4_entity.specs.steps.Places.{format_of}
 use Rattle.tp4_entity.proofs.Formats.{format_is}
 use Rattle.tp4_entity.proofs.Standings.{within}
@@ -37,6 +38,7 @@ use Rattle.tp4_world.specs.World.{World, entity_at, latest, with_entity}
 use Rattle.law_tp4_lawful.proofs.Known.{IsReadAs}
 use Rattle.law_tp4_lawful.proofs.Worlds.{Explains}
 use Rattle.law_tp4_lawful.proofs.MakesPlaces.{at_same}
+use Rattle.law_tp4_ended.proofs.Worlds.{IsFitWorld}
 use Rattle.law_calm_run.proofs.Hall.{Post, posted}
 use Rattle.law_recovery_run.specs.Aside.{AreFacing, IsSentTo, Names}
 use Rattle.law_recovery_run.specs.Rivals.{IsGoing}
@@ -111,6 +113,8 @@ pub record HasActed {C : Type 0} (link : C → Link (List ℕ)) (old new : World
   pub sender : Entity
   pub sender_there : entity_at old.entities post.system ≡ Some sender
   pub acted : Acted
+  pub octets : List ℕ
+  pub takes : TakesUnit whole (link old.carrier).clock entity sender.own octets acted
   pub heard : IsHeard (link old.carrier).clock entity sender.own post.sent acted
   pub kept : acted.entity.own ≡ entity.own
   pub sendable : IsSendable post.sent
@@ -121,7 +125,7 @@ pub record HasActed {C : Type 0} (link : C → Link (List ℕ)) (old new : World
   pub showed : (n : ℕ) → shown n made ≡ shown n (events_after old.ends system entity.own acted.events)
 
 module _ {C : Type 0} (link : C → Link (List ℕ)) (titles : List (List ℕ)) (timers : Timers) (w : Whole) (journal : List JournalEvent) (old : World C) (explains : Explains link titles timers w journal old)
-    (going : Going) (new : World C) (post : Post) (rest : List Post) (made : List JournalEvent) (a : HasActed link old new post made) (sourced : HasSource (seen 0 post.sent.tpdu)) where
+    (fit : IsFitWorld link old) (going : Going) (new : World C) (post : Post) (rest : List Post) (made : List JournalEvent) (a : HasActed link old new post made) (sourced : HasSource (seen 0 post.sent.tpdu)) where
   abbrev now : ℕ
   now = (link old.carrier).clock
 
@@ -191,6 +195,10 @@ module _ {C : Type 0} (link : C → Link (List ℕ)) (titles : List (List ℕ)) 
           ap (format_for (extended_of a.entity)) sent.target ∙ ap (λ (e : Entity). format_for (extended_of e) (Some here.reference)) entity_is ∙ format_is here.entity here.reference ∙ ap format_of here.is_end.stands
           ∙ sym format ∙ sym first.spoken.format
 
+      -- an entity at which an end stands is not silent
+      awake : is_silent now a.entity ≡ false
+      awake = (fit a.system a.entity a.there).audible here.reference mine (ap (λ (e : Entity). end_at e here.reference) entity_is ∙ here.is_end.stands)
+
       their_own : theirs.base.own ≡ there.reference
       their_own = own_is link titles timers w journal old explains y facing.theirs (Took post.sent.tpdu post.sent.sum)
 
@@ -198,7 +206,7 @@ module _ {C : Type 0} (link : C → Link (List ℕ)) (titles : List (List ℕ)) 
       by = is_source_by mine.base theirs.base.own t (their_own ∙ sym ours.partner_is) first.spoken.source
 
       acted_is_read : a.acted ≡ met whole now (at now a.entity) a.sender.own (t, post.sent.sum)
-      acted_is_read = a.heard.as_sent (inr read_in) ∙ ap (λ (b : Bool). met whole now (at now a.entity) a.sender.own (t, b)) (sum_same t here.reference post.sent.sum sent.target)
+      acted_is_read = a.heard.as_sent awake (inr read_in) ∙ ap (λ (b : Bool). met whole now (at now a.entity) a.sender.own (t, b)) (sum_same t here.reference post.sent.sum sent.target)
 
       acted_is : a.acted ≡ moved (at now here.entity) here.reference m
       acted_is =
@@ -242,9 +250,12 @@ module _ {C : Type 0} (link : C → Link (List ℕ)) (titles : List (List ℕ)) 
             (λ at_here from target. not_for (of_there from) (record { address = to_here at_here; target = sym r.3.target ∙ target }))
             (λ at_here from names. not_for (of_there from) (named_first (of_there from) (read_names a.entity post.sent r.0 r.1 there.reference r.3 names)))
             r.3.allowed (read_sourced a.entity post.sent r.0 r.1 r.3 sourced))
-        | inr bad ↦
+        | inr (inl bad) ↦
             subst (Leaves old x y facing a.system a.entity) (sym bad.2)
             (nothing_leaves link titles timers w journal old explains going x y facing a.system a.entity a.there (record { reference = 0; what = BadTpdu bad.0 bad.1 } ∷ []) refl refl)
+        | inr (inr silent) ↦
+            subst (Leaves old x y facing a.system a.entity) (sym silent)
+            (nothing_leaves link titles timers w journal old explains going x y facing a.system a.entity a.there (record { reference = 0; what = Silent } ∷ []) refl refl)
       ]
 
   -- ---- the pair

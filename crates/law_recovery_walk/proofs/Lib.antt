@@ -3,6 +3,7 @@ pub mod Beside
 pub mod Coming
 pub mod Delivering
 pub mod Doing
+pub mod Fitting
 pub mod Leaving
 pub mod Naming
 pub mod Settling

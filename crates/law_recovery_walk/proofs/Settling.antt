@@ -31,6 +31,8 @@ use Rattle.law_tp4_lawful.proofs.ReferencesHalves.{known_at}
 use Rattle.law_tp4_lawful.proofs.WorldHears as hears
 use Rattle.law_tp4_lawful.proofs.WorldKnown.{plain_kept}
 use Rattle.law_tp4_lawful.proofs.WorldOutcomes.{one_unit, outcomes}
+use Rattle.law_tp4_ended.proofs.Worlds as ended
+use Rattle.law_tp4_ended.proofs.Worlds.{IsFitWorld}
 use Rattle.law_calm_run.proofs.Hall.{Hall, Post, after}
 use Rattle.law_calm_run.proofs.Posting.{AreUnitsOf}
 use Rattle.law_calm_run.proofs.Queueing.{all_parts}
@@ -107,12 +109,13 @@ idle_of {C} link journal world x y p f = record { forth = f.forth.waits_are; bac
 
 -- ---- a settle
 
--- some history explains the network
+-- some history explains the network, and no end stands at an entity that is silent
 pub record IsExplained {C : Type 0} (link : C → Link (List ℕ)) (journal : List Event) (world : World C) : Type 0 where
   pub titles : List (List ℕ)
   pub timers : Timers
   pub w : Whole
   pub explains : Explains link titles timers w journal world
+  pub fit : IsFitWorld link world
 
 module _ {C : Type 0} (link : C → Link (List ℕ)) (steps : C → Call (List ℕ) → C → Type 0)
     (law : (old : C) (call : Call (List ℕ)) (new : C) → steps old call new → Keeps (link old) call (link new))
@@ -133,7 +136,7 @@ module _ {C : Type 0} (link : C → Link (List ℕ)) (steps : C → Call (List �
       ((s.kept system e there).proper, subst (λ (n : ℕ). first_due n e ≡ None) (sym s.shows.clock ∙ ex.explains.carries.clock) (s.rest system e there)) in
       let r = hears.delivered ex.titles ex.timers (Known ex.titles ex.timers) IsOffered (plain_kept ex.titles ex.timers) is_timed link steps law f.aside f.meets one_unit AreProper AreInTime outcomes ex.w old new journal made
       pair.0 pair.1 WasPicked ex.explains rested d in
-      record { titles = ex.titles; timers = ex.timers; w = r.went.next; explains = r.went.explains }
+      record { titles = ex.titles; timers = ex.timers; w = r.went.next; explains = r.went.explains; fit = (ended.delivered link steps law whole old new made pair.0 pair.1 WasPicked ex.fit d).fit }
 
   -- one delivery
   record HasGone (journal made : List Event) (mid : World C) (x y : ℕ) (p : Pair) : Type 0 where
@@ -162,8 +165,8 @@ module _ {C : Type 0} (link : C → Link (List ℕ)) (steps : C → Call (List �
     }
     | inr come ↦
         let first : IsFollowed link journal old (come.post ∷ come.rest) x y p = subst (λ (ps : List Post). IsFollowed link journal old ps x y p) come.posts_are f in
-        let went : HasComeOn link ex.titles ex.timers ex.w journal old ex.explains going mid come.post come.rest made come.a first.sourced.0 x y p =
-        handed_over link ex.titles ex.timers ex.w journal old ex.explains going mid come.post come.rest made come.a first.sourced.0 x y p first live live_there in
+        let went : HasComeOn link ex.titles ex.timers ex.w journal old ex.explains ex.fit going mid come.post come.rest made come.a first.sourced.0 x y p =
+        handed_over link ex.titles ex.timers ex.w journal old ex.explains ex.fit going mid come.post come.rest made come.a first.sourced.0 x y p first live live_there in
         record {
           hall = after (record hall { posts = come.rest }) come.a.system come.a.acted;
           queue = come.queue;

@@ -22,6 +22,8 @@ use Rattle.tp4_conn.specs.declared.states.StateData.{StateData}
 use Rattle.tp4_conn.specs.declared.states.StateData.TheVariants.{Closing, Opened}
 use Rattle.tp4_entity.specs.Association.{met}
 use Rattle.tp4_entity.specs.Entity.{Acted, Entity, at}
+use Rattle.tp4_entity.specs.References.{is_silent}
+use Rattle.tp4_entity.specs.Unit.{ignored}
 use Rattle.law_tp4_moves.specs.Moves.{AreOwn, HasSource}
 use Rattle.law_tp4_moves.specs.Seen.{seen}
 use Rattle.law_tp4_pair.specs.Pair.{Pair}
@@ -132,8 +134,10 @@ pub record IsFollowed {C : Type 0} (link : C → Link (List ℕ)) (journal : Lis
 
 -- ---- what an entity hears
 
--- An entity hears one TPDU that was sent from that address: it takes it as it was sent, where it reads it in the format in which it was written; else as it is read, or tells a fault of it
+-- An entity hears one TPDU that was sent from that address: it takes it as it was sent, where it is not silent and reads it in the format in which it was written; else as it is read, or tells a
+-- fault of it, or ignores it, as one does that is silent
 pub record IsHeard (now : ℕ) (entity : Entity) (from : List ℕ) (sent : Sent) (acted : Acted) : Type 0 where
-  pub as_sent : IsReadBy entity sent → acted ≡ met whole now (at now entity) from (sent.tpdu, is_summed sent.sum sent.tpdu)
+  pub as_sent : is_silent now entity ≡ false → IsReadBy entity sent → acted ≡ met whole now (at now entity) from (sent.tpdu, is_summed sent.sum sent.tpdu)
   pub any : ((t : Tpdu) × (sum : Bool) × (acted ≡ met whole now (at now entity) from (t, sum)) × IsReadAs entity sent (t, sum))
-      ⊎ ((cause : TpduCause) × (place : ℕ) × (acted ≡ record { entity = at now entity; events = record { reference = 0; what = BadTpdu cause place } ∷ []; tpdus = [] }))
+      ⊎ (((cause : TpduCause) × (place : ℕ) × (acted ≡ record { entity = at now entity; events = record { reference = 0; what = BadTpdu cause place } ∷ []; tpdus = [] }))
+      ⊎ (acted ≡ ignored now entity))

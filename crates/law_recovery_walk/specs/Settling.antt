@@ -25,7 +25,7 @@ pub record HasGoneOn {C : Type 0} (link : C → Link (List ℕ)) (journal : List
   pub clock : next.clock ≡ p.clock
   pub goes : (IsIdle next × IsFollowed link journal new [] x y next) ⊎ IsEnded next
 
--- a network whose queue is this, in which no end is due and no entity began again
+-- a network whose queue is this, in which no end is due
 pub record IsRunning {C : Type 0} (link : C → Link (List ℕ)) (titles : List (List ℕ)) (Waits : C → List (CarriedUnit (List ℕ)) → Type 0) (world : World C) (hall : Hall)
     (queue : List (CarriedUnit (List ℕ))) : Type 0 where
   pub shows : IsHall link titles Waits world hall queue
