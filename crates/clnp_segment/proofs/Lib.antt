@@ -15,6 +15,7 @@ mod Rooms
 mod Slots
 mod Spans
 mod Storing
+mod Stretches
 mod Taking
 pub mod Units
 mod Wholes

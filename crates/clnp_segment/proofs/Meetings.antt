@@ -4,7 +4,7 @@ use Rattle.std.proofs.Common.{◌≡◌, ◌⊎◌, ℕ, zero, suc, ◌+◌, ◌
 use Rattle.std.specs.Prelude.{slice_range}
 use Rattle.std.specs.List.{remove}
 use Rattle.std.proofs.lemmas.Bool.{cases_lt, lt-ltb, le-ltb}
-use Rattle.std.proofs.lemmas.Option.{get_or_from_slice_get, slice_get-get_or, slice_get_within}
+use Rattle.std.proofs.lemmas.Option.{get_or_from_slice_get, slice_get-get_or, slice_get_past, slice_get_read, slice_get_within}
 use Rattle.std.proofs.lemmas.List.Sums.{count_by-le-length}
 use Rattle.std.proofs.lemmas.List.{append-nil, drop-set, drop_all, get_or-set_other, get_or-set_same, get_or_default, length-replicate, set-get_or, set-set, take-append-drop, take-set, take_all, take_more, take_more_set, length-drop, length-take}
 use Rattle.clnp_segment.specs.declared.runs.Run.{Run}
@@ -71,6 +71,18 @@ module _ (runs : List Run) (at first past middle : ℕ) (x : Run) (rise : Rise 0
     before = h.before;
     met = λ k d over inside. omega (arith, rise_end 0 runs middle k d rise over inside, ap end_of (same_middle d), behind);
   }
+
+-- where the first run ends there or behind it, none ends before
+pub first_of_all : (runs : List Run) (at : ℕ) (x : Run) → Rise 0 runs → 0 < length runs → x ≡ get_or runs 0 x → at ≤ end_of x → IsFirst runs at 0
+first_of_all runs at x rise some is near =
+    let whole : IsSearch runs at 0 (length runs) = record {
+      order = omega arith;
+      within = omega arith;
+      before = λ k d under. absurd (omega (arith, under));
+      met = λ k d over inside. absurd (omega (arith, over, inside));
+    } in
+    let none = search_before runs at 0 (length runs) 0 x rise whole (omega arith) some is near in
+    record { within = omega arith; before = none.before; met = none.met }
 
 -- ---- those that are met
 pub slice_push : (xs : List Run) (first last : ℕ) (d : Run) → first ≤ last → last < length xs
@@ -379,6 +391,31 @@ meets_all runs r first last start end held rise f h none =
       where
         clash : (x : Run) → Some x ≡ None → ⊥
         clash x e = cc e
+
+-- a run that begins where the last one ends meets it alone
+pub meets_last : (runs : List Run) (r x : Run) (first last start end held : ℕ) → Rise 0 runs → last ≡ length runs → first + 1 ≡ last → x ≡ get_or runs first x
+    → end_of x ≡ r.start → start ≡ x.start → end ≡ end_of r → held ≡ length x.octets → Meets runs r first last start end held
+meets_last runs r x first last start end held rise whole next is near start_is end_is held_is =
+    subst (λ (n : ℕ). Meets runs r first n start end held) next
+    (meets_all runs r first (first + 1) start end held rise none
+    (meeting_next runs r first first r.start (end_of r) 0 start end held x rise none (meeting_none runs r first r.start (end_of r) none refl refl) got
+    (omega (arith, near)) (omega (arith, near, start_is)) (omega (arith, near, end_is)) (omega (arith, held_is)))
+    (slice_get_past runs (first + 1) (omega (arith, whole, next))))
+  where
+    got : slice_get runs first ≡ Some x
+    got = slice_get_read runs (length runs) first x refl (omega (arith, whole, next)) is
+
+    here : (d : Run) → get_or runs first d ≡ x
+    here d = get_or_from_slice_get runs first x d got
+
+    none : IsFirst runs r.start first
+    none = record {
+      within = omega (arith, whole, next);
+      before = λ k d under. omega (arith, rise_next 0 runs k first d rise under (omega (arith, whole, next)), ap (λ (y : Run). y.start) (here d), near);
+      met = λ k d over inside.
+          let e : k ≡ first = omega (arith, over, inside, whole, next) in
+          omega (arith, ap (λ (n : ℕ). end_of (get_or runs n d)) e, ap end_of (here d), near);
+    }
 
 -- ---- those that are met go, and one is in their stead
 remove_parts : (xs : List Run) (i : ℕ) → remove xs i ≡ take i xs ++ drop (i + 1) xs

@@ -93,11 +93,10 @@ impl Joint {
         requires { at + length octets.now ≤ length self.now.slots }
         ensures { Compares self.now.slots at octets.now result }
     {
-        if self.runs.clash(at, octets) {
+        let Some(fresh) = self.runs.fresh(at, octets) else {
             return Verdict::Clash;
-        }
+        };
         let all = self.runs.len();
-        let fresh = self.runs.empty(at, octets);
         if self.runs.count() + fresh == all {
             return Verdict::Whole;
         }

@@ -6,6 +6,7 @@ mod held;
 mod laws;
 mod runs;
 mod store;
+mod stretch;
 mod unit;
 
 pub use cutting::{CutRefusal, cut};

@@ -1,12 +1,13 @@
 //! The octets of a unit that came, in runs (X.233, reassembly).
 
-ghost use Rattle.std.specs.Prelude.{◌≡◌, ◌≢◌, ◌<◌, ◌≤◌, ◌+◌, ◌-◌, ◌++◌, ◌∷◌, true, false, length, count_by, drop, ℕ, is_none, is_some, map, replicate, slice_index_or, slice_range, slice_set, take, IfOk, MatchBool, None, OnErr, OnOk, Some};
+ghost use Rattle.std.specs.Prelude.{◌≡◌, ◌≢◌, ◌<◌, ◌≤◌, ◌+◌, ◌-◌, ◌++◌, ◌∷◌, true, false, length, count_by, drop, ℕ, is_none, is_some, map, replicate, slice_index_or, slice_range, slice_set, take, IfOk, IfSome, MatchBool, None, OnErr, OnOk, Some};
 ghost use Rattle.std.specs.List.{All};
 ghost use Rattle.clnp_segment.specs.steps.Places.{is_clash, written};
 ghost use Rattle.clnp_segment.specs.declared.runs.Run.{Run};
 ghost use Rattle.clnp_segment.specs.steps.Spans.{Agree, IsFirst, IsSpanned, Meets, Rise, end_of, gathered, spanned};
 
-use osi_base::{Bytes, NoMemory};
+use crate::stretch::Stretch;
+use osi_base::NoMemory;
 use std::alloc::Global;
 use std::collections::VecDeque;
 use std::marker::Model;
@@ -16,7 +17,7 @@ use std::mem;
 #[derive(Drop)]
 pub struct Run {
     start: u16,
-    octets: Bytes,
+    octets: Stretch,
 }
 
 impl Run {
@@ -87,26 +88,21 @@ impl Runs {
         self.count
     }
 
-    /// Whether an octet is another than that in its place.
-    pub fn clash(&self, at: u16, octets: &[u8]) -> bool
+    /// How many of the places of these octets are empty; none where an octet is another than that in its place.
+    pub fn fresh(&self, at: u16, octets: &[u8]) -> Option<usize>
         requires { at + length octets.now ≤ length self.now }
-        ensures { result ≡ is_clash self.now at octets.now }
-    {
-        let met = meet(&self.runs, at, octets.len());
-        any_differs(&self.runs, met.first, met.last, at, octets)
-    }
-
-    /// How many of the places of these octets are empty.
-    pub fn empty(&self, at: u16, octets: &[u8]) -> usize
-        requires { at + length octets.now ≤ length self.now }
-        ensures { result ≡ count_by is_none (take (length octets.now) (drop at self.now)) }
+        ensures clash { is_clash self.now at octets.now ≡ is_none result }
+        ensures empty { IfSome result (λ fresh. fresh ≡ count_by is_none (take (length octets.now) (drop at self.now))) }
     {
         let count = octets.len();
-        if count == 0 {
-            return 0;
-        }
         let met = meet(&self.runs, at, count);
-        met.end - met.start - met.held
+        if any_differs(&self.runs, met.first, met.last, at, octets) {
+            return None;
+        }
+        if count == 0 {
+            return Some(0);
+        }
+        Some(met.end - met.start - met.held)
     }
 
     /// Writes the octets into their places. At NoMemory they are unchanged.
@@ -156,6 +152,19 @@ fn meet(runs: &VecDeque<Run>, at: u16, count: usize) -> Met
     ensures within { result.last ≤ length runs.now.items }
     ensures met { (r : Run) → r.start ≡ at → length r.octets ≡ count → Meets runs.now.items r result.first result.last result.start result.end result.held }
 {
+    // Mostly a segment begins where the last run ends, and meets it alone.
+    if let Some(run) = runs.back()
+        && run.end() == usize::from(at)
+    {
+        let last = runs.len();
+        return Met {
+            first: last - 1,
+            last,
+            start: usize::from(run.start),
+            end: usize::from(at) + count,
+            held: run.octets.as_slice().len(),
+        };
+    }
     let first = first_met(runs, at);
     let mut last = first;
     let mut start = usize::from(at);
@@ -185,8 +194,12 @@ fn first_met(runs: &VecDeque<Run>, at: u16) -> usize
     requires { Rise 0 runs.now.items }
     ensures { IsFirst runs.now.items at result }
 {
-    let mut first = 0;
     let mut past = runs.len();
+    // Of segments that come in reverse order, none comes behind the first run.
+    if past > 0 && usize::from(at) <= runs[0].end() {
+        return 0;
+    }
+    let mut first = 0;
     while first < past {
         let middle = first + (past - first) / 2;
         if runs[middle].end() < usize::from(at) {
@@ -239,12 +252,12 @@ fn join(
     ensures err { OnErr result (runs.new.items ≡ runs.old.items) }
 {
     if last - first == 1 && runs[first].end() == usize::from(at) {
-        return append(alloc, &mut runs[first], octets);
+        return append(&mut runs[first], octets);
     }
     if first == last {
         let run = Run {
             start: at,
-            octets: Bytes::copy(alloc, octets)?,
+            octets: Stretch::copy(alloc, octets)?,
         };
         runs.insert(first, run)?;
         return Ok(());
@@ -255,15 +268,11 @@ fn join(
 }
 
 /// The octets stand behind those of the run. At NoMemory it is unchanged.
-fn append(alloc: Global, run: &mut Run, octets: &[u8]) -> Result<(), NoMemory>
+fn append(run: &mut Run, octets: &[u8]) -> Result<(), NoMemory>
     ensures ok { OnOk result (run.new ≡ record run.old { octets = run.old.octets ++ octets.now }) }
     ensures err { OnErr result (run.new ≡ run.old) }
 {
-    let mut whole = mem::replace(&mut run.octets, Bytes::of(Vec::new(alloc))).into_vec();
-    let outcome = whole.extend_from_slice(octets);
-    run.octets = Bytes::of(whole);
-    outcome?;
-    Ok(())
+    run.octets.append(octets)
 }
 
 /// The run at `first` becomes its front, the octets from that position on, and the back of the run before `last`. The others stay.
@@ -282,51 +291,52 @@ fn span(
     ensures err { OnErr result (runs.new.items ≡ runs.old.items) }
 {
     if runs[first].start > at {
+        if last - first == 1 {
+            return prepend(alloc, &mut runs[first], at, octets);
+        }
         let run = in_front(alloc, &runs[last - 1], at, octets)?;
         runs[first] = run;
         return Ok(());
     }
     let end = usize::from(at) + octets.len();
     if last - first == 1 && end <= runs[first].end() {
-        overwrite(alloc, &mut runs[first], at, octets);
+        overwrite(&mut runs[first], at, octets);
         return Ok(());
     }
     lengthen(alloc, runs, first, last, at, octets)
+}
+
+/// The run begins with the octets, which begin before it. At NoMemory it is unchanged.
+fn prepend(alloc: Global, run: &mut Run, at: u16, octets: &[u8]) -> Result<(), NoMemory>
+    ensures ok { OnOk result (run.new ≡ record { start = at; octets = octets.now ++ drop (at + length octets.now - run.old.start) run.old.octets }) }
+    ensures err { OnErr result (run.new ≡ run.old) }
+{
+    let from = usize::from(at);
+    let gone = (from + octets.len()).saturating_sub(usize::from(run.start));
+    run.octets.put_before(alloc, from, gone, octets)?;
+    run.start = at;
+    Ok(())
 }
 
 /// The octets from that position on, and behind them those of the run.
 fn in_front(alloc: Global, run: &Run, at: u16, octets: &[u8]) -> Result<Run, NoMemory>
     ensures { IfOk result (λ whole. whole ≡ record { start = at; octets = octets.now ++ drop (at + length octets.now - run.now.start) run.now.octets }) }
 {
-    let back = run.behind(usize::from(at) + octets.len());
-    let mut whole = Vec::with_capacity(alloc, octets.len() + back.len())?;
-    whole.extend_from_slice(octets)?;
-    whole.extend_from_slice(back)?;
+    let mut whole = Stretch::copy(alloc, octets)?;
+    whole.append(run.behind(usize::from(at) + octets.len()))?;
     Ok(Run {
         start: at,
-        octets: Bytes::of(whole),
+        octets: whole,
     })
 }
 
 /// The octets are written into the run, which has their places.
-fn overwrite(alloc: Global, run: &mut Run, at: u16, octets: &[u8])
+fn overwrite(run: &mut Run, at: u16, octets: &[u8])
     requires start { run.old.start ≤ at }
     requires end { at + length octets.now ≤ end_of run.old }
     ensures { run.new ≡ record run.old { octets = take (at - run.old.start) run.old.octets ++ (octets.now ++ drop (at + length octets.now - run.old.start) run.old.octets) } }
 {
-    let from = usize::from(at - run.start);
-    let mut whole = mem::replace(&mut run.octets, Bytes::of(Vec::new(alloc))).into_vec();
-    put(whole.as_mut_slice(), from, octets);
-    run.octets = Bytes::of(whole);
-}
-
-/// The octets are written from that place on.
-fn put(all: &mut [u8], from: usize, octets: &[u8])
-    requires { from + length octets.now ≤ length all.old }
-    ensures { all.new ≡ take from all.old ++ (octets.now ++ drop (from + length octets.now) all.old) }
-{
-    let to = from + octets.len();
-    all[from..to].copy_from_slice(octets);
+    run.octets.put_over(usize::from(at - run.start), octets);
 }
 
 /// The same, in the buffer of the run at `first`, which begins no later than the octets; where it is the only one, it ends no later.
@@ -348,33 +358,20 @@ fn lengthen(
 {
     let nothing = Run {
         start: 0,
-        octets: Bytes::of(Vec::new(alloc)),
+        octets: Stretch::new(alloc),
     };
     let Run {
         start,
-        octets: held,
+        octets: mut whole,
     } = mem::replace(&mut runs[first], nothing);
-    let mut whole = held.into_vec();
     // Where the last is the first, no octet of it is behind these.
     let back = runs[last - 1].behind(usize::from(at) + octets.len());
-    let outcome = extend(&mut whole, usize::from(at - start), octets, back);
+    let outcome = whole.put_behind(usize::from(at - start), octets, back);
     runs[first] = Run {
         start,
-        octets: Bytes::of(whole),
+        octets: whole,
     };
     outcome
-}
-
-/// A front of that length is kept, and the octets and the back follow it. At NoMemory all is unchanged.
-fn extend(whole: &mut Vec<u8>, front: usize, octets: &[u8], back: &[u8]) -> Result<(), NoMemory>
-    ensures ok { OnOk result (whole.new.items ≡ take front whole.old.items ++ (octets.now ++ back.now)) }
-    ensures err { OnErr result (whole.new.items ≡ whole.old.items) }
-{
-    whole.reserve(octets.len() + back.len())?;
-    whole.truncate(front);
-    whole.extend_from_slice(octets)?;
-    whole.extend_from_slice(back)?;
-    Ok(())
 }
 
 /// The runs from `first` up to `last` go, and the shorter part of the list beside them moves once.

@@ -50,7 +50,8 @@ pub struct Store {
     octets: usize,
     used: usize,
     held: Vec<HeldUnit>,
-    /// Until when each unit is held, in their order: a tick gives up those whose time has passed, and goes over no others.
+    /// Until when each unit is held, in their order: a tick gives up those whose time has passed, and looks at none where none has; where a unit
+    /// goes, those behind it move up, and no other deadline is written.
     due: DueList,
 }
 

@@ -1,7 +1,7 @@
 -- The list holds the deadline of each row: after a hello, since it changes only rows whose places are noted, and in a sweep, since a row goes
 -- with its deadline. A row whose deadline has come is not known, and where none is due each is.
 use Rattle.std.proofs.Common.{◌≡◌, ◌≢◌, ℕ, zero, suc, ◌+◌, ◌-◌, ◌<◌, ◌≤◌, Bool, true, false, nat_lt, List, [], ◌∷◌, ◌++◌, length, get_or, take, set, map, slice_get, Option, Some, None, refl, sym, ap, ◌∙◌, subst, arith, length-append, length-set, inl, inr}
-use Rattle.std.specs.Prelude.{◌||◌, ◌==◌, ◌⊎◌, cond, if◌then◌else◌}
+use Rattle.std.specs.Prelude.{◌||◌, ◌==◌, ◌⊎◌, cond, if◌then◌else◌, IsSome, OnSome}
 use Rattle.std.specs.List.{filter, remove}
 use Rattle.std.proofs.Math.Bool.{or-false}
 use Rattle.std.proofs.lemmas.Bool.{cases_eq, cases_lt, or_left, or_right, ltb-false, lt-ltb}
@@ -189,6 +189,11 @@ without_unknown now at (row ∷ rows) zero is late =
     (sym (unknown_at now at row (nat_lt (row.heard.tick + row.heard.ticks) 4294967296) late is))
 without_unknown now at (row ∷ rows) (suc place) is late =
     ap (λ (xs : List Row). cond (is_row_known now row) (row ∷ xs) xs) (without_unknown now at rows place is late)
+
+-- where a row was taken out, the others stay
+pub taken : (result : Option Row) (rows rest : List Row) (place : ℕ) → IsSome result → OnSome result (rest ≡ remove rows place) → rest ≡ remove rows place
+taken None rows rest place some is = absurd cc
+taken (Some row) rows rest place some is = is
 
 length-without : (rows : List Row) (place : ℕ) → place < length rows → length (remove rows place) < length rows
 length-without [] place low = absurd (omega (arith, low))

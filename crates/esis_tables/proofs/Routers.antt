@@ -6,6 +6,7 @@ use Rattle.std.specs.declared.cmp.Ordering.{Ordering}
 use Rattle.std.specs.declared.cmp.Ordering.TheVariants.{Less, Equal, Greater}
 use Rattle.std.specs.Ordering.{is_eq, is_gt, is_lt, nat_cmp, ordering_reverse}
 use Rattle.std.specs.Cmp.Lexicographic.{pointwise, same_text, slice_cmp, nat_list_cmp_total, nat_list_eq_equiv, texts_ties}
+use Rattle.std.proofs.Math.Seq.{take-length}
 use Rattle.std.proofs.lemmas.Bool.{and_parts, not-true, or_parts}
 use Rattle.std.proofs.lemmas.Cmp.{upto, tied_itself}
 use Rattle.std.proofs.lemmas.List.{take_more}
@@ -93,6 +94,11 @@ module _ (now : ℕ) where
       subst (λ (xs : List Row). IsLeastRouter xs now next) (sym more)
       (subst (λ (found : Option Row). IsLeastRouter (take i rows ++ row ∷ []) now found) (sym moved)
       (one_more (take i rows) least row (is_before row least) (is_router now row) refl refl h))
+
+  -- once each row was seen
+  pub least_whole : (rows : List Row) (i : ℕ) (least : Option Row) → i ≡ length rows → IsLeastRouter (take i rows) now least → IsLeastRouter rows now least
+  least_whole rows i least whole h =
+      subst (λ (xs : List Row). IsLeastRouter xs now least) (ap (λ (n : ℕ). take n rows) whole ∙ take-length rows) h
 
 -- what is behind another is not before it
 reversed : (o : Ordering) → not (is_gt (ordering_reverse o)) ≡ true → is_lt o ≡ false
@@ -197,7 +203,5 @@ module _ (now : ℕ) (rows : List Row) where
       (sym (found_least h.0 distinct h.1 (find (is_least rows now) rows) refl))
 
 -- the hop that was found in the rows that a table lends
-pub router_at : (now : ℕ) (rows held lent : List Row) (hop : Option Hop) → held ≡ rows → lent ≡ held → IsTable held → IsRouterHop lent now hop
-    → hop ≡ router_in rows now
-router_at now rows held lent hop same also table h =
-    same_router now held hop table.distinct (subst (λ (xs : List Row). IsRouterHop xs now hop) also h) ∙ ap (λ (xs : List Row). router_in xs now) same
+pub router_at : (now : ℕ) (rows held : List Row) (hop : Option Hop) → held ≡ rows → IsTable held → IsRouterHop held now hop → hop ≡ router_in rows now
+router_at now rows held hop same table h = same_router now held hop table.distinct h ∙ ap (λ (xs : List Row). router_in xs now) same

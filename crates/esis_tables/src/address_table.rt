@@ -3,7 +3,7 @@
 //! Profile: a table has at most 256 rows.
 
 ghost use Rattle.std.specs.Prelude.{◌≡◌, ◌<◌, ◌≤◌, ◌↔◌, [], ◌∷◌, ◌++◌, false, Err, None, Some, IsTrue, OnOk, OnErr, IfOk, length, position, take, option_copied, nat_eq};
-ghost use Rattle.std.specs.List.{All, filter};
+ghost use Rattle.std.specs.List.{All, filter, remove};
 ghost use Rattle.std.specs.Cmp.Lexicographic.{pointwise};
 ghost use Rattle.esis_tables.specs.declared.address_table.HearRefusal.TheVariants.{Full};
 ghost use Rattle.esis_tables.specs.Rows.{IsTable, count_with, find_row, has_row, heard_table, is_row_known, no_rows, router_in, row_at, rows_with, swept_table};
@@ -16,6 +16,7 @@ use due_links::DueList;
 use nsap::{Hop, Nsap};
 use osi_base::{NoMemory, Tick};
 use std::alloc::Global;
+use std::collections::VecDeque;
 use std::marker::Model;
 
 /// The most rows of a table.
@@ -46,8 +47,9 @@ impl From<NoMemory> for HearRefusal {
 pub struct AddressTable {
     alloc: Global,
     clock: Tick,
-    rows: Vec<Row>,
-    /// When rows are known no longer, in their order: a tick sweeps those alone. Made by the first hello.
+    // A ring, of which the shorter part moves where a row goes: none where it is the first, which is mostly the one that was heard longest ago.
+    rows: VecDeque<Row>,
+    /// When rows are known no longer, in their order: a tick takes out those alone, and looks at none where none is due. Made by the first hello.
     due: Option<DueList>,
 }
 
@@ -72,7 +74,7 @@ impl AddressTable {
         AddressTable {
             alloc,
             clock: 0,
-            rows: Vec::new(alloc),
+            rows: VecDeque::new(alloc),
             due: None,
         }
     }
@@ -149,14 +151,14 @@ impl AddressTable {
 }
 
 // The place of the row of an address.
-fn place_in(rows: &[Row], address: &Nsap) -> Option<usize>
-    ensures { result ≡ position (λ row. pointwise nat_eq row.address address.now) rows.now }
+fn place_in(rows: &VecDeque<Row>, address: &Nsap) -> Option<usize>
+    ensures { result ≡ position (λ row. pointwise nat_eq row.address address.now) rows.now.items }
 {
     rows.iter().position(|row| row.address == *address)
 }
 
 // Puts a row behind the others.
-fn put(rows: &mut Vec<Row>, address: Nsap, heard: &Heard) -> Result<(), NoMemory>
+fn put(rows: &mut VecDeque<Row>, address: Nsap, heard: &Heard) -> Result<(), NoMemory>
     ensures ok { OnOk result (rows.new.items ≡ rows.old.items ++ record { address = address; heard = heard.now } ∷ []) }
     ensures err { OnErr result (rows.new.items ≡ rows.old.items) }
 {
@@ -166,12 +168,12 @@ fn put(rows: &mut Vec<Row>, address: Nsap, heard: &Heard) -> Result<(), NoMemory
         title,
     };
     let heard = Heard { hop, ..*heard };
-    rows.push(Row { address, heard })?;
+    rows.push_back(Row { address, heard })?;
     Ok(())
 }
 
 // The place of the row of an address, which is put behind the others where there is none.
-fn place_of(rows: &mut Vec<Row>, name: &Nsap, heard: &Heard) -> Result<usize, HearRefusal>
+fn place_of(rows: &mut VecDeque<Row>, name: &Nsap, heard: &Heard) -> Result<usize, HearRefusal>
     requires { IsTable rows.old.items }
     ensures table { IsTable rows.new.items }
     ensures ok { OnOk result (rows.new.items ≡ row_added rows.old.items name.now heard.now) }
@@ -192,7 +194,7 @@ fn place_of(rows: &mut Vec<Row>, name: &Nsap, heard: &Heard) -> Result<usize, He
 // Puts a row for each name that has none, and gives the places of the rows that are named.
 fn places_of(
     alloc: Global,
-    rows: &mut Vec<Row>,
+    rows: &mut VecDeque<Row>,
     names: &[Nsap],
     heard: &Heard,
 ) -> Result<Vec<usize>, HearRefusal>
@@ -222,7 +224,7 @@ fn note(places: &mut Vec<usize>, place: usize) -> Result<(), NoMemory>
 }
 
 // The rows at these places hold what was heard.
-fn renew(rows: &mut Vec<Row>, heard: &Heard, places: &[usize])
+fn renew(rows: &mut VecDeque<Row>, heard: &Heard, places: &[usize])
     requires { All (λ place. place < length rows.old.items) places.now }
     ensures { IsRenewed heard.now places.now rows.old.items rows.new.items }
 {
@@ -243,18 +245,18 @@ fn made(due: Option<DueList>, alloc: Global) -> Result<DueList, NoMemory>
 }
 
 // The deadline of the row at a place, where one stands there.
-fn deadline_at(rows: &[Row], place: usize) -> Option<Tick>
-    ensures { result ≡ deadline_at rows.now place }
+fn deadline_at(rows: &VecDeque<Row>, place: usize) -> Option<Tick>
+    ensures { result ≡ deadline_at rows.now.items place }
 {
     rows.get(place)?.deadline()
 }
 
 // The rows from that place on are listed, due at their deadlines.
-fn list_new(due: &mut DueList, rows: &[Row], stood: usize)
+fn list_new(due: &mut DueList, rows: &VecDeque<Row>, stood: usize)
     requires stood { length due.old.ticks ≡ stood }
-    requires order { stood ≤ length rows.now }
-    requires few { length rows.now ≤ due.old.most }
-    ensures ticks { IsListed rows.now (length rows.now) due.old.ticks due.new.ticks }
+    requires order { stood ≤ length rows.now.items }
+    requires few { length rows.now.items ≤ due.old.most }
+    ensures ticks { IsListed rows.now.items (length rows.now.items) due.old.ticks due.new.ticks }
     ensures most { due.new.most ≡ due.old.most }
 {
     for place in stood..rows.len() {
@@ -263,9 +265,9 @@ fn list_new(due: &mut DueList, rows: &[Row], stood: usize)
 }
 
 // The rows at these places are due at their deadlines.
-fn keep_noted(due: &mut DueList, rows: &[Row], places: &[usize])
+fn keep_noted(due: &mut DueList, rows: &VecDeque<Row>, places: &[usize])
     requires { All (λ place. place < length due.old.ticks) places.now }
-    ensures ticks { IsKept rows.now places.now due.old.ticks due.new.ticks }
+    ensures ticks { IsKept rows.now.items places.now due.old.ticks due.new.ticks }
     ensures most { due.new.most ≡ due.old.most }
 {
     for place in places {
@@ -273,34 +275,43 @@ fn keep_noted(due: &mut DueList, rows: &[Row], places: &[usize])
     }
 }
 
-// Only the rows that are known stay; none is looked at where none is due.
+// Only the rows that are known stay. None is looked at where none is due; where one goes, the shorter part of the ring beside it moves.
 // Apart, so that a tick before the first hello has no room for these values to clear.
 #[inline(never)]
-fn sweep_due(due: &mut DueList, rows: &mut Vec<Row>, now: Tick)
+fn sweep_due(due: &mut DueList, rows: &mut VecDeque<Row>, now: Tick)
     requires { AreDeadlines rows.old.items due.old.ticks }
     ensures due { AreDeadlines rows.new.items due.new.ticks }
     ensures most { due.new.most ≡ due.old.most }
     ensures rows { rows.new.items ≡ filter (is_row_known now) rows.old.items }
 {
     while let Some(place) = due.pop(now) {
-        rows.remove(place);
+        take_out(rows, place);
     }
 }
 
+// The row at a place goes.
+fn take_out(rows: &mut VecDeque<Row>, place: usize)
+    requires { place < length rows.old.items }
+    ensures { rows.new.items ≡ remove rows.old.items place }
+{
+    rows.remove(place);
+}
+
 // The hop to the known intermediate system of least title.
-fn hop_to_router(rows: &[Row], now: Tick) -> Option<Hop>
-    ensures { IsRouterHop rows.now now result }
+fn hop_to_router(rows: &VecDeque<Row>, now: Tick) -> Option<Hop>
+    ensures { IsRouterHop rows.now.items now result }
 {
     let row = least_router(rows, now)?;
     Some(row.heard.hop)
 }
 
 // The row of the known intermediate system of least title.
-fn least_router(rows: &[Row], now: Tick) -> Option<Row>
-    ensures { IsLeastRouter rows.now now result }
+fn least_router(rows: &VecDeque<Row>, now: Tick) -> Option<Row>
+    ensures { IsLeastRouter rows.now.items now result }
 {
     let mut least = None;
-    for row in rows {
+    for place in 0..rows.len() {
+        let row = &rows[place];
         if is_lesser(row, &least, now) {
             least = Some(*row);
         }

@@ -4,9 +4,15 @@ use Rattle.esis_tables.proofs.address_table.sweep_due.Goals as goal
 
 pub loop-place-preserved : goal.loop-place-preserved
 loop-place-preserved c =
-    let h = sweeping_more c.args.now c.args.rows.now.items c.loop-place.rows.items c.remove.new.self.items c.loop-place.due c.pop.new.self c.in-Some.place
-    c.remove.ensures.items c.loop-place.invariant.0 c.in-Some.ensures in
+    let h = sweeping_more c.args.now c.args.rows.now.items c.loop-place.rows.items c.take_out.new.rows.items c.loop-place.due c.pop.new.self c.in-Some.place
+    c.take_out.ensures c.loop-place.invariant.0 c.in-Some.ensures in
     (h.0, h.1 ∙ c.loop-place.invariant.1)
+
+pub loop-place-smaller : goal.loop-place-smaller
+loop-place-smaller c =
+    let h = sweeping_more c.args.now c.args.rows.now.items c.loop-place.rows.items c.take_out.new.rows.items c.loop-place.due c.pop.new.self c.in-Some.place
+    c.take_out.ensures c.loop-place.invariant.0 c.in-Some.ensures in
+    h.2
 
 pub returns-clause-rows : goal.returns-clause-rows
 returns-clause-rows c =

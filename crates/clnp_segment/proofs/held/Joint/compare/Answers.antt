@@ -9,7 +9,7 @@ pub overflow_add-count : goal.overflow_add-count
 overflow_add-count c =
     let slots = c.args.self.now.slots in
     let same : c.self.inside.runs ≡ slots = ap (λ (h : Held). h.slots) c.self.view_is in
-    let counted = count_fresh c.self.inside.runs slots c.args.at c.empty-fresh.result c.args.octets.now c.requires same c.empty-fresh.ensures in
+    let counted = count_fresh c.self.inside.runs slots c.args.at c.in-Some.fresh c.args.octets.now c.requires same c.in-Some.ensures.empty in
     omega (
       arith,
       counted,
@@ -25,8 +25,8 @@ pub returns-then-count-fresh : goal.returns-then-count-fresh
 returns-then-count-fresh c =
     let slots = c.args.self.now.slots in
     let same : c.self.inside.runs ≡ slots = ap (λ (h : Held). h.slots) c.self.view_is in
-    let counted = count_fresh c.self.inside.runs slots c.args.at c.empty-fresh.result c.args.octets.now c.requires same c.empty-fresh.ensures in (
-      ap (λ (xs : List (Option ℕ)). is_clash xs c.args.at c.args.octets.now) (sym same) ∙ (sym c.clash.ensures ∙ c.if-clash.false),
+    let counted = count_fresh c.self.inside.runs slots c.args.at c.in-Some.fresh c.args.octets.now c.requires same c.in-Some.ensures.empty in (
+      ap (λ (xs : List (Option ℕ)). is_clash xs c.args.at c.args.octets.now) (sym same) ∙ c.in-Some.ensures.clash,
       omega (
         arith,
         counted,
@@ -43,8 +43,8 @@ pub returns : goal.returns
 returns c =
     let slots = c.args.self.now.slots in
     let same : c.self.inside.runs ≡ slots = ap (λ (h : Held). h.slots) c.self.view_is in
-    let counted = count_fresh c.self.inside.runs slots c.args.at c.empty-fresh.result c.args.octets.now c.requires same c.empty-fresh.ensures in (
-      ap (λ (xs : List (Option ℕ)). is_clash xs c.args.at c.args.octets.now) (sym same) ∙ (sym c.clash.ensures ∙ c.if-clash.false),
+    let counted = count_fresh c.self.inside.runs slots c.args.at c.in-Some.fresh c.args.octets.now c.requires same c.in-Some.ensures.empty in (
+      ap (λ (xs : List (Option ℕ)). is_clash xs c.args.at c.args.octets.now) (sym same) ∙ c.in-Some.ensures.clash,
       λ all. c.if-count-fresh.false (omega (
         arith,
         counted,

@@ -13,10 +13,10 @@ invariant_of-self-in-Ok c =
     let renewed : IsRenewed c.args.heard.now c.in-Ok.places.items c.places_of.new.rows.items c.renew.new.rows.items =
     subst (λ (places : List ℕ). IsRenewed c.args.heard.now places c.places_of.new.rows.items c.renew.new.rows.items) c.deref.ensures.value c.renew.ensures in
     let listed : IsListed c.renew.new.rows.items (length c.renew.new.rows.items) c.in_ok-due.due.ticks c.list_new.new.due.ticks =
-    subst (λ (rows : List Row). IsListed rows (length rows) c.in_ok-due.due.ticks c.list_new.new.due.ticks) c.deref-in-Ok.ensures.value c.list_new.ensures.ticks in
+    c.list_new.ensures.ticks in
     let kept : IsKept c.renew.new.rows.items c.in-Ok.places.items c.list_new.new.due.ticks c.keep_noted.new.due.ticks =
-    subst (λ (places : List ℕ). IsKept c.renew.new.rows.items places c.list_new.new.due.ticks c.keep_noted.new.due.ticks) c.deref-in-Ok-3.ensures.value
-    (subst (λ (rows : List Row). IsKept rows c.deref-in-Ok-3.result.now c.list_new.new.due.ticks c.keep_noted.new.due.ticks) c.deref-in-Ok-2.ensures.value c.keep_noted.ensures.ticks) in
+    subst (λ (places : List ℕ). IsKept c.renew.new.rows.items places c.list_new.new.due.ticks c.keep_noted.new.due.ticks) c.deref-in-Ok.ensures.value
+    c.keep_noted.ensures.ticks in
     let table : IsTable c.renew.new.rows.items =
     table_all c.args.names.now c.args.heard.now c.in-Ok.places.items c.places_of.new.rows.items c.renew.new.rows.items c.places_of.ensures.table
     c.in-Ok.ensures.places renewed in
@@ -37,7 +37,7 @@ returns-in-Ok-clause-ok c = table_heard c.args.self.now c.args.names.now c.args.
 
 pub invariant_of-self-in-Err : goal.invariant_of-self-in-Err
 invariant_of-self-in-Err c =
-    let count : c.len-stood.result ≡ length c.self.inside.rows.items = omega arith in
+    let count : c.len-stood.result ≡ length c.self.inside.rows.items = omega (arith, c.len-stood.ensures) in
     let same : c.truncate.new.self.items ≡ c.self.inside.rows.items =
     c.truncate.ensures.items ∙ ap (λ (n : ℕ). take n c.places_of.new.rows.items) count ∙ c.places_of.ensures.kept in
     let was = made_due c.take.result c.in_ok-due.due c.self.inside.rows.items
