@@ -9,7 +9,7 @@ use Rattle.script_journal.specs.declared.event.Event.TheVariants.{Connect, Incom
 use Rattle.script_journal.specs.declared.event.Indication.{Indication}
 use Rattle.script_journal.specs.declared.event.Request.{Request}
 use Rattle.script_journal.specs.Lawful.{AreEnds, AreQueues, HasPartner, IsLatest, IsLawful, IsOf, IsQueue, KeepsSilence, Lawful, Makes, MakesAt, Marked, Normal, Expedited, Partner, shown, submitted}
-use Rattle.script_journal.specs.RawLawful.{clock_after, clock_from, tick_after}
+use Rattle.script_journal.specs.RawLawful.{RawLawful, clock_after, clock_from, tick_after}
 use Rattle.law_relay.specs.Notes.{is_note, plain}
 use Rattle.tpdu.specs.declared.service.EndTold.TheVariants as tells
 
@@ -293,3 +293,65 @@ pub noted : (frozen : ℕ) (titles : List (List ℕ)) (journal : List Event) →
 noted frozen titles journal lawful = λ front back is.
     (let l = lawful (plain front) (plain back) (ap plain is ∙ plain_more front back) in
     record { queues = queues_on front titles l.queues; silence = silence_on frozen front l.silence })
+
+-- ---- raw units
+
+-- the events up to one that is no note stand among all, up to that one
+record StandsIn (journal : List Event) (earlier : List Event) (event : Event) : Type 0 where
+  front : List Event
+  back : List Event
+  is : journal ≡ front ++ event ∷ back
+  plain_is : plain front ≡ earlier
+
+stands_in : (journal earlier later : List Event) (event : Event) → plain journal ≡ earlier ++ event ∷ later → StandsIn journal earlier event
+stands_in [] earlier later event is = absurd (nowhere earlier is)
+  where
+    nowhere : (earlier : List Event) → [] ≡ earlier ++ event ∷ later → ⊥
+    nowhere [] none = cc
+    nowhere (other ∷ earlier) none = cc
+stands_in (first ∷ journal) earlier later event is = by (λ front there. stands_in journal front later event there) (is_note first) refl earlier is
+  where
+    by : ((front : List Event) → plain journal ≡ front ++ event ∷ later → StandsIn journal front event) → (b : Bool) → is_note first ≡ b → (earlier : List Event) → joined_by b first (plain journal) ≡ earlier ++ event ∷ later
+        → StandsIn (first ∷ journal) earlier event
+    by others true note earlier there =
+        let rest = others earlier there in
+        record {
+          front = first ∷ rest.front;
+          back = rest.back;
+          is = ap (λ (j : List Event). first ∷ j) rest.is;
+          plain_is = ap (λ (b : Bool). joined_by b first (plain rest.front)) note ∙ rest.plain_is;
+        }
+    by others false some [] there =
+        let same : first ≡ event = cc in
+        record { front = []; back = journal; is = ap (λ (e : Event). e ∷ journal) same; plain_is = refl }
+    by others false some (other ∷ earlier) there =
+        let same : first ≡ other = cc in
+        let tail : plain journal ≡ earlier ++ event ∷ later = cc in
+        let rest = others earlier tail in
+        record {
+          front = first ∷ rest.front;
+          back = rest.back;
+          is = ap (λ (j : List Event). first ∷ j) rest.is;
+          plain_is = ap (λ (b : Bool). joined_by b first (plain rest.front)) some ∙ ap (λ (j : List Event). first ∷ j) rest.plain_is ∙ ap (λ (e : Event). e ∷ earlier) same;
+        }
+
+-- a raw unit that was sent by a plain event was sent, as long before
+pub raw_noted : (life : ℕ) (titles : List (List ℕ)) (journal : List Event) → RawLawful life titles (plain journal) → RawLawful life titles journal
+raw_noted life titles journal lawful before after system from octets is =
+    let sent = lawful (plain before) (plain after) system from octets (ap plain is ∙ plain_more before (events.Unit system from octets ∷ after)) in
+    let there = stands_in before sent.earlier sent.later _ sent.sent in
+    let now : tick_after (plain before) ≡ tick_after before = tick_plain before in
+    let past : tick_after sent.earlier ≡ tick_after there.front = ap tick_after (sym there.plain_is) ∙ tick_plain there.front in
+    let low = sent.recent in
+    record {
+      sender = sent.sender;
+      sender_title = sent.sender_title;
+      own_title = sent.own_title;
+      earlier = there.front;
+      later = there.back;
+      sender_is = sent.sender_is;
+      from_is = sent.from_is;
+      own_is = sent.own_is;
+      sent = there.is;
+      recent = omega (arith, low, now, past);
+    }

@@ -1,3 +1,5 @@
+pub mod Each
+pub mod Ends
 mod Heard
 mod Ran
 mod Sent

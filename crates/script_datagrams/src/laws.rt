@@ -2,7 +2,7 @@
 
 ghost use Rattle.script_world.specs.Plays.{world_acts};
 ghost use Rattle.script_bench.specs.Claims.{IsLaw};
-ghost use Rattle.script_datagrams.specs.Laws.{HearsEach};
+ghost use Rattle.script_datagrams.specs.Laws.{HearsEach, RunsGiveEach};
 ghost use Rattle.script_datagrams.specs.Claims.{ShownWasSent};
 ghost use Rattle.law_datagram_run.specs.Datagrams.{cl_play};
 
@@ -18,4 +18,10 @@ pub fn shows_sent<N: Network>()
 /// that its selector has no user.
 pub fn each_unit_is_heard<N: Network>()
     ensures { HearsEach N.link N.makes }
+{}
+
+/// Whatever part of a script was run, over a network whose units come to end systems alone: in each line each unit that came up gave exactly
+/// one event, in order, the datagram or why there is none.
+pub fn runs_give_each<N: Network>()
+    ensures { RunsGiveEach N.link N.steps N.makes }
 {}

@@ -6,5 +6,5 @@ mod laws;
 mod play;
 mod users;
 
-pub use laws::{each_unit_is_heard, shows_sent};
+pub use laws::{each_unit_is_heard, runs_give_each, shows_sent};
 pub use play::ClPlay;

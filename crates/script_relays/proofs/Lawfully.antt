@@ -4,7 +4,9 @@ use Rattle.std.specs.List.{AllByRecursion}
 use Rattle.osi_base.specs.Link.{Link}
 use Rattle.osi_base.specs.Calls.{Call, Keeps}
 use Rattle.script_journal.specs.Lawful.{Lawful}
+use Rattle.script_journal.specs.RawLawful.{RawLawful}
 use Rattle.script_journal.specs.declared.event.Event.{Event}
+use Rattle.script_journal.specs.declared.event.Event.TheVariants as events
 use Rattle.script_lines.proofs.CommandLines.{line_has, line_stays}
 use Rattle.script_lines.specs.Commands.{HasLine}
 use Rattle.script_lines.specs.declared.words.Dialect.{Dialect}
@@ -17,7 +19,7 @@ use Rattle.law_setup.specs.Entities.{entities_of}
 use Rattle.script_setup.proofs.Entities.{are_timed}
 use Rattle.law_setup.proofs.Proper.{script_proper}
 use Rattle.law_relay.proofs.Chained.{goes_through}
-use Rattle.law_relay.proofs.Noting.{noted, plain_more}
+use Rattle.law_relay.proofs.Noting.{noted, plain_more, raw_noted}
 use Rattle.law_relay.specs.Notes.{plain}
 use Rattle.script_bench.specs.Claims.{IsLaw}
 use Rattle.law_setup.specs.Networks.{NetworkLaws}
@@ -37,8 +39,8 @@ use Rattle.tp4_world.specs.First.{IsFirst}
 use Rattle.tp4_world.specs.Run.{Starts}
 use Rattle.tp4_world.specs.World.{World}
 use Rattle.tp4_world.proofs.Lined.{lines_alike}
-use Rattle.tp4_world.proofs.Shown.{first_honest}
-use Rattle.script_relays.specs.Claims.{RelaysLawfully, frozen_of, titles_of}
+use Rattle.tp4_world.proofs.Shown.{first_honest, sent_where_honest}
+use Rattle.script_relays.specs.Claims.{RelaysLawfully, frozen_of, life_of, titles_of}
 use Rattle.law_relay_run.specs.Relays.{RelayRun, part_of, relay_play}
 use Rattle.law_relay_run.specs.Rows.{rows_of}
 use Rattle.law_relay_run.proofs.Begun.{first_plays}
@@ -138,9 +140,35 @@ module _ {N : Type 0} (link : N → Link (List ℕ)) (steps : N → Call (List �
           subst (λ (w : ScriptWorld (RelayRun N)). Lawful (frozen_of w) (titles_of w) journal) (sym s.last_is)
           (subst (λ (t : Timers). Lawful (frozen_for t) s.end.titles journal) (sym on.rules) (subst (λ (ts : List (List ℕ)). Lawful (frozen_for timers) ts journal) (sym on.titles) journal_lawful))
 
+      -- what holds of all events but the notes
+      journal_plain : plain journal ≡ s.made ++ plain s.rest
+      journal_plain = ap plain s.journal_is ∙ plain_more s.made s.rest ∙ ap (λ (es : List Event). es ++ plain s.rest) made_plain
+
+      plain_raw : RawLawful s.setup.life titles (s.made ++ plain s.rest)
+      plain_raw = sent_where_honest link steps keeps wire s.setup.life titles net (entities_of s.setup) s.made (plain s.rest) on.built.script first s.end.ends first_is begins on.built.runs still_honest
+
+      started_raw : RawLawful (life_of last) (titles_of last) journal
+      started_raw =
+          raw_noted (life_of last) (titles_of last) journal
+          (subst (λ (w : ScriptWorld (RelayRun N)). RawLawful (life_of w) (titles_of w) (plain journal)) (sym s.last_is)
+          (subst (λ (t : Timers). RawLawful t.life s.end.titles (plain journal)) (sym on.rules)
+          (subst (λ (ts : List (List ℕ)). RawLawful s.setup.life ts (plain journal)) (sym on.titles) (subst (RawLawful s.setup.life titles) (sym journal_plain) plain_raw))))
+
     by_lawful : (script : List Line) (names : Declared) (journal : List Event) (last : ScriptWorld (RelayRun N)) → Went (relay_play link steps makes) script names journal last → Lawful (frozen_of last) (titles_of last) journal
     by_lawful script names journal last (inl s) = none_lawful (frozen_of last) (titles_of last) journal s.journal_is
     by_lawful script names journal last (inr s) = started_lawful script names journal last s
+
+    no_event : (event : Event) (before after : List Event) → [] ≡ before ++ event ∷ after → ⊥
+    no_event event [] after is = cc
+    no_event event (first ∷ before) after is = cc
+
+    by_raw : (script : List Line) (names : Declared) (journal : List Event) (last : ScriptWorld (RelayRun N)) → Went (relay_play link steps makes) script names journal last → RawLawful (life_of last) (titles_of last) journal
+    by_raw script names journal last (inl s) = λ before after system from octets is. absurd (no_event (events.Unit system from octets) before after (sym s.journal_is ∙ is))
+    by_raw script names journal last (inr s) = started_raw script names journal last s
+
+    raw_front : (life : ℕ) (titles : List (List ℕ)) (front back : List Event) → RawLawful life titles (front ++ back) → RawLawful life titles front
+    raw_front life titles front back raw before after system from octets is =
+        raw before (after ++ back) system from octets (ap (λ (j : List Event). j ++ back) is ∙ append_assoc before (events.Unit system from octets ∷ after) back)
 
     -- ---- the law
 
@@ -150,12 +178,14 @@ module _ {N : Type 0} (link : N → Link (List ℕ)) (steps : N → Call (List �
           (let lawful = by_lawful script names journal last (went (relay_play link steps makes) texts script names journal last says run) in
           record {
             lawful = lawful;
+            raw = by_raw script names journal last (went (relay_play link steps makes) texts script names journal last says run);
             units = λ front back is. script_units link steps keeps makes texts script names journal last says run front back is;
             through = λ front back is.
                 goes_through (titles_of last) front (lawful front back is).queues (script_relays link steps keeps makes texts script names journal last says run front back is);
           });
       front = λ script before after last h. record {
         lawful = front_lawful (frozen_of last) (titles_of last) before after h.lawful;
+        raw = raw_front (life_of last) (titles_of last) before after h.raw;
         units = λ front back is. h.units front (back ++ after) (ap (λ (j : List Event). j ++ after) is ∙ append_assoc front back after);
         through = λ front back is. h.through front (back ++ after) (ap (λ (j : List Event). j ++ after) is ∙ append_assoc front back after);
       };

@@ -8,7 +8,8 @@ ghost use Rattle.law_relay_run.specs.Relays.{relay_play};
 use script_world::Network;
 
 /// Whatever part of a script was run: each connection is two queues; what a relay submits at one end of a pair is a front of what the
-/// other end shows; and of the partners of the two ends each shows a front of what the other submitted.
+/// other end shows; of the partners of the two ends each shows a front of what the other submitted; and each raw unit that is shown was
+/// sent, to this system, from that address, with these octets, at most the initial lifetime before.
 pub fn relays_lawfully<N: Network>()
     ensures { IsLaw (world_acts (relay_play N.link N.steps N.makes)) RelaysLawfully }
 {
