@@ -1,0 +1,4 @@
+mod Beginning
+mod Calls
+mod Numbers
+mod Usual
