@@ -49,7 +49,7 @@ in_entity : (reference : ℕ) (e : Option Entity) → option_and_then (λ x. end
 in_entity reference None = refl
 in_entity reference (Some e) = end_on e reference
 
-placed_on : {C : Type 0} (world : World C) (number : ℕ) (place : Option EndAt) → end_placed (world_on_wire world) number place ≡ option_map end_on_wire (end_placed world number place)
+pub placed_on : {C : Type 0} (world : World C) (number : ℕ) (place : Option EndAt) → end_placed (world_on_wire world) number place ≡ option_map end_on_wire (end_placed world number place)
 placed_on world number None = refl
 placed_on {C} world number (Some place) = by_latest (latest world.ends place.system place.reference == number)
   where

@@ -1,0 +1,2 @@
+mod Recovered
+pub mod Wired
