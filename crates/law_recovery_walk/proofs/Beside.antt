@@ -57,7 +57,7 @@ latest_last next found (one ∷ ends) end system reference =
     ∙ ap (λ (n : ℕ). if is_at system reference end then n else latest_from (next + 1) (if is_at system reference one then next else found) ends system reference) (omega arith)
 
 -- another end that is made at another place
-latest_elsewhere : (ends : List EndAt) (end : EndAt) (system reference : ℕ) → (system ≡ end.system → reference ≡ end.reference → ⊥) → latest (ends ++ end ∷ []) system reference ≡ latest ends system reference
+pub latest_elsewhere : (ends : List EndAt) (end : EndAt) (system reference : ℕ) → (system ≡ end.system → reference ≡ end.reference → ⊥) → latest (ends ++ end ∷ []) system reference ≡ latest ends system reference
 latest_elsewhere ends end system reference apart = latest_last 1 0 ends end system reference ∙ by (is_at system reference end) refl
   where
     by : (b : Bool) → is_at system reference end ≡ b → (if b then 1 + length ends else latest ends system reference) ≡ latest ends system reference

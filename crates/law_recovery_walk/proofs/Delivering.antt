@@ -88,12 +88,12 @@ read_sourced entity sent t sum read has = by (has_number (kind_for sent.tpdu)) r
     by true is = no_cc t (ap has_number read.kind ∙ is)
     by false is = subst (λ (u : WireTpdu). HasSource (seen 0 u)) (sym (read.control is)) has
 
-each_all : (P Q : Sent → Type 0) (tpdus : List Sent) → ((sent : Sent) → P sent → Q sent) → AllByRecursion P tpdus → AllByRecursion Q tpdus
+pub each_all : (P Q : Sent → Type 0) (tpdus : List Sent) → ((sent : Sent) → P sent → Q sent) → AllByRecursion P tpdus → AllByRecursion Q tpdus
 each_all P Q [] step all = tt
 each_all P Q (sent ∷ tpdus) step all = (step sent all.0, each_all P Q tpdus step all.1)
 
 -- nothing is said in the name of the end
-named_none : (system own reference partner : ℕ) (to : List ℕ) (tpdus : List Sent) → (system ≡ own → AllByRecursion (λ (sent : Sent). Names reference sent.tpdu → ⊥) tpdus)
+pub named_none : (system own reference partner : ℕ) (to : List ℕ) (tpdus : List Sent) → (system ≡ own → AllByRecursion (λ (sent : Sent). Names reference sent.tpdu → ⊥) tpdus)
     → AllByRecursion (λ (sent : Sent). IsForPartner own reference to partner (record { system = system; sent = sent })) tpdus
 named_none system own reference partner to [] all = tt
 named_none system own reference partner to (sent ∷ tpdus) all = (λ at names. absurd ((all at).0 names), named_none system own reference partner to tpdus (λ at. (all at).1))
@@ -309,6 +309,7 @@ module _ {C : Type 0} (link : C → Link (List ℕ)) (titles : List (List ℕ)) 
     pub happenings : List Happening
     pub next : Pair
     pub leads : Leads p happenings next
+    pub clock : next.clock ≡ p.clock
     pub followed : IsFollowed link (journal ++ made) new (rest ++ posted a.system a.acted.tpdus) x y next
 
   module _ (x y : ℕ) (p : Pair) (f : IsFollowed link journal old (post ∷ rest) x y p) (live : IsLive p.calling.stage) (live_there : IsLive p.called.stage) where
@@ -349,6 +350,7 @@ module _ {C : Type 0} (link : C → Link (List ℕ)) (titles : List (List ℕ)) 
           happenings = Comes_back ∷ [];
           next = comes_back p (post.sent ∷ head.left);
           leads = (tt, ap (comes_back p) (sym head.waits_are));
+          clock = refl;
           followed = subst (λ (n : ℕ). IsFollowed link (journal ++ made) new posts_now x y (comes_back_at n p (post.sent ∷ head.left))) (sym f.clock)
               (record {
                 calling = took.stands;
@@ -377,6 +379,7 @@ module _ {C : Type 0} (link : C → Link (List ℕ)) (titles : List (List ℕ)) 
           happenings = Comes_forth ∷ [];
           next = comes_forth p (post.sent ∷ head.left);
           leads = (tt, ap (comes_forth p) (sym head.waits_are));
+          clock = refl;
           followed = subst (λ (n : ℕ). IsFollowed link (journal ++ made) new posts_now x y (comes_forth_at n p (post.sent ∷ head.left))) (sym f.clock)
               (record {
                 calling = th.stands;
@@ -402,6 +405,7 @@ module _ {C : Type 0} (link : C → Link (List ℕ)) (titles : List (List ℕ)) 
           happenings = [];
           next = p;
           leads = refl;
+          clock = refl;
           followed = record {
             calling = here.stands;
             called = there.stands;

@@ -42,11 +42,11 @@ use Rattle.law_recovery_walk.proofs.Delivering.{HasComeOn, handed_over}
 
 -- ---- pairs
 
-leads_then : (p mid last : Pair) (first more : List Happening) → Leads p first mid → Leads mid more last → Leads p (first ++ more) last
+pub leads_then : (p mid last : Pair) (first more : List Happening) → Leads p first mid → Leads mid more last → Leads p (first ++ more) last
 leads_then p mid last [] more a b = subst (λ (q : Pair). Leads q more last) a b
 leads_then p mid last (happening ∷ first) more a b = (a.0, leads_then (next_pair p happening) mid last first more a.1 b)
 
-live_or : (stage : StateData) → IsLive stage ⊎ (IsLive stage → ⊥)
+pub live_or : (stage : StateData) → IsLive stage ⊎ (IsLive stage → ⊥)
 live_or (stages.Opened o) = inl tt
 live_or (stages.Closing c) = inl tt
 live_or (stages.CrWait w) = inr (λ live. live)
@@ -143,6 +143,7 @@ module _ {C : Type 0} (link : C → Link (List ℕ)) (steps : C → Call (List �
     happenings : List Happening
     next : Pair
     leads : Leads p happenings next
+    clock : next.clock ≡ p.clock
     follows : IsFollowed link (journal ++ made) mid hall.posts x y next
 
   one_goes : (old mid : World C) (journal made : List Event) (hall : Hall) (queue : List (CarriedUnit (List ℕ))) (pair : ℕ × ℕ) (x y : ℕ) (p : Pair)
@@ -156,6 +157,7 @@ module _ {C : Type 0} (link : C → Link (List ℕ)) (steps : C → Call (List �
       happenings = [];
       next = p;
       leads = refl;
+      clock = refl;
       follows = followed_still link journal made old mid still.entities still.ends still.clock still.none hall.posts x y p f;
     }
     | inr come ↦
@@ -169,6 +171,7 @@ module _ {C : Type 0} (link : C → Link (List ℕ)) (steps : C → Call (List �
           happenings = went.happenings;
           next = went.next;
           leads = went.leads;
+          clock = went.clock;
           follows = went.followed;
         }
   ]
@@ -183,7 +186,7 @@ module _ {C : Type 0} (link : C → Link (List ℕ)) (steps : C → Call (List �
       let idle : IsFollowed link journal old [] x y p = subst (λ (ps : List Post). IsFollowed link journal old ps x y p) posts f in
       let now : IsFollowed link (journal ++ made) new [] x y p =
       followed_still link journal made old new (ap (λ (v : World C). v.entities) same) (ap (λ (v : World C). v.ends) same) (ap (λ (v : World C). (link v.carrier).clock) same) tells [] x y p idle in
-      record { happenings = []; next = p; leads = refl; goes = inl (idle_of link (journal ++ made) new x y p now, now) }
+      record { happenings = []; next = p; leads = refl; clock = refl; goes = inl (idle_of link (journal ++ made) new x y p now, now) }
   settles_on count old made new (TooMany n o m l pair fresh most made_is same) journal hall queue x y p s ex all f live live_there =
       absurd (subst (λ (es : List Event). AllByRecursion IsUndropped es) made_is all).0
   settles_on count old made new (OneMore n o m l pair mid here rest fresh low delivers settles made_is) journal hall queue x y p s ex all f live live_there =
@@ -198,12 +201,13 @@ module _ {C : Type 0} (link : C → Link (List ℕ)) (steps : C → Call (List �
         happenings = first.happenings ++ later.happenings;
         next = later.next;
         leads = leads_then p first.next later.next first.happenings later.happenings first.leads later.leads;
+        clock = later.clock ∙ first.clock;
         goes = later.goes;
       }) in
       elim (live_or first.next.calling.stage) [
         | inl one ↦ elim (live_or first.next.called.stage) [
           | inl other ↦ more one other
-          | inr ended ↦ record { happenings = first.happenings; next = first.next; leads = first.leads; goes = inr (λ one other. ended other) }
+          | inr ended ↦ record { happenings = first.happenings; next = first.next; leads = first.leads; clock = first.clock; goes = inr (λ one other. ended other) }
         ]
-        | inr ended ↦ record { happenings = first.happenings; next = first.next; leads = first.leads; goes = inr (λ one other. ended one) }
+        | inr ended ↦ record { happenings = first.happenings; next = first.next; leads = first.leads; clock = first.clock; goes = inr (λ one other. ended one) }
       ]

@@ -44,11 +44,11 @@ pub record HalvesSay (Q : Sent → Type 0) (rules : FlowRules) : Type 0 where
   pub speaks : (sent : Sent) → sent.to ≡ rules.to → destination_of sent.tpdu ≡ Some rules.partner → ((own : ℕ) → IsBy own sent.tpdu) → sent.format ≡ rules.format → Q sent
 
 module _ (Q : Sent → Type 0) (rules : FlowRules) (say : HalvesSay Q rules) where
-  record Sends (x : Sendings) : Type 0 where
-    rules_are : x.sender.rules ≡ rules
-    tpdus : AllByRecursion Q x.tpdus
+  pub record Sends (x : Sendings) : Type 0 where
+    pub rules_are : x.sender.rules ≡ rules
+    pub tpdus : AllByRecursion Q x.tpdus
 
-  said : (r : FlowRules) (sent : Sent) → r ≡ rules → sent.to ≡ r.to → destination_of sent.tpdu ≡ Some r.partner → ((own : ℕ) → IsBy own sent.tpdu) → sent.format ≡ r.format → Q sent
+  pub said : (r : FlowRules) (sent : Sent) → r ≡ rules → sent.to ≡ r.to → destination_of sent.tpdu ≡ Some r.partner → ((own : ℕ) → IsBy own sent.tpdu) → sent.format ≡ r.format → Q sent
   said r sent is to target by format =
       say.speaks sent (to ∙ ap (λ (f : FlowRules). f.to) is) (target ∙ ap (λ (f : FlowRules). Some f.partner) is) by (format ∙ ap (λ (f : FlowRules). f.format) is)
 
@@ -96,17 +96,17 @@ module _ (Q : Sent → Type 0) (rules : FlowRules) (say : HalvesSay Q rules) whe
   new_sent : (s : FlowSender) → s.rules ≡ rules → Sends (new_sends s)
   new_sent s is = either Sends s.is_open _ _ (then_sent (one_urgent s) normals_where (urgent_sent s is) where_sent) (nothing_sent s is)
 
-  submitted_sent : (s : FlowSender) (unit : List ℕ) → s.rules ≡ rules → Sends (submitted s unit)
+  pub submitted_sent : (s : FlowSender) (unit : List ℕ) → s.rules ≡ rules → Sends (submitted s unit)
   submitted_sent s unit is = new_sent (record s { queue = record s.queue { units = s.queue.units ++ unit ∷ [] } }) is
 
-  urged_sent : (s : FlowSender) (unit : List ℕ) → s.rules ≡ rules → Sends (urged s unit)
+  pub urged_sent : (s : FlowSender) (unit : List ℕ) → s.rules ≡ rules → Sends (urged s unit)
   urged_sent s unit is = new_sent (record s { urgent = record s.urgent { units = s.urgent.units ++ unit ∷ [] } }) is
 
-  acknowledged_sent : (s : FlowSender) (w credit subsequence : ℕ) → s.rules ≡ rules → Sends (acknowledged s w credit subsequence)
+  pub acknowledged_sent : (s : FlowSender) (w credit subsequence : ℕ) → s.rules ≡ rules → Sends (acknowledged s w credit subsequence)
   acknowledged_sent s w credit subsequence is =
       either Sends (is_taken s (near (block_in s) s.numbers.base w) credit subsequence) _ _ (new_sent (acknowledged_to s (near (block_in s) s.numbers.base w) credit subsequence) is) (nothing_sent s is)
 
-  urgent_done_sent : (s : FlowSender) (w : ℕ) → s.rules ≡ rules → Sends (urgent_done s w)
+  pub urgent_done_sent : (s : FlowSender) (w : ℕ) → s.rules ≡ rules → Sends (urgent_done s w)
   urgent_done_sent s w is =
       either Sends (is_outstanding s w) _ _ (new_sent (record s { urgent = record s.urgent { units = drop 1 s.urgent.units; out = None } }) is) (nothing_sent s is)
 
@@ -118,15 +118,15 @@ module _ (Q : Sent → Type 0) (rules : FlowRules) (say : HalvesSay Q rules) whe
   resends_sent : (s : FlowSender) → s.rules ≡ rules → Sends (resends s)
   resends_sent s is = record { rules_are = is; tpdus = all_said s (due_numbers s) is }
 
-  ticked_sent : (s : FlowSender) (life : Life) → s.rules ≡ rules → Sends (ticked_as life s)
+  pub ticked_sent : (s : FlowSender) (life : Life) → s.rules ≡ rules → Sends (ticked_as life s)
   ticked_sent s Spent is = nothing_sent s is
   ticked_sent s Goes is =
       then_sent (then_sends (resends s) resends_urgent) new_sends (then_sent (resends s) resends_urgent (resends_sent s is) (λ t same. resends_urgent_sent t t.urgent.out same)) new_sent
 
-  ak_said : (h : Half) → h.rules ≡ rules → Q (ak h)
+  pub ak_said : (h : Half) → h.rules ≡ rules → Q (ak h)
   ak_said h is = said h.rules (ak h) is refl refl (λ own. tt) refl
 
-  aks_said : (got : Got) (h : Half) → h.rules ≡ rules → AllByRecursion Q (aks got h)
+  pub aks_said : (got : Got) (h : Half) → h.rules ≡ rules → AllByRecursion Q (aks got h)
   aks_said Kept h is = (ak_said h is, tt)
   aks_said Old h is = (ak_said h is, tt)
   aks_said Outside h is = (ak_said h is, tt)

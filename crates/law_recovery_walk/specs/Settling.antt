@@ -17,11 +17,12 @@ use Rattle.law_recovery_walk.specs.Following.{IsFollowed, IsLive, Stands}
 abbrev pub IsEnded : Pair → Type 0
 IsEnded p = IsLive p.calling.stage → IsLive p.called.stage → ⊥
 
--- the pair went on: nothing waits any more, and it has the two ends still, with the units of the journal; or one of them is neither Opened nor Closing
+-- the pair went on, and its clock stands: nothing waits any more, and it has the two ends still, with the units of the journal; or one of them is neither Opened nor Closing
 pub record HasGoneOn {C : Type 0} (link : C → Link (List ℕ)) (journal : List Event) (new : World C) (x y : ℕ) (p : Pair) : Type 0 where
   pub happenings : List Happening
   pub next : Pair
   pub leads : Leads p happenings next
+  pub clock : next.clock ≡ p.clock
   pub goes : (IsIdle next × IsFollowed link journal new [] x y next) ⊎ IsEnded next
 
 -- a network whose queue is this, in which no end is due and no entity began again

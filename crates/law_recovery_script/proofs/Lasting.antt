@@ -1,0 +1,537 @@
+-- Lines that are settled and lose nothing, one after another, as steps of two ends that know each other, until one of them is frozen.
+use Rattle.std.proofs.Common.{◌≡◌, ◌⊎◌, inl, inr, ℕ, ◌+◌, ◌≤◌, Bool, true, false, List, [], ◌∷◌, ◌++◌, length, Option, Some, None, refl, sym, ◌∙◌, ap, subst, append-nil, append_assoc, arith}
+use Rattle.std.specs.Prelude.{slice_get}
+use Rattle.std.specs.List.{AllByRecursion}
+use Rattle.nsap.proofs.AddressLemmas.{selector_of-append}
+use Rattle.osi_base.specs.Calls.{Call, Keeps, Offer}
+use Rattle.osi_base.specs.Link.{Link}
+use Rattle.osi_base.specs.declared.unit.Offered.{Offered}
+use Rattle.osi_base.specs.declared.unit.Offered.TheVariants.{Taken as WasTaken, Dropped}
+use Rattle.osi_base.specs.declared.unit.Unit.{Unit as CarriedUnit}
+use Rattle.osi_base.specs.declared.unit.Wish.{Wish}
+use Rattle.nsap.specs.Address.{selector_of, system_part}
+use Rattle.script_journal.specs.RawLawful.{raw_address}
+use Rattle.script_journal.specs.declared.cause.Refused.{Refused}
+use Rattle.script_journal.specs.declared.cause.Refused.TheVariants as refusals
+use Rattle.script_journal.specs.declared.event.Event.{Event}
+use Rattle.script_lines.specs.declared.line.Line.{Line}
+use Rattle.script_lines.specs.declared.line.Line.TheVariants as lines
+use Rattle.net_world.specs.Fifo.{IsBetween, IsFifo, queued}
+use Rattle.net_world.specs.Run.{SendsUnit, raw_unit}
+use Rattle.net_world.specs.Told.{sent_event, told}
+use Rattle.tpdu.specs.declared.service.Options.{Options}
+use Rattle.tp4_number.specs.Number.{whole}
+use Rattle.tp4_flow.specs.declared.step.Sent.{Sent}
+use Rattle.tp4_conn.specs.Calls.{IsCall}
+use Rattle.tp4_conn.specs.End.{IsSized, IsTimed}
+use Rattle.tp4_conn.specs.Proper.{IsProperCall}
+use Rattle.tp4_conn.specs.Table.{Called, stepped}
+use Rattle.tp4_conn.specs.declared.call.ConnectRequest.{ConnectRequest}
+use Rattle.tp4_conn.specs.declared.call.UserCall.{UserCall}
+use Rattle.tp4_conn.specs.declared.call.UserCall.TheVariants as asks
+use Rattle.tp4_conn.specs.declared.timers.Timers.{Timers}
+use Rattle.tp4_entity.specs.declared.refusal.ConnectRefusal.{ConnectRefusal}
+use Rattle.tp4_entity.specs.declared.refusal.EntityRefusal.{EntityRefusal}
+use Rattle.tp4_entity.specs.Entity.{Acted, Entity, at, moved}
+use Rattle.tp4_entity.specs.References.{least_free}
+use Rattle.tp4_entity.specs.Step.{call_of, calling, calling_end, connect_refusal, connecting, first_due, user_refusal}
+use Rattle.tp4_entity.proofs.Beginning.{short}
+use Rattle.tp4_entity.proofs.Restarts.{calling_same, connecting_same}
+use Rattle.law_tp4_proper.specs.Rest.{AreInTime, AreProper, IsAtRest, IsProperStep}
+use Rattle.law_tp4_proper.proofs.Ends.{calling_rests, connecting_rests}
+use Rattle.law_tp4_pair.specs.Calm.{IsSettledScript, Settles as IsSettledNext}
+use Rattle.law_tp4_pair.specs.Claim.{IsUndropped}
+use Rattle.law_tp4_pair.specs.Pair.{Asks_called, Asks_calling, Clock, Comes_back, Comes_forth, Happening, Leads, Pair, comes_back, comes_forth, next as next_pair}
+use Rattle.tp4_world.specs.Called.{Did, KeepsLimits, WorldCall}
+use Rattle.tp4_world.specs.Called as requests
+use Rattle.tp4_world.specs.Run.{Acts, BeginsAt, CallsAt, CallsBy, CallsEnd, Connects, ConnectsBy, IsRefused, RunsLine, RunsLines, Settles, has_ended}
+use Rattle.tp4_world.specs.Telling.{call_events, connect_event, ends_after, events_after, told_refusal}
+use Rattle.tp4_world.specs.World.{World, end_numbered, entity_at, latest, with_entity}
+use Rattle.tp4_world.specs.declared.place.EndAt.{EndAt}
+use Rattle.tp4_world.specs.declared.place.Placed.{Placed}
+use Rattle.tp4_world.proofs.Destinations.{ActsFine, calling_fine, connecting_fine}
+use Rattle.tp4_world.proofs.Lined.{line_alike}
+use Rattle.law_tp4_lawful.specs.Limits.{IsProperLine}
+use Rattle.law_tp4_lawful.proofs.Known.{IsOffered, Known}
+use Rattle.law_tp4_lawful.proofs.Worlds.{Followed, Rests}
+use Rattle.law_tp4_lawful.proofs.WorldAsides.{are_aside, sent_quiet, told_quiet}
+use Rattle.law_tp4_lawful.proofs.WorldCalls.{did_holds}
+use Rattle.law_tp4_lawful.proofs.WorldKnown.{plain_kept}
+use Rattle.law_tp4_lawful.proofs.WorldOutcomes.{one_unit, outcomes}
+use Rattle.law_calm_run.specs.Run.{IsUnrouted}
+use Rattle.law_calm_run.proofs.Asking.{IsAsked}
+use Rattle.law_calm_run.proofs.Going.{Acting, HasSettled, acts_go, have_after, kept_after, settled, waiting_after}
+use Rattle.law_calm_run.proofs.Hall.{Hall, IsAddress, Post, after, posted, with_new}
+use Rattle.law_calm_run.proofs.Posting.{AreUnitsOf, IsHall, IsKept}
+use Rattle.law_calm_run.proofs.Queueing.{all_parts, none_dropped, raw_behind}
+use Rattle.law_recovery_going.specs.Going.{AreTicked}
+use Rattle.law_recovery_run.proofs.Aiming.{Going}
+use Rattle.law_recovery_walk.specs.Following.{IsFollowed, IsLive}
+use Rattle.law_recovery_walk.specs.Settling.{HasGoneOn, IsEnded}
+use Rattle.law_recovery_walk.proofs.Coming.{StandsSo, TellsNoUnits}
+use Rattle.law_recovery_walk.proofs.Settling.{followed_still, leads_then, live_or, settles_on}
+use Rattle.law_recovery_script.specs.Moving.{HasLasted, HasMoved}
+use Rattle.law_recovery_script.proofs.Asking.{IsTaker, call_moves, connect_moves, idle_of, latest_is, taker}
+use Rattle.law_recovery_script.proofs.Ticking.{HasStepped, later_of, tick_steps}
+
+-- ---- ticks of a pair
+
+forth_clock : (p : Pair) (l : List Sent) → (comes_forth p l).clock ≡ p.clock
+forth_clock p [] = refl
+forth_clock p (sent ∷ rest) = refl
+
+back_clock : (p : Pair) (l : List Sent) → (comes_back p l).clock ≡ p.clock
+back_clock p [] = refl
+back_clock p (sent ∷ rest) = refl
+
+rises : (happenings : List Happening) (p last : Pair) → Leads p happenings last → p.clock ≤ last.clock
+rises [] p last leads = let same : last.clock ≡ p.clock = ap (λ (q : Pair). q.clock) leads in omega (arith, same)
+rises (Comes_forth ∷ happenings) p last leads = omega (arith, rises happenings (next_pair p Comes_forth) last leads.1, forth_clock p p.forth)
+rises (Comes_back ∷ happenings) p last leads = omega (arith, rises happenings (next_pair p Comes_back) last leads.1, back_clock p p.back)
+rises (Asks_calling call ∷ happenings) p last leads = rises happenings (next_pair p (Asks_calling call)) last leads.1
+rises (Asks_called call ∷ happenings) p last leads = rises happenings (next_pair p (Asks_called call)) last leads.1
+rises (Clock calling called ∷ happenings) p last leads = let more : p.clock + 1 ≤ last.clock = rises happenings (next_pair p (Clock calling called)) last leads.1 in omega (arith, more)
+
+-- while the clock stands no end ticks
+none_ticks : (happenings : List Happening) (p last : Pair) → Leads p happenings last → last.clock ≤ p.clock → AreTicked p happenings
+none_ticks [] p last leads low = tt
+none_ticks (Comes_forth ∷ happenings) p last leads low = none_ticks happenings (next_pair p Comes_forth) last leads.1 (omega (arith, low, forth_clock p p.forth))
+none_ticks (Comes_back ∷ happenings) p last leads low = none_ticks happenings (next_pair p Comes_back) last leads.1 (omega (arith, low, back_clock p p.back))
+none_ticks (Asks_calling call ∷ happenings) p last leads low = none_ticks happenings (next_pair p (Asks_calling call)) last leads.1 low
+none_ticks (Asks_called call ∷ happenings) p last leads low = none_ticks happenings (next_pair p (Asks_called call)) last leads.1 low
+none_ticks (Clock calling called ∷ happenings) p last leads low =
+    let more : p.clock + 1 ≤ last.clock = rises happenings (next_pair p (Clock calling called)) last leads.1 in absurd (omega (arith, more, low))
+
+pub ticked_then : (first more : List Happening) (p mid : Pair) → Leads p first mid → AreTicked p first → AreTicked mid more → AreTicked p (first ++ more)
+ticked_then [] more p mid leads one two = subst (λ (q : Pair). AreTicked q more) leads two
+ticked_then (Comes_forth ∷ first) more p mid leads one two = ticked_then first more (next_pair p Comes_forth) mid leads.1 one two
+ticked_then (Comes_back ∷ first) more p mid leads one two = ticked_then first more (next_pair p Comes_back) mid leads.1 one two
+ticked_then (Asks_calling call ∷ first) more p mid leads one two = ticked_then first more (next_pair p (Asks_calling call)) mid leads.1 one two
+ticked_then (Asks_called call ∷ first) more p mid leads one two = ticked_then first more (next_pair p (Asks_called call)) mid leads.1 one two
+ticked_then (Clock calling called ∷ first) more p mid leads one two = (one.0, ticked_then first more (next_pair p (Clock calling called)) mid leads.1 one.1 two)
+
+behind_lines : (own made later : List Event) → made ≡ own ++ later → AllByRecursion IsUndropped made → AllByRecursion IsUndropped later
+behind_lines own made later is all = (all_parts IsUndropped own later (subst (λ (es : List Event). AllByRecursion IsUndropped es) is all)).1
+
+module _ {C : Type 0} (link : C → Link (List ℕ)) (steps : C → Call (List ℕ) → C → Type 0)
+    (law : (old : C) (call : Call (List ℕ)) (new : C) → steps old call new → Keeps (link old) call (link new))
+    (titles : List (List ℕ)) (Waits : C → List (CarriedUnit (List ℕ)) → Type 0) (fifo : IsFifo link steps titles Waits) (names : List (List ℕ)) (timers : Timers) (going : Going)
+    (follow : (titles : List (List ℕ)) (timers : Timers) → Followed titles timers) (timed : IsTimed timers) where
+  abbrev So : World C → Hall → List (CarriedUnit (List ℕ)) → Type 0
+  So world hall queue = StandsSo link steps law titles Waits fifo world hall queue
+
+  abbrev Resting : List Event → World C → Type 0
+  Resting journal world = Rests link AreProper names timers journal world
+
+  abbrev Stepped : List Event → World C → ℕ → ℕ → Pair → Type 0
+  Stepped journal new x y p = HasStepped link steps law titles Waits fifo names timers going (follow names timers) journal new x y p
+
+  none_waits : (hall : Hall) (queue : List (CarriedUnit (List ℕ))) → queue ≡ [] → AreUnitsOf titles queue hall.posts → hall.posts ≡ []
+  none_waits hall queue none units = subst (λ (q : List (CarriedUnit (List ℕ))). AreUnitsOf titles q hall.posts) none units
+
+  -- no entity did anything
+  still_moves : (old new : World C) (journal made : List Event) (posts : List Post) (x y : ℕ) (p : Pair) → new.entities ≡ old.entities → new.ends ≡ old.ends → (link new.carrier).clock ≡ (link old.carrier).clock
+      → TellsNoUnits made → IsFollowed link journal old posts x y p → HasMoved link (journal ++ made) new posts x y p
+  still_moves old new journal made posts x y p entities ends clock tells f =
+      record { happenings = []; next = p; leads = refl; ticked = tt; goes = inl (followed_still link journal made old new entities ends clock tells posts x y p f) }
+
+  still_steps : (old new : World C) (journal made : List Event) (hall : Hall) (queue left : List (CarriedUnit (List ℕ))) (x y : ℕ) (p : Pair) → So old hall queue → IsHall link titles Waits new hall left
+      → new.entities ≡ old.entities → new.ends ≡ old.ends → (link new.carrier).clock ≡ (link old.carrier).clock → TellsNoUnits made → IsFollowed link journal old hall.posts x y p → Stepped (journal ++ made) new x y p
+  still_steps old new journal made hall queue left x y p s shows entities ends clock tells f = record {
+    hall = hall;
+    queue = left;
+    stands = record { shows = shows; kept = s.kept; have = s.have; rest = s.rest };
+    moved = still_moves old new journal made hall.posts x y p entities ends clock tells f;
+  }
+
+  same_steps : (old new : World C) (journal made : List Event) (hall : Hall) (queue : List (CarriedUnit (List ℕ))) (x y : ℕ) (p : Pair) → So old hall queue → new ≡ old → TellsNoUnits made
+      → IsFollowed link journal old hall.posts x y p → Stepped (journal ++ made) new x y p
+  same_steps old new journal made hall queue x y p s same tells f =
+      still_steps old new journal made hall queue queue x y p s (subst (λ (v : World C). IsHall link titles Waits v hall queue) (sym same) s.shows) (ap (λ (v : World C). v.entities) same) (ap (λ (v : World C). v.ends) same)
+      (ap (λ (v : World C). (link v.carrier).clock) same) tells f
+
+  refused_steps : (old new : World C) (journal made : List Event) (hall : Hall) (queue : List (CarriedUnit (List ℕ))) (x y : ℕ) (p : Pair) (why : Option Refused) → So old hall queue
+      → IsRefused link steps old why made new → IsFollowed link journal old hall.posts x y p → Stepped (journal ++ made) new x y p
+  refused_steps old new journal made hall queue x y p None s step f = absurd step
+  refused_steps old new journal made hall queue x y p (Some why) s step f =
+      same_steps old new journal made hall queue x y p s step.1 (subst TellsNoUnits (sym step.0) (record { gave = λ n. refl; showed = λ n. refl })) f
+
+  -- ---- one line, where nothing waits
+
+  module _ (old new : World C) (journal made : List Event) (hall : Hall) (queue : List (CarriedUnit (List ℕ))) (x y : ℕ) (p : Pair) (s : So old hall queue) (none : queue ≡ []) (r : Resting journal old)
+      (all : AllByRecursion IsUndropped made) (f : IsFollowed link journal old [] x y p) (live : IsLive p.calling.stage) (live_there : IsLive p.called.stage) where
+    abbrev now : ℕ
+    now = (link old.carrier).clock
+
+    posts : hall.posts ≡ []
+    posts = none_waits hall queue none s.shows.units
+
+    follows : IsFollowed link journal old hall.posts x y p
+    follows = subst (λ (ps : List Post). IsFollowed link journal old ps x y p) (sym posts) f
+
+    there_in : (system : ℕ) (entity : Entity) → entity_at old.entities system ≡ Some entity → entity_at hall.entities system ≡ Some entity
+    there_in system entity there = sym (ap (λ (ps : List Placed). entity_at ps system) s.shows.entities) ∙ there
+
+    at_rest : (system : ℕ) (entity : Entity) (there : entity_at old.entities system ≡ Some entity) → IsAtRest now entity
+    at_rest system entity there = record {
+      proper = (s.kept system entity (there_in system entity there)).proper;
+      idle = subst (λ (n : ℕ). first_due n entity ≡ None) (sym s.shows.clock) (s.rest system entity (there_in system entity there));
+    }
+
+    -- a call of a user
+    taken_steps : (number : ℕ) (end : EndAt) (entity : Entity) (call : UserCall) → entity_at old.entities end.system ≡ Some entity → has_ended now old.ends number end entity ≡ false
+        → user_refusal entity end.reference call ≡ None → IsCall call → (later : List Event) → Acts link steps old end.system entity.own (calling whole now entity end.reference call) later new
+        → made ≡ call_events number call ++ later → Stepped (journal ++ made) new x y p
+    taken_steps number end entity call there ended allowed proper later acts made_is = record {
+      hall = after hall end.system A;
+      queue = a.queue;
+      stands = record {
+        shows = a.shows;
+        kept = kept_after titles hall.entities end.system entity A s.kept (there_in end.system entity there) (calling_same whole now end.reference entity call) goes.rest.proper fine;
+        have = have_after titles hall.entities end.system A.entity s.have;
+        rest = waiting_after link steps law titles Waits fifo hall end.system A s.rest (subst (λ (n : ℕ). first_due n A.entity ≡ None) s.shows.clock goes.rest.idle);
+      };
+      moved = subst (λ (ps : List Post). HasMoved link (journal ++ made) new ps x y p) (λ i. sym posts i ++ posted end.system (sym is i).tpdus)
+          (call_moves link names timers r.w journal old r.explains going new made number end entity call there (latest_is (latest old.ends end.system end.reference) number _ ended) k.end k.stands k.allowed proper a.does.aside
+          a.does.is_aside (ap (λ (v : World C). v.entities) acts.becomes ∙ ap (λ (z : Acted). with_entity old.entities end.system z.entity) is)
+          (ap (λ (v : World C). v.ends) acts.becomes ∙ ap (λ (z : Acted). ends_after old.ends end.system z.events) is) (a.shows.clock ∙ sym s.shows.clock)
+          (made_is ∙ ap (λ (es : List Event). call_events number call ++ es) (a.does.made_is ∙ (λ i. events_after (sym s.shows.ends i) end.system entity.own (is i).events ++ a.does.aside)))
+          x y p f live live_there);
+    }
+      where
+        A : Acted
+        A = calling whole now entity end.reference call
+
+        k : IsTaker entity end.reference call
+        k = taker entity end.reference call allowed
+
+        is : A ≡ moved (at now entity) end.reference (stepped whole now k.end (Called call))
+        is = ap (calling_end whole now (at now entity) end.reference call) k.stands
+
+        was : IsKept titles end.system entity
+        was = s.kept end.system entity (there_in end.system entity there)
+
+        goes : IsProperStep now A
+        goes = calling_rests whole now end.reference entity call (at_rest end.system entity there) allowed proper
+
+        fine : ActsFine (IsAddress titles) entity.own A
+        fine = calling_fine (IsAddress titles) whole now entity end.reference call was.ends
+
+        a : Acting link steps law titles Waits fifo hall end.system entity.own A later new
+        a = acts_go link steps law titles Waits fifo old new hall queue end.system was.title entity.own A later s.shows was.title_is was.own fine goes.tpdus (behind_lines (call_events number call) made later made_is all) acts
+
+    call_by : (number : ℕ) (end : EndAt) (entity : Entity) (call : UserCall) (why : Option EntityRefusal) → entity_at old.entities end.system ≡ Some entity → IsCall call
+        → has_ended now old.ends number end entity ≡ false → user_refusal entity end.reference call ≡ why → CallsBy link steps whole old number end entity call why made new → Stepped (journal ++ made) new x y p
+    call_by number end entity call (Some why) there proper ended is step = refused_steps old new journal made hall queue x y p (told_refusal why) s step follows
+    call_by number end entity call None there proper ended is step = taken_steps number end entity call there ended is proper step.0 step.1 step.2
+
+    call_end : (number : ℕ) (end : EndAt) (entity : Entity) (call : UserCall) (ended : Bool) → entity_at old.entities end.system ≡ Some entity → IsCall call → has_ended now old.ends number end entity ≡ ended
+        → CallsEnd link steps whole old number end entity call ended made new → Stepped (journal ++ made) new x y p
+    call_end number end entity call true there proper is step = refused_steps old new journal made hall queue x y p (Some refusals.Ended) s step follows
+    call_end number end entity call false there proper is step = call_by number end entity call (user_refusal entity end.reference call) there proper is refl step
+
+    call_at : (number : ℕ) (call : UserCall) (end : Option EndAt) → IsCall call → CallsAt link steps whole old number call end made new → Stepped (journal ++ made) new x y p
+    call_at number call None proper step = refused_steps old new journal made hall queue x y p (Some refusals.NoSuchEnd) s step follows
+    call_at number call (Some end) proper step = call_end number end step.0 call (has_ended now old.ends number end step.0) step.1 proper refl step.2
+
+    -- a connect
+    begun_steps : (system : ℕ) (entity : Entity) (request : ConnectRequest) (reference : ℕ) → entity_at old.entities system ≡ Some entity → IsAsked titles request → length request.octets ≤ 32
+        → least_free now entity ≡ Some reference → BeginsAt link steps old system entity request (Some reference) made new → Stepped (journal ++ made) new x y p
+    begun_steps system entity request reference there asked octets free step = record {
+      hall = after begun_hall system A;
+      queue = a.queue;
+      stands = record {
+        shows = a.shows;
+        kept = kept_after titles hall.entities system entity A s.kept (there_in system entity there) (connecting_same now reference entity request) goes.rest.proper fine;
+        have = have_after titles hall.entities system A.entity s.have;
+        rest = waiting_after link steps law titles Waits fifo hall system A s.rest (subst (λ (n : ℕ). first_due n A.entity ≡ None) s.shows.clock goes.rest.idle);
+      };
+      moved = subst (λ (ps : List Post). HasMoved link (journal ++ made) new ps x y p) (λ i. sym posts i ++ posted system A.tpdus)
+          (connect_moves link journal old new made system entity there request reference free a.does.aside a.does.is_aside (ap (λ (v : World C). v.entities) step.1.becomes) (ap (λ (v : World C). v.ends) step.1.becomes)
+          (a.shows.clock ∙ sym s.shows.clock) (length old.ends + 1) (step.2 ∙ ap (λ (es : List Event). event ∷ es) a.does.made_is) x y p f live live_there);
+    }
+      where
+        place : List EndAt
+        place = record { system = system; reference = reference } ∷ []
+
+        event : Event
+        event = connect_event (length old.ends + 1) system reference entity.own request
+
+        begun_hall : Hall
+        begun_hall = with_new hall system reference
+
+        begins : World C
+        begins = record old { ends = old.ends ++ place }
+
+        A : Acted
+        A = connecting now entity reference request
+
+        was : IsKept titles system entity
+        was = s.kept system entity (there_in system entity there)
+
+        proper : IsProperCall (call_of entity reference request)
+        proper = record { timers = was.proper.timers; size = asked.size; calling = asked.calling; called = asked.called; octets = octets }
+
+        goes : IsProperStep now A
+        goes = connecting_rests now reference entity request (at_rest system entity there) free proper
+
+        fine : ActsFine (IsAddress titles) entity.own A
+        fine = connecting_fine (IsAddress titles) now entity reference request was.ends asked.address
+
+        shows : IsHall link titles Waits begins begun_hall queue
+        shows = record { clock = s.shows.clock; entities = s.shows.entities; ends = ap (λ (es : List EndAt). es ++ place) s.shows.ends; waits = s.shows.waits; units = s.shows.units }
+
+        a : Acting link steps law titles Waits fifo begun_hall system entity.own A step.0 new
+        a = acts_go link steps law titles Waits fifo begins new begun_hall queue system was.title entity.own A step.0 shows was.title_is was.own fine goes.tpdus (behind_lines (event ∷ []) made step.0 step.2 all) step.1
+
+    begun : (system : ℕ) (entity : Entity) (request : ConnectRequest) (found : Option ℕ) → entity_at old.entities system ≡ Some entity → IsAsked titles request → length request.octets ≤ 32
+        → least_free now entity ≡ found → BeginsAt link steps old system entity request found made new → Stepped (journal ++ made) new x y p
+    begun system entity request None there asked octets least step = absurd step
+    begun system entity request (Some reference) there asked octets least step = begun_steps system entity request reference there asked octets least step
+
+    connect_by : (system : ℕ) (entity : Entity) (request : ConnectRequest) (why : Option ConnectRefusal) → entity_at old.entities system ≡ Some entity → IsAsked titles request
+        → connect_refusal now entity request.octets ≡ why → ConnectsBy link steps old system entity request why made new → Stepped (journal ++ made) new x y p
+    connect_by system entity request (Some why) there asked is step = refused_steps old new journal made hall queue x y p _ s step follows
+    connect_by system entity request None there asked is step = begun system entity request (least_free now entity) there asked (short now entity request.octets is) refl step
+
+    connect_steps : (system : ℕ) (request : ConnectRequest) → IsAsked titles request → Connects link steps old system request made new → Stepped (journal ++ made) new x y p
+    connect_steps system request asked step = connect_by system step.0 request (connect_refusal now step.0 request.octets) step.1 asked refl step.2
+
+    -- a raw unit
+    raw_queued : (unit : CarriedUnit (List ℕ)) (answer : Offered) → selector_of unit.to ≡ 2 → AreUnitsOf titles (queued queue unit answer) hall.posts
+    raw_queued unit WasTaken raw = raw_behind titles queue hall.posts unit s.shows.units raw
+    raw_queued unit (Dropped cause) raw = s.shows.units
+
+    raw_steps : (system to : ℕ) (sender receiver : List ℕ) (wish : Wish) (octets : List ℕ) (below : C) → slice_get titles system ≡ Some sender → slice_get titles to ≡ Some receiver → wish.path ≡ 0
+        → SendsUnit link steps old.carrier system sender receiver wish octets made below → new ≡ record old { carrier = below } → Stepped (journal ++ made) new x y p
+    raw_steps system to sender receiver wish [] below title_is to_is path step becomes =
+        same_steps old new journal made hall queue x y p s (becomes ∙ ap (λ (c : C). record old { carrier = c }) step.1) (subst TellsNoUnits (sym step.0) (record { gave = λ n. refl; showed = λ n. refl })) follows
+    raw_steps system to sender receiver wish (octet ∷ octets) below title_is to_is path step becomes =
+        let unit : CarriedUnit (List ℕ) = raw_unit sender receiver (octet ∷ octets) in
+        let event : Event = sent_event system (raw_address receiver) (octet ∷ octets) step.0 in
+        let between : IsBetween titles unit = record {
+          sender = system;
+          receiver = to;
+          from = record { title = sender; title_is = title_is; selector = 2; known = inr refl; address_is = refl };
+          to = record { title = receiver; title_is = to_is; selector = 2; known = inr refl; address_is = refl };
+        } in
+        let goes = fifo.offered old.carrier below queue unit wish step.0 step.1 s.shows.waits between path step.2 (none_dropped step.1 (behind_lines (event ∷ []) made (told step.1) step.3 all)) in
+        let clock : (link below).clock ≡ (link old.carrier).clock = step.2.gathers.stands.clock ∙ (law old.carrier (Offer unit wish step.0) step.2.called step.2.steps_to).clock in
+        let shows : IsHall link titles Waits (record old { carrier = below }) hall (queued queue unit step.0) = record {
+          clock = clock ∙ s.shows.clock;
+          entities = s.shows.entities;
+          ends = s.shows.ends;
+          waits = goes.1;
+          units = raw_queued unit step.0 (selector_of-append (system_part receiver) 2);
+        } in
+        let aside = are_aside (event ∷ told step.1) (sent_quiet system (raw_address receiver) (octet ∷ octets) step.0, told_quiet step.1) in
+        still_steps old new journal made hall queue (queued queue unit step.0) x y p s (subst (λ (v : World C). IsHall link titles Waits v hall (queued queue unit step.0)) (sym becomes) shows)
+        (ap (λ (v : World C). v.entities) becomes) (ap (λ (v : World C). v.ends) becomes) (ap (λ (v : World C). (link v.carrier).clock) becomes ∙ clock)
+        (subst TellsNoUnits (sym step.3) (record { gave = λ n. (aside.units n).0; showed = λ n. (aside.units n).1 })) follows
+
+    -- a line but `settle`
+    asked : (line : Line) (script : List Line) → IsSettledScript (line ∷ script) → IsProperLine line → IsUnrouted line → RunsLine link steps whole titles old line made new → (line ≡ lines.Settle → ⊥)
+        → Stepped (journal ++ made) new x y p
+    asked lines.Nothing script calm proper path step other =
+        same_steps old new journal made hall queue x y p s step.1 (subst TellsNoUnits (sym step.0) (record { gave = λ n. refl; showed = λ n. refl })) follows
+    asked (lines.Connect system selector to called_selector options octets) script calm proper path step other =
+        let asks = step.4 in
+        connect_steps system step.1
+        (record {
+          size = subst (λ (o : Options). IsSized o) (sym step.3) proper.0;
+          calling = subst (λ (o : List ℕ). length o ≤ 32) (sym asks.0) proper.1;
+          called = subst (λ (o : List ℕ). length o ≤ 32) (sym asks.2) proper.2;
+          address = record { system = to; title = step.0; title_is = step.2; address_is = asks.1 };
+        }) asks.4
+    asked (lines.Accept end options octets) script calm proper path step other = call_at end (asks.Accept options octets) (end_numbered old.ends end) proper step
+    asked (lines.Refuse end octets) script calm proper path step other = call_at end (asks.Refuse octets) (end_numbered old.ends end) tt step
+    asked (lines.Disconnect end octets) script calm proper path step other = call_at end (asks.Disconnect octets) (end_numbered old.ends end) tt step
+    asked (lines.Data end octets) script calm proper path step other = call_at end (asks.Normal octets) (end_numbered old.ends end) tt step
+    asked (lines.Expedite end octets) script calm proper path step other = call_at end (asks.Urgent octets) (end_numbered old.ends end) tt step
+    asked (lines.Window end credit) script calm proper path step other = call_at end (asks.Window credit) (end_numbered old.ends end) proper step
+    asked (lines.Unit system to wish octets) script calm proper path step other = raw_steps system to step.0 step.1 wish octets step.4.0 step.2 step.3 path step.4.1 step.4.2
+    asked lines.Tick script calm proper path step other = tick_steps link steps law titles Waits fifo names timers going (follow names timers) old new made hall queue journal x y p s none r all step f live live_there
+    asked (lines.Deliver number system) script calm proper path step other = absurd calm
+    asked lines.Settle script calm proper path step other = absurd (other refl)
+    asked (lines.Inject lan system octets) script calm proper path step other = absurd calm
+    asked (lines.Restart system) script calm proper path step other = absurd calm
+    asked (lines.Send system selector to called octets) script calm proper path step other = absurd step
+    asked (lines.Version version) script calm proper path step other = absurd step
+    asked (lines.Set key value) script calm proper path step other = absurd step
+    asked (lines.Lan name bound room) script calm proper path step other = absurd step
+    asked (lines.Es name title) script calm proper path step other = absurd step
+    asked (lines.Is name title) script calm proper path step other = absurd step
+    asked (lines.Port system lan snpa) script calm proper path step other = absurd step
+    asked (lines.Route system prefix hop lan) script calm proper path step other = absurd step
+    asked (lines.Path name kind systems) script calm proper path step other = absurd step
+    asked (lines.Tsap system selector) script calm proper path step other = absurd step
+    asked (lines.Relay system selector to called) script calm proper path step other = absurd step
+    asked lines.Start script calm proper path step other = absurd step
+
+  -- ---- the history goes on
+
+  did_rests : (call : WorldCall) (old new : World C) (journal made : List Event) → KeepsLimits call → (link new.carrier).honest ≡ true → Resting journal old → Did link steps whole old call made new → Resting (journal ++ made) new
+  did_rests call old new journal made limits honest r did =
+      did_holds names timers (Known names timers) IsOffered (plain_kept names timers) timed link steps law (follow names timers) one_unit AreProper AreInTime outcomes call old new journal made limits honest r did
+
+  line_rests : (line : Line) (script : List Line) (old new : World C) (journal made : List Event) → IsSettledScript (line ∷ script) → IsProperLine line → (link new.carrier).honest ≡ true → Resting journal old
+      → RunsLine link steps whole titles old line made new → Resting (journal ++ made) new
+  line_rests lines.Nothing script old new journal made calm proper honest r step =
+      subst (λ (v : World C). Resting (journal ++ made) v) (sym step.1) (subst (λ (es : List Event). Resting es old) (sym (append-nil journal) ∙ ap (λ (es : List Event). journal ++ es) (sym step.0)) r)
+  line_rests (lines.Connect system selector to called_selector options octets) script old new journal made calm proper honest r step =
+      let asks = step.4 in
+      did_rests (requests.Connect system step.1) old new journal made (
+        subst (λ (o : Options). IsSized o) (sym step.3) proper.0,
+        subst (λ (o : List ℕ). length o ≤ 32) (sym asks.0) proper.1,
+        subst (λ (o : List ℕ). length o ≤ 32) (sym asks.2) proper.2,
+      ) honest r asks.4
+  line_rests (lines.Accept end options octets) script old new journal made calm proper honest r step = did_rests (requests.Ask end (asks.Accept options octets)) old new journal made proper honest r step
+  line_rests (lines.Refuse end octets) script old new journal made calm proper honest r step = did_rests (requests.Ask end (asks.Refuse octets)) old new journal made tt honest r step
+  line_rests (lines.Disconnect end octets) script old new journal made calm proper honest r step = did_rests (requests.Ask end (asks.Disconnect octets)) old new journal made tt honest r step
+  line_rests (lines.Data end octets) script old new journal made calm proper honest r step = did_rests (requests.Ask end (asks.Normal octets)) old new journal made tt honest r step
+  line_rests (lines.Expedite end octets) script old new journal made calm proper honest r step = did_rests (requests.Ask end (asks.Urgent octets)) old new journal made tt honest r step
+  line_rests (lines.Window end credit) script old new journal made calm proper honest r step = did_rests (requests.Ask end (asks.Window credit)) old new journal made proper honest r step
+  line_rests (lines.Unit system to wish octets) script old new journal made calm proper honest r step = did_rests (requests.Raw system step.0 step.1 wish octets) old new journal made tt honest r step.4
+  line_rests lines.Tick script old new journal made calm proper honest r step = did_rests requests.Pass old new journal made tt honest r step
+  line_rests (lines.Deliver number system) script old new journal made calm proper honest r step = absurd calm
+  line_rests lines.Settle script old new journal made calm proper honest r step = did_rests requests.Settle old new journal made tt honest r step
+  line_rests (lines.Inject lan system octets) script old new journal made calm proper honest r step = absurd calm
+  line_rests (lines.Restart system) script old new journal made calm proper honest r step = absurd calm
+  line_rests (lines.Send system selector to called octets) script old new journal made calm proper honest r step = absurd step
+  line_rests (lines.Version version) script old new journal made calm proper honest r step = absurd step
+  line_rests (lines.Set key value) script old new journal made calm proper honest r step = absurd step
+  line_rests (lines.Lan name bound room) script old new journal made calm proper honest r step = absurd step
+  line_rests (lines.Es name title) script old new journal made calm proper honest r step = absurd step
+  line_rests (lines.Is name title) script old new journal made calm proper honest r step = absurd step
+  line_rests (lines.Port system lan snpa) script old new journal made calm proper honest r step = absurd step
+  line_rests (lines.Route system prefix hop lan) script old new journal made calm proper honest r step = absurd step
+  line_rests (lines.Path name kind systems) script old new journal made calm proper honest r step = absurd step
+  line_rests (lines.Tsap system selector) script old new journal made calm proper honest r step = absurd step
+  line_rests (lines.Relay system selector to called) script old new journal made calm proper honest r step = absurd step
+  line_rests lines.Start script old new journal made calm proper honest r step = absurd step
+
+  -- the carrier is honest still, as no line injects anything
+  line_honest : (line : Line) (script : List Line) (old new : World C) (made : List Event) → IsSettledScript (line ∷ script) → (link old.carrier).honest ≡ true → RunsLine link steps whole titles old line made new
+      → (link new.carrier).honest ≡ true
+  line_honest (lines.Inject lan system octets) script old new made calm honest step = absurd calm
+  line_honest line script old new made calm honest step = line_alike link steps law whole titles line old new made tt step ∙ honest
+
+  -- ---- a settle
+
+  settle_steps : (old new : World C) (journal made : List Event) (hall : Hall) (queue : List (CarriedUnit (List ℕ))) (x y : ℕ) (p : Pair) → So old hall queue → Resting journal old → AllByRecursion IsUndropped made
+      → IsFollowed link journal old hall.posts x y p → IsLive p.calling.stage → IsLive p.called.stage → Settles link steps whole 0 old made new
+      → (stepped : Stepped (journal ++ made) new x y p) × (stepped.queue ≡ [])
+  settle_steps old new journal made hall queue x y p s r all f live live_there step = (
+    record {
+      hall = done.went.next;
+      queue = done.went.queue;
+      stands = record { shows = done.went.shows; kept = done.went.kept; have = done.went.have; rest = done.went.rest };
+      moved = record {
+        happenings = on.happenings;
+        next = on.next;
+        leads = on.leads;
+        ticked = none_ticks on.happenings p on.next on.leads (omega (arith, on.clock));
+        goes = elim on.goes [
+          | inl idle ↦ inl (subst (λ (ps : List Post). IsFollowed link (journal ++ made) new ps x y on.next) (sym (none_waits done.went.next done.went.queue done.none done.went.shows.units)) idle.1)
+          | inr ended ↦ inr ended
+        ];
+      };
+    },
+    done.none,
+  )
+    where
+      done : HasSettled link steps law titles Waits fifo hall made new
+      done = settled link steps law titles Waits fifo 0 old made new step hall queue s all
+
+      on : HasGoneOn link (journal ++ made) new x y p
+      on = settles_on link steps law titles Waits fifo going follow 0 old made new step journal hall queue x y p s
+          (record { titles = names; timers = timers; w = r.w; explains = r.explains }) all f live live_there
+
+  -- ---- the lines
+
+  -- nothing waits, or the next line that does anything settles
+  abbrev MayGo : List (CarriedUnit (List ℕ)) → List Line → Type 0
+  MayGo queue script = (queue ≡ []) ⊎ IsSettledNext script
+
+  -- a line, and whether the next one may go
+  record Passed (journal : List Event) (new : World C) (x y : ℕ) (p : Pair) (script : List Line) : Type 0 where
+    stepped : Stepped journal new x y p
+    may : MayGo stepped.queue script
+    calm : IsSettledScript script
+
+  line_passes : (line : Line) (script : List Line) (old new : World C) (journal made : List Event) (hall : Hall) (queue : List (CarriedUnit (List ℕ))) (x y : ℕ) (p : Pair) → So old hall queue → Resting journal old
+      → MayGo queue (line ∷ script) → IsSettledScript (line ∷ script) → IsProperLine line → IsUnrouted line → AllByRecursion IsUndropped made → IsFollowed link journal old hall.posts x y p
+      → IsLive p.calling.stage → IsLive p.called.stage → RunsLine link steps whole titles old line made new → Passed (journal ++ made) new x y p script
+  line_passes lines.Nothing script old new journal made hall queue x y p s r may calm proper path all f live live_there step = record {
+    stepped = record {
+      hall = hall;
+      queue = queue;
+      stands = record { shows = subst (λ (v : World C). IsHall link titles Waits v hall queue) (sym step.1) s.shows; kept = s.kept; have = s.have; rest = s.rest };
+      moved = still_moves old new journal made hall.posts x y p (ap (λ (v : World C). v.entities) step.1) (ap (λ (v : World C). v.ends) step.1) (ap (λ (v : World C). (link v.carrier).clock) step.1)
+          (subst TellsNoUnits (sym step.0) (record { gave = λ n. refl; showed = λ n. refl })) f;
+    };
+    may = may;
+    calm = calm;
+  }
+  line_passes lines.Settle script old new journal made hall queue x y p s r may calm proper path all f live live_there step =
+      let on = settle_steps old new journal made hall queue x y p s r all f live live_there step in
+      record { stepped = on.0; may = inl on.1; calm = calm }
+  line_passes (lines.Deliver number system) script old new journal made hall queue x y p s r may calm proper path all f live live_there step = absurd calm
+  line_passes (lines.Inject lan system octets) script old new journal made hall queue x y p s r may calm proper path all f live live_there step = absurd calm
+  line_passes (lines.Restart system) script old new journal made hall queue x y p s r may calm proper path all f live live_there step = absurd calm
+  line_passes line script old new journal made hall queue x y p s r (inl none) calm proper path all f live live_there step = record {
+    stepped = asked old new journal made hall queue x y p s none r all (subst (λ (ps : List Post). IsFollowed link journal old ps x y p) (none_waits hall queue none s.shows.units) f) live live_there line script calm proper
+        path step (λ is. absurd cc);
+    may = inr calm.0;
+    calm = calm.1;
+  }
+  line_passes line script old new journal made hall queue x y p s r (inr next) calm proper path all f live live_there step = absurd next
+
+  -- the pair went on, and then on
+  lasts_then : (journal journal_now : List Event) (world : World C) (x y : ℕ) (p mid : Pair) (first : List Happening) → Leads p first mid → AreTicked p first → HasLasted link journal world x y mid → journal ≡ journal_now
+      → HasLasted link journal_now world x y p
+  lasts_then journal journal_now world x y p mid first leads ticked more is = subst (λ (es : List Event). HasLasted link es world x y p) is (record {
+    happenings = first ++ more.happenings;
+    next = more.next;
+    leads = leads_then p mid more.next first more.happenings leads more.leads;
+    ticked = ticked_then first more.happenings p mid leads ticked more.ticked;
+    goes = more.goes;
+  })
+
+  pub lines_last : (script : List Line) (old last : World C) (journal late : List Event) (hall : Hall) (queue : List (CarriedUnit (List ℕ))) (x y : ℕ) (p : Pair) → So old hall queue → Resting journal old
+      → MayGo queue script → IsSettledScript script → AllByRecursion IsProperLine script → AllByRecursion IsUnrouted script → AllByRecursion IsUndropped late → IsFollowed link journal old hall.posts x y p
+      → IsLive p.calling.stage → IsLive p.called.stage → RunsLines link steps whole titles old script late last → HasLasted link (journal ++ late) last x y p
+  lines_last [] old last journal late hall queue x y p s r (inr next) calm proper path all f live live_there run = absurd next
+  lines_last [] old last journal late hall queue x y p s r (inl none) calm proper path all f live live_there run =
+      let idle : IsFollowed link journal old [] x y p = subst (λ (ps : List Post). IsFollowed link journal old ps x y p) (none_waits hall queue none s.shows.units) f in
+      let tells : TellsNoUnits late = subst TellsNoUnits (sym run.0) (record { gave = λ n. refl; showed = λ n. refl }) in
+      let now : IsFollowed link (journal ++ late) last [] x y p =
+      followed_still link journal late old last (ap (λ (v : World C). v.entities) run.1) (ap (λ (v : World C). v.ends) run.1) (ap (λ (v : World C). (link v.carrier).clock) run.1) tells [] x y p idle in
+      record {
+        happenings = [];
+        next = p;
+        leads = refl;
+        ticked = tt;
+        goes = inl (idle_of link (journal ++ late) last x y p now, later_of link steps law titles Waits fifo names timers going (follow names timers) journal old hall queue x y p s idle, now);
+      }
+  lines_last (line ∷ script) old last journal late hall queue x y p s r may calm proper path all f live live_there run =
+      let parts = all_parts IsUndropped run.1 run.2 (subst (λ (es : List Event). AllByRecursion IsUndropped es) run.4 all) in
+      let first : Passed (journal ++ run.1) run.0 x y p script = line_passes line script old run.0 journal run.1 hall queue x y p s r may calm proper.0 path.0 parts.0 f live live_there run.3 in
+      let moved = first.stepped.moved in
+      let honest = line_honest line script old run.0 run.1 calm r.explains.carries.honest run.3 in
+      let rests : Resting (journal ++ run.1) run.0 = line_rests line script old run.0 journal run.1 calm proper.0 honest r run.3 in
+      let ended : IsEnded moved.next → HasLasted link (journal ++ late) last x y p = λ over.
+      record { happenings = moved.happenings; next = moved.next; leads = moved.leads; ticked = moved.ticked; goes = inr over } in
+      elim moved.goes [
+        | inr over ↦ ended over
+        | inl on ↦ elim (live_or moved.next.calling.stage) [
+          | inr over ↦ ended (λ one other. over one)
+          | inl one ↦ elim (live_or moved.next.called.stage) [
+            | inr over ↦ ended (λ one other. over other)
+            | inl other ↦
+                lasts_then ((journal ++ run.1) ++ run.2) (journal ++ late) last x y p moved.next moved.happenings moved.leads moved.ticked
+                (lines_last script run.0 last (journal ++ run.1) run.2 first.stepped.hall first.stepped.queue x y moved.next first.stepped.stands rests first.may first.calm proper.1 path.1 parts.1 on one other run.5)
+                (append_assoc journal run.1 run.2 ∙ ap (λ (es : List Event). journal ++ es) (sym run.4))
+          ]
+        ]
+      ]

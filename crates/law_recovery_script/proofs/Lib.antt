@@ -1,0 +1,7 @@
+pub mod Asking
+pub mod Doing
+pub mod Lasting
+pub mod Releasing
+pub mod Rowing
+pub mod Starting
+pub mod Ticking

@@ -1,0 +1,27 @@
+-- Two partner ends of a network along lines that are settled and lose nothing, as steps of a pair (X.213, queue model; X.214, queue model).
+use Rattle.std.specs.Prelude.{◌⊎◌, ℕ, List, []}
+use Rattle.osi_base.specs.Link.{Link}
+use Rattle.script_journal.specs.declared.event.Event.{Event}
+use Rattle.law_tp4_pair.specs.Pair.{Happening, IsIdle, Leads, Pair}
+use Rattle.tp4_world.specs.World.{World}
+use Rattle.law_calm_run.proofs.Hall.{Post}
+use Rattle.law_recovery_going.specs.Going.{AreTicked}
+use Rattle.law_recovery_steps.specs.Resting.{AreLater}
+use Rattle.law_recovery_walk.specs.Following.{IsFollowed}
+use Rattle.law_recovery_walk.specs.Settling.{IsEnded}
+
+-- The pair went on, with a tick of each end where it is due: it has the two ends still, and what waits between them, with the units of the journal; or one of them is neither Opened nor Closing
+pub record HasMoved {C : Type 0} (link : C → Link (List ℕ)) (journal : List Event) (new : World C) (posts : List Post) (x y : ℕ) (p : Pair) : Type 0 where
+  pub happenings : List Happening
+  pub next : Pair
+  pub leads : Leads p happenings next
+  pub ticked : AreTicked p happenings
+  pub goes : IsFollowed link journal new posts x y next ⊎ IsEnded next
+
+-- the same where nothing waits and no end is due
+pub record HasLasted {C : Type 0} (link : C → Link (List ℕ)) (journal : List Event) (new : World C) (x y : ℕ) (p : Pair) : Type 0 where
+  pub happenings : List Happening
+  pub next : Pair
+  pub leads : Leads p happenings next
+  pub ticked : AreTicked p happenings
+  pub goes : (IsIdle next × AreLater next × IsFollowed link journal new [] x y next) ⊎ IsEnded next

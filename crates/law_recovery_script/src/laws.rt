@@ -1,0 +1,23 @@
+//! Two partner ends of a network along the lines of a script, since when nothing is lost (X.213, queue model; X.224, class 4 procedures).
+
+ghost use Rattle.law_recovery_script.specs.Laws.{EndedHaveLeft, RunsLast};
+
+use nsap::Nsap;
+use osi_base::Carrier;
+
+/// Of two ends that were Opened at a tick at which nothing waited, whatever happens to the two in order from there on: neither is frozen before both have left.
+pub fn ended_have_left()
+    ensures { EndedHaveLeft }
+{
+    law_recovery_going::pairs_part();
+}
+
+/// Two ends that are Opened or Closing and know each other, in a network in which nothing is left to deliver: lines that are settled and lose nothing are steps of the pair of the two, with a
+/// tick of each where it is due, until one of them is frozen; over whole numbers.
+pub fn runs_last<C: Carrier<Addr = Nsap>>()
+    ensures { RunsLast C.link C.steps }
+{
+    law_tp4_history::journals_are_lawful();
+    law_tp4_moves::flowed();
+    law_tp4_moves::moved();
+}
