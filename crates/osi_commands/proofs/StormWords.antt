@@ -5,7 +5,7 @@ use Rattle.std.specs.Str.{bytes_eq}
 use Rattle.std.proofs.lemmas.Slice.Eq.{bytes_eq-Decides}
 use Rattle.script_storm.specs.Request.{Asks}
 use Rattle.script_storm.specs.declared.request.Storm.{Storm}
-use Rattle.osi_commands.specs.Top.{IsStorm}
+use Rattle.osi_commands.specs.Commands.{IsStorm}
 
 three : {A : Type 0} (f : A → List ℕ) (words : List A) (a b d : A) → 3 ≤ length words → length words < 4 → a ≡ get_or words 0 a → b ≡ get_or words 1 b → d ≡ get_or words 2 d
     → map f words ≡ f a ∷ f b ∷ f d ∷ []

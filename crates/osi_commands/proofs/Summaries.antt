@@ -1,5 +1,5 @@
 -- A generated script asks for one status and one text, and that comes, or a failure in its place.
-use Rattle.std.proofs.Common.{◌≡◌, ◌⊎◌, ℕ, List, [], ◌∷◌, ◌++◌, Option, None, Some, inl, inr, refl, sym, ◌∙◌, ap, subst}
+use Rattle.std.proofs.Common.{◌≡◌, ◌⊎◌, ℕ, List, [], ◌∷◌, ◌++◌, Option, inl, inr, refl, sym, ◌∙◌, ap, subst}
 use Rattle.octet_loop.specs.ByStatus.{IsFailure}
 use Rattle.osi_base.specs.Ends.{HasRisen, Put}
 use Rattle.osi_base.specs.declared.status.Status.{Status}
@@ -109,11 +109,3 @@ module _ {K : Type 0} (held : K → Option (List ℕ)) (old new : K) (storm : St
   pub summary_complete : (status : Status) (writes writes_now : ℕ) → Written status → (status ≡ WriteFault → HasRisen writes writes_now) → ¬ HasRisen writes writes_now
       → ((text : List ℕ) × AsksSummary storm text status × Put (held old) text (held new)) ⊎ (status ≡ NoMemory)
   summary_complete status writes writes_now w risen not = complete_of w.0 status writes writes_now w.1 w.2 risen not
-
--- ---- the words ask for one script
-
-pub same_storm : (read : Option Storm) (first second : Storm) → read ≡ Some first → read ≡ Some second → first ≡ second
-same_storm read first second a b = cc
-
-pub no_storm : (read : Option Storm) (storm : Storm) → read ≡ None → read ≡ Some storm → ⊥
-no_storm read storm a b = absurd (cc)

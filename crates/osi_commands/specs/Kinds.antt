@@ -1,6 +1,5 @@
 -- The commands that read a script, beside `run`: their names, what each runs, and what is claimed of every run.
-use Rattle.std.specs.Prelude.{ℕ, if◌then◌else◌, List, [], ◌∷◌, Option, None, Some, codes}
-use Rattle.std.specs.Str.{bytes_eq}
+use Rattle.std.specs.Prelude.{ℕ, List, codes}
 use Rattle.osi_base.specs.declared.status.Status.{Status}
 use Rattle.line_loop.specs.Laws.{AsksOne, AsksSomething}
 use Rattle.line_loop.specs.Outcome.{IsAccepted, AsksFor}
@@ -18,7 +17,7 @@ use Rattle.law_setup.specs.InactiveNets.{InactiveDoes, MakesInactive, link_of_in
 use Rattle.script_world.specs.Plays.{world_acts}
 use Rattle.script_world.specs.Transports.{TransportRun, frozen_of, titles_of, tp_play}
 use Rattle.script_world.specs.declared.play.World.{World}
-use Rattle.script_datagrams.specs.Claims.{ShownWasSent}
+use Rattle.script_datagrams.specs.Claims.{TellsDatagrams}
 use Rattle.law_datagram_run.specs.Datagrams.{DatagramRun, cl_play}
 use Rattle.script_relays.specs.Claims.{RelaysLawfully}
 use Rattle.law_relay_run.specs.Relays.{RelayRun, relay_play}
@@ -27,18 +26,10 @@ use Rattle.osi_commands.specs.declared.kinds.Kind.TheVariants as kinds
 
 -- ---- their names
 
-abbrev pub kind_named : List ℕ → Option Kind
-kind_named word =
-    if bytes_eq word (codes "datagrams") then Some kinds.Datagrams
-    else if bytes_eq word (codes "inactive") then Some kinds.Inactive
-    else if bytes_eq word (codes "relay") then Some kinds.Relay
-    else None
-
--- the words are the one word that is the name of a command
-abbrev pub kind_of : List (List ℕ) → Option Kind
-kind_of [] = None
-kind_of (word ∷ []) = kind_named word
-kind_of (word ∷ other ∷ words) = None
+abbrev pub name_of : Kind → List ℕ
+name_of kinds.Datagrams = codes "datagrams"
+name_of kinds.Inactive = codes "inactive"
+name_of kinds.Relay = codes "relay"
 
 -- ---- what they run
 
@@ -61,9 +52,10 @@ abbrev pub IsLawfulRun : List Line → List Event → World (TransportRun (Inact
 IsLawfulRun script journal last = Lawful (frozen_of last) (titles_of last) journal
 
 -- of the octets read, what was written is told as the status says, and tells the run for the lines of the script; and whatever part of the octets was
--- run, each datagram that is shown was sent; or the journal is lawful; or it is lawful, and so are the connections of each pair that a relay joined
+-- run, each datagram that is shown was sent, and each unit that came up gave one event; or the journal is lawful; or it is lawful, and so are the connections
+-- of each pair that a relay joined
 abbrev pub IsToldBy : Kind → Type 0 → List ℕ → List ℕ → Status → Type 0
-IsToldBy kinds.Datagrams end read written status = IsTold datagram_acts ShownWasSent end read written status
+IsToldBy kinds.Datagrams end read written status = IsTold datagram_acts (TellsDatagrams link_of_net NetDoes MakesNet) end read written status
 IsToldBy kinds.Inactive end read written status = IsTold inactive_acts IsLawfulRun end read written status
 IsToldBy kinds.Relay end read written status = IsTold relay_acts RelaysLawfully end read written status
 

@@ -1,6 +1,7 @@
+pub mod Commands
+pub mod EachCommand
 pub mod Kinds
 pub mod Laws
 pub mod Storm
 pub mod Text
-pub mod Top
 pub mod steps

@@ -1,10 +1,10 @@
-//! The commands that read a script, beside `run`.
+//! What the scripts of commands run, beside that of `run`.
 
-ghost use Rattle.std.specs.Prelude.{◌≡◌, ◌≢◌, ◌≤◌, ◌+◌, ◌⊎◌, true, List, ℕ, Some, is_some, map, max, string_bytes};
+ghost use Rattle.std.specs.Prelude.{◌≡◌, ◌≢◌, ◌≤◌, ◌+◌, ◌⊎◌, List, ℕ, Some, max};
 ghost use Rattle.octet_loop.specs.ByStatus.{IsFailure};
 ghost use Rattle.line_loop.specs.Limits.{most_read};
 ghost use Rattle.osi_base.specs.Ends.{HasRisen, IsAtEnd, Put, Took};
-ghost use Rattle.osi_commands.specs.Kinds.{AsksOf, AsksOneOf, AsksSomethingOf, IsAcceptedBy, IsToldBy, kind_named, kind_of};
+ghost use Rattle.osi_commands.specs.Kinds.{AsksOf, AsksOneOf, AsksSomethingOf, IsAcceptedBy, IsToldBy};
 ghost use Rattle.osi_commands.specs.declared.kinds.Kind.{Kind as Command};
 
 use osi_base::{Sink, Source, Status};
@@ -32,50 +32,6 @@ pub enum Kind {
     Inactive,
     /// `relay`: transport entities, and relays that join their connections (X.214, model of the transport service).
     Relay,
-}
-
-/// Whether the words are the one word that is the name of a command.
-pub fn is_kind(words: &[String]) -> bool
-    ensures { result ≡ is_some (kind_of (map string_bytes words.now)) }
-{
-    kind_of(words).is_some()
-}
-
-/// The command whose name is the one word.
-pub fn kind_in(words: &[String]) -> Kind
-    requires { is_some (kind_of (map string_bytes words.now)) ≡ true }
-    ensures { kind_of (map string_bytes words.now) ≡ Some result }
-{
-    match kind_of(words) {
-        Some(kind) => kind,
-        None => unreachable!(),
-    }
-}
-
-/// The command whose name is the one word, if there is one.
-fn kind_of(words: &[String]) -> Option<Kind>
-    ensures { result ≡ kind_of (map string_bytes words.now) }
-{
-    match words {
-        [word] => kind_named(word.as_str()),
-        _ => None,
-    }
-}
-
-/// The command of a name.
-fn kind_named(word: &str) -> Option<Kind>
-    ensures { result ≡ kind_named word.now }
-{
-    if word == "datagrams" {
-        return Some(Kind::Datagrams);
-    }
-    if word == "inactive" {
-        return Some(Kind::Inactive);
-    }
-    if word == "relay" {
-        return Some(Kind::Relay);
-    }
-    None
 }
 
 /// Reads the script of a command from the source, runs it, and writes the transcript to the sink.
@@ -114,6 +70,7 @@ pub fn run_kind<S: Source, K: Sink>(
     match kind {
         Kind::Datagrams => {
             script_datagrams::shows_sent::<RoutedNet>();
+            script_datagrams::runs_give_each::<RoutedNet>();
             run_script::<DatagramWorld, S, K>(alloc, source, sink)
         }
         Kind::Inactive => {

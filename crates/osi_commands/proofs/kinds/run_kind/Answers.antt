@@ -3,17 +3,18 @@ use Rattle.std.proofs.Common.{◌⊎◌, subst, sym}
 use Rattle.osi_base.specs.Ends.{HasRisen, IsAtEnd, Put}
 use Rattle.osi_base.specs.declared.status.Status.TheVariants.{Done, NoMemory}
 use Rattle.script_bench.proofs.Telling.{told}
-use Rattle.script_datagrams.specs.Claims.{ShownWasSent}
+use Rattle.law_setup.specs.ClnpNets.{MakesNet, NetDoes, link_of_net}
+use Rattle.script_datagrams.specs.Claims.{TellsDatagrams}
 use Rattle.script_relays.specs.Claims.{RelaysLawfully}
 use Rattle.osi_commands.specs.Kinds.{AsksOf, IsAcceptedBy, IsLawfulRun, IsToldBy, datagram_acts, inactive_acts, relay_acts}
 use Rattle.osi_commands.specs.declared.kinds.Kind.{Kind}
-use Rattle.osi_commands.proofs.KindLaws.{inactive_law}
+use Rattle.osi_commands.proofs.KindLaws.{datagram_law, inactive_law}
 use Rattle.osi_commands.proofs.kinds.run_kind.Goals as goal
 
 pub returns-in-Datagrams-clause-told : goal.returns-in-Datagrams-clause-told
 returns-in-Datagrams-clause-told g c =
     let w =
-    told datagram_acts ShownWasSent c.shows_sent.ensures g.S.Source.left g.K.Sink.held c.args.source.now c.args.sink.now c.run_script.new.source c.run_script.new.sink c.run_script.result
+    told datagram_acts (TellsDatagrams link_of_net NetDoes MakesNet) (datagram_law c.shows_sent.ensures c.runs_give_each.ensures) g.S.Source.left g.K.Sink.held c.args.source.now c.args.sink.now c.run_script.new.source c.run_script.new.sink c.run_script.result
     c.run_script.ensures.outcome in
     (w.0, w.1, w.2, w.3, subst (λ (k : Kind). IsToldBy k (IsAtEnd (g.S.Source.left c.run_script.new.source)) w.0 w.1 c.run_script.result) (sym c.in-Datagrams.is) w.4)
 

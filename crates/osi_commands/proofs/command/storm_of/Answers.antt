@@ -1,6 +1,6 @@
 use Rattle.std.proofs.Common.{string_bytes, ◌∙◌, sym}
 use Rattle.osi_commands.proofs.StormWords.{storm_words}
-use Rattle.osi_commands.proofs.top.storm_of.Goals as goal
+use Rattle.osi_commands.proofs.command.storm_of.Goals as goal
 
 pub returns-in-len3-clause-some : goal.returns-in-len3-clause-some
 returns-in-len3-clause-some c =
