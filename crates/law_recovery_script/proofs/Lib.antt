@@ -1,7 +1,11 @@
 pub mod Asking
+pub mod Clocks
 pub mod Doing
 pub mod Lasting
+pub mod Lines
+pub mod Outlasting
 pub mod Releasing
 pub mod Rowing
 pub mod Starting
+pub mod Staying
 pub mod Ticking

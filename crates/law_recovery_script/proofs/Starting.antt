@@ -22,7 +22,7 @@ use Rattle.law_recovery_walk.specs.Following.{IsFollowed, IsLive}
 use Rattle.law_recovery_walk.proofs.Coming.{StandsSo}
 use Rattle.law_recovery_walk.proofs.Settling.{IsExplained}
 use Rattle.law_recovery_script.specs.Moving.{HasLasted}
-use Rattle.law_recovery_script.proofs.Lasting.{lines_last}
+use Rattle.law_recovery_script.proofs.Lines.{lines_last}
 
 module _ {C : Type 0} (link : C → Link (List ℕ)) (steps : C → Call (List ℕ) → C → Type 0)
     (law : (old : C) (call : Call (List ℕ)) (new : C) → steps old call new → Keeps (link old) call (link new))

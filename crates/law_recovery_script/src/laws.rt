@@ -13,7 +13,7 @@ pub fn ended_have_left()
 }
 
 /// Two ends that are Opened or Closing and know each other, in a network in which nothing is left to deliver: lines that are settled and lose nothing are steps of the pair of the two, with a
-/// tick of each where it is due, until one of them is frozen; over whole numbers.
+/// tick of each where it is due, until one of them is frozen; if both had left by then, the two ends have left in the network that the lines led to. Over whole numbers.
 pub fn runs_last<C: Carrier<Addr = Nsap>>()
     ensures { RunsLast C.link C.steps }
 {
