@@ -1,5 +1,5 @@
 -- Two partners of a network have shown what was submitted, by the journal, in which stands what either told.
-use Rattle.std.proofs.Common.{◌≡◌, inl, inr, ℕ, List, subst}
+use Rattle.std.proofs.Common.{inl, inr, ℕ, List, subst}
 use Rattle.osi_base.specs.Calls.{Call}
 use Rattle.osi_base.specs.Link.{Link}
 use Rattle.script_journal.specs.declared.event.Event.{Event}
