@@ -1,6 +1,6 @@
 //! Units of which some segments came (X.233, reassembly, reassembly lifetime).
 
-ghost use Rattle.std.specs.Prelude.{◌≡◌, ◌<◌, ◌≤◌, ◌+◌, ◌↔◌, IsTrue, [], drop, length, slice_get, take, IfOk, None, Some};
+ghost use Rattle.std.specs.Prelude.{◌≡◌, ◌<◌, ◌≤◌, ◌+◌, ◌↔◌, IsTrue, [], drop, length, slice_get, slice_index_or, take, IfOk, None, Some};
 ghost use Rattle.std.specs.List.{position, remove};
 ghost use Rattle.clnp_header.specs.declared.pdu.SegmentPart.{SegmentPart};
 ghost use Rattle.clnp_segment.specs.Joining.{filled_places};
@@ -15,6 +15,7 @@ use due_links::DueList;
 use nsap::Nsap;
 use osi_base::{Bytes, NoMemory, Tick};
 use std::alloc::Global;
+use std::collections::VecDeque;
 use std::marker::Model;
 
 /// What a segment comes to.
@@ -49,9 +50,10 @@ pub struct Store {
     units: u32,
     octets: usize,
     used: usize,
-    held: Vec<HeldUnit>,
+    // A ring, of which the shorter part moves where a unit goes: none where it is the first, which is mostly the one that is held longest.
+    held: VecDeque<HeldUnit>,
     /// Until when each unit is held, in their order: a tick gives up those whose time has passed, and looks at none where none has; where a unit
-    /// goes, those behind it move up, and no other deadline is written.
+    /// goes, no other deadline is written.
     due: DueList,
 }
 
@@ -96,7 +98,7 @@ impl Store {
             units,
             octets: octets as usize,
             used: 0,
-            held: Vec::with_capacity(alloc, units as usize)?,
+            held: VecDeque::with_capacity(alloc, units as usize)?,
             due: DueList::new(alloc, units)?,
         })
     }
@@ -149,7 +151,7 @@ impl Store {
     {
         self.clock = now;
         let place = self.due.pop(now.checked_sub(1)?)?;
-        let unit = self.held.remove(place);
+        let unit = take_out(&mut self.held, place);
         self.used -= unit.count();
         Some(unit.expired())
     }
@@ -231,7 +233,7 @@ impl Store {
             Verdict::Fresh(fresh) => {
                 unit.add(&segment, deadline)?;
                 let until = unit.deadline();
-                self.held.push(unit)?;
+                self.held.push_back(unit)?;
                 self.due.push(Some(until));
                 self.used += fresh;
                 Ok(Joined::Held)
@@ -253,9 +255,21 @@ impl Store {
         ensures rest { self.new ≡ record self.old { held = remove self.old.held place } }
         ensures within { IsWithin self.new }
     {
-        let unit = self.held.remove(place);
+        let unit = take_out(&mut self.held, place);
         self.due.remove(place);
         self.used -= unit.count();
         unit
     }
+}
+
+/// Takes the unit at a place out.
+fn take_out(held: &mut VecDeque<HeldUnit>, place: usize) -> HeldUnit
+    requires { place < length held.old.items }
+    ensures value { result ≡ slice_index_or held.old.items place result }
+    ensures items { held.new.items ≡ remove held.old.items place }
+{
+    let Some(unit) = held.remove(place) else {
+        unreachable!();
+    };
+    unit
 }

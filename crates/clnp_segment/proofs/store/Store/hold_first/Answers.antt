@@ -28,8 +28,8 @@ returns-in-Fresh-clause-takes c =
     not_true : false ≡ true → ⊥
     not_true e = cc e
 
-pub push-requires-in-Fresh-2 : goal.push-requires-in-Fresh-2
-push-requires-in-Fresh-2 c =
+pub push-requires : goal.push-requires
+push-requires c =
     let is : c.self.inside.held.items ≡ c.args.self.now.held = ap (λ (s : Holding). s.held) c.self.view_is in
     let room = c.if-not-has_room.ensures.0 refl in
     due_room c.self.inside.units c.self.inside.held.items c.self.inside.due c.self.invariant.2
@@ -53,14 +53,14 @@ invariant_of-self-in-Fresh-2 c =
     omega (arith, room.0, ap (λ (us : List Partial). length us) is, ap (λ (s : Holding). s.units) c.self.view_is) in
     let octets : octets_held c.self.inside.held.items + c.in-Fresh.fresh ≤ c.self.inside.octets =
     omega (arith, room.1, ap octets_held is, ap (λ (s : Holding). s.octets) c.self.view_is) in
-    let all = added _ key c.add.new.self c.push.new.self.items c.in-Fresh.fresh c.self.invariant.0 none c.in_ok-push-in-Fresh-2.ensures.items same places units filled octets in
-    let due : AreDeadlines c.self.inside.units c.push.new.self.items c.push-in-Fresh-2.new.self =
-    added_due c.self.inside.units c.self.inside.held.items c.push.new.self.items c.add.new.self (Some c.deadline-until.result) c.self.inside.due
-    c.push-in-Fresh-2.new.self c.in_ok-push-in-Fresh-2.ensures.items c.self.invariant.2 (ap Some c.deadline-until.ensures) c.push-in-Fresh-2.ensures in
+    let all = added _ key c.add.new.self c.push_back.new.self.items c.in-Fresh.fresh c.self.invariant.0 none c.in_ok-push_back-in-Fresh-2.ensures.items same places units filled octets in
+    let due : AreDeadlines c.self.inside.units c.push_back.new.self.items c.push.new.self =
+    added_due c.self.inside.units c.self.inside.held.items c.push_back.new.self.items c.add.new.self (Some c.deadline-until.result) c.self.inside.due
+    c.push.new.self c.in_ok-push_back-in-Fresh-2.ensures.items c.self.invariant.2 (ap Some c.deadline-until.ensures) c.push.ensures in
     (all.0, ap (λ (n : ℕ). n + c.in-Fresh.fresh) c.self.invariant.1 ∙ all.1, due)
 
-pub returns-in_ok-push-in-Fresh-2-clause-within : goal.returns-in_ok-push-in-Fresh-2-clause-within
-returns-in_ok-push-in-Fresh-2-clause-within c =
+pub returns-in_ok-push_back-in-Fresh-2-clause-within : goal.returns-in_ok-push_back-in-Fresh-2-clause-within
+returns-in_ok-push_back-in-Fresh-2-clause-within c =
     let key : Key = (incoming_of c.args.incoming.now).key in
     let is : c.self.inside.held.items ≡ c.args.self.now.held = ap (λ (s : Holding). s.held) c.self.view_is in
     let none : position (has_key key) c.self.inside.held.items ≡ None = ap (λ (us : List Partial). position (has_key key) us) is ∙ c.requires.none in
@@ -77,10 +77,10 @@ returns-in_ok-push-in-Fresh-2-clause-within c =
     omega (arith, room.0, ap (λ (us : List Partial). length us) is, ap (λ (s : Holding). s.units) c.self.view_is) in
     let octets : octets_held c.self.inside.held.items + c.in-Fresh.fresh ≤ c.self.inside.octets =
     omega (arith, room.1, ap octets_held is, ap (λ (s : Holding). s.octets) c.self.view_is) in
-    (added _ key c.add.new.self c.push.new.self.items c.in-Fresh.fresh c.self.invariant.0 none c.in_ok-push-in-Fresh-2.ensures.items same places units filled octets).0
+    (added _ key c.add.new.self c.push_back.new.self.items c.in-Fresh.fresh c.self.invariant.0 none c.in_ok-push_back-in-Fresh-2.ensures.items same places units filled octets).0
 
-pub returns-in_ok-push-in-Fresh-2-clause-takes : goal.returns-in_ok-push-in-Fresh-2-clause-takes
-returns-in_ok-push-in-Fresh-2-clause-takes c =
+pub returns-in_ok-push_back-in-Fresh-2-clause-takes : goal.returns-in_ok-push_back-in-Fresh-2-clause-takes
+returns-in_ok-push_back-in-Fresh-2-clause-takes c =
     let old = c.args.self.now in
     let coming = incoming_of c.args.incoming.now in
     let unit = c.in_ok-unit.unit in
@@ -91,6 +91,6 @@ returns-in_ok-push-in-Fresh-2-clause-takes c =
     ∙ ap (λ (s : Holding). partial_with None coming nothing (s.clock + left)) c.self.view_is in
     let made = c.in_ok-add-in-Fresh-2.ensures.ok ∙ ap (λ (s : Holding). record unit { held = with_segment unit.held segment; deadline = max unit.deadline (s.clock + left) }) c.self.view_is in
     let room = c.if-not-has_room.ensures.0 refl in
-    let after = ap (λ (us : List Partial). let h : Holding = record { clock = c.self.inside.clock; units = c.self.inside.units; octets = c.self.inside.octets; held = us } in h) c.in_ok-push-in-Fresh-2.ensures.items
+    let after = ap (λ (us : List Partial). let h : Holding = record { clock = c.self.inside.clock; units = c.self.inside.units; octets = c.self.inside.octets; held = us } in h) c.in_ok-push_back-in-Fresh-2.ensures.items
     ∙ ap (λ (s : Holding). record s { held = s.held ++ c.add.new.self ∷ [] }) c.self.view_is in
     first_held old coming unit c.add.new.self segment c.in-Fresh.fresh _ unit_is c.segment-segment.ensures c.in-Fresh.ensures room.0 room.1 made after
