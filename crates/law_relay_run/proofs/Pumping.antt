@@ -348,6 +348,13 @@ module _ {C : Type 0} (link : C → Link (List ℕ)) (steps : C → Call (List �
     pub last_is : last ≡ kept_after kept (line ++ made)
     pub allowed : AreAllowed kept (line ++ made)
 
+  -- after what it did about the events of the line the columns of what is kept rise
+  pub middle_tidy : (old new : World C) (kept : Kept) (line : List Event) (done : Bool) (made : List Event) (last : Kept) → IsTidy kept → AreLine (length old.ends) kept line → kept.named ≤ length old.ends
+      → (s : PumpStep connects calls old kept line done made new last) → Plays link old (kept_after kept line) → IsTidy s.middle
+  middle_tidy old new kept line done made last tidy left low s p =
+      (reacts_plays (length old.ends) line old s.mid kept kept [] s.one s.here s.middle refl tidy tidy tt left (omega arith) low
+      (subst (λ (rows : List RelayRow). AllByRecursion (HasRow old) rows) (rows_stay kept line) p.has) s.reacts p).plays.tidy
+
   -- what a network and its relays have in common they have after a pump, and what is kept is what is kept of the events of the line and of the pump
   pub pump_plays : (old new : World C) (kept : Kept) (line : List Event) (done : Bool) (made : List Event) (last : Kept) → IsTidy kept → AreLine (length old.ends) kept line → kept.named ≤ length old.ends
       → PumpStep connects calls old kept line done made new last → Plays link old (kept_after kept line) → Pumped kept line made new last

@@ -1,3 +1,4 @@
+pub mod Given
 pub mod Joins
 pub mod Lawfully
 pub mod Ran

@@ -64,7 +64,7 @@ note_nothing rows rules (events.End end (tells.Window credit)) is = absurd is
 note_nothing rows rules (events.Joined inbound outbound) is = absurd is
 note_nothing rows rules event is = refl
 
-notes_nothing : (rows : List RelayRow) (rules : Timers) (made : List Event) → AreNotes made → kept_after (nothing_kept rows rules) made ≡ nothing_kept rows rules
+pub notes_nothing : (rows : List RelayRow) (rules : Timers) (made : List Event) → AreNotes made → kept_after (nothing_kept rows rules) made ≡ nothing_kept rows rules
 notes_nothing rows rules [] are = refl
 notes_nothing rows rules (event ∷ made) are = ap (λ (k : Kept). kept_after k made) (note_nothing rows rules event are.0) ∙ notes_nothing rows rules made are.1
 

@@ -3,6 +3,7 @@
 ghost use Rattle.script_bench.specs.Claims.{IsLaw};
 ghost use Rattle.script_world.specs.Plays.{world_acts};
 ghost use Rattle.script_relays.specs.Claims.{RelaysLawfully};
+ghost use Rattle.script_relays.specs.Giving.{PumpsGiveAll};
 ghost use Rattle.law_relay_run.specs.Relays.{relay_play};
 
 use script_world::Network;
@@ -18,3 +19,9 @@ pub fn relays_lawfully<N: Network>()
     law_relay::noted();
     law_relay::goes_through();
 }
+
+/// Whatever part of a script was run: after each pump all that the one end of an open pair showed was submitted at the other, unless this
+/// pump's own call for the next unit was refused, as it submitted those of this pair, this way.
+pub fn pumps_give_all<N: Network>()
+    ensures { IsLaw (world_acts (relay_play N.link N.steps N.makes)) (PumpsGiveAll N.link N.steps N.makes) }
+{}

@@ -7,6 +7,6 @@ mod play;
 mod rows;
 mod service;
 
-pub use laws::relays_lawfully;
+pub use laws::{pumps_give_all, relays_lawfully};
 pub use play::RelayPlay;
 pub use service::WorldService;

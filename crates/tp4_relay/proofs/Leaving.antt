@@ -1,13 +1,12 @@
 -- What the steps of a pump leave of each pair: the pair that is served has nothing left to go, or its next unit was refused, and all others are as they were.
-use Rattle.std.proofs.Common.{◌≡◌, ◌≢◌, ◌⊎◌, inl, inr, ℕ, zero, suc, ◌+◌, ◌<◌, ◌≤◌, ◌==◌, Bool, true, false, ◌||◌, List, [], ◌∷◌, ◌++◌, length, get_or, map, drop, Option, Some, None, refl, sym, ◌∙◌, ap, subst, arith, append_assoc}
+use Rattle.std.proofs.Common.{◌≡◌, ◌≢◌, ◌⊎◌, inl, inr, ℕ, zero, suc, ◌+◌, ◌<◌, ◌==◌, Bool, true, false, List, [], ◌∷◌, ◌++◌, length, get_or, map, Option, Some, None, refl, sym, ◌∙◌, ap, subst, arith}
 use Rattle.std.specs.Prelude.{nat_lt, if◌then◌else◌}
 use Rattle.std.specs.List.{AllByRecursion, slice_get}
 use Rattle.std.specs.Option.{option_map}
 use Rattle.std.proofs.lemmas.Bool.{cases_lt, eq-eqb, ne_eqb}
 use Rattle.std.proofs.lemmas.List.{append-nil}
-use Rattle.std.proofs.lemmas.List.Elements.{All-from_recursion, recursion_from_All}
+use Rattle.std.proofs.lemmas.List.Elements.{recursion_from_All}
 use Rattle.std.proofs.lemmas.Option.{get_or_from_slice_get, slice_get-get_or, slice_get-map, slice_get_within}
-use Rattle.tpdu.specs.declared.service.Options.{Options}
 use Rattle.script_journal.specs.declared.event.Event.{Event}
 use Rattle.script_journal.specs.declared.event.Event.TheVariants as events
 use Rattle.tp4_conn.specs.declared.call.ConnectRequest.{ConnectRequest}
@@ -22,18 +21,19 @@ use Rattle.tp4_relay.specs.declared.pair.Phase.TheVariants as phases
 use Rattle.tp4_relay.specs.declared.unit.MarkedUnit.{MarkedUnit}
 use Rattle.tp4_relay.specs.declared.unit.MarkedUnit.TheVariants.{Normal, Expedited}
 use Rattle.tp4_relay.specs.Kept.{Kept, kept_after, noted}
-use Rattle.tp4_relay.specs.Leaving.{GivesAll, IsServed, LeavesNone, RefusesNext}
+use Rattle.tp4_relay.specs.Laws.{AllButWaiting}
+use Rattle.tp4_relay.specs.Leaving.{AreGiven, AreServed, EachRefuses, IfRefuses, LeavesNone, OpenRefuses, PairRefuses, RefusesNext, SubmitRefuses}
 use Rattle.script_journal.specs.Lawful.{Marked, shown, submitted}
 use Rattle.tp4_relay.specs.Allowed.{marked}
 use Rattle.std.proofs.lemmas.Grind.{get_or_default_zero}
 use Rattle.tp4_relay.proofs.Served.{open_bound, pairs_grow}
-use Rattle.tp4_relay.specs.Pairs.{Change, Closes, Gives, Turns, change_inbound, change_outbound, changed, inbound_changed, is_open, open_places, outbound_changed, pairs_after, places_from}
-use Rattle.tp4_relay.specs.Pump.{Balances, BalancesBy, Parts, PumpStep, ServesAt, ServesEach, ServesIf, ServesOpen, ServesPair, ServesWay, SetsCredit, Submits, credit_now, far_end, near_end, unit_call, way_of}
+use Rattle.tp4_relay.specs.Pairs.{Change, Closes, Gives, Turns, changed, inbound_changed, is_open, open_places, outbound_changed, places_from}
+use Rattle.tp4_relay.specs.Pump.{BalancesBy, Parts, PumpStep, ServesAt, ServesEach, ServesIf, ServesOpen, ServesPair, ServesWay, SetsCredit, Submits, credit_now, far_end, near_end, unit_call, way_of}
 use Rattle.tp4_relay.specs.Service.{IsOwn, IsService, ToldBy}
 use Rattle.tp4_relay.specs.steps.Making.{MayAsk}
 use Rattle.tp4_relay.specs.steps.Rising.{IsRisingBy, inbound_of, outbound_of}
 use Rattle.tp4_relay.specs.steps.Serving.{with_left}
-use Rattle.tp4_relay.specs.steps.Tables.{IsTidy, is_claimed}
+use Rattle.tp4_relay.specs.steps.Tables.{IsTidy}
 use Rattle.tp4_relay.proofs.Commuting.{kept_more}
 use Rattle.tp4_relay.proofs.Giving.{changed_at, ends_differ, first_gone, inbound_claimed, left_all, left_far, left_first, left_waiting, may_submit, other_differs, outbound_unclaimed}
 use Rattle.tp4_relay.proofs.PairsHold.{PairHolds, if_changed}
@@ -153,38 +153,6 @@ steps_more kept middle last place between now a b = record { tidy = b.tidy; othe
 steps_at : (kept last same : Kept) (place : ℕ) (now : Pair) → last ≡ same → Steps kept place last now → Steps kept place same now
 steps_at kept last same place now is s = subst (λ (k : Kept). Steps kept place k now) is s
 
--- ---- refused units
-
-unless_more : {S : Type 0} (calls : S → ℕ → UserCall → Bool → List Event → S → Type 0) (front made back : List Event) (end : ℕ) (waiting : List MarkedUnit) → LeavesNone calls made end waiting
-    → LeavesNone calls (front ++ (made ++ back)) end waiting
-unless_more calls front made back end waiting (inl none) = inl none
-unless_more calls front made back end waiting (inr r) = inr (record {
-  unit = r.unit;
-  rest = r.rest;
-  is = r.is;
-  old = r.old;
-  new = r.new;
-  told = r.told;
-  refused = r.refused;
-  before = front ++ r.before;
-  after = r.after ++ back;
-  stands = ap (λ (es : List Event). front ++ (es ++ back)) r.stands
-      ∙ ap (λ (es : List Event). front ++ es) (append_assoc r.before (r.told ++ r.after) back ∙ ap (λ (es : List Event). r.before ++ es) (append_assoc r.told r.after back))
-      ∙ sym (append_assoc front r.before (r.told ++ (r.after ++ back)));
-})
-
-unless_before : {S : Type 0} (calls : S → ℕ → UserCall → Bool → List Event → S → Type 0) (front made : List Event) (end : ℕ) (waiting : List MarkedUnit) → LeavesNone calls made end waiting
-    → LeavesNone calls (front ++ made) end waiting
-unless_before calls front made end waiting l = subst (λ (es : List Event). LeavesNone calls (front ++ es) end waiting) (append-nil made) (unless_more calls front made [] end waiting l)
-
-unless_after : {S : Type 0} (calls : S → ℕ → UserCall → Bool → List Event → S → Type 0) (made back : List Event) (end : ℕ) (waiting : List MarkedUnit) → LeavesNone calls made end waiting
-    → LeavesNone calls (made ++ back) end waiting
-unless_after calls made back end waiting l = unless_more calls [] made back end waiting l
-
-unless_at : {S : Type 0} (calls : S → ℕ → UserCall → Bool → List Event → S → Type 0) (made : List Event) (end other : ℕ) (waiting units : List MarkedUnit) → end ≡ other → waiting ≡ units → LeavesNone calls made end waiting
-    → LeavesNone calls made other units
-unless_at calls made end other waiting units e w l = subst (λ (n : ℕ). LeavesNone calls made n units) e (subst (λ (us : List MarkedUnit). LeavesNone calls made end us) w l)
-
 module _ {S : Type 0} (has : S → ℕ → Type 0) (ends : S → ℕ) (honest : S → Bool) (connects : S → ℕ → ConnectRequest → Bool → List Event → S → Type 0)
     (calls : S → ℕ → UserCall → Bool → List Event → S → Type 0) (law : IsService has ends honest connects calls) where
   module _ (kept : Kept) (tidy : IsTidy kept) (place : ℕ) (pair : Pair) (is : slice_get kept.pairs place ≡ Some pair) where
@@ -262,30 +230,31 @@ module _ {S : Type 0} (has : S → ℕ → Type 0) (ends : S → ℕ) (honest : 
 
   -- ---- units are submitted
 
-  pub record Submits-leaves (kept : Kept) (place : ℕ) (heading : Heading) (pair : Pair) (made : List Event) (left : List MarkedUnit) : Type 0 where
-    pub steps : Steps kept place (kept_after kept made) (with_left heading left pair)
-    pub leaves : LeavesNone calls made (far_end heading pair) left
+  abbrev Submits-steps : Kept → ℕ → Heading → Pair → List Event → List MarkedUnit → Type 0
+  Submits-steps kept place heading pair made left = Steps kept place (kept_after kept made) (with_left heading left pair)
+
+  -- where units are left, the call for the first of them was refused
+  submits_left : (units : List MarkedUnit) (old : S) (end : ℕ) (done : Bool) (made : List Event) (new : S) (left : List MarkedUnit) → (s : Submits connects calls old end units done made new left)
+      → (left ≡ []) ⊎ SubmitRefuses connects calls old end units done made new left s end left
+  submits_left [] old end done made new left s = inl s.3
+  submits_left (unit ∷ units) old end done made new left (inl s) = inr (refl, s.2)
+  submits_left (unit ∷ units) old end done made new left (inr s) = submits_left units s.0 end s.1 s.3 new left s.5
 
   with_phase : (heading : Heading) (units : List MarkedUnit) (pair : Pair) → (with_left heading units pair).phase ≡ pair.phase
   with_phase On units pair = refl
   with_phase Back units pair = refl
 
   submits_leave : (heading : Heading) (place : ℕ) (pair : Pair) → pair.phase ≡ phases.Open → (units : List MarkedUnit) (kept : Kept) (old new : S) (done : Bool) (made : List Event) (left : List MarkedUnit)
-      → IsTidy kept → slice_get kept.pairs place ≡ Some (with_left heading units pair) → Submits connects calls old (far_end heading pair) units done made new left → Submits-leaves kept place heading pair made left
-  submits_leave heading place pair opens [] kept old new done made left tidy is s = record {
-    steps = subst (λ (es : List Event). Steps kept place (kept_after kept es) (with_left heading left pair)) (sym s.1)
-        (record { tidy = tidy; others = λ other apart. refl; is = is ∙ ap (λ (us : List MarkedUnit). Some (with_left heading us pair)) (sym s.3) });
-    leaves = inl s.3;
-  }
+      → IsTidy kept → slice_get kept.pairs place ≡ Some (with_left heading units pair) → Submits connects calls old (far_end heading pair) units done made new left → Submits-steps kept place heading pair made left
+  submits_leave heading place pair opens [] kept old new done made left tidy is s =
+      subst (λ (es : List Event). Steps kept place (kept_after kept es) (with_left heading left pair)) (sym s.1)
+      (record { tidy = tidy; others = λ other apart. refl; is = is ∙ ap (λ (us : List MarkedUnit). Some (with_left heading us pair)) (sym s.3) })
   submits_leave heading place pair opens (unit ∷ units) kept old new done made left tidy is (inl s) =
       let here : Pair = with_left heading (unit ∷ units) pair in
       let told : ToldBy (far_end heading here) (unit_call unit) false made =
       subst (λ (n : ℕ). ToldBy n (unit_call unit) false made) (sym (left_far heading (unit ∷ units) pair)) (law.told old (far_end heading pair) (unit_call unit) false made new s.0) in
       let may = may_submit kept tidy place here is unit units (with_phase heading (unit ∷ units) pair ∙ opens) heading (left_waiting heading (unit ∷ units) pair) in
-      record {
-        steps = subst (λ (us : List MarkedUnit). Steps kept place (kept_after kept made) (with_left heading us pair)) (sym s.2) (refused_steps kept tidy place here is (far_end heading here) (unit_call unit) made may told);
-        leaves = inr (record { unit = unit; rest = units; is = s.2; old = old; new = new; told = made; refused = s.0; before = []; after = []; stands = sym (append-nil made) });
-      }
+      subst (λ (us : List MarkedUnit). Steps kept place (kept_after kept made) (with_left heading us pair)) (sym s.2) (refused_steps kept tidy place here is (far_end heading here) (unit_call unit) made may told)
   submits_leave heading place pair opens (unit ∷ units) kept old new done made left tidy is (inr s) =
       let here : Pair = with_left heading (unit ∷ units) pair in
       let told : ToldBy (far_end heading here) (unit_call unit) true s.2 =
@@ -294,12 +263,9 @@ module _ {S : Type 0} (has : S → ℕ → Type 0) (ends : S → ℕ) (honest : 
       let first = given_steps kept tidy place here is heading unit s.2 may told in
       let at : slice_get (kept_after kept s.2).pairs place ≡ Some (with_left heading units pair) = first.is ∙ ap (λ (p : Pair). Some p) (left_first heading unit units pair) in
       let rest = submits_leave heading place pair opens units (kept_after kept s.2) s.0 new s.1 s.3 left first.tidy at s.5 in
-      record {
-        steps = subst (λ (es : List Event). Steps kept place (kept_after kept es) (with_left heading left pair)) (sym s.7)
-            (steps_at kept (kept_after (kept_after kept s.2) s.3) (kept_after kept (s.2 ++ s.3)) place (with_left heading left pair) (sym (kept_more kept s.2 s.3))
-            (steps_more kept (kept_after kept s.2) (kept_after (kept_after kept s.2) s.3) place (changed here (Gives heading)) (with_left heading left pair) first rest.steps));
-        leaves = subst (λ (es : List Event). LeavesNone calls es (far_end heading pair) left) (sym s.7) (unless_before calls s.2 s.3 (far_end heading pair) left rest.leaves);
-      }
+      subst (λ (es : List Event). Steps kept place (kept_after kept es) (with_left heading left pair)) (sym s.7)
+      (steps_at kept (kept_after (kept_after kept s.2) s.3) (kept_after kept (s.2 ++ s.3)) place (with_left heading left pair) (sym (kept_more kept s.2 s.3))
+      (steps_more kept (kept_after kept s.2) (kept_after (kept_after kept s.2) s.3) place (changed here (Gives heading)) (with_left heading left pair) first rest))
 
   -- ---- the credit is set, or the pair parts
 
@@ -352,13 +318,17 @@ module _ {S : Type 0} (has : S → ℕ → Type 0) (ends : S → ℕ) (honest : 
   other_way On = Back
   other_way Back = On
 
-  pub record Way-left (kept : Kept) (place : ℕ) (heading : Heading) (pair : Pair) (made : List Event) : Type 0 where
+  -- nothing is left to go, or it is that of which the next was refused
+  abbrev NoneLeft : (List MarkedUnit → Type 0) → List MarkedUnit → Type 0
+  NoneLeft Refused units = (units ≡ []) ⊎ Refused units
+
+  pub record Way-left (kept : Kept) (place : ℕ) (heading : Heading) (pair : Pair) (made : List Event) (Refused : ℕ → List MarkedUnit → Type 0) : Type 0 where
     pub now : Pair
     pub inbound : now.inbound ≡ pair.inbound
     pub outbound : now.outbound ≡ pair.outbound
     pub opens : now.phase ≡ phases.Open → pair.phase ≡ phases.Open
     pub other : now.phase ≡ phases.Open → (way_of (other_way heading) now).waiting ≡ (way_of (other_way heading) pair).waiting
-    pub leaves : now.phase ≡ phases.Open → LeavesNone calls made (far_end heading pair) (way_of heading now).waiting
+    pub leaves : now.phase ≡ phases.Open → NoneLeft (Refused (far_end heading pair)) (way_of heading now).waiting
     pub steps : Steps kept place (kept_after kept made) now
 
   left_inbound : (heading : Heading) (left : List MarkedUnit) (pair : Pair) → (with_left heading left pair).inbound ≡ pair.inbound
@@ -378,22 +348,21 @@ module _ {S : Type 0} (has : S → ℕ → Type 0) (ends : S → ℕ) (honest : 
   same_kept Back left pair now k h = sym (k.back h)
 
   way_leaves : (heading : Heading) (kept : Kept) (place : ℕ) (pair : Pair) (old new : S) (done : Bool) (made : List Event) → IsTidy kept → slice_get kept.pairs place ≡ Some pair → pair.phase ≡ phases.Open
-      → ServesWay connects calls old kept.rules heading pair done made new → Way-left kept place heading pair made
+      → (w : ServesWay connects calls old kept.rules heading pair done made new) → Way-left kept place heading pair made (OpenRefuses connects calls true old kept.rules heading pair done made new w)
   way_leaves heading kept place pair old new done made tidy is opens w =
       let s = submits_leave heading place pair opens (way_of heading pair).waiting kept old w.mid w.one w.here w.left tidy (is ∙ ap (λ (p : Pair). Some p) (sym (left_all heading pair))) w.submits in
-      let b = balances_keep kept.rules heading pair w.left (nat_lt 300 (length w.left)) (kept_after kept w.here) place w.mid new w.other w.rest (s.steps).tidy (s.steps).is w.balances in
+      let b = balances_keep kept.rules heading pair w.left (nat_lt 300 (length w.left)) (kept_after kept w.here) place w.mid new w.other w.rest s.tidy s.is w.balances in
       record {
         now = b.now;
         inbound = (b.keeps).inbound ∙ left_inbound heading w.left pair;
         outbound = (b.keeps).outbound ∙ left_outbound heading w.left pair;
         opens = λ h. opens;
         other = λ h. other_kept heading w.left pair b.now b.keeps h;
-        leaves = λ h. subst (λ (es : List Event). LeavesNone calls es (far_end heading pair) (way_of heading b.now).waiting) (sym w.made_is)
-            (unless_after calls w.here w.rest (far_end heading pair) (way_of heading b.now).waiting
-            (unless_at calls w.here (far_end heading pair) (far_end heading pair) w.left (way_of heading b.now).waiting refl (same_kept heading w.left pair b.now b.keeps h) s.leaves));
+        leaves = λ h. subst (NoneLeft (OpenRefuses connects calls true old kept.rules heading pair done made new w (far_end heading pair))) (same_kept heading w.left pair b.now b.keeps h)
+            (submits_left (way_of heading pair).waiting old (far_end heading pair) w.one w.here w.mid w.left w.submits);
         steps = subst (λ (es : List Event). Steps kept place (kept_after kept es) b.now) (sym w.made_is)
             (steps_at kept (kept_after (kept_after kept w.here) w.rest) (kept_after kept (w.here ++ w.rest)) place b.now (sym (kept_more kept w.here w.rest))
-            (steps_more kept (kept_after kept w.here) (kept_after (kept_after kept w.here) w.rest) place (with_left heading w.left pair) b.now s.steps b.steps));
+            (steps_more kept (kept_after kept w.here) (kept_after (kept_after kept w.here) w.rest) place (with_left heading w.left pair) b.now s b.steps));
       }
 
   not_open : (phase : Phase) → is_open phase ≡ false → phase ≡ phases.Open → ⊥
@@ -407,43 +376,52 @@ module _ {S : Type 0} (has : S → ℕ → Type 0) (ends : S → ℕ) (honest : 
   open_is phases.Closed yes_it = absurd (cc)
 
   at_leaves : (heading : Heading) (kept : Kept) (place : ℕ) (pair : Pair) (old new : S) (done : Bool) (made : List Event) → IsTidy kept → slice_get kept.pairs place ≡ Some pair
-      → ServesAt connects calls old kept place heading done made new → Way-left kept place heading pair made
-  at_leaves heading kept place pair old new done made tidy is w =
-      by (is_open pair.phase) refl (subst (λ (found : Option Pair). ServesIf connects calls old kept.rules heading found done made new) is w)
+      → (w : ServesAt connects calls old kept place heading done made new) → Way-left kept place heading pair made (IfRefuses connects calls (slice_get kept.pairs place) old kept.rules heading done made new w)
+  at_leaves heading kept place pair old new done made tidy is w = by (slice_get kept.pairs place) refl is w
     where
-      by : (b : Bool) → is_open pair.phase ≡ b → ServesOpen connects calls b old kept.rules heading pair done made new → Way-left kept place heading pair made
-      by true opens s = way_leaves heading kept place pair old new done made tidy is (open_is pair.phase opens) s
-      by false shut s = record {
-        now = pair;
+      by_open : (p : Pair) → slice_get kept.pairs place ≡ Some p → (b : Bool) → is_open p.phase ≡ b → (s : ServesOpen connects calls b old kept.rules heading p done made new)
+          → Way-left kept place heading p made (OpenRefuses connects calls b old kept.rules heading p done made new s)
+      by_open p there true opens s = way_leaves heading kept place p old new done made tidy there (open_is p.phase opens) s
+      by_open p there false shut s = record {
+        now = p;
         inbound = refl;
         outbound = refl;
         opens = λ h. h;
         other = λ h. refl;
-        leaves = λ h. absurd (not_open pair.phase shut h);
-        steps = subst (λ (es : List Event). Steps kept place (kept_after kept es) pair) (sym s.1) (record { tidy = tidy; others = λ other apart. refl; is = is });
+        leaves = λ h. absurd (not_open p.phase shut h);
+        steps = subst (λ (es : List Event). Steps kept place (kept_after kept es) p) (sym s.1) (record { tidy = tidy; others = λ other apart. refl; is = there });
       }
+
+      by : (found : Option Pair) → slice_get kept.pairs place ≡ found → found ≡ Some pair → (s : ServesIf connects calls old kept.rules heading found done made new)
+          → Way-left kept place heading pair made (IfRefuses connects calls found old kept.rules heading done made new s)
+      by None there same s = absurd (cc same)
+      by (Some p) there same s =
+          let equal : p ≡ pair = cc same in
+          subst (λ (x : Pair). Way-left kept place heading x made (IfRefuses connects calls (Some p) old kept.rules heading done made new s)) equal (by_open p there (is_open p.phase) refl s)
 
   -- ---- both ways
 
-  pub record Pair-left (kept : Kept) (place : ℕ) (made : List Event) : Type 0 where
+  -- so it is both ways
+  abbrev BothLeft : (Heading → ℕ → List MarkedUnit → Type 0) → Pair → Type 0
+  BothLeft Refused pair = pair.phase ≡ phases.Open → NoneLeft (Refused On pair.outbound) pair.on.waiting × NoneLeft (Refused Back pair.inbound) pair.back.waiting
+
+  pub record Pair-left (kept : Kept) (place : ℕ) (made : List Event) (Refused : Heading → ℕ → List MarkedUnit → Type 0) : Type 0 where
     pub now : Pair
-    pub served : IsServed calls made now
+    pub left : BothLeft Refused now
     pub steps : Steps kept place (kept_after kept made) now
 
-  pair_leaves : (kept : Kept) (place : ℕ) (pair : Pair) (old new : S) (done : Bool) (made : List Event) → IsTidy kept → slice_get kept.pairs place ≡ Some pair → ServesPair connects calls old kept place done made new
-      → Pair-left kept place made
+  pair_leaves : (kept : Kept) (place : ℕ) (pair : Pair) (old new : S) (done : Bool) (made : List Event) → IsTidy kept → slice_get kept.pairs place ≡ Some pair → (s : ServesPair connects calls old kept place done made new)
+      → Pair-left kept place made (PairRefuses connects calls old kept place done made new s)
   pair_leaves kept place pair old new done made tidy is s =
       let a = at_leaves On kept place pair old s.mid s.one s.here tidy is s.on in
       let b = at_leaves Back (kept_after kept s.here) place a.now s.mid new s.other s.rest (a.steps).tidy (a.steps).is s.back in
       record {
         now = b.now;
-        served = λ h.
-            (subst (λ (es : List Event). LeavesNone calls es (b.now).outbound (b.now).on.waiting × LeavesNone calls es (b.now).inbound (b.now).back.waiting) (sym s.made_is) (
-              unless_after calls s.here s.rest (b.now).outbound (b.now).on.waiting
-                  (unless_at calls s.here pair.outbound (b.now).outbound (a.now).on.waiting (b.now).on.waiting (sym (b.outbound ∙ a.outbound)) (sym (b.other h)) (a.leaves (b.opens h))),
-              unless_before calls s.here s.rest (b.now).inbound (b.now).back.waiting
-                  (unless_at calls s.rest (a.now).inbound (b.now).inbound (b.now).back.waiting (b.now).back.waiting (sym b.inbound) refl (b.leaves h)),
-            ));
+        left = λ h. (
+            subst (λ (end : ℕ). NoneLeft (PairRefuses connects calls old kept place done made new s On end) (b.now).on.waiting) (sym (b.outbound ∙ a.outbound))
+                (subst (NoneLeft (PairRefuses connects calls old kept place done made new s On pair.outbound)) (sym (b.other h)) (a.leaves (b.opens h))),
+            subst (λ (end : ℕ). NoneLeft (PairRefuses connects calls old kept place done made new s Back end) (b.now).back.waiting) (sym b.inbound) (b.leaves h),
+          );
         steps = subst (λ (es : List Event). Steps kept place (kept_after kept es) b.now) (sym s.made_is)
             (steps_at kept (kept_after (kept_after kept s.here) s.rest) (kept_after kept (s.here ++ s.rest)) place b.now (sym (kept_more kept s.here s.rest))
             (steps_more kept (kept_after kept s.here) (kept_after (kept_after kept s.here) s.rest) place a.now b.now a.steps b.steps));
@@ -455,45 +433,67 @@ module _ {S : Type 0} (has : S → ℕ → Type 0) (ends : S → ℕ) (honest : 
   IsAmong [] place = ⊥
   IsAmong (first ∷ places) place = (first ≡ place) ⊎ IsAmong places place
 
-  -- each open pair is still to be served, or it was
-  abbrev Awaits : Kept → List ℕ → List Event → Type 0
-  Awaits kept places made = (place : ℕ) (pair : Pair) → slice_get kept.pairs place ≡ Some pair → IsAmong places place ⊎ IsServed calls made pair
+  -- it was refused by the one or the other
+  abbrev Either : (ℕ → Heading → ℕ → List MarkedUnit → Type 0) → (ℕ → Heading → ℕ → List MarkedUnit → Type 0) → ℕ → Heading → ℕ → List MarkedUnit → Type 0
+  Either Before Here place heading end units = Before place heading end units ⊎ Here place heading end units
 
-  served_more : (front made : List Event) (pair : Pair) → IsServed calls made pair → IsServed calls (made ++ front) pair
-  served_more front made pair s h =
-      let l = s h in (unless_after calls made front pair.outbound pair.on.waiting l.0, unless_after calls made front pair.inbound pair.back.waiting l.1)
+  -- each open pair is still to be served, or what waits is that of which the next was refused
+  abbrev Awaits : Kept → List ℕ → (ℕ → Heading → ℕ → List MarkedUnit → Type 0) → Type 0
+  Awaits kept places Before = (place : ℕ) (pair : Pair) → slice_get kept.pairs place ≡ Some pair → IsAmong places place ⊎ BothLeft (Before place) pair
 
-  served_before : (front made : List Event) (pair : Pair) → IsServed calls made pair → IsServed calls (front ++ made) pair
-  served_before front made pair s h =
-      let l = s h in (unless_before calls front made pair.outbound pair.on.waiting l.0, unless_before calls front made pair.inbound pair.back.waiting l.1)
+  none_more : (Refused More : List MarkedUnit → Type 0) (units : List MarkedUnit) → (Refused units → More units) → NoneLeft Refused units → NoneLeft More units
+  none_more Refused More units more (inl none) = inl none
+  none_more Refused More units more (inr refused) = inr (more refused)
 
-  among_other : (first at : ℕ) (places : List ℕ) (before here : List Event) (other : Pair) → at ≢ first → ((first ≡ at) ⊎ IsAmong places at) ⊎ IsServed calls before other → IsAmong places at ⊎ IsServed calls (before ++ here) other
-  among_other first at places before here other apart (inl (inl same)) = absurd (apart (sym same))
-  among_other first at places before here other apart (inl (inr among)) = inl among
-  among_other first at places before here other apart (inr served) = inr (served_more here before other served)
+  both_more : (Refused More : Heading → ℕ → List MarkedUnit → Type 0) (pair : Pair) → ((heading : Heading) (end : ℕ) (units : List MarkedUnit) → Refused heading end units → More heading end units) → BothLeft Refused pair
+      → BothLeft More pair
+  both_more Refused More pair more both h =
+      let b = both h in
+      (
+        none_more (Refused On pair.outbound) (More On pair.outbound) pair.on.waiting (more On pair.outbound pair.on.waiting) b.0,
+        none_more (Refused Back pair.inbound) (More Back pair.inbound) pair.back.waiting (more Back pair.inbound pair.back.waiting) b.1,
+      )
 
-  await_rest : (kept : Kept) (first : ℕ) (places : List ℕ) (before here : List Event) → Awaits kept (first ∷ places) before → Pair-left kept first here → Awaits (kept_after kept here) places (before ++ here)
-  await_rest kept first places before here awaits p at other found = elim (cases_lt at first) [
-    | inl less ↦ among_other first at places before here other (λ same. omega (arith, less, same)) (awaits at other (sym ((p.steps).others at (λ same. omega (arith, less, same))) ∙ found))
-    | inr more ↦ elim (cases_lt first at) [
-      | inl less ↦ among_other first at places before here other (λ same. omega (arith, less, same)) (awaits at other (sym ((p.steps).others at (λ same. omega (arith, less, same))) ∙ found))
-      | inr most ↦ inr (served_before before here other (subst (IsServed calls here) (this (omega (arith, more, most))) p.served))
+  module _ (kept : Kept) (first : ℕ) (places : List ℕ) (here : List Event) (Before Here : ℕ → Heading → ℕ → List MarkedUnit → Type 0) (Left : Heading → ℕ → List MarkedUnit → Type 0)
+      (is : (heading : Heading) (end : ℕ) (units : List MarkedUnit) → Left heading end units → Here first heading end units) (p : Pair-left kept first here Left) where
+    among_other : (at : ℕ) (other : Pair) → at ≢ first → ((first ≡ at) ⊎ IsAmong places at) ⊎ BothLeft (Before at) other → IsAmong places at ⊎ BothLeft (Either Before Here at) other
+    among_other at other apart (inl (inl same)) = absurd (apart (sym same))
+    among_other at other apart (inl (inr among)) = inl among
+    among_other at other apart (inr left) = inr (both_more (Before at) (Either Before Here at) other (λ heading end units l. inl l) left)
+
+    await_rest : Awaits kept (first ∷ places) Before → Awaits (kept_after kept here) places (Either Before Here)
+    await_rest awaits at other found = elim (cases_lt at first) [
+      | inl less ↦ among_other at other (λ same. omega (arith, less, same)) (awaits at other (sym ((p.steps).others at (λ same. omega (arith, less, same))) ∙ found))
+      | inr more ↦ elim (cases_lt first at) [
+        | inl less ↦ among_other at other (λ same. omega (arith, less, same)) (awaits at other (sym ((p.steps).others at (λ same. omega (arith, less, same))) ∙ found))
+        | inr most ↦ inr (now_at (omega (arith, more, most)))
+      ]
     ]
-  ]
-    where
-      this : at ≡ first → p.now ≡ other
-      this same = let e : Some p.now ≡ Some other = sym (p.steps).is ∙ ap (λ (n : ℕ). slice_get (kept_after kept here).pairs n) (sym same) ∙ found in cc
+      where
+        now_at : at ≡ first → BothLeft (Either Before Here at) other
+        now_at same =
+            let e : Some p.now ≡ Some other = sym (p.steps).is ∙ ap (λ (n : ℕ). slice_get (kept_after kept here).pairs n) (sym same) ∙ found in
+            let this : p.now ≡ other = cc e in
+            subst (λ (n : ℕ). BothLeft (Either Before Here n) other) (sym same) (subst (BothLeft (Either Before Here first)) this (both_more Left (Either Before Here first) p.now (λ heading end units l. inr (is heading end units l)) p.left))
 
-  each_leaves : (places : List ℕ) (kept : Kept) (old new : S) (done : Bool) (made : List Event) (last : Kept) (before : List Event) → IsTidy kept → AllByRecursion (λ (place : ℕ). place < length kept.pairs) places
-      → Awaits kept places before → ServesEach connects calls old kept places done made new last → (place : ℕ) (pair : Pair) → slice_get last.pairs place ≡ Some pair → IsServed calls (before ++ made) pair
-  each_leaves [] kept old new done made last before tidy bounds awaits s place pair there =
+  -- refused as the first pair is served, or the others
+  reordered : (Before Here Rest : ℕ → Heading → ℕ → List MarkedUnit → Type 0) (place : ℕ) (heading : Heading) (end : ℕ) (units : List MarkedUnit) → Either (Either Before Here) Rest place heading end units
+      → Either Before (Either Here Rest) place heading end units
+  reordered Before Here Rest place heading end units (inl (inl before)) = inl before
+  reordered Before Here Rest place heading end units (inl (inr here)) = inr (inl here)
+  reordered Before Here Rest place heading end units (inr rest) = inr (inr rest)
+
+  each_leaves : (places : List ℕ) (kept : Kept) (old new : S) (done : Bool) (made : List Event) (last : Kept) (Before : ℕ → Heading → ℕ → List MarkedUnit → Type 0) → IsTidy kept → AllByRecursion (λ (place : ℕ). place < length kept.pairs) places
+      → Awaits kept places Before → (s : ServesEach connects calls old kept places done made new last) → (place : ℕ) (pair : Pair) → slice_get last.pairs place ≡ Some pair
+      → BothLeft (Either Before (EachRefuses connects calls places old kept done made new last s) place) pair
+  each_leaves [] kept old new done made last Before tidy bounds awaits s place pair there =
       let found : slice_get kept.pairs place ≡ Some pair = ap (λ (k : Kept). slice_get k.pairs place) (sym s.3) ∙ there in
-      subst (λ (es : List Event). IsServed calls (before ++ es) pair) (sym s.1) (subst (λ (es : List Event). IsServed calls es pair) (sym (append-nil before)) (none (awaits place pair found)))
+      both_more (Before place) (Either Before (EachRefuses connects calls [] old kept done made new last s) place) pair (λ heading end units l. inl l) (none (awaits place pair found))
     where
-      none : ⊥ ⊎ IsServed calls before pair → IsServed calls before pair
+      none : ⊥ ⊎ BothLeft (Before place) pair → BothLeft (Before place) pair
       none (inl never) = absurd never
-      none (inr served) = served
-  each_leaves (first ∷ places) kept old new done made last before tidy bounds awaits s place pair there =
+      none (inr left) = left
+  each_leaves (first ∷ places) kept old new done made last Before tidy bounds awaits s place pair there =
       let default : Pair = pair in
       let here : Pair = get_or kept.pairs first default in
       let is : slice_get kept.pairs first ≡ Some here = slice_get-get_or kept.pairs first default bounds.0 in
@@ -501,9 +501,11 @@ module _ {S : Type 0} (has : S → ℕ → Type 0) (ends : S → ℕ) (honest : 
       let middle : Kept = kept_after kept s.3 in
       let later : AllByRecursion (λ (x : ℕ). x < length middle.pairs) places =
       all_each (λ (x : ℕ). x < length kept.pairs) (λ (x : ℕ). x < length middle.pairs) places (λ x low. (let g = pairs_grow kept s.3 in omega (arith, low, g))) bounds.1 in
-      subst (λ (es : List Event). IsServed calls es pair) (append_assoc before s.3 s.4 ∙ ap (λ (es : List Event). before ++ es) (sym s.8))
-      (each_leaves places middle s.0 new s.2 s.4 last (before ++ s.3) (p.steps).tidy later
-      (await_rest kept first places before s.3 awaits p)
+      let Here : ℕ → Heading → ℕ → List MarkedUnit → Type 0 = λ at heading end units. (first ≡ at) × PairRefuses connects calls old kept first s.1 s.3 s.0 s.5 heading end units in
+      let Rest : ℕ → Heading → ℕ → List MarkedUnit → Type 0 = EachRefuses connects calls places s.0 middle s.2 s.4 new last s.6 in
+      both_more (Either (Either Before Here) Rest place) (Either Before (Either Here Rest) place) pair (reordered Before Here Rest place)
+      (each_leaves places middle s.0 new s.2 s.4 last (Either Before Here) (p.steps).tidy later
+      (await_rest kept first places s.3 Before Here (PairRefuses connects calls old kept first s.1 s.3 s.0 s.5) (λ heading end units l. (refl, l)) p awaits)
       s.6 place pair there)
 
   -- ---- the whole
@@ -522,10 +524,13 @@ module _ {S : Type 0} (has : S → ℕ → Type 0) (ends : S → ℕ) (honest : 
       by among true = inr among
       by among false = among
 
-  await_all : (kept : Kept) → Awaits kept (open_places kept.pairs) []
+  abbrev Never : ℕ → Heading → ℕ → List MarkedUnit → Type 0
+  Never place heading end units = ⊥
+
+  await_all : (kept : Kept) → Awaits kept (open_places kept.pairs) Never
   await_all kept place pair there = by (is_open pair.phase) refl
     where
-      by : (b : Bool) → is_open pair.phase ≡ b → IsAmong (open_places kept.pairs) place ⊎ IsServed calls [] pair
+      by : (b : Bool) → is_open pair.phase ≡ b → IsAmong (open_places kept.pairs) place ⊎ BothLeft (Never place) pair
       by true opens = let e : 0 + place ≡ place = omega arith in inl (subst (IsAmong (open_places kept.pairs)) e (among_places 0 kept.pairs place pair there opens))
       by false shut = inr (λ h. absurd (not_open pair.phase shut h))
 
@@ -533,34 +538,47 @@ module _ {S : Type 0} (has : S → ℕ → Type 0) (ends : S → ℕ) (honest : 
   places_low kept = recursion_from_All (λ (place : ℕ). place < length kept.pairs) (open_places kept.pairs)
       (λ k d low. (let e = get_or_default_zero (open_places kept.pairs) k d low in let b = open_bound kept.pairs k low in omega (arith, e, b)))
 
-  pub pump_leaves : (old : S) (kept : Kept) (line : List Event) (done : Bool) (made : List Event) (new : S) (last : Kept) (step : PumpStep connects calls old kept line done made new last) → IsTidy step.middle
-      → AllByRecursion (IsServed calls made) last.pairs
-  pump_leaves old kept line done made new last step tidy =
-      recursion_from_All (IsServed calls made) last.pairs
-      (λ k d low. subst (λ (es : List Event). IsServed calls es (get_or last.pairs k d)) (sym step.made_is)
-      (served_before step.here step.rest (get_or last.pairs k d)
-      (each_leaves (open_places (step.middle).pairs) step.middle step.mid new step.other step.rest last [] tidy (places_low step.middle) (await_all step.middle) step.serves k (get_or last.pairs k d)
-      (slice_get-get_or last.pairs k d low))))
+  module _ (old : S) (kept : Kept) (line : List Event) (done : Bool) (made : List Event) (new : S) (last : Kept) (step : PumpStep connects calls old kept line done made new last) where
+    abbrev RefusedIn : ℕ → Heading → ℕ → List MarkedUnit → Type 0
+    RefusedIn = EachRefuses connects calls (open_places (step.middle).pairs) step.mid step.middle step.other step.rest new last step.serves
+
+    one_of : (place : ℕ) (heading : Heading) (end : ℕ) (waiting : List MarkedUnit) → Either Never RefusedIn place heading end waiting → RefusedIn place heading end waiting
+    one_of place heading end waiting (inl never) = absurd never
+    one_of place heading end waiting (inr refused) = refused
+
+    pub pump_leaves : IsTidy step.middle → AreServed connects calls old kept line done made new last step
+    pump_leaves tidy place pair there =
+        both_more (Either Never RefusedIn place) (RefusedIn place) pair (one_of place)
+        (each_leaves (open_places (step.middle).pairs) step.middle step.mid new step.other step.rest last Never tidy (places_low step.middle) (await_all step.middle) step.serves place pair there)
 
 -- ---- units
 
-pub all_given : {S : Type 0} (calls : S → ℕ → UserCall → Bool → List Event → S → Type 0) (made journal : List Event) (pairs : List Pair) → AllByRecursion (PairHolds journal) pairs → AllByRecursion (IsServed calls made) pairs
-    → AllByRecursion (GivesAll calls made journal) pairs
-all_given calls made journal [] holds served = tt
-all_given {S} calls made journal (pair ∷ pairs) holds served = (
-  λ h. (on ((holds.0).on.opened_waits h) (served.0 h).0, back ((holds.0).back.opened_waits h) (served.0 h).1),
-  all_given calls made journal pairs holds.1 served.1,
-)
-  where
-    gave : (given got : List Marked) (waiting : List MarkedUnit) → got ≡ given ++ map marked waiting → waiting ≡ [] → given ≡ got
-    gave given got waiting is none = sym (is ∙ ap (λ (us : List MarkedUnit). given ++ map marked us) none ∙ append-nil given)
+-- what was shown at an open pair and not submitted waits
+pub all_but_waiting : (journal : List Event) (pairs : List Pair) → AllByRecursion (PairHolds journal) pairs → AllByRecursion (AllButWaiting journal) pairs
+all_but_waiting journal [] holds = tt
+all_but_waiting journal (pair ∷ pairs) holds = (λ opens. ((holds.0).on.opened_waits opens, (holds.0).back.opened_waits opens), all_but_waiting journal pairs holds.1)
 
-    on : shown pair.inbound journal ≡ submitted pair.outbound journal ++ map marked pair.on.waiting → LeavesNone calls made pair.outbound pair.on.waiting
-        → (submitted pair.outbound journal ≡ shown pair.inbound journal) ⊎ RefusesNext calls made pair.outbound pair.on.waiting
-    on is (inl none) = inl (gave (submitted pair.outbound journal) (shown pair.inbound journal) pair.on.waiting is none)
-    on is (inr refused) = inr refused
+holds_at : (P : Pair → Type 0) (pairs : List Pair) (n : ℕ) (x : Pair) → AllByRecursion P pairs → slice_get pairs n ≡ Some x → P x
+holds_at P [] n x all is = absurd (cc is)
+holds_at P (first ∷ pairs) zero x all is = let same : first ≡ x = cc is in subst P same all.0
+holds_at P (first ∷ pairs) (suc n) x all is = holds_at P pairs n x all.1 is
 
-    back : shown pair.outbound journal ≡ submitted pair.inbound journal ++ map marked pair.back.waiting → LeavesNone calls made pair.inbound pair.back.waiting
-        → (submitted pair.inbound journal ≡ shown pair.outbound journal) ⊎ RefusesNext calls made pair.inbound pair.back.waiting
-    back is (inl none) = inl (gave (submitted pair.inbound journal) (shown pair.outbound journal) pair.back.waiting is none)
-    back is (inr refused) = inr refused
+module _ {S : Type 0} (connects : S → ℕ → ConnectRequest → Bool → List Event → S → Type 0) (calls : S → ℕ → UserCall → Bool → List Event → S → Type 0) where
+  pub all_given : (journal : List Event) (old : S) (kept : Kept) (line : List Event) (done : Bool) (made : List Event) (new : S) (last : Kept) (step : PumpStep connects calls old kept line done made new last)
+      → AllByRecursion (PairHolds journal) last.pairs → AreServed connects calls old kept line done made new last step → AreGiven connects calls old kept line done made new last step journal
+  all_given journal old kept line done made new last step holds served place pair there h =
+      let pair_holds = holds_at (PairHolds journal) last.pairs place pair holds there in
+      (on (pair_holds.on.opened_waits h) (served place pair there h).0, back (pair_holds.back.opened_waits h) (served place pair there h).1)
+    where
+      gave : (given got : List Marked) (waiting : List MarkedUnit) → got ≡ given ++ map marked waiting → waiting ≡ [] → given ≡ got
+      gave given got waiting is none = sym (is ∙ ap (λ (us : List MarkedUnit). given ++ map marked us) none ∙ append-nil given)
+
+      on : shown pair.inbound journal ≡ submitted pair.outbound journal ++ map marked pair.on.waiting → LeavesNone connects calls old kept line done made new last step place On pair.outbound pair.on.waiting
+          → (submitted pair.outbound journal ≡ shown pair.inbound journal) ⊎ RefusesNext connects calls old kept line done made new last step place On pair.outbound pair.on.waiting
+      on is (inl none) = inl (gave (submitted pair.outbound journal) (shown pair.inbound journal) pair.on.waiting is none)
+      on is (inr refused) = inr refused
+
+      back : shown pair.outbound journal ≡ submitted pair.inbound journal ++ map marked pair.back.waiting → LeavesNone connects calls old kept line done made new last step place Back pair.inbound pair.back.waiting
+          → (submitted pair.inbound journal ≡ shown pair.outbound journal) ⊎ RefusesNext connects calls old kept line done made new last step place Back pair.inbound pair.back.waiting
+      back is (inl none) = inl (gave (submitted pair.inbound journal) (shown pair.outbound journal) pair.back.waiting is none)
+      back is (inr refused) = inr refused

@@ -17,6 +17,7 @@ pub mod PairsHold
 pub mod Placed
 pub mod Pumped
 pub mod Reacted
+pub mod Refusals
 pub mod Served
 pub mod Submitting
 pub mod Telling

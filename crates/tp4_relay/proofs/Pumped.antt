@@ -1,12 +1,11 @@
 -- A pump: what was done about the events of a line, and then for the open pairs.
 use Rattle.std.proofs.Common.{◌≡◌, ℕ, Bool, ◌||◌, List, ◌++◌, refl, sym, ◌∙◌, ap, subst, append_assoc}
-use Rattle.std.specs.List.{AllByRecursion}
 use Rattle.script_journal.specs.declared.event.Event.{Event}
 use Rattle.tp4_conn.specs.declared.call.ConnectRequest.{ConnectRequest}
 use Rattle.tp4_conn.specs.declared.call.UserCall.{UserCall}
 use Rattle.tp4_relay.specs.Allowed.{AreAllowed}
 use Rattle.tp4_relay.specs.Kept.{Kept, kept_after}
-use Rattle.tp4_relay.specs.Leaving.{IsServed}
+use Rattle.tp4_relay.specs.Leaving.{ServesAll}
 use Rattle.tp4_relay.specs.Pairs.{open_places}
 use Rattle.tp4_relay.specs.Pump.{PumpStep}
 use Rattle.tp4_relay.specs.Service.{IsService, Tells}
@@ -52,6 +51,7 @@ module _ {S : Type 0} (has : S → ℕ → Type 0) (ends : S → ℕ) (honest : 
     pub pump_allowed : AreAllowed kept later
     pump_allowed = pump_broken later (b.0, b.1, (b.2).allowed)
 
-    pub pump_served : IsTidy middle → Tells line later (λ made. AllByRecursion (IsServed calls made) last.pairs)
+    pub pump_served : IsTidy middle → Tells line later (λ made. ServesAll connects calls old kept line (one || other) made new last)
     unfolding step
-    pump_served tidy = (a.0 ++ b.0, told_more line seen later a.0 b.0 a.1 b.1, pump_leaves has ends honest connects calls law old kept line (one || other) (a.0 ++ b.0) new last step tidy)
+    pump_served tidy =
+        (a.0 ++ b.0, told_more line seen later a.0 b.0 a.1 b.1, record { step = step; served = pump_leaves has ends honest connects calls law old kept line (one || other) (a.0 ++ b.0) new last step tidy })

@@ -10,7 +10,6 @@ use Rattle.tp4_conn.specs.Calls.{IsCall}
 use Rattle.tp4_relay.specs.declared.pair.Heading.{Heading}
 use Rattle.tp4_relay.specs.declared.pair.Heading.TheVariants.{On, Back}
 use Rattle.tp4_relay.specs.declared.pair.Pair.{Pair}
-use Rattle.tp4_relay.specs.declared.pair.Phase.TheVariants.{Open}
 use Rattle.tp4_relay.specs.declared.unit.MarkedUnit.{MarkedUnit}
 use Rattle.tp4_relay.specs.declared.unit.MarkedUnit.TheVariants.{Normal, Expedited}
 use Rattle.tp4_relay.specs.Kept.{Kept, kept_after}

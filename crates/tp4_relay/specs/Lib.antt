@@ -1,9 +1,11 @@
 pub mod Allowed
 pub mod Kept
+pub mod Laws
 pub mod Leaving
 pub mod Pairs
 pub mod Pump
 pub mod Reaction
+pub mod Refusing
 pub mod Relaying
 pub mod Service
 pub mod Worked

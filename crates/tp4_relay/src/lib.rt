@@ -18,7 +18,7 @@ mod tests;
 mod unit;
 
 pub use claim::Claim;
-pub use laws::{relays_all, relays_units, worked_rows};
+pub use laws::{pump_gives_all, refusals_are_told, relays_all, relays_units, worked_rows};
 pub use pair::{Heading, Pair, Phase, Way};
 pub use reaction::Reaction;
 pub use relay::Relay;

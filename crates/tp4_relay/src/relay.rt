@@ -4,7 +4,7 @@ ghost use Rattle.std.specs.Prelude.{◌≡◌, ◌≤◌, ◌==◌, ℕ, List, I
 ghost use Rattle.std.specs.List.{AllByRecursion, list_any};
 ghost use Rattle.tp4_relay.specs.Allowed.{AreAllowed, AreLine};
 ghost use Rattle.tp4_relay.specs.Kept.{kept_after, nothing_kept, owns};
-ghost use Rattle.tp4_relay.specs.Leaving.{IsServed};
+ghost use Rattle.tp4_relay.specs.Leaving.{ServesAll};
 ghost use Rattle.tp4_relay.specs.Pump.{PumpStep};
 ghost use Rattle.tp4_relay.specs.Service.{Tells};
 ghost use Rattle.tp4_relay.specs.declared.row.RelayRow.{RelayRow as Row};
@@ -84,7 +84,7 @@ impl Relay {
         requires line { AreLine (S.ends service.old) self.old events.old.items }
         ensures step { IfOk result (λ done. Tells events.old.items events.new.items (λ made. PumpStep S.connects S.calls service.old self.old events.old.items done made service.new self.new)) }
         ensures stands { OnOk result (self.new ≡ kept_after self.old events.new.items) }
-        ensures served { IfOk result (λ done. Tells events.old.items events.new.items (λ made. AllByRecursion (IsServed S.calls made) self.new.pairs)) }
+        ensures served { IfOk result (λ done. Tells events.old.items events.new.items (λ made. ServesAll S.connects S.calls service.old self.old events.old.items done made service.new self.new)) }
         ensures allowed { AreAllowed self.old events.new.items }
     {
         let reacted = react_all(&mut self.table, service, events)?;
