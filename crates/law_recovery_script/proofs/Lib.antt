@@ -4,6 +4,7 @@ pub mod Doing
 pub mod Lasting
 pub mod Lines
 pub mod Outlasting
+pub mod Playing
 pub mod Releasing
 pub mod Rowing
 pub mod Starting

@@ -42,7 +42,7 @@ use Rattle.law_recovery_script.specs.Over.{HaveLeft, KeepsLeft}
 use Rattle.law_recovery_script.proofs.Clocks.{none_ticks, ticked_then}
 use Rattle.law_recovery_script.proofs.Lasting.{asked, line_honest, line_rests, none_waits, still_moves}
 use Rattle.law_recovery_script.proofs.Outlasting.{end_keeps, left_end}
-use Rattle.law_recovery_script.proofs.Staying.{lines_keep, settle_keeps}
+use Rattle.law_recovery_script.proofs.Staying.{lines_keep, same_keeps, settle_keeps}
 
 module _ {C : Type 0} (link : C → Link (List ℕ)) (steps : C → Call (List ℕ) → C → Type 0)
     (law : (old : C) (call : Call (List ℕ)) (new : C) → steps old call new → Keeps (link old) call (link new))
@@ -159,6 +159,7 @@ module _ {C : Type 0} (link : C → Link (List ℕ)) (steps : C → Call (List �
     leads = leads_then p mid more.next first more.happenings leads more.leads;
     ticked = ticked_then first more.happenings p mid leads ticked more.ticked;
     goes = more.goes;
+    over = more.over;
   })
 
   pub lines_last : (script : List Line) (old last : World C) (journal late : List Event) (hall : Hall) (queue : List (CarriedUnit (List ℕ))) (x y : ℕ) (p : Pair) → So old hall queue → Resting journal old
@@ -176,6 +177,10 @@ module _ {C : Type 0} (link : C → Link (List ℕ)) (steps : C → Call (List �
         leads = refl;
         ticked = tt;
         goes = inl (idle_of link (journal ++ late) last x y p now, later_of link steps law titles Waits fifo names timers going (follow names timers) journal old hall queue x y p s idle, now);
+        over = λ both. (
+          end_keeps old last x (same_keeps old last run.1) (left_end link names timers r.w journal old r.explains x p.calling f.calling both.0),
+          end_keeps old last y (same_keeps old last run.1) (left_end link names timers r.w journal old r.explains y p.called f.called both.1),
+        );
       }
   lines_last (line ∷ script) old last journal late hall queue x y p s r may calm proper path all f live live_there run =
       let parts = all_parts IsUndropped run.1 run.2 (subst (λ (es : List Event). AllByRecursion IsUndropped es) run.4 all) in
@@ -191,7 +196,8 @@ module _ {C : Type 0} (link : C → Link (List ℕ)) (steps : C → Call (List �
         next = moved.next;
         leads = moved.leads;
         ticked = moved.ticked;
-        goes = inr (over, λ both. let here = left both in (end_keeps run.0 last x keeps here.0, end_keeps run.0 last y keeps here.1));
+        goes = inr over;
+        over = λ both. let here = left both in (end_keeps run.0 last x keeps here.0, end_keeps run.0 last y keeps here.1);
       } in
       let frozen : IsFollowed link (journal ++ run.1) run.0 first.stepped.hall.posts x y moved.next → AreBothLeft moved.next → HaveLeft run.0 x y = λ on both. (
         left_end link names timers rests.w (journal ++ run.1) run.0 rests.explains x moved.next.calling on.calling both.0,

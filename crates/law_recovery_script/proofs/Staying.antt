@@ -76,7 +76,7 @@ keeps_same {C} old new entities ends x s r h = record {
       h.left entity e (sym (ap (λ (ps : List Placed). entity_at ps s) entities) ∙ at) stands (sym (ap (λ (es : List EndAt). latest es s r) ends) ∙ number);
 }
 
-same_keeps : {C : Type 0} (old new : World C) → new ≡ old → KeepsLeft old new
+pub same_keeps : {C : Type 0} (old new : World C) → new ≡ old → KeepsLeft old new
 same_keeps {C} old new same = keeps_same old new (ap (λ (v : World C). v.entities) same) (ap (λ (v : World C). v.ends) same)
 
 pub keeps_then : {C : Type 0} (old mid new : World C) → KeepsLeft old mid → KeepsLeft mid new → KeepsLeft old new

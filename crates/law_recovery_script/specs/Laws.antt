@@ -16,7 +16,7 @@ use Rattle.law_tp4_lawful.specs.Called.{AreHonestCalls}
 use Rattle.law_recovery_run.specs.Ordered.{IsReady, OnPrompt, RunsInOrder}
 use Rattle.law_recovery_walk.specs.Following.{IsFollowed, IsLive}
 use Rattle.law_recovery_walk.specs.Settling.{IsEnded}
-use Rattle.law_recovery_script.specs.Moving.{HasLasted}
+use Rattle.law_recovery_script.specs.Moving.{HasLasted, HasPlayed}
 
 -- Over each carrier that serves again once nothing is lost: of two ends that are Opened or Closing and know each other, in a network in which nothing is left to deliver, lines that are settled
 -- and lose nothing are steps of their pair, until one of them is frozen; from there on the two have left, if both had left by then
@@ -29,3 +29,10 @@ RunsLast {C} link steps = OnPrompt link steps (λ titles first Waits. (timers : 
 abbrev pub EndedHaveLeft : Type 0
 EndedHaveLeft = (life : ℕ) (t : Timers) (p : Pair) (o q : InOpened) (happenings : List Happening) (last : Pair) → AreKnown life p o q → AreAgreed p o q → HaveTimers t p o q → AreTimes t
     → AreTicked p happenings → Leads p happenings last → IsEnded last → AreBothLeft last
+
+-- So of two partners that are Opened, and of which all is known, in a network in which nothing is left to deliver: after lines that are settled and lose nothing both are Opened still, or the first
+-- that left did so for a cause of that tick or before, and both have left
+abbrev pub RunsPart : {C : Type 0} → (C → Link (List ℕ)) → (C → Call (List ℕ) → C → Type 0) → Type 0
+RunsPart {C} link steps = OnPrompt link steps (λ titles first Waits. (timers : Timers) (early late : List Event) (old last : World C) (script : List Line) (x y life : ℕ) (t : Timers) (p : Pair)
+    (o q : InOpened) → AreHonestCalls link steps whole titles timers early old → IsReady link steps titles first old → IsFollowed link early old [] x y p → AreKnown life p o q → AreAgreed p o q
+    → HaveTimers t p o q → AreTimes t → RunsInOrder link steps titles old script late last → HasPlayed link (early ++ late) last x y t p o q)

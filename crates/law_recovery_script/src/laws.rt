@@ -1,6 +1,6 @@
 //! Two partner ends of a network along the lines of a script, since when nothing is lost (X.213, queue model; X.224, class 4 procedures).
 
-ghost use Rattle.law_recovery_script.specs.Laws.{EndedHaveLeft, RunsLast};
+ghost use Rattle.law_recovery_script.specs.Laws.{EndedHaveLeft, RunsLast, RunsPart};
 
 use nsap::Nsap;
 use osi_base::Carrier;
@@ -20,4 +20,13 @@ pub fn runs_last<C: Carrier<Addr = Nsap>>()
     law_tp4_history::journals_are_lawful();
     law_tp4_moves::flowed();
     law_tp4_moves::moved();
+}
+
+/// Two partners that are Opened, and of which all is known, in a network in which nothing is left to deliver: after lines that are settled and lose nothing both are Opened still, or the first
+/// that left did so by its user or for a cause of that tick or before, and both have left; over whole numbers.
+pub fn runs_part<C: Carrier<Addr = Nsap>>()
+    ensures { RunsPart C.link C.steps }
+{
+    law_recovery_going::pairs_part();
+    runs_last::<C>();
 }

@@ -3,4 +3,4 @@
 
 mod laws;
 
-pub use laws::{ended_have_left, runs_last};
+pub use laws::{ended_have_left, runs_last, runs_part};
