@@ -32,7 +32,7 @@ use Rattle.law_tp4_lawful.proofs.Worlds.{Rests}
 use Rattle.law_calm_run.specs.Run.{IsUnrouted}
 use Rattle.law_calm_run.proofs.Queueing.{all_parts}
 use Rattle.law_recovery_run.specs.Run.{RunsOn}
-use Rattle.law_recovery_ready.specs.Laws.{LinesAreCalls, RunsAreCalls, RunsAreReady, RunsGoOn}
+use Rattle.law_recovery_ready.specs.Laws.{CallsRest, LinesAreCalls, RunsAreCalls, RunsAreReady, RunsGoOn}
 use Rattle.law_recovery_ready.specs.Ready.{HasNoRestart, HasStarted}
 use Rattle.law_recovery_ready.proofs.Usual.{Fits, lines_fit, settle_fits, start_fits}
 
@@ -125,6 +125,9 @@ module _ {C : Type 0} (link : C → Link (List ℕ)) (steps : C → Call (List �
       r.later a.honest a.limits rests r.did in
       let rest = all.rest system e there in
       (rest.0, subst (λ (n : ℕ). first_due n e ≡ None) (sym all.explains.carries.clock) rest.1)
+
+  pub calls_rest : Flowing → KnowsTaken → ((times : Times) (titles : List (List ℕ)) (w : Whole) → IsNothing w → Written times titles w []) → CallsRest link steps
+  calls_rest flowing knows begins titles timers journal last a system e there = (rested flowing knows begins titles timers journal last a system e there).1
 
   pub runs_ready : Flowing → KnowsTaken → ((times : Times) (titles : List (List ℕ)) (w : Whole) → IsNothing w → Written times titles w []) → RunsAreCalls link steps whole → RunsAreReady link steps
   runs_ready flowing knows begins called titles timers begun early late first at_t0 last script s run once =

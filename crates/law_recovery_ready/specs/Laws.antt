@@ -17,6 +17,7 @@ use Rattle.tp4_world.specs.World.{World}
 use Rattle.law_tp4_lawful.specs.Called.{AreHonestCalls, OnCalls}
 use Rattle.law_tp4_lawful.specs.Limits.{IsProperLine}
 use Rattle.law_calm_run.specs.Service.{end_at_number}
+use Rattle.law_calm_run.proofs.Hall.{AreWaiting}
 use Rattle.law_recovery_run.specs.Ordered.{IsReady, RunsInOrder}
 use Rattle.law_recovery_run.specs.Run.{RunsOn}
 use Rattle.law_recovery_walk.specs.Following.{IsFollowed, Stands}
@@ -48,6 +49,10 @@ RunsGoOn {C} link steps = (titles : List (List ℕ)) (early late : List Event) (
     → (run : RunsOn link steps whole titles first at_t0 last script early late) → RunsInOrder link steps titles at_t0 run.recovers.after late last
 
 -- ---- two partners, after any calls after which the carrier is honest
+
+-- no end is due
+abbrev pub CallsRest : {C : Type 0} → (C → Link (List ℕ)) → (C → Call (List ℕ) → C → Type 0) → Type 0
+CallsRest {C} link steps = OnCalls link steps whole (λ journal last. AreWaiting (link last.carrier).clock last.entities)
 
 -- an end stands exactly where it is that of its number
 abbrev pub EndsHaveNumbers : {C : Type 0} → (C → Link (List ℕ)) → (C → Call (List ℕ) → C → Type 0) → Type 0

@@ -1,6 +1,6 @@
 //! A run that recovers, at the settle from which on nothing is lost (X.213, queue model; X.214, queue model; X.224, class 4 procedures).
 
-ghost use Rattle.law_recovery_ready.specs.Laws.{EndsHaveNumbers, LinesAreCalls, OpenedAreFollowed, RunsAreCalls, RunsAreReady, RunsGoOn};
+ghost use Rattle.law_recovery_ready.specs.Laws.{CallsRest, EndsHaveNumbers, LinesAreCalls, OpenedAreFollowed, RunsAreCalls, RunsAreReady, RunsGoOn};
 ghost use Rattle.tp4_number.specs.Number.{whole, wire};
 
 use nsap::Nsap;
@@ -20,6 +20,14 @@ pub fn runs_are_ready<C: Carrier<Addr = Nsap>>()
     ensures goes_on { RunsGoOn C.link C.steps }
 {
     lines_are_calls::<C>();
+    law_tp4_history::journals_are_lawful();
+    law_tp4_moves::flowed();
+}
+
+/// After any calls after which the carrier is honest no end is due; over whole numbers.
+pub fn calls_rest<C: Carrier<Addr = Nsap>>()
+    ensures { CallsRest C.link C.steps }
+{
     law_tp4_history::journals_are_lawful();
     law_tp4_moves::flowed();
 }

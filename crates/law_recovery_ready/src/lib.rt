@@ -3,4 +3,6 @@
 
 mod laws;
 
-pub use laws::{ends_have_numbers, lines_are_calls, opened_are_followed, runs_are_ready};
+pub use laws::{
+    calls_rest, ends_have_numbers, lines_are_calls, opened_are_followed, runs_are_ready,
+};
