@@ -180,12 +180,16 @@ pub requests_met : (made now : ℕ) (e : Entity) (from : List ℕ) (call : Conne
     → IsAnswered now e from call (met whole now e from ((request (caller made call) call.request.octets).tpdu, sum))
 requests_met made now e from call sum sized =
     if_kept (IsAnswered now e from call) (list_any (is_called false from call.own) e.ends) _ _ (λ there. Stands there refl)
-    (λ _. if_kept (IsAnswered now e from call) (list_any (is_called true from call.own) e.ends) _ _ (λ _. Refused 131 refl)
-    (λ _. if_kept (IsAnswered now e from call) (not (is_registered e.selectors call.request.to_selector)) _ _ (λ _. Refused 3 refl) (λ _. by (least_free now e))))
+    (λ _. if_kept (IsAnswered now e from call) (list_any (is_called true from call.own) e.ends) _ _ (λ frozen. Refused 131 (inl (refl, frozen)) refl)
+    (λ _. if_kept (IsAnswered now e from call) (not (is_registered e.selectors call.request.to_selector)) _ _ (λ none. Refused 3 (inr (inl (refl, unregistered (is_registered e.selectors call.request.to_selector) none))) refl) (λ _. by (least_free now e) refl)))
   where
-    by : (free : Option ℕ) → IsAnswered now e from call (new_end now e from call.own (request (caller made call) call.request.octets).tpdu free)
-    by None = Refused 129 refl
-    by (Some reference) = Waits reference (ap (λ (m : Option Moved). calls e reference m) (indicates made now reference from e.timers call sized))
+    unregistered : (b : Bool) → not b ≡ true → b ≡ false
+    unregistered false is = refl
+    unregistered true is = absurd (cc is)
+
+    by : (free : Option ℕ) → least_free now e ≡ free → IsAnswered now e from call (new_end now e from call.own (request (caller made call) call.request.octets).tpdu free)
+    by None none = Refused 129 (inr (inr (refl, none))) refl
+    by (Some reference) is = Waits reference (ap (λ (m : Option Moved). calls e reference m) (indicates made now reference from e.timers call sized))
 
 -- a DR ends the calling end
 pub refusals_end : (now : ℕ) (b : EndRecord) (r : InCrWait) (from : List ℕ) (reference reason : ℕ) → HasLeft (takes whole now b (CrWait r) (refusal from reference reason).tpdu (refusal from reference reason).sum).stage

@@ -33,7 +33,7 @@ pub fn requests_stay()
 {}
 
 /// T1 ticks after any tick an end in CrWait that is not due has sent its CR since. Where that comes a called end is there, or is made and
-/// waits for its user; or a DR goes back, which ends the calling end.
+/// waits for its user; or a DR goes back, which ends the calling end: since the called one is frozen, no user is at the selector, or no reference is free.
 pub fn requests_come()
     ensures again { RequestsAgain }
     ensures answered { RequestsMet }

@@ -4,7 +4,6 @@ use Rattle.std.proofs.lemmas.Bool.{ltb-true}
 use Rattle.script_lines.specs.declared.cause.LineCause.TheVariants as causes
 use Rattle.script_lines.specs.declared.field_values.FieldValues.{FieldValues}
 use Rattle.script_lines.specs.declared.line.Line.{Line}
-use Rattle.script_lines.specs.declared.line.Line.TheVariants as lines
 use Rattle.script_lines.specs.declared.settings.Key.{Key}
 use Rattle.script_lines.specs.declared.settings.Key.TheVariants as keys
 use Rattle.script_lines.specs.declared.settings.Settings.{Settings}

@@ -1,5 +1,5 @@
 -- Two partners of a network with the timers of a script: W is less than I.
-use Rattle.std.proofs.Common.{◌≡◌, ◌<◌, ℕ, List, sym, subst}
+use Rattle.std.proofs.Common.{◌<◌, ℕ, List, sym, subst}
 use Rattle.osi_base.specs.Calls.{Call}
 use Rattle.osi_base.specs.Link.{Link}
 use Rattle.tp4_conn.specs.declared.timers.Timers.{Timers}
