@@ -122,7 +122,7 @@ module _ (setup : SetUp) (calm : MakesCalm setup) where
   fifo : IsFifo link_of_net NetDoes (titles_said setup) queue_of
   fifo = subst (λ (titles : List (List ℕ)). IsFifo link_of_net NetDoes titles queue_of) (sym calm.titles) (is_fifo setup.ports calm.first calm.second calm.here calm.there calm.calm)
 
-  have : HaveEntities (titles_said setup) (entities_of setup)
+  pub have : HaveEntities (titles_said setup) (entities_of setup)
   have system title is =
       let few : length (titles_said setup) ≡ 2 = ap (λ (titles : List (List ℕ)). length titles) calm.titles in
       let within = slice_get_within (titles_said setup) system title is in

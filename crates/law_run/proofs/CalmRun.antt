@@ -93,7 +93,7 @@ same_names : (names new : Declared) → (names.started ≡ false) ⊎ (new ≡ n
 same_names names new (inl not) is = let clash : false ≡ true = sym not ∙ is in absurd (cc)
 same_names names new (inr same) is = same
 
-all_unrouted : (names last : Declared) (texts : List (List ℕ)) (script : List Line) → names.started ≡ true → HasEndsAlone names → Says names texts script last → AllByRecursion IsUnrouted script
+pub all_unrouted : (names last : Declared) (texts : List (List ℕ)) (script : List Line) → names.started ≡ true → HasEndsAlone names → Says names texts script last → AllByRecursion IsUnrouted script
 all_unrouted names last [] [] is h says = tt
 all_unrouted names last [] (line ∷ script) is h says = absurd says
 all_unrouted names last (text ∷ texts) [] is h says = absurd says
@@ -116,22 +116,22 @@ starts_once names last (text ∷ texts) (line ∷ script) after is says =
 -- ---- the set-up
 
 -- what is set up by the lines before the start, and what runs after it
-record StartsFrom (old : SetUp) (before after : List Line) (journal : List Event) (last : World) (last_names : Declared) : Type 0 where
-  setup : SetUp
-  sets : SetBy old before setup
-  well : IsWell setup
-  lives : AllByRecursion (λ (l : Lan). l.bound ≤ setup.life) setup.lans
-  made : List Event
-  rest : List Event
-  mid : World
-  starts : Started setup made mid
-  runs : WorldRuns mid after rest last
-  journal_is : journal ≡ made ++ rest
-  names : Declared
-  texts : List (List ℕ)
-  begins : names.started ≡ true
-  ends : HasEndsAlone names
-  says : Says names texts after last_names
+pub record StartsFrom (old : SetUp) (before after : List Line) (journal : List Event) (last : World) (last_names : Declared) : Type 0 where
+  pub setup : SetUp
+  pub sets : SetBy old before setup
+  pub well : IsWell setup
+  pub lives : AllByRecursion (λ (l : Lan). l.bound ≤ setup.life) setup.lans
+  pub made : List Event
+  pub rest : List Event
+  pub mid : World
+  pub starts : Started setup made mid
+  pub runs : WorldRuns mid after rest last
+  pub journal_is : journal ≡ made ++ rest
+  pub names : Declared
+  pub texts : List (List ℕ)
+  pub begins : names.started ≡ true
+  pub ends : HasEndsAlone names
+  pub says : Says names texts after last_names
 
 abbrev FromHere : List Line → List Line → Declared → Type 0
 FromHere before after last_names = (names : Declared) (texts : List (List ℕ)) (setup : SetUp) (journal : List Event) (last : World) → AreOne names setup → HasEndsAlone names → IsWell setup
@@ -199,6 +199,13 @@ module _ (after : List Line) (last_names : Declared) where
       by_line (is_start line) line before names says.0 texts setup h.1 h.2 journal h.0 last refl (line_moves names text line says.0 says.1).started not w kept
       alone.0 alone.1 says.2 h.3.1 h.5 h.4 (starts_from before)
 
+-- from nothing said
+pub starts_from_nothing : (texts : List (List ℕ)) (before after : List Line) (names : Declared) (journal : List Event) (last : World) → Says (nothing_declared dialects.Run) texts (before ++ lines.Start ∷ after) names
+    → WorldRun (before ++ lines.Start ∷ after) journal last → intermediate_systems before ≡ [] → StartsFrom nothing_said before after journal last names
+starts_from_nothing texts before after names journal last says run none =
+    starts_from after names before (nothing_declared dialects.Run) texts nothing_said journal last
+    (record { lans = refl; bounds = refl; life = refl; systems = refl; ports = λ n. refl; selectors = λ n s. refl }) (record { ends = tt; paths = refl }) nothing_well refl none says run
+
 -- ---- a calm script
 
 pub record RunsCalm (script : List Line) (journal : List Event) (last : World) (last_names : Declared) : Type 0 where
@@ -222,9 +229,8 @@ pub record RunsCalm (script : List Line) (journal : List Event) (last : World) (
 pub runs_calm : (texts : List (List ℕ)) (script : List Line) (names : Declared) (journal : List Event) (last : World) → Says (nothing_declared dialects.Run) texts script names → WorldRun script journal last
     → IsCalmScript script → RunsCalm script journal last names
 runs_calm texts script names journal last says run calm =
-    let found = starts_from calm.after names calm.before (nothing_declared dialects.Run) texts nothing_said journal last
-    (record { lans = refl; bounds = refl; life = refl; systems = refl; ports = λ n. refl; selectors = λ n s. refl }) (record { ends = tt; paths = refl }) nothing_well refl calm.one_lan.none
-    (subst (λ (s : List Line). Says (nothing_declared dialects.Run) texts s names) calm.script_is says) (subst (λ (s : List Line). WorldRun s journal last) calm.script_is run) in
+    let found = starts_from_nothing texts calm.before calm.after names journal last (subst (λ (s : List Line). Says (nothing_declared dialects.Run) texts s names) calm.script_is says)
+    (subst (λ (s : List Line). WorldRun s journal last) calm.script_is run) calm.one_lan.none in
     record {
       setup = found.setup;
       well = found.well;

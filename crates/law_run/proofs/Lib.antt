@@ -1,10 +1,10 @@
 mod AskedLines
-mod Calm
-mod CalmDrawn
+pub mod Calm
+pub mod CalmDrawn
 mod CalmNames
-mod CalmNet
+pub mod CalmNet
 mod CalmRows
-mod CalmRun
+pub mod CalmRun
 pub mod Handled
 pub mod Lawful
 mod Legible

@@ -1,0 +1,4 @@
+pub mod Octets
+mod Parts
+pub mod Prompt
+mod Recovering

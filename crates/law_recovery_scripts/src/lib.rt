@@ -1,0 +1,6 @@
+//! What a script of `run` promises the users of its network once nothing is lost any more (X.214, service primitives; queue model of the transport service).
+#![tactic(auto)]
+
+mod laws;
+
+pub use laws::{nets_are_prompt, scripts_recover};
