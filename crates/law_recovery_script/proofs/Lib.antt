@@ -3,6 +3,7 @@ pub mod Clocks
 pub mod Doing
 pub mod Lasting
 pub mod Lines
+pub mod Numbers
 pub mod Outlasting
 pub mod Playing
 pub mod Releasing

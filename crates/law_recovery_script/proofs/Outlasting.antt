@@ -213,7 +213,7 @@ module _ {C : Type 0} (link : C → Link (List ℕ)) (titles : List (List ℕ)) 
   abbrev at_k : EndAt
   at_k = get_or last.ends known_here.0.k (record { system = 0; reference = 0 })
 
-  made_so : end_numbered last.ends x ≡ Some (record { system = s.system; reference = s.reference })
+  pub made_so : end_numbered last.ends x ≡ Some (record { system = s.system; reference = s.reference })
   made_so =
       let k : ℕ = known_here.0.k in
       let low = known_here.0.at.low in

@@ -1,6 +1,6 @@
 //! Two partner ends of a network along the lines of a script, since when nothing is lost (X.213, queue model; X.224, class 4 procedures).
 
-ghost use Rattle.law_recovery_script.specs.Laws.{EndedHaveLeft, RunsLast, RunsPart};
+ghost use Rattle.law_recovery_script.specs.Laws.{EndedHaveLeft, LeftAreOver, RunsLast, RunsPart, StandByNumber};
 
 use nsap::Nsap;
 use osi_base::Carrier;
@@ -29,4 +29,17 @@ pub fn runs_part<C: Carrier<Addr = Nsap>>()
 {
     law_recovery_going::pairs_part();
     runs_last::<C>();
+}
+
+/// An end that has left is Opened no more, by its number.
+pub fn left_are_over<C: Carrier<Addr = Nsap>>()
+    ensures { LeftAreOver C }
+{}
+
+/// After any calls after which the carrier is honest, an end that stands is that of its number; over whole numbers.
+pub fn stand_by_number<C: Carrier<Addr = Nsap>>()
+    ensures { StandByNumber C.link C.steps }
+{
+    law_tp4_history::journals_are_lawful();
+    law_tp4_moves::flowed();
 }

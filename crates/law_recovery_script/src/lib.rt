@@ -3,4 +3,4 @@
 
 mod laws;
 
-pub use laws::{ended_have_left, runs_last, runs_part};
+pub use laws::{ended_have_left, left_are_over, runs_last, runs_part, stand_by_number};
