@@ -1,0 +1,6 @@
+//! What the users of a network may rely on once nothing is lost any more, proved (X.214, service primitives; queue model of the transport service).
+#![tactic(auto)]
+
+mod laws;
+
+pub use laws::runs_come_back;
