@@ -67,7 +67,7 @@ use Rattle.law_recovery_run.proofs.Aiming.{Going}
 use Rattle.law_recovery_walk.specs.Following.{IsFollowed, IsLive}
 use Rattle.law_recovery_walk.proofs.Coming.{StandsSo, TellsNoUnits}
 use Rattle.law_recovery_walk.proofs.Settling.{followed_still}
-use Rattle.law_recovery_script.specs.Moving.{HasMoved}
+use Rattle.law_recovery_script.proofs.Stepping.{HasMoved}
 use Rattle.law_recovery_script.proofs.Asking.{IsTaker, call_moves, connect_moves, latest_is, taker}
 use Rattle.law_recovery_script.proofs.Ticking.{HasStepped, tick_steps}
 

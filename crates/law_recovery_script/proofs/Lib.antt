@@ -1,6 +1,5 @@
 pub mod Asking
 pub mod Clocks
-pub mod Doing
 pub mod Lasting
 pub mod Lines
 pub mod Numbers
@@ -10,4 +9,5 @@ pub mod Releasing
 pub mod Rowing
 pub mod Starting
 pub mod Staying
+pub mod Stepping
 pub mod Ticking

@@ -68,13 +68,13 @@ use Rattle.law_recovery_walk.specs.Settling.{IsEnded}
 use Rattle.law_recovery_walk.proofs.Coming.{StandsSo}
 use Rattle.law_recovery_walk.proofs.Leaving.{Leaves, nothing_leaves}
 use Rattle.law_recovery_walk.proofs.Settling.{live_or}
-use Rattle.law_recovery_script.specs.Moving.{HasMoved}
+use Rattle.law_recovery_script.proofs.Stepping.{HasMoved}
 use Rattle.law_recovery_script.specs.Over.{HaveLeft, KeepsLeft}
 use Rattle.law_recovery_script.proofs.Outlasting.{Row, Same, end_keeps, kept_is, left_end, left_on, row_stays}
 use Rattle.law_recovery_script.proofs.Releasing.{frozen_left}
 use Rattle.law_recovery_going.specs.Going.{AreBothLeft}
 use Rattle.law_recovery_script.proofs.Asking.{at_place, idle_of}
-use Rattle.law_recovery_script.proofs.Doing.{HasDone, at_two, beside, calling_did, calling_does, facing_called, facing_calling, lines_gave, lines_showed, turn, turned}
+use Rattle.law_recovery_walk.proofs.Doing.{HasDone, at_two, beside, calling_did, calling_does, facing_called, facing_calling, lines_gave, lines_showed, turn, turned}
 use Rattle.law_recovery_script.proofs.Rowing.{tick_leaves}
 
 -- ---- an end that is due

@@ -6,23 +6,14 @@ use Rattle.tp4_conn.specs.declared.states.InOpened.{InOpened}
 use Rattle.tp4_conn.specs.declared.timers.Timers.{Timers}
 use Rattle.law_tp4_pair.specs.Pair.{Happening, IsIdle, Leads, Pair}
 use Rattle.tp4_world.specs.World.{World}
-use Rattle.law_calm_run.proofs.Hall.{Post}
 use Rattle.law_recovery_going.specs.Going.{AreBothLeft, AreBothOpened, AreTicked, HasParted}
 use Rattle.law_recovery_steps.specs.Resting.{AreLater}
 use Rattle.law_recovery_walk.specs.Following.{IsFollowed}
 use Rattle.law_recovery_walk.specs.Settling.{IsEnded}
 use Rattle.law_recovery_script.specs.Over.{HaveLeft}
 
--- The pair went on, with a tick of each end where it is due: it has the two ends still, and what waits between them, with the units of the journal; or one of them is frozen, and
--- if both had left, the two ends have left in the network
-pub record HasMoved {C : Type 0} (link : C → Link (List ℕ)) (journal : List Event) (new : World C) (posts : List Post) (x y : ℕ) (p : Pair) : Type 0 where
-  pub happenings : List Happening
-  pub next : Pair
-  pub leads : Leads p happenings next
-  pub ticked : AreTicked p happenings
-  pub goes : IsFollowed link journal new posts x y next ⊎ (IsEnded next × (AreBothLeft next → HaveLeft new x y))
-
--- The same where nothing waits and no end is due; and if both of the pair have left, the two ends have left in the network
+-- The pair went on, with a tick of each end where it is due: nothing waits and no end is due, and it has the two ends still, with the units of the journal; or one of them is frozen. If both of
+-- the pair have left, the two ends have left in the network
 pub record HasLasted {C : Type 0} (link : C → Link (List ℕ)) (journal : List Event) (new : World C) (x y : ℕ) (p : Pair) : Type 0 where
   pub happenings : List Happening
   pub next : Pair
