@@ -4,4 +4,5 @@ pub mod Lasting
 pub mod Releasing
 pub mod Rowing
 pub mod Starting
+pub mod Telling
 pub mod Ticking

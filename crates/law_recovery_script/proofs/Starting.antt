@@ -38,7 +38,7 @@ module _ {C : Type 0} (link : C → Link (List ℕ)) (steps : C → Call (List �
   fifo = is_fifo link steps titles (ReachedFrom link steps titles first) Waits prompt
 
   pub runs_last : (early late : List Event) (old last : World C) (script : List Line) (x y : ℕ) (p : Pair) → IsExplained link early old → IsReady link steps titles first old → IsFollowed link early old [] x y p
-      → IsLive p.calling.stage → IsLive p.called.stage → RunsInOrder link steps titles old script late last → HasLasted link (early ++ late) last x y p
+      → IsLive p.calling.stage → IsLive p.called.stage → RunsInOrder link steps titles old script late last → HasLasted link early late last x y p
   runs_last early late old last script x y p ex ready f live live_there run =
       lines_last link ordered keeps titles Waits fifo ex.titles ex.timers going follow timed script old last early late (hall_of link old) [] x y p stands rests (inl refl) run.settled run.proper run.unrouted (undropped late run.kept) f
       live live_there have_run.runs

@@ -19,11 +19,11 @@ use Rattle.law_recovery_walk.specs.Settling.{IsEnded}
 use Rattle.law_recovery_script.specs.Moving.{HasLasted}
 
 -- Over each carrier that serves again once nothing is lost: of two ends that are Opened or Closing and know each other, in a network in which nothing is left to deliver, lines that are settled
--- and lose nothing are steps of their pair, until one of them is frozen
+-- and lose nothing are steps of their pair, and told as such, until one of them is frozen
 abbrev pub RunsLast : {C : Type 0} → (C → Link (List ℕ)) → (C → Call (List ℕ) → C → Type 0) → Type 0
 RunsLast {C} link steps = OnPrompt link steps (λ titles first Waits. (timers : Timers) (early late : List Event) (old last : World C) (script : List Line) (x y : ℕ) (p : Pair)
     → AreHonestCalls link steps whole titles timers early old → IsReady link steps titles first old → IsFollowed link early old [] x y p → IsLive p.calling.stage → IsLive p.called.stage
-    → RunsInOrder link steps titles old script late last → HasLasted link (early ++ late) last x y p)
+    → RunsInOrder link steps titles old script late last → HasLasted link early late last x y p)
 
 -- From a tick on at which nothing waits, and all is known of two Opened ends, whatever happens in order, with a tick of each end where it is due: neither is frozen before both have left
 abbrev pub EndedHaveLeft : Type 0
