@@ -40,10 +40,9 @@ use Rattle.law_recovery_run.proofs.Aiming.{Going}
 use Rattle.law_recovery_run.proofs.Aside.{kept_place}
 use Rattle.law_recovery_walk.specs.Following.{IsFollowed, IsLive, Stands}
 use Rattle.law_recovery_walk.proofs.Beside.{latest_elsewhere}
-use Rattle.law_recovery_walk.proofs.Delivering.{live_goes}
 use Rattle.law_recovery_walk.proofs.Leaving.{Leaves}
-use Rattle.law_recovery_script.specs.Moving.{HasMoved}
-use Rattle.law_recovery_script.proofs.Doing.{HasDone, at_two, beside, calling_did, calling_does, facing, facing_called, facing_calling, lines_gave, lines_showed, turn, turned}
+use Rattle.law_recovery_script.proofs.Stepping.{HasMoved}
+use Rattle.law_recovery_walk.proofs.Doing.{HasDone, at_two, beside, calling_did, calling_does, facing, facing_called, facing_calling, lines_gave, lines_showed, live_goes, turn, turned}
 use Rattle.law_recovery_script.proofs.Rowing.{row_apart, row_leaves}
 use Rattle.law_recovery_script.proofs.Telling.{call_told}
 

@@ -1,5 +1,5 @@
 -- Lines that are settled and lose nothing, one after another, as steps of two ends that know each other, until one of them is frozen.
-use Rattle.std.proofs.Common.{◌≡◌, ◌⊎◌, inl, inr, ℕ, ◌+◌, ◌≤◌, Bool, true, false, List, [], ◌∷◌, ◌++◌, length, Option, Some, None, refl, sym, ◌∙◌, ap, subst, append-nil, append_assoc, arith}
+use Rattle.std.proofs.Common.{◌≡◌, inl, inr, ℕ, ◌+◌, ◌≤◌, Bool, true, false, List, [], ◌∷◌, ◌++◌, length, Option, Some, None, refl, sym, ◌∙◌, ap, subst, append-nil}
 use Rattle.std.specs.Prelude.{slice_get}
 use Rattle.std.specs.List.{AllByRecursion}
 use Rattle.nsap.proofs.AddressLemmas.{selector_of-append}
@@ -21,7 +21,6 @@ use Rattle.net_world.specs.Run.{SendsUnit, raw_unit}
 use Rattle.net_world.specs.Told.{sent_event, told}
 use Rattle.tpdu.specs.declared.service.Options.{Options}
 use Rattle.tp4_number.specs.Number.{whole}
-use Rattle.tp4_flow.specs.declared.step.Sent.{Sent}
 use Rattle.tp4_conn.specs.Calls.{IsCall}
 use Rattle.tp4_conn.specs.End.{IsSized, IsTimed}
 use Rattle.tp4_conn.specs.Proper.{IsProperCall}
@@ -39,12 +38,12 @@ use Rattle.tp4_entity.proofs.Beginning.{short}
 use Rattle.tp4_entity.proofs.Restarts.{calling_same, connecting_same}
 use Rattle.law_tp4_proper.specs.Rest.{AreInTime, AreProper, IsAtRest, IsProperStep}
 use Rattle.law_tp4_proper.proofs.Ends.{calling_rests, connecting_rests}
-use Rattle.law_tp4_pair.specs.Calm.{IsSettledScript, Settles as IsSettledNext}
+use Rattle.law_tp4_pair.specs.Calm.{IsSettledScript}
 use Rattle.law_tp4_pair.specs.Claim.{IsUndropped}
-use Rattle.law_tp4_pair.specs.Pair.{Asks_called, Asks_calling, Clock, Comes_back, Comes_forth, Happening, Leads, Pair, comes_back, comes_forth, next as next_pair}
+use Rattle.law_tp4_pair.specs.Pair.{Pair}
 use Rattle.tp4_world.specs.Called.{Did, KeepsLimits, WorldCall}
 use Rattle.tp4_world.specs.Called as requests
-use Rattle.tp4_world.specs.Run.{Acts, BeginsAt, CallsAt, CallsBy, CallsEnd, Connects, ConnectsBy, IsRefused, RunsLine, RunsLines, Settles, has_ended}
+use Rattle.tp4_world.specs.Run.{Acts, BeginsAt, CallsAt, CallsBy, CallsEnd, Connects, ConnectsBy, IsRefused, RunsLine, has_ended}
 use Rattle.tp4_world.specs.Telling.{call_events, connect_event, ends_after, events_after, told_refusal}
 use Rattle.tp4_world.specs.World.{World, end_numbered, entity_at, latest, with_entity}
 use Rattle.tp4_world.specs.declared.place.EndAt.{EndAt}
@@ -60,56 +59,17 @@ use Rattle.law_tp4_lawful.proofs.WorldKnown.{plain_kept}
 use Rattle.law_tp4_lawful.proofs.WorldOutcomes.{one_unit, outcomes}
 use Rattle.law_calm_run.specs.Run.{IsUnrouted}
 use Rattle.law_calm_run.proofs.Asking.{IsAsked}
-use Rattle.law_calm_run.proofs.Going.{Acting, HasSettled, acts_go, have_after, kept_after, settled, waiting_after}
+use Rattle.law_calm_run.proofs.Going.{Acting, acts_go, have_after, kept_after, waiting_after}
 use Rattle.law_calm_run.proofs.Hall.{Hall, IsAddress, Post, after, posted, with_new}
 use Rattle.law_calm_run.proofs.Posting.{AreUnitsOf, IsHall, IsKept}
 use Rattle.law_calm_run.proofs.Queueing.{all_parts, none_dropped, raw_behind}
-use Rattle.law_recovery_going.specs.Going.{AreTicked}
 use Rattle.law_recovery_run.proofs.Aiming.{Going}
 use Rattle.law_recovery_walk.specs.Following.{IsFollowed, IsLive}
-use Rattle.law_recovery_walk.specs.Settling.{HasGoneOn, IsEnded}
 use Rattle.law_recovery_walk.proofs.Coming.{StandsSo, TellsNoUnits}
-use Rattle.law_recovery_walk.proofs.Settling.{followed_still, leads_then, live_or, settles_on}
-use Rattle.law_recovery_script.specs.Moving.{AreTold, HasLasted, HasMoved}
-use Rattle.law_recovery_script.proofs.Asking.{IsTaker, call_moves, connect_moves, idle_of, latest_is, taker}
-use Rattle.law_recovery_script.proofs.Telling.{handed_told, told_on, told_then}
-use Rattle.law_recovery_script.proofs.Ticking.{HasStepped, later_of, tick_steps}
-
--- ---- ticks of a pair
-
-forth_clock : (p : Pair) (l : List Sent) → (comes_forth p l).clock ≡ p.clock
-forth_clock p [] = refl
-forth_clock p (sent ∷ rest) = refl
-
-back_clock : (p : Pair) (l : List Sent) → (comes_back p l).clock ≡ p.clock
-back_clock p [] = refl
-back_clock p (sent ∷ rest) = refl
-
-rises : (happenings : List Happening) (p last : Pair) → Leads p happenings last → p.clock ≤ last.clock
-rises [] p last leads = let same : last.clock ≡ p.clock = ap (λ (q : Pair). q.clock) leads in omega (arith, same)
-rises (Comes_forth ∷ happenings) p last leads = omega (arith, rises happenings (next_pair p Comes_forth) last leads.1, forth_clock p p.forth)
-rises (Comes_back ∷ happenings) p last leads = omega (arith, rises happenings (next_pair p Comes_back) last leads.1, back_clock p p.back)
-rises (Asks_calling call ∷ happenings) p last leads = rises happenings (next_pair p (Asks_calling call)) last leads.1
-rises (Asks_called call ∷ happenings) p last leads = rises happenings (next_pair p (Asks_called call)) last leads.1
-rises (Clock calling called ∷ happenings) p last leads = let more : p.clock + 1 ≤ last.clock = rises happenings (next_pair p (Clock calling called)) last leads.1 in omega (arith, more)
-
--- while the clock stands no end ticks
-none_ticks : (happenings : List Happening) (p last : Pair) → Leads p happenings last → last.clock ≤ p.clock → AreTicked p happenings
-none_ticks [] p last leads low = tt
-none_ticks (Comes_forth ∷ happenings) p last leads low = none_ticks happenings (next_pair p Comes_forth) last leads.1 (omega (arith, low, forth_clock p p.forth))
-none_ticks (Comes_back ∷ happenings) p last leads low = none_ticks happenings (next_pair p Comes_back) last leads.1 (omega (arith, low, back_clock p p.back))
-none_ticks (Asks_calling call ∷ happenings) p last leads low = none_ticks happenings (next_pair p (Asks_calling call)) last leads.1 low
-none_ticks (Asks_called call ∷ happenings) p last leads low = none_ticks happenings (next_pair p (Asks_called call)) last leads.1 low
-none_ticks (Clock calling called ∷ happenings) p last leads low =
-    let more : p.clock + 1 ≤ last.clock = rises happenings (next_pair p (Clock calling called)) last leads.1 in absurd (omega (arith, more, low))
-
-pub ticked_then : (first more : List Happening) (p mid : Pair) → Leads p first mid → AreTicked p first → AreTicked mid more → AreTicked p (first ++ more)
-ticked_then [] more p mid leads one two = subst (λ (q : Pair). AreTicked q more) leads two
-ticked_then (Comes_forth ∷ first) more p mid leads one two = ticked_then first more (next_pair p Comes_forth) mid leads.1 one two
-ticked_then (Comes_back ∷ first) more p mid leads one two = ticked_then first more (next_pair p Comes_back) mid leads.1 one two
-ticked_then (Asks_calling call ∷ first) more p mid leads one two = ticked_then first more (next_pair p (Asks_calling call)) mid leads.1 one two
-ticked_then (Asks_called call ∷ first) more p mid leads one two = ticked_then first more (next_pair p (Asks_called call)) mid leads.1 one two
-ticked_then (Clock calling called ∷ first) more p mid leads one two = (one.0, ticked_then first more (next_pair p (Clock calling called)) mid leads.1 one.1 two)
+use Rattle.law_recovery_walk.proofs.Settling.{followed_still}
+use Rattle.law_recovery_script.proofs.Stepping.{HasMoved}
+use Rattle.law_recovery_script.proofs.Asking.{IsTaker, call_moves, connect_moves, latest_is, taker}
+use Rattle.law_recovery_script.proofs.Ticking.{HasStepped, tick_steps}
 
 behind_lines : (own made later : List Event) → made ≡ own ++ later → AllByRecursion IsUndropped made → AllByRecursion IsUndropped later
 behind_lines own made later is all = (all_parts IsUndropped own later (subst (λ (es : List Event). AllByRecursion IsUndropped es) is all)).1
@@ -127,11 +87,11 @@ module _ {C : Type 0} (link : C → Link (List ℕ)) (steps : C → Call (List �
   abbrev Stepped : (early late : List Event) → World C → ℕ → ℕ → Pair → Type 0
   Stepped early late new x y p = HasStepped link steps law titles Waits fifo names timers going (follow names timers) early late new x y p
 
-  none_waits : (hall : Hall) (queue : List (CarriedUnit (List ℕ))) → queue ≡ [] → AreUnitsOf titles queue hall.posts → hall.posts ≡ []
+  pub none_waits : (hall : Hall) (queue : List (CarriedUnit (List ℕ))) → queue ≡ [] → AreUnitsOf titles queue hall.posts → hall.posts ≡ []
   none_waits hall queue none units = subst (λ (q : List (CarriedUnit (List ℕ))). AreUnitsOf titles q hall.posts) none units
 
   -- no entity did anything
-  still_moves : (old new : World C) (journal made : List Event) (posts : List Post) (x y : ℕ) (p : Pair) → new.entities ≡ old.entities → new.ends ≡ old.ends → (link new.carrier).clock ≡ (link old.carrier).clock
+  pub still_moves : (old new : World C) (journal made : List Event) (posts : List Post) (x y : ℕ) (p : Pair) → new.entities ≡ old.entities → new.ends ≡ old.ends → (link new.carrier).clock ≡ (link old.carrier).clock
       → TellsNoUnits made → IsFollowed link journal old posts x y p → HasMoved link journal made new posts x y p
   still_moves old new journal made posts x y p entities ends clock tells f =
       record { happenings = []; next = p; leads = refl; ticked = tt; told = tt; goes = inl (followed_still link journal made old new entities ends clock tells posts x y p f) }
@@ -331,7 +291,7 @@ module _ {C : Type 0} (link : C → Link (List ℕ)) (steps : C → Call (List �
         (subst TellsNoUnits (sym step.3) (record { gave = λ n. (aside.units n).0; showed = λ n. (aside.units n).1 })) follows
 
     -- a line but `settle`
-    asked : (line : Line) (script : List Line) → IsSettledScript (line ∷ script) → IsProperLine line → IsUnrouted line → RunsLine link steps whole titles old line made new → (line ≡ lines.Settle → ⊥)
+    pub asked : (line : Line) (script : List Line) → IsSettledScript (line ∷ script) → IsProperLine line → IsUnrouted line → RunsLine link steps whole titles old line made new → (line ≡ lines.Settle → ⊥)
         → Stepped journal made new x y p
     asked lines.Nothing script calm proper path step other =
         same_steps old new journal made hall queue x y p s step.1 (subst TellsNoUnits (sym step.0) (record { gave = λ n. refl; showed = λ n. refl })) follows
@@ -371,11 +331,11 @@ module _ {C : Type 0} (link : C → Link (List ℕ)) (steps : C → Call (List �
 
   -- ---- the history goes on
 
-  did_rests : (call : WorldCall) (old new : World C) (journal made : List Event) → KeepsLimits call → (link new.carrier).honest ≡ true → Resting journal old → Did link steps whole old call made new → Resting (journal ++ made) new
+  pub did_rests : (call : WorldCall) (old new : World C) (journal made : List Event) → KeepsLimits call → (link new.carrier).honest ≡ true → Resting journal old → Did link steps whole old call made new → Resting (journal ++ made) new
   did_rests call old new journal made limits honest r did =
       did_holds names timers (Known names timers) IsOffered (plain_kept names timers) timed link steps law (follow names timers) one_unit AreProper AreInTime outcomes call old new journal made limits honest r did
 
-  line_rests : (line : Line) (script : List Line) (old new : World C) (journal made : List Event) → IsSettledScript (line ∷ script) → IsProperLine line → (link new.carrier).honest ≡ true → Resting journal old
+  pub line_rests : (line : Line) (script : List Line) (old new : World C) (journal made : List Event) → IsSettledScript (line ∷ script) → IsProperLine line → (link new.carrier).honest ≡ true → Resting journal old
       → RunsLine link steps whole titles old line made new → Resting (journal ++ made) new
   line_rests lines.Nothing script old new journal made calm proper honest r step =
       subst (λ (v : World C). Resting (journal ++ made) v) (sym step.1) (subst (λ (es : List Event). Resting es old) (sym (append-nil journal) ∙ ap (λ (es : List Event). journal ++ es) (sym step.0)) r)
@@ -412,138 +372,7 @@ module _ {C : Type 0} (link : C → Link (List ℕ)) (steps : C → Call (List �
   line_rests lines.Start script old new journal made calm proper honest r step = absurd step
 
   -- the carrier is honest still, as no line injects anything
-  line_honest : (line : Line) (script : List Line) (old new : World C) (made : List Event) → IsSettledScript (line ∷ script) → (link old.carrier).honest ≡ true → RunsLine link steps whole titles old line made new
+  pub line_honest : (line : Line) (script : List Line) (old new : World C) (made : List Event) → IsSettledScript (line ∷ script) → (link old.carrier).honest ≡ true → RunsLine link steps whole titles old line made new
       → (link new.carrier).honest ≡ true
   line_honest (lines.Inject lan system octets) script old new made calm honest step = absurd calm
   line_honest line script old new made calm honest step = line_alike link steps law whole titles line old new made tt step ∙ honest
-
-  -- ---- a settle
-
-  settle_steps : (old new : World C) (journal made : List Event) (hall : Hall) (queue : List (CarriedUnit (List ℕ))) (x y : ℕ) (p : Pair) → So old hall queue → Resting journal old → AllByRecursion IsUndropped made
-      → IsFollowed link journal old hall.posts x y p → IsLive p.calling.stage → IsLive p.called.stage → Settles link steps whole 0 old made new
-      → (stepped : Stepped journal made new x y p) × (stepped.queue ≡ [])
-  settle_steps old new journal made hall queue x y p s r all f live live_there step = (
-    record {
-      hall = done.went.next;
-      queue = done.went.queue;
-      stands = record { shows = done.went.shows; kept = done.went.kept; have = done.went.have; rest = done.went.rest };
-      moved = record {
-        happenings = on.happenings;
-        next = on.next;
-        leads = on.leads;
-        ticked = none_ticks on.happenings p on.next on.leads (omega (arith, on.clock));
-        told = handed_told x y journal made p on.happenings on.handed;
-        goes = elim on.goes [
-          | inl idle ↦ inl (subst (λ (ps : List Post). IsFollowed link (journal ++ made) new ps x y on.next) (sym (none_waits done.went.next done.went.queue done.none done.went.shows.units)) idle.1)
-          | inr ended ↦ inr ended
-        ];
-      };
-    },
-    done.none,
-  )
-    where
-      done : HasSettled link steps law titles Waits fifo hall made new
-      done = settled link steps law titles Waits fifo 0 old made new step hall queue s all
-
-      on : HasGoneOn link (journal ++ made) new x y p
-      on = settles_on link steps law titles Waits fifo going follow 0 old made new step journal hall queue x y p s
-          (record { titles = names; timers = timers; w = r.w; explains = r.explains }) all f live live_there
-
-  -- ---- the lines
-
-  -- nothing waits, or the next line that does anything settles
-  abbrev MayGo : List (CarriedUnit (List ℕ)) → List Line → Type 0
-  MayGo queue script = (queue ≡ []) ⊎ IsSettledNext script
-
-  -- a line, and whether the next one may go
-  record Passed (early late : List Event) (new : World C) (x y : ℕ) (p : Pair) (script : List Line) : Type 0 where
-    stepped : Stepped early late new x y p
-    may : MayGo stepped.queue script
-    calm : IsSettledScript script
-
-  line_passes : (line : Line) (script : List Line) (old new : World C) (journal made : List Event) (hall : Hall) (queue : List (CarriedUnit (List ℕ))) (x y : ℕ) (p : Pair) → So old hall queue → Resting journal old
-      → MayGo queue (line ∷ script) → IsSettledScript (line ∷ script) → IsProperLine line → IsUnrouted line → AllByRecursion IsUndropped made → IsFollowed link journal old hall.posts x y p
-      → IsLive p.calling.stage → IsLive p.called.stage → RunsLine link steps whole titles old line made new → Passed journal made new x y p script
-  line_passes lines.Nothing script old new journal made hall queue x y p s r may calm proper path all f live live_there step = record {
-    stepped = record {
-      hall = hall;
-      queue = queue;
-      stands = record { shows = subst (λ (v : World C). IsHall link titles Waits v hall queue) (sym step.1) s.shows; kept = s.kept; have = s.have; rest = s.rest };
-      moved = still_moves old new journal made hall.posts x y p (ap (λ (v : World C). v.entities) step.1) (ap (λ (v : World C). v.ends) step.1) (ap (λ (v : World C). (link v.carrier).clock) step.1)
-          (subst TellsNoUnits (sym step.0) (record { gave = λ n. refl; showed = λ n. refl })) f;
-    };
-    may = may;
-    calm = calm;
-  }
-  line_passes lines.Settle script old new journal made hall queue x y p s r may calm proper path all f live live_there step =
-      let on = settle_steps old new journal made hall queue x y p s r all f live live_there step in
-      record { stepped = on.0; may = inl on.1; calm = calm }
-  line_passes (lines.Deliver number system) script old new journal made hall queue x y p s r may calm proper path all f live live_there step = absurd calm
-  line_passes (lines.Inject lan system octets) script old new journal made hall queue x y p s r may calm proper path all f live live_there step = absurd calm
-  line_passes (lines.Restart system) script old new journal made hall queue x y p s r may calm proper path all f live live_there step = absurd calm
-  line_passes line script old new journal made hall queue x y p s r (inl none) calm proper path all f live live_there step = record {
-    stepped = asked old new journal made hall queue x y p s none r all (subst (λ (ps : List Post). IsFollowed link journal old ps x y p) (none_waits hall queue none s.shows.units) f) live live_there line script calm proper
-        path step (λ is. absurd cc);
-    may = inr calm.0;
-    calm = calm.1;
-  }
-  line_passes line script old new journal made hall queue x y p s r (inr next) calm proper path all f live live_there step = absurd next
-
-  -- the pair went on, and then on
-  lasts_then : (journal here rest late : List Event) (world : World C) (x y : ℕ) (p mid : Pair) (first : List Happening) → Leads p first mid → AreTicked p first → AreTold journal here x y p first
-      → HasLasted link (journal ++ here) rest world x y mid → late ≡ here ++ rest → HasLasted link journal late world x y p
-  lasts_then journal here rest late world x y p mid first leads ticked told more is = subst (λ (es : List Event). HasLasted link journal es world x y p) (sym is) (record {
-    happenings = first ++ more.happenings;
-    next = more.next;
-    leads = leads_then p mid more.next first more.happenings leads more.leads;
-    ticked = ticked_then first more.happenings p mid leads ticked more.ticked;
-    told = told_then x y journal here rest p mid first more.happenings leads told more.told;
-    goes = elim more.goes [
-      | inl on ↦ inl (on.0, on.1, subst (λ (es : List Event). IsFollowed link es world [] x y more.next) (append_assoc journal here rest) on.2)
-      | inr ended ↦ inr ended
-    ];
-  })
-
-  pub lines_last : (script : List Line) (old last : World C) (journal late : List Event) (hall : Hall) (queue : List (CarriedUnit (List ℕ))) (x y : ℕ) (p : Pair) → So old hall queue → Resting journal old
-      → MayGo queue script → IsSettledScript script → AllByRecursion IsProperLine script → AllByRecursion IsUnrouted script → AllByRecursion IsUndropped late → IsFollowed link journal old hall.posts x y p
-      → IsLive p.calling.stage → IsLive p.called.stage → RunsLines link steps whole titles old script late last → HasLasted link journal late last x y p
-  lines_last [] old last journal late hall queue x y p s r (inr next) calm proper path all f live live_there run = absurd next
-  lines_last [] old last journal late hall queue x y p s r (inl none) calm proper path all f live live_there run =
-      let idle : IsFollowed link journal old [] x y p = subst (λ (ps : List Post). IsFollowed link journal old ps x y p) (none_waits hall queue none s.shows.units) f in
-      let tells : TellsNoUnits late = subst TellsNoUnits (sym run.0) (record { gave = λ n. refl; showed = λ n. refl }) in
-      let now : IsFollowed link (journal ++ late) last [] x y p =
-      followed_still link journal late old last (ap (λ (v : World C). v.entities) run.1) (ap (λ (v : World C). v.ends) run.1) (ap (λ (v : World C). (link v.carrier).clock) run.1) tells [] x y p idle in
-      record {
-        happenings = [];
-        next = p;
-        leads = refl;
-        ticked = tt;
-        told = tt;
-        goes = inl (idle_of link (journal ++ late) last x y p now, later_of link steps law titles Waits fifo names timers going (follow names timers) journal old hall queue x y p s idle, now);
-      }
-  lines_last (line ∷ script) old last journal late hall queue x y p s r may calm proper path all f live live_there run =
-      let parts = all_parts IsUndropped run.1 run.2 (subst (λ (es : List Event). AllByRecursion IsUndropped es) run.4 all) in
-      let first : Passed journal run.1 run.0 x y p script = line_passes line script old run.0 journal run.1 hall queue x y p s r may calm proper.0 path.0 parts.0 f live live_there run.3 in
-      let moved = first.stepped.moved in
-      let honest = line_honest line script old run.0 run.1 calm r.explains.carries.honest run.3 in
-      let rests : Resting (journal ++ run.1) run.0 = line_rests line script old run.0 journal run.1 calm proper.0 honest r run.3 in
-      let ended : IsEnded moved.next → HasLasted link journal late last x y p = λ over. record {
-        happenings = moved.happenings;
-        next = moved.next;
-        leads = moved.leads;
-        ticked = moved.ticked;
-        told = subst (λ (es : List Event). AreTold journal es x y p moved.happenings) (sym run.4) (told_on x y journal run.1 run.2 p moved.happenings moved.told);
-        goes = inr over;
-      } in
-      elim moved.goes [
-        | inr over ↦ ended over
-        | inl on ↦ elim (live_or moved.next.calling.stage) [
-          | inr over ↦ ended (λ one other. over one)
-          | inl one ↦ elim (live_or moved.next.called.stage) [
-            | inr over ↦ ended (λ one other. over other)
-            | inl other ↦
-                lasts_then journal run.1 run.2 late last x y p moved.next moved.happenings moved.leads moved.ticked moved.told
-                (lines_last script run.0 last (journal ++ run.1) run.2 first.stepped.hall first.stepped.queue x y moved.next first.stepped.stands rests first.may first.calm proper.1 path.1 parts.1 on one other run.5) run.4
-          ]
-        ]
-      ]

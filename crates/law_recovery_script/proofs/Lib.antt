@@ -1,8 +1,14 @@
 pub mod Asking
-pub mod Doing
+pub mod Clocks
 pub mod Lasting
+pub mod Lines
+pub mod Numbers
+pub mod Outlasting
+pub mod Playing
 pub mod Releasing
 pub mod Rowing
 pub mod Starting
+pub mod Staying
+pub mod Stepping
 pub mod Telling
 pub mod Ticking

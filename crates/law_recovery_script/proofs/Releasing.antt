@@ -38,7 +38,7 @@ use Rattle.law_recovery_walk.specs.Following.{IsBy, IsLive}
 use Rattle.law_recovery_walk.specs.Settling.{IsEnded}
 use Rattle.law_recovery_walk.proofs.Settling.{leads_then, live_or}
 use Rattle.law_recovery_walk.proofs.Speaking.{HalvesSay, Sends, acknowledged_sent, ak_said, aks_said, said, submitted_sent, ticked_sent, urged_sent, urgent_done_sent}
-use Rattle.law_recovery_script.proofs.Lasting.{ticked_then}
+use Rattle.law_recovery_script.proofs.Clocks.{ticked_then}
 
 -- no TPDU by which an end leaves
 abbrev IsStaying : Tpdu → Type 0
@@ -351,3 +351,20 @@ module _ (part : PairsPart) (life : ℕ) (t : Timers) (begin : Pair) (o q : InOp
 
   pub ended_left : (happenings : List Happening) (last : Pair) → AreTicked begin happenings → Leads begin happenings last → IsEnded last → AreBothLeft last
   ended_left happenings last ticked leads ended = guarded_left last (along happenings [] begin last refl tt begins_guarded ticked leads) ended
+
+open_live : (stage : StateData) → IsOpen stage → IsLive stage
+open_live (stages.Opened o) is = tt
+open_live stage is = absurd is
+
+-- an end that its tick freezes had left
+pub frozen_left : (now : ℕ) (e : End) → IsLive e.stage → (IsLive (stepped whole now e Ticked).stage → ⊥) → HasLeft e.stage
+frozen_left now e live ended = by e.stage live ended
+  where
+    never : (o : InOpened) (m : Moved) → Row ⊥ (stages.Opened o) m → (IsLive m.stage → ⊥) → ⊥
+    never o m (Leaves left late out) over = elim (out (late_out m.stage late over)) [ inl was ↦ was | inr why ↦ why ]
+    never o m (Stays is all) over = over (open_live m.stage is)
+
+    by : (stage : StateData) → IsLive stage → (IsLive (stepped whole now (record { base = e.base; stage = stage }) Ticked).stage → ⊥) → HasLeft stage
+    by (stages.Opened o) live over = absurd (never o _ (tick_row ⊥ (now_at now e.base) o) over)
+    by (stages.Closing c) live over = tt
+    by stage live over = absurd live

@@ -1,5 +1,5 @@
 -- What the lines of a network tell of a pair: where more lines come before or behind, the same is told; and all that a tick tells stands at that tick.
-use Rattle.std.proofs.Common.{◌≡◌, ◌⊎◌, inl, inr, ℕ, ◌+◌, Bool, true, false, List, [], ◌∷◌, ◌++◌, refl, sym, ◌∙◌, ap, subst, arith, append_assoc}
+use Rattle.std.proofs.Common.{◌≡◌, inl, inr, ℕ, ◌+◌, Bool, true, false, List, [], ◌∷◌, ◌++◌, refl, sym, ◌∙◌, ap, subst, arith, append_assoc}
 use Rattle.std.specs.Prelude.{◌==◌, if◌then◌else◌, Contains}
 use Rattle.std.specs.List.{AllByRecursion}
 use Rattle.std.proofs.lemmas.List.{append_cancel_left}
@@ -17,14 +17,11 @@ use Rattle.script_journal.specs.declared.event.Event.TheVariants as events
 use Rattle.net_world.specs.Told.{shown_at, told}
 use Rattle.net_world.proofs.Journals.{clock_from-append}
 use Rattle.tpdu.specs.declared.service.EndTold.TheVariants.{Gone}
-use Rattle.tpdu.specs.declared.service.GoneCause.{GoneCause}
 use Rattle.tp4_number.specs.Number.{whole}
 use Rattle.tp4_flow.specs.declared.step.EndEvent.{EndEvent}
 use Rattle.tp4_flow.specs.declared.step.Sent.{Sent}
 use Rattle.tp4_flow.specs.declared.step.What.{What}
 use Rattle.tp4_flow.specs.declared.step.What.TheVariants as whats
-use Rattle.tp4_conn.specs.End.{End, gone}
-use Rattle.tp4_conn.specs.Table.{Ticked, at, stepped}
 use Rattle.tp4_conn.specs.declared.call.UserCall.{UserCall}
 use Rattle.tp4_conn.specs.declared.call.UserCall.TheVariants as asks
 use Rattle.law_tp4_pair.specs.Pair.{Asks_called, Asks_calling, Clock, Comes_back, Comes_forth, Happening, Leads, Pair, next as next_pair}
@@ -37,7 +34,7 @@ use Rattle.tp4_world.proofs.Addressees.{all_append}
 use Rattle.law_calm_run.proofs.Queueing.{all_parts}
 use Rattle.law_recovery_service.specs.Service.{HappensAt}
 use Rattle.law_recovery_walk.specs.Settling.{IsHandedOver}
-use Rattle.law_recovery_script.specs.Moving.{AreTold, IsGoneTold, IsTold}
+use Rattle.law_recovery_script.specs.Moving.{AreTold, IsTold}
 
 -- ---- more lines
 

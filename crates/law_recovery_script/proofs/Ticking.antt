@@ -26,7 +26,7 @@ use Rattle.tp4_conn.specs.declared.end_record.EndRecord.{EndRecord}
 use Rattle.tp4_conn.specs.declared.states.StateData.{StateData}
 use Rattle.tp4_conn.specs.declared.states.StateData.TheVariants as stages
 use Rattle.tp4_conn.specs.declared.timers.Timers.{Timers}
-use Rattle.tp4_entity.specs.Entity.{Acted, Entity, at, end_at, there}
+use Rattle.tp4_entity.specs.Entity.{Acted, Entity, at, end_at, there, with_end}
 use Rattle.tp4_entity.specs.Step.{first_due, is_due, kept_end, ticked_to, ticking, ticking_at, ticking_end}
 use Rattle.tp4_entity.proofs.PlaceLaws.{end_at_of}
 use Rattle.tp4_entity.proofs.Restarts.{ticking_same}
@@ -72,16 +72,21 @@ use Rattle.law_recovery_walk.specs.Settling.{IsEnded}
 use Rattle.law_recovery_walk.proofs.Coming.{StandsSo}
 use Rattle.law_recovery_walk.proofs.Leaving.{Leaves, nothing_leaves}
 use Rattle.law_recovery_walk.proofs.Settling.{live_or}
-use Rattle.law_recovery_script.specs.Moving.{HasMoved, IsGoneTold}
+use Rattle.law_recovery_script.specs.Moving.{IsGoneTold}
+use Rattle.law_recovery_script.proofs.Stepping.{HasMoved}
+use Rattle.law_recovery_script.specs.Over.{HaveLeft, KeepsLeft}
+use Rattle.law_recovery_script.proofs.Outlasting.{Row, Same, end_keeps, kept_is, left_end, left_on, row_stays}
+use Rattle.law_recovery_script.proofs.Releasing.{frozen_left}
+use Rattle.law_recovery_going.specs.Going.{AreBothLeft}
 use Rattle.law_recovery_script.proofs.Asking.{at_place, idle_of}
-use Rattle.law_recovery_script.proofs.Doing.{HasDone, at_two, beside, calling_did, calling_does, facing_called, facing_calling, lines_gave, lines_showed, turn, turned}
+use Rattle.law_recovery_walk.proofs.Doing.{HasDone, at_two, beside, calling_did, calling_does, facing_called, facing_calling, lines_gave, lines_showed, turn, turned}
 use Rattle.law_recovery_script.proofs.Rowing.{tick_leaves}
 use Rattle.law_recovery_script.proofs.Telling.{happens_then}
 
 -- ---- an end that is due
 
 -- the first end that is due is due
-due_is : (now : ℕ) (e : Entity) (reference : ℕ) → first_due now e ≡ Some reference → is_due now (end_at e reference) ≡ true
+pub due_is : (now : ℕ) (e : Entity) (reference : ℕ) → first_due now e ≡ Some reference → is_due now (end_at e reference) ≡ true
 due_is now e reference = by (position (is_due now) e.ends) refl
   where
     by : (place : Option ℕ) → position (is_due now) e.ends ≡ place → option_map (λ (n : ℕ). n + 1) place ≡ Some reference → is_due now (end_at e reference) ≡ true
@@ -140,13 +145,13 @@ told_still early journal made tick number e told cause is = let b = told cause i
       ∙ ap (λ (es : List JournalEvent). early ++ es) (append_assoc b.before (events.End number (Gone cause []) ∷ b.after) made);
 }
 
--- some of the two have ticked, and are told gone behind these lines where they are; or one of them is neither Opened nor Closing
+-- Some of the two have ticked, and are told gone behind these lines where they are; or one of them is frozen, and if both had left, the two ends have left in the network
 pub record HasTicked {C : Type 0} (link : C → Link (List ℕ)) (early journal : List JournalEvent) (world : World C) (posts : List Post) (x y : ℕ) (p : Pair) : Type 0 where
   pub calling : Bool
   pub called : Bool
   pub told : calling ≡ true → IsToldGone early journal (p.clock + 1) x p.calling
   pub told_there : called ≡ true → IsToldGone early journal (p.clock + 1) y p.called
-  pub goes : IsInTick link journal world posts x y p calling called ⊎ IsEnded (next p (Clock calling called))
+  pub goes : IsInTick link journal world posts x y p calling called ⊎ (IsEnded (next p (Clock calling called)) × (AreBothLeft (next p (Clock calling called)) → HaveLeft world x y))
 
 -- an end that had no tick has one
 once : (p : Pair) (called : Bool) → calling_does (next p (Clock false called)) (stepped whole (p.clock + 1) p.calling Ticked) [] ≡ next p (Clock true called)
@@ -201,6 +206,10 @@ module _ {C : Type 0} (link : C → Link (List ℕ)) (titles : List (List ℕ)) 
   leaves_other : (x y : ℕ) (f : AreFacing old x y) → (system ≡ f.own.system → reference ≢ f.own.reference) → Leaves old x y f system entity acted
   leaves_other x y f apart = tick_leaves link titles timers w journal old explains going x y f system entity there_it reference o stands apart place
 
+  pub row_keeps : KeepsLeft old new
+  row_keeps = left_on old new now system entity (with_end (at now entity) reference place) there_it entities
+      (Row reference o Ticked place stands (kept_is m (due m.base m.stage)) refl (ends ∙ row_stays link titles timers w journal old explains system entity there_it reference o Ticked stands))
+
   abbrev posts_on : List Post → List Post
   posts_on posts = posts ++ posted system m.tpdus
 
@@ -225,7 +234,8 @@ module _ {C : Type 0} (link : C → Link (List ℕ)) (titles : List (List ℕ)) 
         (λ s r. at_two old x y system reference q.calling q.called f.calling f.called f.apart at_it at_reference s r)) [] (none_of x) (none_of y)
 
   calling_ticks : (posts : List Post) (x y : ℕ) (p : Pair) (calling called : Bool) (t : IsInTick link journal old posts x y p calling called) → system ≡ t.followed.calling.system
-      → reference ≡ t.followed.calling.reference → IsInTick link (journal ++ made) new (posts_on posts) x y p true called ⊎ IsEnded (next p (Clock true called))
+      → reference ≡ t.followed.calling.reference
+      → IsInTick link (journal ++ made) new (posts_on posts) x y p true called ⊎ (IsEnded (next p (Clock true called)) × (AreBothLeft (next p (Clock true called)) → HaveLeft new x y))
   calling_ticks posts x y p true called t at_it at_reference =
       absurd (differ (sym (t.calling_over refl) ∙ (λ i. is_due (t.followed.clock i) (Some (sym (end_is posts x y (next p (Clock true called)) t.followed at_it at_reference) i))) ∙ is_due_now))
   calling_ticks posts x y p false called t at_it at_reference = elim (live_or M.stage) [
@@ -238,7 +248,13 @@ module _ {C : Type 0} (link : C → Link (List ℕ)) (titles : List (List ℕ)) 
       calling_over = λ _. kept_later (p.clock + 1) M (Some 0) (ticked_later whole (p.clock + 1) p.calling (subst (λ (z : End). IsProper z.base z.stage) is proper));
       called_over = t.called_over;
     })
-    | inr ended ↦ inr (λ one other. ended one)
+    | inr ended ↦ inr (
+      λ one other. ended one,
+      λ both. (
+        end_keeps old new x row_keeps (left_end link titles timers w journal old explains x (next p (Clock false called)).calling t.followed.calling (frozen_left (p.clock + 1) p.calling t.live ended)),
+        end_keeps old new y row_keeps (left_end link titles timers w journal old explains y (next p (Clock false called)).called t.followed.called both.1),
+      ),
+    )
   ]
     where
       M : Moved
@@ -301,7 +317,7 @@ module _ {C : Type 0} (link : C → Link (List ℕ)) (titles : List (List ℕ)) 
         told_there = λ _. told_now posts y x (turn p) called calling (turned_tick link journal old posts x y p calling called t) on_it.0 on_it.1 told_there;
         goes = elim (calling_ticks posts y x (turn p) called calling (turned_tick link journal old posts x y p calling called t) on_it.0 on_it.1) [
           | inl on ↦ inl (turned_tick link (journal ++ made) new (posts_on posts) y x (turn p) true calling on)
-          | inr ended ↦ inr (λ one other. ended other one)
+          | inr ended ↦ inr (λ one other. ended.0 other one, λ both. let left = ended.1 (both.1, both.0) in (left.1, left.0))
         ];
       }
       | inr not_called ↦ record {
@@ -346,9 +362,14 @@ module _ {C : Type 0} (link : C → Link (List ℕ)) (titles : List (List ℕ)) 
     called = h.called;
     told = λ is. told_still early journal made (p.clock + 1) x p.calling (h.told is);
     told_there = λ is. told_still early journal made (p.clock + 1) y p.called (h.told_there is);
-    goes = elim h.goes [ inl t ↦ inl (on t) | inr ended ↦ inr ended ];
+    goes = elim h.goes [ inl t ↦ inl (on t) | inr ended ↦ inr (ended.0, λ both. kept (ended.1 both)) ];
   }
     where
+      kept : HaveLeft old x y → HaveLeft new x y
+      kept left =
+          let keeps : KeepsLeft old new = left_on old new (link old.carrier).clock system entity (at (link old.carrier).clock entity) there_it entities (Same refl ends) in
+          (end_keeps old new x keeps left.0, end_keeps old new y keeps left.1)
+
       on : IsInTick link journal old posts x y p h.calling h.called → IsInTick link (journal ++ made) new posts x y p h.calling h.called
       on t =
           record {
@@ -478,7 +499,7 @@ module _ {C : Type 0} (link : C → Link (List ℕ)) (steps : C → Call (List �
               called = t.ticked.called;
               told = λ is. told_still early journal here (p.clock + 1) x p.calling (t.ticked.told is);
               told_there = λ is. told_still early journal here (p.clock + 1) y p.called (t.ticked.told_there is);
-              goes = inr ended;
+              goes = inr (ended.0, λ both. let left = ended.1 both in (end_keeps old mid x keeps left.0, end_keeps old mid y keeps left.1));
             }
           ]);
     }
@@ -512,6 +533,14 @@ module _ {C : Type 0} (link : C → Link (List ℕ)) (steps : C → Call (List �
 
         a : Acting link steps law titles Waits fifo t.hall system entity.own A here mid
         a = acts_go link steps law titles Waits fifo old mid t.hall t.queue system was.title entity.own A here t.shows was.title_is was.own fine proper.tpdus all acts
+
+        keeps : KeepsLeft old mid
+        keeps = left_on old mid now system entity (with_end (at now entity) reference (kept_end (stepped whole now o Ticked) (due (stepped whole now o Ticked).base (stepped whole now o Ticked).stage))) there_it
+            (ap (λ (v : World C). v.entities) acts.becomes ∙ ap (λ (z : Acted). with_entity old.entities system z.entity) is)
+            (Row reference o Ticked (kept_end (stepped whole now o Ticked) (due (stepped whole now o Ticked).base (stepped whole now o Ticked).stage)) stands
+            (kept_is (stepped whole now o Ticked) (due (stepped whole now o Ticked).base (stepped whole now o Ticked).stage)) refl
+            (ap (λ (v : World C). v.ends) acts.becomes ∙ ap (λ (z : Acted). ends_after old.ends system z.events) is
+            ∙ row_stays link names timers t.w journal old t.explains system entity there_it reference o Ticked stands))
 
         went : Went names timers (Known names timers) IsOffered (plain_kept names timers) link steps law followed.aside t.w (journal ++ here) mid
         went = subst (λ (xs : List JournalEvent). Went names timers (Known names timers) IsOffered (plain_kept names timers) link steps law followed.aside t.w (xs ++ here) mid) (append-nil journal)

@@ -1,5 +1,5 @@
 -- Two partner ends of a network along lines that are settled and lose nothing, as steps of a pair (X.213, queue model; X.214, queue model).
-use Rattle.std.specs.Prelude.{◌≡◌, ◌⊎◌, ℕ, ◌+◌, Bool, true, List, [], ◌∷◌, ◌++◌, Contains}
+use Rattle.std.specs.Prelude.{◌≡◌, ◌⊎◌, ℕ, ◌+◌, true, List, [], ◌∷◌, ◌++◌, Contains}
 use Rattle.std.specs.List.{AllByRecursion}
 use Rattle.osi_base.specs.Link.{Link}
 use Rattle.script_journal.specs.declared.event.Event.{Event}
@@ -9,15 +9,36 @@ use Rattle.tpdu.specs.declared.service.GoneCause.{GoneCause}
 use Rattle.tp4_number.specs.Number.{whole}
 use Rattle.tp4_conn.specs.End.{End, gone}
 use Rattle.tp4_conn.specs.Table.{Ticked, at, stepped}
+use Rattle.tp4_conn.specs.declared.states.InOpened.{InOpened}
+use Rattle.tp4_conn.specs.declared.timers.Timers.{Timers}
 use Rattle.law_tp4_pair.specs.Pair.{Asks_called, Asks_calling, Clock, Happening, IsIdle, Leads, Pair, next as next_pair}
 use Rattle.tp4_world.specs.Telling.{call_events}
 use Rattle.tp4_world.specs.World.{World}
-use Rattle.law_calm_run.proofs.Hall.{Post}
-use Rattle.law_recovery_going.specs.Going.{AreTicked}
+use Rattle.law_recovery_going.specs.Going.{AreBothLeft, AreBothOpened, AreTicked, HasParted}
 use Rattle.law_recovery_service.specs.Service.{HappensAt}
 use Rattle.law_recovery_steps.specs.Resting.{AreLater}
 use Rattle.law_recovery_walk.specs.Following.{IsFollowed}
 use Rattle.law_recovery_walk.specs.Settling.{IsEnded}
+use Rattle.law_recovery_script.specs.Over.{HaveLeft}
+
+-- The pair went on, with a tick of each end where it is due: nothing waits and no end is due, and it has the two ends still, with the units of the journal; or one of them is frozen. If both of
+-- the pair have left, the two ends have left in the network
+pub record HasLasted {C : Type 0} (link : C → Link (List ℕ)) (journal : List Event) (new : World C) (x y : ℕ) (p : Pair) : Type 0 where
+  pub happenings : List Happening
+  pub next : Pair
+  pub leads : Leads p happenings next
+  pub ticked : AreTicked p happenings
+  pub goes : (IsIdle next × AreLater next × IsFollowed link journal new [] x y next) ⊎ IsEnded next
+  pub over : AreBothLeft next → HaveLeft new x y
+
+-- Two ends that were Opened as `o` and `q` at the tick of the pair p, at which nothing waited: both are Opened still, where nothing waits and no end is due, with the units of the journal; or the
+-- first that left did so for a cause of that tick or before, and both have left in the network
+pub record HasPlayed {C : Type 0} (link : C → Link (List ℕ)) (journal : List Event) (new : World C) (x y : ℕ) (t : Timers) (p : Pair) (o q : InOpened) : Type 0 where
+  pub happenings : List Happening
+  pub next : Pair
+  pub leads : Leads p happenings next
+  pub ticked : AreTicked p happenings
+  pub goes : (AreBothOpened next × IsIdle next × AreLater next × IsFollowed link journal new [] x y next) ⊎ (HasParted t p.clock o q p happenings next × HaveLeft new x y)
 
 -- ---- what the journal tells of a pair
 
@@ -37,22 +58,7 @@ abbrev pub AreTold : (early late : List Event) → (x y : ℕ) → Pair → List
 AreTold early late x y p [] = Prim.Unit {0}
 AreTold early late x y p (happening ∷ happenings) = IsTold early late x y p happening × AreTold early late x y (next_pair p happening) happenings
 
--- ---- what lines come to
-
--- The pair went on, with a tick of each end where it is due: it has the two ends still, and what waits between them, with the units of the journal; or one of them is neither Opened nor Closing
-pub record HasMoved {C : Type 0} (link : C → Link (List ℕ)) (early late : List Event) (new : World C) (posts : List Post) (x y : ℕ) (p : Pair) : Type 0 where
-  pub happenings : List Happening
-  pub next : Pair
-  pub leads : Leads p happenings next
-  pub ticked : AreTicked p happenings
-  pub told : AreTold early late x y p happenings
-  pub goes : IsFollowed link (early ++ late) new posts x y next ⊎ IsEnded next
-
--- the same where nothing waits and no end is due
-pub record HasLasted {C : Type 0} (link : C → Link (List ℕ)) (early late : List Event) (new : World C) (x y : ℕ) (p : Pair) : Type 0 where
-  pub happenings : List Happening
-  pub next : Pair
-  pub leads : Leads p happenings next
-  pub ticked : AreTicked p happenings
-  pub told : AreTold early late x y p happenings
-  pub goes : (IsIdle next × AreLater next × IsFollowed link (early ++ late) new [] x y next) ⊎ IsEnded next
+-- the pair lasted so, and the lines tell what happened to it
+pub record HasLastedTold {C : Type 0} (link : C → Link (List ℕ)) (early late : List Event) (new : World C) (x y : ℕ) (p : Pair) : Type 0 where
+  pub lasted : HasLasted link (early ++ late) new x y p
+  pub told : AreTold early late x y p lasted.happenings

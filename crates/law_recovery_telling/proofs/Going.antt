@@ -13,15 +13,15 @@ use Rattle.law_tp4_pair.specs.Pair.{Asks_called, Asks_calling, Clock, Comes_back
 use Rattle.law_recovery_steps.specs.Steps.{IsParted}
 use Rattle.law_recovery_going.specs.Going.{AreBothLeft, AreBothOpened, HasParted, LeavesBy}
 use Rattle.law_recovery_known.specs.Laws.{PartnersAreKnown, PartnersPart}
-use Rattle.law_recovery_known.specs.Partners.{IsArrival, IsPairOf}
+use Rattle.law_recovery_known.specs.Partners.{IsArrival}
 use Rattle.law_recovery_service.specs.Service.{By_itself, By_user, Goes}
 use Rattle.law_recovery_walk.specs.Following.{IsFollowed, IsLive}
 use Rattle.law_recovery_walk.specs.Laws.{PartnersAreFollowed}
 use Rattle.law_recovery_walk.specs.Settling.{IsEnded}
-use Rattle.law_recovery_script.specs.Laws.{EndedHaveLeft, RunsLast}
-use Rattle.law_recovery_script.specs.Moving.{AreTold, HasLasted, IsTold}
+use Rattle.law_recovery_script.specs.Laws.{EndedHaveLeft, LeftAreOver, RunsAreTold}
+use Rattle.law_recovery_script.specs.Moving.{AreTold, HasLasted, HasLastedTold, IsTold}
 use Rattle.law_recovery_telling.specs.Laws.{RunsTell}
-use Rattle.law_recovery_telling.specs.Outcome.{AreOpenStill, HaveComeTo}
+use Rattle.law_recovery_telling.specs.Outcome.{AreOpenStill}
 
 -- ---- what tells that an end goes
 
@@ -53,19 +53,23 @@ module _ (t : Timers) (t0 : ℕ) (early late : List Event) (x y : ℕ) (o q : In
 live_of : (stage : StateData) (o : InOpened) → stage ≡ Opened o → IsLive stage
 live_of stage o is = subst IsLive (sym is) tt
 
-pub runs_tell : {C : Type 0} (link : C → Link (List ℕ)) (steps : C → Call (List ℕ) → C → Type 0) → PartnersAreFollowed link steps → RunsLast link steps → EndedHaveLeft → PartnersAreKnown link steps
-    → PartnersPart link steps → RunsTell link steps
-runs_tell {C} link steps follow lasts ended known part titles first queue_of prompt timers early late old last script x y p o q calls low ready pair run = record {
+pub runs_tell : {C : Type 0} (link : C → Link (List ℕ)) (steps : C → Call (List ℕ) → C → Type 0) → PartnersAreFollowed link steps → RunsAreTold link steps → EndedHaveLeft → LeftAreOver C
+    → PartnersAreKnown link steps → PartnersPart link steps → RunsTell link steps
+runs_tell {C} link steps follow tells ended over_of known part titles first queue_of prompt timers early late old last script x y p o q calls low ready pair run = record {
   happenings = r.happenings;
   next = r.next;
   leads = r.leads;
   ticked = r.ticked;
   outcome = elim (part titles timers early old calls low x y p r.next o q r.happenings pair r.ticked r.leads) [
     | inl opened ↦ inl (still opened)
-    | inr parted ↦ inr (record {
-      left = elim r.goes [ inl on ↦ parted.0.other_too on.0 | inr over ↦ over_left over ];
-      told = subst (λ (n : ℕ). Goes timers n early late x o ⊎ Goes timers n early late y q) pair.clock (parted_told timers p.clock early late x y o q p r.next r.happenings r.told parted.0 parted.1);
-    })
+    | inr parted ↦
+        let left = r.over (elim r.goes [ inl on ↦ parted.0.other_too on.0 | inr over ↦ over_left over ]) in
+        inr (record {
+          first = subst (λ (n : ℕ). Goes timers n early late x o ⊎ Goes timers n early late y q) pair.clock
+              (parted_told timers p.clock early late x y o q p r.next r.happenings told.told parted.0 parted.1);
+          calling_over = over_of last x left.0;
+          called_over = over_of last y left.1;
+        })
   ];
 }
   where
@@ -84,8 +88,11 @@ runs_tell {C} link steps follow lasts ended known part titles first queue_of pro
       called_showed = pair.called_showed;
     })
 
-    r : HasLasted link early late last x y p
-    r = lasts titles first queue_of prompt timers early late old last script x y p calls ready followed (live_of p.calling.stage o pair.calling.stage) (live_of p.called.stage q pair.called.stage) run
+    told : HasLastedTold link early late last x y p
+    told = tells titles first queue_of prompt timers early late old last script x y p calls ready followed (live_of p.calling.stage o pair.calling.stage) (live_of p.called.stage q pair.called.stage) run
+
+    r : HasLasted link (early ++ late) last x y p
+    r = told.lasted
 
     still : AreBothOpened r.next → AreOpenStill link (early ++ late) last x y r.next
     still opened = elim r.goes [

@@ -15,7 +15,7 @@ use Rattle.law_recovery_run.specs.Ordered.{IsReady, OnPrompt, RunsInOrder}
 use Rattle.law_recovery_telling.specs.Outcome.{HaveComeTo}
 
 -- Over each carrier that serves again once nothing is lost: of two partners that are Opened, in a network in which nothing is left to deliver, and of which W is less than I, lines that are
--- settled and lose nothing are steps of their pair; both are Opened still, or both have left, and the lines tell that one went by its user, or by a cause of that tick or before
+-- settled and lose nothing are steps of their pair; both are Opened still, or the lines tell that one went by its user, or by a cause of that tick or before, and neither is Opened any more
 abbrev pub RunsTell : {C : Type 0} → (C → Link (List ℕ)) → (C → Call (List ℕ) → C → Type 0) → Type 0
 RunsTell {C} link steps = OnPrompt link steps (λ titles first Waits. (timers : Timers) (early late : List Event) (old last : World C) (script : List Line) (x y : ℕ) (p : Pair) (o q : InOpened)
     → AreHonestCalls link steps whole titles timers early old → timers.window < timers.inactive → IsReady link steps titles first old → IsPairOf link early old x y p o q

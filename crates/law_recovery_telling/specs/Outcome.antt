@@ -5,8 +5,8 @@ use Rattle.script_journal.specs.declared.event.Event.{Event}
 use Rattle.tp4_conn.specs.declared.states.InOpened.{InOpened}
 use Rattle.tp4_conn.specs.declared.timers.Timers.{Timers}
 use Rattle.law_tp4_pair.specs.Pair.{Happening, IsIdle, Leads, Pair}
-use Rattle.law_recovery_going.specs.Going.{AreBothLeft, AreBothOpened, AreTicked}
-use Rattle.law_recovery_service.specs.Service.{Goes}
+use Rattle.law_recovery_going.specs.Going.{AreBothOpened, AreTicked}
+use Rattle.law_recovery_service.specs.Service.{HaveGone}
 use Rattle.law_recovery_steps.specs.Resting.{AreLater}
 use Rattle.tp4_world.specs.World.{World}
 use Rattle.law_recovery_walk.specs.Following.{IsFollowed}
@@ -18,15 +18,10 @@ pub record AreOpenStill {C : Type 0} (link : C → Link (List ℕ)) (journal : L
   pub later : AreLater p
   pub followed : IsFollowed link journal last [] x y p
 
--- both have left, and the lines since tick t0 tell that one of them went, which were Opened as `o` and `q` then
-pub record HaveLeft (t : Timers) (t0 : ℕ) (early late : List Event) (x y : ℕ) (o q : InOpened) (p : Pair) : Type 0 where
-  pub left : AreBothLeft p
-  pub told : Goes t t0 early late x o ⊎ Goes t t0 early late y q
-
--- the lines are steps of the pair, with a tick of each end where it is due, and both are Opened still, or have left
+-- the lines are steps of the pair, with a tick of each end where it is due; both are Opened still, or one went, as the lines tell, and neither is Opened any more
 pub record HaveComeTo {C : Type 0} (link : C → Link (List ℕ)) (t : Timers) (t0 : ℕ) (early late : List Event) (last : World C) (x y : ℕ) (p : Pair) (o q : InOpened) : Type 0 where
   pub happenings : List Happening
   pub next : Pair
   pub leads : Leads p happenings next
   pub ticked : AreTicked p happenings
-  pub outcome : AreOpenStill link (early ++ late) last x y next ⊎ HaveLeft t t0 early late x y o q next
+  pub outcome : AreOpenStill link (early ++ late) last x y next ⊎ HaveGone t t0 early late last x y o q

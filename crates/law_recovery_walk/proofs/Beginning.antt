@@ -31,7 +31,7 @@ use Rattle.law_tp4_lawful.proofs.WorldOutcomes.{one_unit}
 use Rattle.law_recovery_run.proofs.Rivals.{no_rival}
 use Rattle.law_recovery_walk.specs.Following.{IsFollowed, IsLive, IsSpoken, Stands}
 use Rattle.law_recovery_walk.specs.Settling.{AreAtHand}
-use Rattle.law_recovery_walk.proofs.Delivering.{live_goes}
+use Rattle.law_recovery_walk.proofs.Doing.{live_goes}
 
 module _ {C : Type 0} (link : C → Link (List ℕ)) (titles : List (List ℕ)) (timers : Timers) (w : Whole) (journal : List Event) (world : World C) (explains : Explains link titles timers w journal world) where
   kept : Kept (times_of timers) titles w journal

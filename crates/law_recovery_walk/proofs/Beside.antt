@@ -28,7 +28,6 @@ use Rattle.tp4_entity.specs.Unit.{extended_of}
 use Rattle.tp4_entity.specs.steps.Places.{format_of}
 use Rattle.tp4_entity.proofs.Formats.{format_is}
 use Rattle.tp4_entity.proofs.Standings.{free_least}
-use Rattle.law_tp4_history.specs.Ends.{Cc}
 use Rattle.law_tp4_history.specs.Tracks.{Whole}
 use Rattle.law_tp4_moves.specs.Moves.{HasSource, IsSourced, Sees, times_of}
 use Rattle.law_tp4_moves.specs.Seen.{seen}

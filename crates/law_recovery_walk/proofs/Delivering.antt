@@ -1,9 +1,9 @@
 -- What waits first is handed over, whatever else waits: the end that it is for takes it, or neither of two ends that face each other sees anything of it.
-use Rattle.std.proofs.Common.{◌≡◌, ◌⊎◌, inl, inr, ℕ, ◌==◌, Bool, true, false, List, [], ◌∷◌, ◌++◌, Some, None, refl, sym, ◌∙◌, ap, subst, append-nil}
+use Rattle.std.proofs.Common.{◌≡◌, ◌⊎◌, inl, inr, ℕ, ◌==◌, Bool, true, false, List, [], ◌∷◌, ◌++◌, Some, refl, sym, ◌∙◌, ap, subst}
 use Rattle.std.specs.Prelude.{◌&&◌}
 use Rattle.std.specs.List.{AllByRecursion}
-use Rattle.std.proofs.lemmas.Bool.{eq-eqb, eqb-false, eqb-true}
-use Rattle.std.proofs.lemmas.Option.{none-some, same_Some}
+use Rattle.std.proofs.lemmas.Bool.{eq-eqb, eqb-true}
+use Rattle.std.proofs.lemmas.Option.{same_Some}
 use Rattle.osi_base.specs.Link.{Link}
 use Rattle.script_journal.specs.Lawful.{Marked, shown, submitted}
 use Rattle.script_journal.specs.declared.event.Event.{Event as JournalEvent}
@@ -20,8 +20,6 @@ use Rattle.tp4_conn.specs.Matching.{is_source}
 use Rattle.tp4_conn.specs.Proper.{IsSendable}
 use Rattle.tp4_conn.specs.Table.{Took, stepped}
 use Rattle.tp4_conn.specs.declared.end_record.EndRecord.{EndRecord}
-use Rattle.tp4_conn.specs.declared.states.StateData.{StateData}
-use Rattle.tp4_conn.specs.declared.states.StateData.TheVariants as stages
 use Rattle.tp4_conn.specs.declared.timers.Timers.{Timers}
 use Rattle.tp4_entity.specs.Association.{met}
 use Rattle.tp4_entity.specs.Entity.{Acted, Entity, at, end_at, moved}
@@ -29,15 +27,13 @@ use Rattle.tp4_entity.specs.Unit.{extended_of}
 use Rattle.tp4_entity.specs.steps.Places.{format_of}
 use Rattle.tp4_entity.proofs.Formats.{format_is}
 use Rattle.tp4_entity.proofs.Standings.{within}
-use Rattle.law_tp4_history.proofs.Appended.{shown-append, submitted-append}
 use Rattle.law_tp4_history.specs.Tracks.{Whole}
 use Rattle.law_tp4_moves.specs.Lines.{shown_in}
-use Rattle.law_tp4_moves.specs.Moves.{HasSource, stop_of}
+use Rattle.law_tp4_moves.specs.Moves.{HasSource}
 use Rattle.law_tp4_moves.specs.Seen.{seen}
 use Rattle.law_tp4_pair.specs.Pair.{Comes_back, Comes_forth, Happening, Leads, Pair, comes_back, comes_forth}
 use Rattle.tp4_world.specs.Telling.{ends_after, events_after}
 use Rattle.tp4_world.specs.World.{World, entity_at, latest, with_entity}
-use Rattle.tp4_world.specs.declared.place.EndAt.{EndAt}
 use Rattle.law_tp4_lawful.proofs.Known.{IsReadAs}
 use Rattle.law_tp4_lawful.proofs.Worlds.{Explains}
 use Rattle.law_tp4_lawful.proofs.MakesPlaces.{at_same}
@@ -45,18 +41,15 @@ use Rattle.law_calm_run.proofs.Hall.{Post, posted}
 use Rattle.law_recovery_run.specs.Aside.{AreFacing, IsSentTo, Names}
 use Rattle.law_recovery_run.specs.Rivals.{IsGoing}
 use Rattle.law_recovery_run.proofs.Aiming.{Going}
-use Rattle.law_recovery_walk.specs.Following.{HasCcSource, IsBy, IsFollowed, IsForPartner, IsHeard, IsLive, IsSide, IsSpoken, Speaks, Stands, is_sent_to, sent_to}
+use Rattle.law_recovery_walk.specs.Following.{HasCcSource, IsBy, IsFollowed, IsForPartner, IsHeard, IsLive, IsSide, Speaks, Stands, is_sent_to}
 use Rattle.law_recovery_walk.specs.Settling.{IsHandedOver}
+use Rattle.law_recovery_walk.proofs.Doing as does
+use Rattle.law_recovery_walk.proofs.Doing.{HasDone, live_goes}
 use Rattle.law_recovery_walk.proofs.Leaving.{Leaves, met_leaves, nothing_leaves}
-use Rattle.law_recovery_walk.proofs.Sides.{IsFirst, IsNow, drop_other, drop_this, side_on, stands_now}
-use Rattle.law_recovery_walk.proofs.Taking.{met_takes, own_is, row_number, row_says, row_showed, sum_same}
-use Rattle.law_recovery_walk.proofs.Waiting.{both_parts, posted_all, posted_each, posted_elsewhere, posted_none, sent_there, there_sent}
+use Rattle.law_recovery_walk.proofs.Sides.{IsFirst, IsNow, drop_other, drop_this}
+use Rattle.law_recovery_walk.proofs.Taking.{met_takes, own_is, sum_same}
+use Rattle.law_recovery_walk.proofs.Waiting.{both_parts, posted_each, sent_there, there_sent}
 use Rattle.tp4_world.proofs.Addressees.{all_append}
-
-pub live_goes : (stage : StateData) → IsLive stage → stop_of stage ≡ None
-live_goes (stages.Opened o) live = refl
-live_goes (stages.Closing c) live = refl
-live_goes stage live = absurd live
 
 is_source_by : (b : EndRecord) (own : ℕ) (t : WireTpdu) → own ≡ b.partner → IsBy own t → is_source b t ≡ true
 is_source_by b own (wires.Cc credit destination source width calling called size preferred extra version classes ack_time text) is by = eq-eqb source b.partner (by ∙ is)
@@ -88,16 +81,6 @@ read_sourced entity sent t sum read has = by (has_number (kind_for sent.tpdu)) r
     by : (b : Bool) → has_number (kind_for sent.tpdu) ≡ b → HasSource (seen 0 t)
     by true is = no_cc t (ap has_number read.kind ∙ is)
     by false is = subst (λ (u : WireTpdu). HasSource (seen 0 u)) (sym (read.control is)) has
-
-pub each_all : (P Q : Sent → Type 0) (tpdus : List Sent) → ((sent : Sent) → P sent → Q sent) → AllByRecursion P tpdus → AllByRecursion Q tpdus
-each_all P Q [] step all = tt
-each_all P Q (sent ∷ tpdus) step all = (step sent all.0, each_all P Q tpdus step all.1)
-
--- nothing is said in the name of the end
-pub named_none : (system own reference partner : ℕ) (to : List ℕ) (tpdus : List Sent) → (system ≡ own → AllByRecursion (λ (sent : Sent). Names reference sent.tpdu → ⊥) tpdus)
-    → AllByRecursion (λ (sent : Sent). IsForPartner own reference to partner (record { system = system; sent = sent })) tpdus
-named_none system own reference partner to [] all = tt
-named_none system own reference partner to (sent ∷ tpdus) all = (λ at names. absurd ((all at).0 names), named_none system own reference partner to tpdus (λ at. (all at).1))
 
 -- the happenings at another tick
 abbrev comes_back_at : ℕ → Pair → List Sent → Pair
@@ -146,14 +129,19 @@ module _ {C : Type 0} (link : C → Link (List ℕ)) (titles : List (List ℕ)) 
   abbrev t : WireTpdu
   t = post.sent.tpdu
 
-  gave_on : (n : ℕ) (units : List Marked) → units ≡ submitted n journal → units ≡ submitted n (journal ++ made)
-  gave_on n units is = is ∙ sym (append-nil (submitted n journal)) ∙ ap (λ (us : List Marked). submitted n journal ++ us) (sym (a.gave n)) ∙ sym (submitted-append n journal made)
-
-  showed_on : (n : ℕ) (units more : List Marked) → units ≡ shown n journal → shown n (events_after old.ends a.system a.entity.own a.acted.events) ≡ more → units ++ more ≡ shown n (journal ++ made)
-  showed_on n units more is told = (λ i. is i ++ more) ∙ ap (λ (us : List Marked). shown n journal ++ us) (sym (a.showed n ∙ told)) ∙ sym (shown-append n journal made)
-
-  showed_same : (n : ℕ) (units : List Marked) → units ≡ shown n journal → shown n (events_after old.ends a.system a.entity.own a.acted.events) ≡ [] → units ≡ shown n (journal ++ made)
-  showed_same n units is told = sym (append-nil units) ∙ showed_on n units [] is told
+  -- what it did
+  abbrev done : HasDone link old new made
+  done = record {
+    system = a.system;
+    entity = a.entity;
+    there = a.there;
+    acted = a.acted;
+    kept = a.kept;
+    entities = a.entities;
+    ends = a.ends;
+    clock = a.clock;
+    showed = a.showed;
+  }
 
   -- ---- two ends
 
@@ -163,12 +151,7 @@ module _ {C : Type 0} (link : C → Link (List ℕ)) (titles : List (List ℕ)) 
     going_here = record { system = here.system; reference = here.reference; entity = here.entity; end = mine; is_end = here.is_end; goes = live_goes mine.stage live }
 
     abbrev pub facing : AreFacing old x y
-    facing = record {
-      own = going_here;
-      theirs = record { system = there.system; reference = there.reference; entity = there.entity; end = theirs; is_end = there.is_end; goes = live_goes theirs.stage live_there };
-      to_is = ours.to_is;
-      partner_is = ours.partner_is;
-    }
+    facing = does.facing link journal old new made done x y mine theirs here there live live_there ours.to_is ours.partner_is
 
     -- two places are two
     pub two_places : here.system ≡ there.system → here.reference ≡ there.reference → ⊥
@@ -177,29 +160,13 @@ module _ {C : Type 0} (link : C → Link (List ℕ)) (titles : List (List ℕ)) 
     -- ---- what comes is not for this end from that one
 
     module _ (leaves : Leaves old x y facing a.system a.entity a.acted) where
-      pub left_here : IsNow old new x mine mine here
-      left_here = stands_now old new a.system a.entity a.acted a.there a.entities a.kept x mine mine here
-          (ap (λ (es : List EndAt). latest es here.system here.reference) a.ends ∙ leaves.number) leaves.same (λ _. refl)
-
-      none_more : sent_to here.system there.entity.own there.reference (posted a.system a.acted.tpdus) ≡ []
-      none_more = by (a.system == here.system) refl
-        where
-          by : (b : Bool) → (a.system == here.system) ≡ b → sent_to here.system there.entity.own there.reference (posted a.system a.acted.tpdus) ≡ []
-          by true is =
-              let same : a.system ≡ here.system = eqb-true a.system here.system is in
-              ap (λ (n : ℕ). sent_to here.system there.entity.own there.reference (posted n a.acted.tpdus)) same ∙ posted_none here.system there.entity.own there.reference a.acted.tpdus (leaves.none same)
-          by false is = posted_elsewhere here.system there.entity.own there.reference a.system a.acted.tpdus (eqb-false a.system here.system is)
+      abbrev left_here : IsNow old new x mine mine here
+      left_here = does.left_here link journal old new made done x y mine theirs here there live live_there ours.to_is ours.partner_is leaves
 
       -- what waited from it, less the first where that was from it
-      pub left_side : (theirs_now : End) (th : IsNow old new y theirs theirs_now there) (left : List Sent) → IsSide journal old rest x y mine theirs here there left gave showed
+      left_side : (theirs_now : End) (th : IsNow old new y theirs theirs_now there) (left : List Sent) → IsSide journal old rest x y mine theirs here there left gave showed
           → IsSide (journal ++ made) new (rest ++ posted a.system a.acted.tpdus) x y mine theirs_now left_here.stands th.stands left gave showed
-      left_side theirs_now th left s =
-          subst (λ (l : List Sent). IsSide (journal ++ made) new (rest ++ posted a.system a.acted.tpdus) x y mine theirs_now left_here.stands th.stands l gave showed) (append-nil left)
-          (side_on journal (journal ++ made) old new rest a.system a.acted.tpdus x y mine theirs mine theirs_now here there left gave showed s left_here th (record { own = refl; to = refl; partner = refl; agreed = refl })
-          [] none_more tt
-          (posted_each (IsForPartner here.system here.reference there.entity.own there.reference) a.system a.acted.tpdus
-          (named_none a.system here.system here.reference there.reference there.entity.own a.acted.tpdus leaves.named))
-          gave showed (gave_on x gave s.gave_is) (showed_same x showed s.showed_is leaves.showed))
+      left_side theirs_now th left s = does.left_side link journal old new made done x y mine theirs here there live live_there ours.to_is ours.partner_is leaves theirs_now th rest left gave showed s (a.gave x)
 
     -- ---- it is for this end from that one
 
@@ -239,44 +206,25 @@ module _ {C : Type 0} (link : C → Link (List ℕ)) (titles : List (List ℕ)) 
           acted_is_read ∙ ap (λ (e : Entity). met whole now (at now e) a.sender.own (t, post.sent.sum)) entity_is
           ∙ met_takes now x old going_here a.sender.own t post.sent.sum live sent.target (ours.to_is ∙ ap (λ (e : Entity). e.own) (sym sender_is)) by
 
-      speaks : Speaks mine.base m
-      speaks = row_says link titles timers w journal old explains x going_here (Took post.sent.tpdu post.sent.sum) live by
+      stands_so : end_at a.acted.entity here.reference ≡ Some (end_of m)
+      stands_so =
+          let inside = within here.entity here.reference mine here.is_end.stands in
+          ap (λ (z : Acted). end_at z.entity here.reference) acted_is ∙ at_same (at now here.entity) here.reference (Some (end_of m)) inside.least inside.most
 
-      tpdus_are : a.acted.tpdus ≡ m.tpdus
-      tpdus_are = ap (λ (z : Acted). z.tpdus) acted_is
+      speaks : Speaks mine.base m
+      speaks = does.speaks link journal old new made done x y mine theirs here there live live_there ours.to_is ours.partner_is titles timers w explains (Took post.sent.tpdu post.sent.sum) by at_it stands_so (ap (λ (z : Acted). z.events) acted_is) (ap (λ (z : Acted). z.tpdus) acted_is)
 
       -- it goes on by its row
-      pub took_here : IsNow old new x mine (end_of m) here
-      took_here = stands_now old new a.system a.entity a.acted a.there a.entities a.kept x mine (end_of m) here
-          (ap (λ (es : List EndAt). latest es here.system here.reference) a.ends
-          ∙ (λ i. latest (ends_after old.ends (at_it i) (acted_is i).events) here.system here.reference)
-          ∙ row_number link titles timers w journal old explains x going_here (Took post.sent.tpdu post.sent.sum))
-          (λ _.
-          let inside = within here.entity here.reference mine here.is_end.stands in
-          ap (λ (z : Acted). end_at z.entity here.reference) acted_is ∙ at_same (at now here.entity) here.reference (Some (end_of m)) inside.least inside.most)
-          (λ other. absurd (other at_it))
+      abbrev took_here : IsNow old new x mine (end_of m) here
+      took_here = does.did_here link journal old new made done x y mine theirs here there live live_there ours.to_is ours.partner_is titles timers w explains (Took post.sent.tpdu post.sent.sum) by at_it stands_so (ap (λ (z : Acted). z.events) acted_is) (ap (λ (z : Acted). z.tpdus) acted_is)
 
-      to_partner : AllByRecursion (IsSentTo there.entity.own there.reference) m.tpdus
-      to_partner = each_all (IsSpoken mine.base) (IsSentTo there.entity.own there.reference) m.tpdus
-          (λ (s : Sent) spoken. record { address = spoken.to ∙ ours.to_is; target = spoken.target ∙ ap (λ (n : ℕ). Some n) ours.partner_is }) speaks.tpdus
-
-      more_is : sent_to here.system there.entity.own there.reference (posted a.system a.acted.tpdus) ≡ m.tpdus
-      more_is = (λ i. sent_to here.system there.entity.own there.reference (posted (at_it i) (tpdus_are i))) ∙ posted_all here.system there.entity.own there.reference m.tpdus to_partner
-
-      told : shown x (events_after old.ends a.system a.entity.own a.acted.events) ≡ shown_in m.events
-      told = (λ i. shown x (events_after old.ends (at_it i) (entity_is i).own (acted_is i).events)) ∙ row_showed link titles timers w journal old explains x going_here (Took post.sent.tpdu post.sent.sum)
-
-      pub took_side : (th : IsNow old new y theirs theirs there)
+      took_side : (th : IsNow old new y theirs theirs there)
           → IsSide (journal ++ made) new (rest ++ posted a.system a.acted.tpdus) x y (end_of m) theirs took_here.stands th.stands (waits ++ m.tpdus) gave (showed ++ shown_in m.events)
       took_side th =
           let s = drop_other journal old post rest x y mine theirs here there waits gave showed ours
           (λ at it. two_places (sym at ∙ from_there) (same_Some here.reference there.reference (sym sent.target ∙ it.target))) in
-          side_on journal (journal ++ made) old new rest a.system a.acted.tpdus x y mine theirs (end_of m) theirs here there waits gave showed s took_here th speaks.keeps m.tpdus more_is speaks.tpdus
-          (posted_each (IsForPartner here.system here.reference there.entity.own there.reference) a.system a.acted.tpdus
-          (subst (λ (l : List Sent). AllByRecursion (λ (s : Sent). IsForPartner here.system here.reference there.entity.own there.reference (record { system = a.system; sent = s })) l) (sym tpdus_are)
-          (each_all (IsSentTo there.entity.own there.reference) (λ (s : Sent). IsForPartner here.system here.reference there.entity.own there.reference (record { system = a.system; sent = s })) m.tpdus
-          (λ (s : Sent) is at names. is) to_partner)))
-          gave (showed ++ shown_in m.events) (gave_on x gave s.gave_is) (showed_on x showed (shown_in m.events) s.showed_is told)
+          does.did_side link journal old new made done x y mine theirs here there live live_there ours.to_is ours.partner_is titles timers w explains (Took post.sent.tpdu post.sent.sum) by at_it stands_so (ap (λ (z : Acted). z.events) acted_is) (ap (λ (z : Acted). z.tpdus) acted_is)
+          theirs th rest waits gave showed gave s (does.gave_same link journal old new made done x gave s.gave_is (a.gave x))
 
     -- ---- it is not for this end from that one
 

@@ -2,6 +2,7 @@ pub mod Beginning
 pub mod Beside
 pub mod Coming
 pub mod Delivering
+pub mod Doing
 pub mod Leaving
 pub mod Naming
 pub mod Settling

@@ -37,7 +37,7 @@ use Rattle.law_calm_run.proofs.Posting.{AreUnitsOf}
 use Rattle.law_calm_run.proofs.Queueing.{all_parts}
 use Rattle.law_recovery_run.proofs.Aiming.{Going}
 use Rattle.law_recovery_walk.specs.Following.{IsFollowed, IsLive, IsSide, Stands}
-use Rattle.law_recovery_walk.specs.Settling.{HasGoneOn, IsHandedOver}
+use Rattle.law_recovery_walk.specs.Settling.{HasGoneOn, IsEnded, IsHandedOver}
 use Rattle.law_recovery_walk.proofs.Coming.{StandsSo, TellsNoUnits, delivered}
 use Rattle.law_recovery_walk.proofs.Delivering.{HasComeOn, handed_over}
 
@@ -120,7 +120,7 @@ module _ {C : Type 0} (link : C → Link (List ℕ)) (steps : C → Call (List �
     (titles : List (List ℕ)) (Waits : C → List (CarriedUnit (List ℕ)) → Type 0) (fifo : IsFifo link steps titles Waits)
     (going : Going) (followed : (titles : List (List ℕ)) (timers : Timers) → Followed titles timers) where
   -- the timers of an end that stands are those of the network
-  timed : (journal : List Event) (world : World C) (ex : IsExplained link journal world) (x : ℕ) (e : End) → Stands world x e → IsTimed ex.timers
+  pub timed : (journal : List Event) (world : World C) (ex : IsExplained link journal world) (x : ℕ) (e : End) → Stands world x e → IsTimed ex.timers
   timed journal world ex x e s =
       let known = known_at link ex.titles ex.timers ex.w journal world ex.explains x s.system s.entity s.reference e s.is_end in
       subst IsTimed ((ex.explains.known.holds s.system s.entity s.is_end.there).theirs s.reference e s.is_end.stands) known.0.sees.timers
@@ -180,10 +180,34 @@ module _ {C : Type 0} (link : C → Link (List ℕ)) (steps : C → Call (List �
         }
   ]
 
-  pub settles_on : (count : ℕ) (old : World C) (made : List Event) (new : World C) → Settles link steps whole count old made new → (journal : List Event) (hall : Hall) (queue : List (CarriedUnit (List ℕ))) (x y : ℕ) (p : Pair)
+  -- one of the two is frozen, in the middle of a settle
+  pub record IsStopped (new : World C) (x y : ℕ) (p : Pair) : Type 0 where
+    pub ended : IsEnded p
+    pub journal : List Event
+    pub mid : World C
+    pub rest : List Event
+    pub count : ℕ
+    pub hall : Hall
+    pub queue : List (CarriedUnit (List ℕ))
+    pub stands : StandsSo link steps law titles Waits fifo mid hall queue
+    pub ex : IsExplained link journal mid
+    pub all : AllByRecursion IsUndropped rest
+    pub follows : IsFollowed link journal mid hall.posts x y p
+    pub left : Settles link steps whole count mid rest new
+
+  -- nothing waits, or one of the two is frozen
+  pub record WentOn (journal : List Event) (new : World C) (x y : ℕ) (p : Pair) : Type 0 where
+    pub happenings : List Happening
+    pub next : Pair
+    pub leads : Leads p happenings next
+    pub handed : AllByRecursion IsHandedOver happenings
+    pub clock : next.clock ≡ p.clock
+    pub goes : (IsIdle next × IsFollowed link journal new [] x y next) ⊎ IsStopped new x y next
+
+  pub settles_so : (count : ℕ) (old : World C) (made : List Event) (new : World C) → Settles link steps whole count old made new → (journal : List Event) (hall : Hall) (queue : List (CarriedUnit (List ℕ))) (x y : ℕ) (p : Pair)
       → StandsSo link steps law titles Waits fifo old hall queue → IsExplained link journal old → AllByRecursion IsUndropped made → IsFollowed link journal old hall.posts x y p
-      → IsLive p.calling.stage → IsLive p.called.stage → HasGoneOn link (journal ++ made) new x y p
-  settles_on count old made new (NoneLeft n o m l fresh made_is same) journal hall queue x y p s ex all f live live_there =
+      → IsLive p.calling.stage → IsLive p.called.stage → WentOn (journal ++ made) new x y p
+  settles_so count old made new (NoneLeft n o m l fresh made_is same) journal hall queue x y p s ex all f live live_there =
       let none : queue ≡ [] = fifo.none old.carrier queue s.shows.waits fresh in
       let posts : hall.posts ≡ [] = subst (λ (q : List (CarriedUnit (List ℕ))). AreUnitsOf titles q hall.posts) none s.shows.units in
       let tells : TellsNoUnits made = subst TellsNoUnits (sym made_is) (record { gave = λ k. refl; showed = λ k. refl }) in
@@ -191,16 +215,16 @@ module _ {C : Type 0} (link : C → Link (List ℕ)) (steps : C → Call (List �
       let now : IsFollowed link (journal ++ made) new [] x y p =
       followed_still link journal made old new (ap (λ (v : World C). v.entities) same) (ap (λ (v : World C). v.ends) same) (ap (λ (v : World C). (link v.carrier).clock) same) tells [] x y p idle in
       record { happenings = []; next = p; leads = refl; handed = tt; clock = refl; goes = inl (idle_of link (journal ++ made) new x y p now, now) }
-  settles_on count old made new (TooMany n o m l pair fresh most made_is same) journal hall queue x y p s ex all f live live_there =
+  settles_so count old made new (TooMany n o m l pair fresh most made_is same) journal hall queue x y p s ex all f live live_there =
       absurd (subst (λ (es : List Event). AllByRecursion IsUndropped es) made_is all).0
-  settles_on count old made new (OneMore n o m l pair mid here rest fresh low delivers settles made_is) journal hall queue x y p s ex all f live live_there =
+  settles_so count old made new (OneMore n o m l pair mid here rest fresh low delivers settles made_is) journal hall queue x y p s ex all f live live_there =
       let parts = all_parts IsUndropped here rest (subst (λ (es : List Event). AllByRecursion IsUndropped es) made_is all) in
       let first : HasGone journal here mid x y p = one_goes old mid journal here hall queue pair x y p s fresh ex parts.0 f live live_there delivers in
       let ex_mid : IsExplained link (journal ++ here) mid = explained_on old mid journal here hall queue pair s ex (timed journal old ex x p.calling f.calling) delivers in
-      let more : IsLive first.next.calling.stage → IsLive first.next.called.stage → HasGoneOn link (journal ++ made) new x y p = λ one other.
-      let later : HasGoneOn link ((journal ++ here) ++ rest) new x y first.next =
-      settles_on (count + 1) mid rest new settles (journal ++ here) first.hall first.queue x y first.next first.stands ex_mid parts.1 first.follows one other in
-      subst (λ (es : List Event). HasGoneOn link es new x y p) (append_assoc journal here rest ∙ ap (λ (es : List Event). journal ++ es) (sym made_is))
+      let more : IsLive first.next.calling.stage → IsLive first.next.called.stage → WentOn (journal ++ made) new x y p = λ one other.
+      let later : WentOn ((journal ++ here) ++ rest) new x y first.next =
+      settles_so (count + 1) mid rest new settles (journal ++ here) first.hall first.queue x y first.next first.stands ex_mid parts.1 first.follows one other in
+      subst (λ (es : List Event). WentOn es new x y p) (append_assoc journal here rest ∙ ap (λ (es : List Event). journal ++ es) (sym made_is))
       (record {
         happenings = first.happenings ++ later.happenings;
         next = later.next;
@@ -209,10 +233,31 @@ module _ {C : Type 0} (link : C → Link (List ℕ)) (steps : C → Call (List �
         clock = later.clock ∙ first.clock;
         goes = later.goes;
       }) in
+      let stop : IsEnded first.next → IsStopped new x y first.next = λ ended. record {
+        ended = ended;
+        journal = journal ++ here;
+        mid = mid;
+        rest = rest;
+        count = count + 1;
+        hall = first.hall;
+        queue = first.queue;
+        stands = first.stands;
+        ex = ex_mid;
+        all = parts.1;
+        follows = first.follows;
+        left = settles;
+      } in
       elim (live_or first.next.calling.stage) [
         | inl one ↦ elim (live_or first.next.called.stage) [
           | inl other ↦ more one other
-          | inr ended ↦ record { happenings = first.happenings; next = first.next; leads = first.leads; handed = first.handed; clock = first.clock; goes = inr (λ one other. ended other) }
+          | inr ended ↦ record { happenings = first.happenings; next = first.next; leads = first.leads; handed = first.handed; clock = first.clock; goes = inr (stop (λ one other. ended other)) }
         ]
-        | inr ended ↦ record { happenings = first.happenings; next = first.next; leads = first.leads; handed = first.handed; clock = first.clock; goes = inr (λ one other. ended one) }
+        | inr ended ↦ record { happenings = first.happenings; next = first.next; leads = first.leads; handed = first.handed; clock = first.clock; goes = inr (stop (λ one other. ended one)) }
       ]
+
+  pub settles_on : (count : ℕ) (old : World C) (made : List Event) (new : World C) → Settles link steps whole count old made new → (journal : List Event) (hall : Hall) (queue : List (CarriedUnit (List ℕ))) (x y : ℕ) (p : Pair)
+      → StandsSo link steps law titles Waits fifo old hall queue → IsExplained link journal old → AllByRecursion IsUndropped made → IsFollowed link journal old hall.posts x y p
+      → IsLive p.calling.stage → IsLive p.called.stage → HasGoneOn link (journal ++ made) new x y p
+  settles_on count old made new settles journal hall queue x y p s ex all f live live_there =
+      let on = settles_so count old made new settles journal hall queue x y p s ex all f live live_there in
+      record { happenings = on.happenings; next = on.next; leads = on.leads; handed = on.handed; clock = on.clock; goes = elim on.goes [ inl idle ↦ inl idle | inr stopped ↦ inr stopped.ended ] }

@@ -5,7 +5,6 @@ use Rattle.tp4_conn.specs.declared.states.StateData.TheVariants.{Opened}
 use Rattle.law_tp4_pair.specs.Pair.{Pair}
 use Rattle.std.specs.Prelude.{◌≡◌, ℕ, List, []}
 use Rattle.script_journal.specs.declared.event.Event.{Event}
-use Rattle.tp4_world.specs.World.{World}
 use Rattle.law_recovery_walk.specs.Following.{IsFollowed}
 use Rattle.law_recovery_walk.specs.Settling.{AreAtHand}
 use Rattle.law_recovery_walk.proofs.Beginning.{followed_are_partners, partners_begin}

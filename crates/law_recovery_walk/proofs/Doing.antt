@@ -1,5 +1,5 @@
 -- What an entity does as its user asks, or as an end of it is due, as a step of two ends that know each other: a row of one of them, or neither sees anything of it.
-use Rattle.std.proofs.Common.{◌≡◌, ℕ, ◌==◌, Bool, true, false, List, [], ◌++◌, Some, refl, sym, ◌∙◌, ap, subst, append-nil}
+use Rattle.std.proofs.Common.{◌≡◌, ℕ, ◌==◌, Bool, true, false, List, [], ◌∷◌, ◌++◌, Some, None, refl, sym, ◌∙◌, ap, subst, append-nil}
 use Rattle.std.specs.List.{AllByRecursion}
 use Rattle.std.proofs.lemmas.Bool.{eqb-false, eqb-true}
 use Rattle.std.proofs.lemmas.Option.{same_Some}
@@ -11,13 +11,15 @@ use Rattle.tp4_flow.specs.declared.step.EndEvent.{EndEvent}
 use Rattle.tp4_flow.specs.declared.step.Sent.{Sent}
 use Rattle.tp4_conn.specs.End.{End, Moved, agreed_format, end_of}
 use Rattle.tp4_conn.specs.Table.{Event, stepped}
+use Rattle.tp4_conn.specs.declared.states.StateData.{StateData}
+use Rattle.tp4_conn.specs.declared.states.StateData.TheVariants as stages
 use Rattle.tp4_conn.specs.declared.timers.Timers.{Timers}
 use Rattle.tp4_entity.specs.Entity.{Acted, Entity, end_at}
 use Rattle.law_tp4_history.proofs.Appended.{shown-append, submitted-append}
 use Rattle.law_tp4_history.specs.Journals.{IsAside}
 use Rattle.law_tp4_history.specs.Tracks.{Whole}
 use Rattle.law_tp4_moves.specs.Lines.{shown_in}
-use Rattle.law_tp4_moves.specs.Moves.{HasSource}
+use Rattle.law_tp4_moves.specs.Moves.{HasSource, stop_of}
 use Rattle.law_tp4_moves.specs.Seen.{seen}
 use Rattle.law_tp4_pair.specs.Pair.{Pair}
 use Rattle.tp4_world.specs.Telling.{ends_after, events_after}
@@ -28,14 +30,28 @@ use Rattle.law_tp4_lawful.proofs.Acting.{first_of}
 use Rattle.law_tp4_lawful.proofs.ActsTold.{first_shows_none, lines_give_none}
 use Rattle.law_tp4_lawful.proofs.Worlds.{Explains}
 use Rattle.law_calm_run.proofs.Hall.{Post, posted}
-use Rattle.law_recovery_run.specs.Aside.{AreFacing, IsSentTo}
+use Rattle.law_recovery_run.specs.Aside.{AreFacing, IsSentTo, Names}
 use Rattle.law_recovery_run.specs.Rivals.{IsGoing}
 use Rattle.law_recovery_walk.specs.Following.{HasCcSource, IsFollowed, IsForPartner, IsFromPartner, IsLive, IsSide, IsSpoken, Speaks, Stands, sent_to}
-use Rattle.law_recovery_walk.proofs.Delivering.{each_all, live_goes, named_none}
 use Rattle.law_recovery_walk.proofs.Leaving.{Leaves}
 use Rattle.law_recovery_walk.proofs.Sides.{IsNow, side_on, stands_now}
 use Rattle.law_recovery_walk.proofs.Taking.{row_number, row_says, row_showed}
 use Rattle.law_recovery_walk.proofs.Waiting.{posted_all, posted_each, posted_elsewhere, posted_none}
+
+pub live_goes : (stage : StateData) → IsLive stage → stop_of stage ≡ None
+live_goes (stages.Opened o) live = refl
+live_goes (stages.Closing c) live = refl
+live_goes stage live = absurd live
+
+pub each_all : (P Q : Sent → Type 0) (tpdus : List Sent) → ((sent : Sent) → P sent → Q sent) → AllByRecursion P tpdus → AllByRecursion Q tpdus
+each_all P Q [] step all = tt
+each_all P Q (sent ∷ tpdus) step all = (step sent all.0, each_all P Q tpdus step all.1)
+
+-- nothing is said in the name of the end
+pub named_none : (system own reference partner : ℕ) (to : List ℕ) (tpdus : List Sent) → (system ≡ own → AllByRecursion (λ (sent : Sent). Names reference sent.tpdu → ⊥) tpdus)
+    → AllByRecursion (λ (sent : Sent). IsForPartner own reference to partner (record { system = system; sent = sent })) tpdus
+named_none system own reference partner to [] all = tt
+named_none system own reference partner to (sent ∷ tpdus) all = (λ at names. absurd ((all at).0 names), named_none system own reference partner to tpdus (λ at. (all at).1))
 
 -- ---- pairs
 
@@ -118,7 +134,7 @@ module _ {C : Type 0} (link : C → Link (List ℕ)) (journal : List JournalEven
   gave_on : (n : ℕ) (units more : List Marked) → units ≡ submitted n journal → submitted n made ≡ more → units ++ more ≡ submitted n (journal ++ made)
   gave_on n units more is given = (λ i. is i ++ more) ∙ ap (λ (us : List Marked). submitted n journal ++ us) (sym given) ∙ sym (submitted-append n journal made)
 
-  gave_same : (n : ℕ) (units : List Marked) → units ≡ submitted n journal → submitted n made ≡ [] → units ≡ submitted n (journal ++ made)
+  pub gave_same : (n : ℕ) (units : List Marked) → units ≡ submitted n journal → submitted n made ≡ [] → units ≡ submitted n (journal ++ made)
   gave_same n units is none = sym (append-nil units) ∙ gave_on n units [] is none
 
   showed_on : (n : ℕ) (units more : List Marked) → units ≡ shown n journal → shown n (events_after old.ends a.system a.entity.own a.acted.events) ≡ more → units ++ more ≡ shown n (journal ++ made)
@@ -144,7 +160,7 @@ module _ {C : Type 0} (link : C → Link (List ℕ)) (journal : List JournalEven
 
     -- it is not of this end
     module _ (leaves : Leaves old x y facing a.system a.entity a.acted) where
-      left_here : IsNow old new x mine mine here
+      pub left_here : IsNow old new x mine mine here
       left_here = stands_now old new a.system a.entity a.acted a.there a.entities a.kept x mine mine here
           (ap (λ (es : List EndAt). latest es here.system here.reference) a.ends ∙ leaves.number) leaves.same (λ _. refl)
 
@@ -157,7 +173,7 @@ module _ {C : Type 0} (link : C → Link (List ℕ)) (journal : List JournalEven
               ap (λ (n : ℕ). sent_to here.system there.entity.own there.reference (posted n a.acted.tpdus)) same ∙ posted_none here.system there.entity.own there.reference a.acted.tpdus (leaves.none same)
           by false is = posted_elsewhere here.system there.entity.own there.reference a.system a.acted.tpdus (eqb-false a.system here.system is)
 
-      left_side : (theirs_now : End) (th : IsNow old new y theirs theirs_now there) (posts : List Post) (waits : List Sent) (gave showed : List Marked) → IsSide journal old posts x y mine theirs here there waits gave showed
+      pub left_side : (theirs_now : End) (th : IsNow old new y theirs theirs_now there) (posts : List Post) (waits : List Sent) (gave showed : List Marked) → IsSide journal old posts x y mine theirs here there waits gave showed
           → submitted x made ≡ [] → IsSide (journal ++ made) new (posts ++ posted a.system a.acted.tpdus) x y mine theirs_now left_here.stands th.stands waits gave showed
       left_side theirs_now th posts waits gave showed s none =
           subst (λ (l : List Sent). IsSide (journal ++ made) new (posts ++ posted a.system a.acted.tpdus) x y mine theirs_now left_here.stands th.stands l gave showed) (append-nil waits)
@@ -177,10 +193,10 @@ module _ {C : Type 0} (link : C → Link (List ℕ)) (journal : List JournalEven
       entity_is : a.entity ≡ here.entity
       entity_is = same_Some a.entity here.entity (sym a.there ∙ ap (entity_at old.entities) at_it ∙ here.is_end.there)
 
-      speaks : Speaks mine.base m
+      pub speaks : Speaks mine.base m
       speaks = row_says link titles timers w journal old explains x going_here event live by
 
-      did_here : IsNow old new x mine (end_of m) here
+      pub did_here : IsNow old new x mine (end_of m) here
       did_here = stands_now old new a.system a.entity a.acted a.there a.entities a.kept x mine (end_of m) here
           (ap (λ (es : List EndAt). latest es here.system here.reference) a.ends
           ∙ (λ i. latest (ends_after old.ends (at_it i) (events_are i)) here.system here.reference)
@@ -197,7 +213,7 @@ module _ {C : Type 0} (link : C → Link (List ℕ)) (journal : List JournalEven
       told : shown x (events_after old.ends a.system a.entity.own a.acted.events) ≡ shown_in m.events
       told = (λ i. shown x (events_after old.ends (at_it i) (entity_is i).own (events_are i))) ∙ row_showed link titles timers w journal old explains x going_here event
 
-      did_side : (theirs_now : End) (th : IsNow old new y theirs theirs_now there) (posts : List Post) (waits : List Sent) (gave showed gave_now : List Marked) → IsSide journal old posts x y mine theirs here there waits gave showed
+      pub did_side : (theirs_now : End) (th : IsNow old new y theirs theirs_now there) (posts : List Post) (waits : List Sent) (gave showed gave_now : List Marked) → IsSide journal old posts x y mine theirs here there waits gave showed
           → gave_now ≡ submitted x (journal ++ made)
           → IsSide (journal ++ made) new (posts ++ posted a.system a.acted.tpdus) x y (end_of m) theirs_now did_here.stands th.stands (waits ++ m.tpdus) gave_now (showed ++ shown_in m.events)
       did_side theirs_now th posts waits gave showed gave_now s gave_is =
