@@ -18,9 +18,9 @@ use Rattle.law_recovery_service.specs.Service.{By_itself, By_user, Goes}
 use Rattle.law_recovery_walk.specs.Following.{IsFollowed, IsLive}
 use Rattle.law_recovery_walk.specs.Laws.{PartnersAreFollowed}
 use Rattle.law_recovery_walk.specs.Settling.{IsEnded}
-use Rattle.law_recovery_script.specs.Laws.{EndedHaveLeft, LeftAreOver, RunsAreTold}
+use Rattle.law_recovery_script.specs.Laws.{EndedHaveLeft, LeftAreOver}
 use Rattle.law_recovery_script.specs.Moving.{AreTold, HasLasted, HasLastedTold, IsTold}
-use Rattle.law_recovery_telling.specs.Laws.{RunsTell}
+use Rattle.law_recovery_telling.specs.Laws.{WalkedTell}
 use Rattle.law_recovery_telling.specs.Outcome.{AreOpenStill}
 
 -- ---- what tells that an end goes
@@ -53,9 +53,9 @@ module _ (t : Timers) (t0 : ℕ) (early late : List Event) (x y : ℕ) (o q : In
 live_of : (stage : StateData) (o : InOpened) → stage ≡ Opened o → IsLive stage
 live_of stage o is = subst IsLive (sym is) tt
 
-pub runs_tell : {C : Type 0} (link : C → Link (List ℕ)) (steps : C → Call (List ℕ) → C → Type 0) → PartnersAreFollowed link steps → RunsAreTold link steps → EndedHaveLeft → LeftAreOver C
-    → PartnersAreKnown link steps → PartnersPart link steps → RunsTell link steps
-runs_tell {C} link steps follow tells ended over_of known part titles first queue_of prompt timers early late old last script x y p o q calls low ready pair run = record {
+pub walked_tell : {C : Type 0} (link : C → Link (List ℕ)) (steps : C → Call (List ℕ) → C → Type 0) → PartnersAreFollowed link steps → EndedHaveLeft → LeftAreOver C → PartnersAreKnown link steps
+    → PartnersPart link steps → WalkedTell link steps
+walked_tell {C} link steps follow ended over_of known part titles begins walked timers early late old last script x y p o q calls low ready pair run = record {
   happenings = r.happenings;
   next = r.next;
   leads = r.leads;
@@ -89,7 +89,7 @@ runs_tell {C} link steps follow tells ended over_of known part titles first queu
     })
 
     told : HasLastedTold link early late last x y p
-    told = tells titles first queue_of prompt timers early late old last script x y p calls ready followed (live_of p.calling.stage o pair.calling.stage) (live_of p.called.stage q pair.called.stage) run
+    told = walked timers early late old last script x y p calls ready followed (live_of p.calling.stage o pair.calling.stage) (live_of p.called.stage q pair.called.stage) run
 
     r : HasLasted link (early ++ late) last x y p
     r = told.lasted

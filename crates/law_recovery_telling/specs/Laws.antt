@@ -1,22 +1,14 @@
 -- Laws of what the lines tell of two partner ends, since when nothing is lost (X.213, queue model; X.224, class 4 procedures).
-use Rattle.std.specs.Prelude.{◌<◌, ℕ, List}
+use Rattle.std.specs.Prelude.{ℕ, List}
 use Rattle.osi_base.specs.Calls.{Call}
 use Rattle.osi_base.specs.Link.{Link}
-use Rattle.script_journal.specs.declared.event.Event.{Event}
-use Rattle.script_lines.specs.declared.line.Line.{Line}
-use Rattle.tp4_number.specs.Number.{whole}
-use Rattle.tp4_conn.specs.declared.states.InOpened.{InOpened}
-use Rattle.tp4_conn.specs.declared.timers.Timers.{Timers}
-use Rattle.law_tp4_pair.specs.Pair.{Pair}
-use Rattle.tp4_world.specs.World.{World}
-use Rattle.law_tp4_lawful.specs.Called.{AreHonestCalls}
-use Rattle.law_recovery_known.specs.Partners.{IsPairOf}
-use Rattle.law_recovery_run.specs.Ordered.{IsReady, OnPrompt, RunsInOrder}
-use Rattle.law_recovery_telling.specs.Outcome.{HaveComeTo}
+use Rattle.law_recovery_run.specs.Ordered.{OnPrompt}
+use Rattle.law_recovery_telling.specs.Walked.{AreWalked, TellsFrom}
 
--- Over each carrier that serves again once nothing is lost: of two partners that are Opened, in a network in which nothing is left to deliver, and of which W is less than I, lines that are
--- settled and lose nothing are steps of their pair; both are Opened still, or the lines tell that one went by its user, or by a cause of that tick or before, and neither is Opened any more
+-- where lines are steps of each two ends that know each other, they tell of each two that were Opened
+abbrev pub WalkedTell : {C : Type 0} → (C → Link (List ℕ)) → (C → Call (List ℕ) → C → Type 0) → Type 0
+WalkedTell {C} link steps = (titles : List (List ℕ)) (begins : C) → AreWalked link steps titles begins → TellsFrom link steps titles begins
+
+-- so they do over each carrier that serves again once nothing is lost
 abbrev pub RunsTell : {C : Type 0} → (C → Link (List ℕ)) → (C → Call (List ℕ) → C → Type 0) → Type 0
-RunsTell {C} link steps = OnPrompt link steps (λ titles first Waits. (timers : Timers) (early late : List Event) (old last : World C) (script : List Line) (x y : ℕ) (p : Pair) (o q : InOpened)
-    → AreHonestCalls link steps whole titles timers early old → timers.window < timers.inactive → IsReady link steps titles first old → IsPairOf link early old x y p o q
-    → RunsInOrder link steps titles old script late last → HaveComeTo link timers (link old.carrier).clock early late last x y p o q)
+RunsTell link steps = OnPrompt link steps (λ titles begins Waits. TellsFrom link steps titles begins)

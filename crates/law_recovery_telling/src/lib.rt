@@ -3,4 +3,4 @@
 
 mod laws;
 
-pub use laws::runs_tell;
+pub use laws::{runs_tell, walked_tell};

@@ -1,6 +1,4 @@
-use Rattle.law_recovery_telling.proofs.Going.{runs_tell}
 use Rattle.law_recovery_telling.proofs.laws.runs_tell.Goals as goal
 
 pub returns : goal.returns
-returns g c =
-    runs_tell g.C.Carrier.link g.C.Carrier.steps c.partners_are_followed.ensures c.runs_are_told.ensures c.ended_have_left.ensures c.left_are_over.ensures c.partners_are_known.ensures.whole_numbers c.partners_part.ensures
+returns g c titles begins queue_of prompt = c.walked_tell.ensures titles begins (c.runs_are_told.ensures titles begins queue_of prompt)
