@@ -44,6 +44,7 @@ use Rattle.law_recovery_walk.proofs.Leaving.{Leaves}
 use Rattle.law_recovery_script.proofs.Stepping.{HasMoved}
 use Rattle.law_recovery_walk.proofs.Doing.{HasDone, at_two, beside, calling_did, calling_does, facing, facing_called, facing_calling, lines_gave, lines_showed, live_goes, turn, turned}
 use Rattle.law_recovery_script.proofs.Rowing.{row_apart, row_leaves}
+use Rattle.law_recovery_script.proofs.Telling.{call_told}
 
 -- at one place, or not
 pub at_place : (system reference s r : ℕ) → ((system ≡ s) × (reference ≡ r)) ⊎ (system ≡ s → reference ≡ r → ⊥)
@@ -189,14 +190,18 @@ module _ {C : Type 0} (link : C → Link (List ℕ)) (titles : List (List ℕ)) 
     takes_beside not_calling not_called =
         beside link journal old new made done [] x y p f live live_there (leaves_other x y mine not_calling) (leaves_other y x theirs not_called) (none_of x y mine not_calling) (none_of y x theirs not_called)
 
+  abbrev lines : List JournalEvent
+  lines = events_after old.ends end.system entity.own m.events
+
   -- the pair by it
-  pub call_moves : (x y : ℕ) (p : Pair) → IsFollowed link journal old [] x y p → IsLive p.calling.stage → IsLive p.called.stage → HasMoved link (journal ++ made) new (posted end.system m.tpdus) x y p
+  pub call_moves : (x y : ℕ) (p : Pair) → IsFollowed link journal old [] x y p → IsLive p.calling.stage → IsLive p.called.stage → HasMoved link journal made new (posted end.system m.tpdus) x y p
   call_moves x y p f live live_there = elim (at_place end.system end.reference f.calling.system f.calling.reference) [
     | inl calling ↦ record {
       happenings = Asks_calling call ∷ [];
       next = asks_calling p call;
       leads = ((idle_of link journal old x y p f, may x y p f live live_there calling.0 calling.1), refl);
       ticked = tt;
+      told = (call_told made number x call (lines ++ aside) made_is (number_here x y p f live live_there calling.0 calling.1), tt);
       goes = inl (calling_takes x y p f live live_there calling.0 calling.1);
     }
     | inr not_calling ↦ elim (at_place end.system end.reference f.called.system f.called.reference) [
@@ -207,6 +212,7 @@ module _ {C : Type 0} (link : C → Link (List ℕ)) (titles : List (List ℕ)) 
             next = asks_called p call;
             leads = ((idle_of link journal old x y p f, may y x (turn p) back live_there live called.0 called.1), refl);
             ticked = tt;
+            told = (call_told made number y call (lines ++ aside) made_is (number_here y x (turn p) back live_there live called.0 called.1), tt);
             goes = inl (turned link (journal ++ made) new (posted end.system m.tpdus) y x (asks_calling (turn p) call) (calling_takes y x (turn p) back live_there live called.0 called.1));
           }
       | inr not_called ↦ record {
@@ -214,6 +220,7 @@ module _ {C : Type 0} (link : C → Link (List ℕ)) (titles : List (List ℕ)) 
         next = p;
         leads = refl;
         ticked = tt;
+        told = tt;
         goes = inl (takes_beside x y p f live live_there not_calling not_called);
       }
     ]
@@ -319,5 +326,5 @@ module _ {C : Type 0} (link : C → Link (List ℕ)) (journal : List JournalEven
         (leaves_new x p.calling f.calling live y p.called (stands_on y p.called f.called live_there) live_there f.forth.to_is f.forth.partner_is)
         (leaves_new y p.called f.called live_there x p.calling (stands_on x p.calling f.calling live) live f.back.to_is f.back.partner_is) (none_new x) (none_new y)
 
-    pub connect_moves : HasMoved link (journal ++ made) new (posted system begin_acted.tpdus) x y p
-    connect_moves = record { happenings = []; next = p; leads = refl; ticked = tt; goes = inl followed }
+    pub connect_moves : HasMoved link journal made new (posted system begin_acted.tpdus) x y p
+    connect_moves = record { happenings = []; next = p; leads = refl; ticked = tt; told = tt; goes = inl followed }

@@ -83,20 +83,20 @@ module _ {C : Type 0} (link : C → Link (List ℕ)) (steps : C → Call (List �
   abbrev Resting : List Event → World C → Type 0
   Resting journal world = Rests link AreProper names timers journal world
 
-  abbrev Stepped : List Event → World C → ℕ → ℕ → Pair → Type 0
-  Stepped journal new x y p = HasStepped link steps law titles Waits fifo names timers going (follow names timers) journal new x y p
+  abbrev Stepped : (early late : List Event) → World C → ℕ → ℕ → Pair → Type 0
+  Stepped early late new x y p = HasStepped link steps law titles Waits fifo names timers going (follow names timers) early late new x y p
 
   pub none_waits : (hall : Hall) (queue : List (CarriedUnit (List ℕ))) → queue ≡ [] → AreUnitsOf titles queue hall.posts → hall.posts ≡ []
   none_waits hall queue none units = subst (λ (q : List (CarriedUnit (List ℕ))). AreUnitsOf titles q hall.posts) none units
 
   -- no entity did anything
   pub still_moves : (old new : World C) (journal made : List Event) (posts : List Post) (x y : ℕ) (p : Pair) → new.entities ≡ old.entities → new.ends ≡ old.ends → (link new.carrier).clock ≡ (link old.carrier).clock
-      → TellsNoUnits made → IsFollowed link journal old posts x y p → HasMoved link (journal ++ made) new posts x y p
+      → TellsNoUnits made → IsFollowed link journal old posts x y p → HasMoved link journal made new posts x y p
   still_moves old new journal made posts x y p entities ends clock tells f =
-      record { happenings = []; next = p; leads = refl; ticked = tt; goes = inl (followed_still link journal made old new entities ends clock tells posts x y p f) }
+      record { happenings = []; next = p; leads = refl; ticked = tt; told = tt; goes = inl (followed_still link journal made old new entities ends clock tells posts x y p f) }
 
   still_steps : (old new : World C) (journal made : List Event) (hall : Hall) (queue left : List (CarriedUnit (List ℕ))) (x y : ℕ) (p : Pair) → So old hall queue → IsHall link titles Waits new hall left
-      → new.entities ≡ old.entities → new.ends ≡ old.ends → (link new.carrier).clock ≡ (link old.carrier).clock → TellsNoUnits made → IsFollowed link journal old hall.posts x y p → Stepped (journal ++ made) new x y p
+      → new.entities ≡ old.entities → new.ends ≡ old.ends → (link new.carrier).clock ≡ (link old.carrier).clock → TellsNoUnits made → IsFollowed link journal old hall.posts x y p → Stepped journal made new x y p
   still_steps old new journal made hall queue left x y p s shows entities ends clock tells f = record {
     hall = hall;
     queue = left;
@@ -105,13 +105,13 @@ module _ {C : Type 0} (link : C → Link (List ℕ)) (steps : C → Call (List �
   }
 
   same_steps : (old new : World C) (journal made : List Event) (hall : Hall) (queue : List (CarriedUnit (List ℕ))) (x y : ℕ) (p : Pair) → So old hall queue → new ≡ old → TellsNoUnits made
-      → IsFollowed link journal old hall.posts x y p → Stepped (journal ++ made) new x y p
+      → IsFollowed link journal old hall.posts x y p → Stepped journal made new x y p
   same_steps old new journal made hall queue x y p s same tells f =
       still_steps old new journal made hall queue queue x y p s (subst (λ (v : World C). IsHall link titles Waits v hall queue) (sym same) s.shows) (ap (λ (v : World C). v.entities) same) (ap (λ (v : World C). v.ends) same)
       (ap (λ (v : World C). (link v.carrier).clock) same) tells f
 
   refused_steps : (old new : World C) (journal made : List Event) (hall : Hall) (queue : List (CarriedUnit (List ℕ))) (x y : ℕ) (p : Pair) (why : Option Refused) → So old hall queue
-      → IsRefused link steps old why made new → IsFollowed link journal old hall.posts x y p → Stepped (journal ++ made) new x y p
+      → IsRefused link steps old why made new → IsFollowed link journal old hall.posts x y p → Stepped journal made new x y p
   refused_steps old new journal made hall queue x y p None s step f = absurd step
   refused_steps old new journal made hall queue x y p (Some why) s step f =
       same_steps old new journal made hall queue x y p s step.1 (subst TellsNoUnits (sym step.0) (record { gave = λ n. refl; showed = λ n. refl })) f
@@ -141,7 +141,7 @@ module _ {C : Type 0} (link : C → Link (List ℕ)) (steps : C → Call (List �
     -- a call of a user
     taken_steps : (number : ℕ) (end : EndAt) (entity : Entity) (call : UserCall) → entity_at old.entities end.system ≡ Some entity → has_ended now old.ends number end entity ≡ false
         → user_refusal entity end.reference call ≡ None → IsCall call → (later : List Event) → Acts link steps old end.system entity.own (calling whole now entity end.reference call) later new
-        → made ≡ call_events number call ++ later → Stepped (journal ++ made) new x y p
+        → made ≡ call_events number call ++ later → Stepped journal made new x y p
     taken_steps number end entity call there ended allowed proper later acts made_is = record {
       hall = after hall end.system A;
       queue = a.queue;
@@ -151,7 +151,7 @@ module _ {C : Type 0} (link : C → Link (List ℕ)) (steps : C → Call (List �
         have = have_after titles hall.entities end.system A.entity s.have;
         rest = waiting_after link steps law titles Waits fifo hall end.system A s.rest (subst (λ (n : ℕ). first_due n A.entity ≡ None) s.shows.clock goes.rest.idle);
       };
-      moved = subst (λ (ps : List Post). HasMoved link (journal ++ made) new ps x y p) (λ i. sym posts i ++ posted end.system (sym is i).tpdus)
+      moved = subst (λ (ps : List Post). HasMoved link journal made new ps x y p) (λ i. sym posts i ++ posted end.system (sym is i).tpdus)
           (call_moves link names timers r.w journal old r.explains going new made number end entity call there (latest_is (latest old.ends end.system end.reference) number _ ended) k.end k.stands k.allowed proper a.does.aside
           a.does.is_aside (ap (λ (v : World C). v.entities) acts.becomes ∙ ap (λ (z : Acted). with_entity old.entities end.system z.entity) is)
           (ap (λ (v : World C). v.ends) acts.becomes ∙ ap (λ (z : Acted). ends_after old.ends end.system z.events) is) (a.shows.clock ∙ sym s.shows.clock)
@@ -181,22 +181,22 @@ module _ {C : Type 0} (link : C → Link (List ℕ)) (steps : C → Call (List �
         a = acts_go link steps law titles Waits fifo old new hall queue end.system was.title entity.own A later s.shows was.title_is was.own fine goes.tpdus (behind_lines (call_events number call) made later made_is all) acts
 
     call_by : (number : ℕ) (end : EndAt) (entity : Entity) (call : UserCall) (why : Option EntityRefusal) → entity_at old.entities end.system ≡ Some entity → IsCall call
-        → has_ended now old.ends number end entity ≡ false → user_refusal entity end.reference call ≡ why → CallsBy link steps whole old number end entity call why made new → Stepped (journal ++ made) new x y p
+        → has_ended now old.ends number end entity ≡ false → user_refusal entity end.reference call ≡ why → CallsBy link steps whole old number end entity call why made new → Stepped journal made new x y p
     call_by number end entity call (Some why) there proper ended is step = refused_steps old new journal made hall queue x y p (told_refusal why) s step follows
     call_by number end entity call None there proper ended is step = taken_steps number end entity call there ended is proper step.0 step.1 step.2
 
     call_end : (number : ℕ) (end : EndAt) (entity : Entity) (call : UserCall) (ended : Bool) → entity_at old.entities end.system ≡ Some entity → IsCall call → has_ended now old.ends number end entity ≡ ended
-        → CallsEnd link steps whole old number end entity call ended made new → Stepped (journal ++ made) new x y p
+        → CallsEnd link steps whole old number end entity call ended made new → Stepped journal made new x y p
     call_end number end entity call true there proper is step = refused_steps old new journal made hall queue x y p (Some refusals.Ended) s step follows
     call_end number end entity call false there proper is step = call_by number end entity call (user_refusal entity end.reference call) there proper is refl step
 
-    call_at : (number : ℕ) (call : UserCall) (end : Option EndAt) → IsCall call → CallsAt link steps whole old number call end made new → Stepped (journal ++ made) new x y p
+    call_at : (number : ℕ) (call : UserCall) (end : Option EndAt) → IsCall call → CallsAt link steps whole old number call end made new → Stepped journal made new x y p
     call_at number call None proper step = refused_steps old new journal made hall queue x y p (Some refusals.NoSuchEnd) s step follows
     call_at number call (Some end) proper step = call_end number end step.0 call (has_ended now old.ends number end step.0) step.1 proper refl step.2
 
     -- a connect
     begun_steps : (system : ℕ) (entity : Entity) (request : ConnectRequest) (reference : ℕ) → entity_at old.entities system ≡ Some entity → IsAsked titles request → length request.octets ≤ 32
-        → least_free now entity ≡ Some reference → BeginsAt link steps old system entity request (Some reference) made new → Stepped (journal ++ made) new x y p
+        → least_free now entity ≡ Some reference → BeginsAt link steps old system entity request (Some reference) made new → Stepped journal made new x y p
     begun_steps system entity request reference there asked octets free step = record {
       hall = after begun_hall system A;
       queue = a.queue;
@@ -206,7 +206,7 @@ module _ {C : Type 0} (link : C → Link (List ℕ)) (steps : C → Call (List �
         have = have_after titles hall.entities system A.entity s.have;
         rest = waiting_after link steps law titles Waits fifo hall system A s.rest (subst (λ (n : ℕ). first_due n A.entity ≡ None) s.shows.clock goes.rest.idle);
       };
-      moved = subst (λ (ps : List Post). HasMoved link (journal ++ made) new ps x y p) (λ i. sym posts i ++ posted system A.tpdus)
+      moved = subst (λ (ps : List Post). HasMoved link journal made new ps x y p) (λ i. sym posts i ++ posted system A.tpdus)
           (connect_moves link journal old new made system entity there request reference free a.does.aside a.does.is_aside (ap (λ (v : World C). v.entities) step.1.becomes) (ap (λ (v : World C). v.ends) step.1.becomes)
           (a.shows.clock ∙ sym s.shows.clock) (length old.ends + 1) (step.2 ∙ ap (λ (es : List Event). event ∷ es) a.does.made_is) x y p f live live_there);
     }
@@ -245,16 +245,16 @@ module _ {C : Type 0} (link : C → Link (List ℕ)) (steps : C → Call (List �
         a = acts_go link steps law titles Waits fifo begins new begun_hall queue system was.title entity.own A step.0 shows was.title_is was.own fine goes.tpdus (behind_lines (event ∷ []) made step.0 step.2 all) step.1
 
     begun : (system : ℕ) (entity : Entity) (request : ConnectRequest) (found : Option ℕ) → entity_at old.entities system ≡ Some entity → IsAsked titles request → length request.octets ≤ 32
-        → least_free now entity ≡ found → BeginsAt link steps old system entity request found made new → Stepped (journal ++ made) new x y p
+        → least_free now entity ≡ found → BeginsAt link steps old system entity request found made new → Stepped journal made new x y p
     begun system entity request None there asked octets least step = absurd step
     begun system entity request (Some reference) there asked octets least step = begun_steps system entity request reference there asked octets least step
 
     connect_by : (system : ℕ) (entity : Entity) (request : ConnectRequest) (why : Option ConnectRefusal) → entity_at old.entities system ≡ Some entity → IsAsked titles request
-        → connect_refusal now entity request.octets ≡ why → ConnectsBy link steps old system entity request why made new → Stepped (journal ++ made) new x y p
+        → connect_refusal now entity request.octets ≡ why → ConnectsBy link steps old system entity request why made new → Stepped journal made new x y p
     connect_by system entity request (Some why) there asked is step = refused_steps old new journal made hall queue x y p _ s step follows
     connect_by system entity request None there asked is step = begun system entity request (least_free now entity) there asked (short now entity request.octets is) refl step
 
-    connect_steps : (system : ℕ) (request : ConnectRequest) → IsAsked titles request → Connects link steps old system request made new → Stepped (journal ++ made) new x y p
+    connect_steps : (system : ℕ) (request : ConnectRequest) → IsAsked titles request → Connects link steps old system request made new → Stepped journal made new x y p
     connect_steps system request asked step = connect_by system step.0 request (connect_refusal now step.0 request.octets) step.1 asked refl step.2
 
     -- a raw unit
@@ -263,7 +263,7 @@ module _ {C : Type 0} (link : C → Link (List ℕ)) (steps : C → Call (List �
     raw_queued unit (Dropped cause) raw = s.shows.units
 
     raw_steps : (system to : ℕ) (sender receiver : List ℕ) (wish : Wish) (octets : List ℕ) (below : C) → slice_get titles system ≡ Some sender → slice_get titles to ≡ Some receiver → wish.path ≡ 0
-        → SendsUnit link steps old.carrier system sender receiver wish octets made below → new ≡ record old { carrier = below } → Stepped (journal ++ made) new x y p
+        → SendsUnit link steps old.carrier system sender receiver wish octets made below → new ≡ record old { carrier = below } → Stepped journal made new x y p
     raw_steps system to sender receiver wish [] below title_is to_is path step becomes =
         same_steps old new journal made hall queue x y p s (becomes ∙ ap (λ (c : C). record old { carrier = c }) step.1) (subst TellsNoUnits (sym step.0) (record { gave = λ n. refl; showed = λ n. refl })) follows
     raw_steps system to sender receiver wish (octet ∷ octets) below title_is to_is path step becomes =
@@ -291,7 +291,7 @@ module _ {C : Type 0} (link : C → Link (List ℕ)) (steps : C → Call (List �
 
     -- a line but `settle`
     pub asked : (line : Line) (script : List Line) → IsSettledScript (line ∷ script) → IsProperLine line → IsUnrouted line → RunsLine link steps whole titles old line made new → (line ≡ lines.Settle → ⊥)
-        → Stepped (journal ++ made) new x y p
+        → Stepped journal made new x y p
     asked lines.Nothing script calm proper path step other =
         same_steps old new journal made hall queue x y p s step.1 (subst TellsNoUnits (sym step.0) (record { gave = λ n. refl; showed = λ n. refl })) follows
     asked (lines.Connect system selector to called_selector options octets) script calm proper path step other =

@@ -10,4 +10,5 @@ pub mod Rowing
 pub mod Starting
 pub mod Staying
 pub mod Stepping
+pub mod Telling
 pub mod Ticking

@@ -35,7 +35,7 @@ use Rattle.law_recovery_walk.specs.Following.{IsFollowed, IsLive}
 use Rattle.law_recovery_walk.specs.Settling.{IsEnded}
 use Rattle.law_recovery_walk.proofs.Coming.{StandsSo, TellsNoUnits}
 use Rattle.law_recovery_walk.proofs.Settling.{IsExplained, followed_still, leads_then, live_or}
-use Rattle.law_recovery_script.specs.Moving.{HasLasted}
+use Rattle.law_recovery_script.specs.Moving.{AreTold, HasLastedTold}
 use Rattle.law_recovery_script.proofs.Asking.{idle_of}
 use Rattle.law_recovery_script.proofs.Ticking.{HasStepped, later_of}
 use Rattle.law_recovery_going.specs.Going.{AreBothLeft}
@@ -44,6 +44,7 @@ use Rattle.law_recovery_script.specs.Over.{HaveLeft, KeepsLeft}
 use Rattle.law_recovery_script.proofs.Clocks.{none_ticks, ticked_then}
 use Rattle.law_recovery_script.proofs.Lasting.{asked, line_honest, line_rests, none_waits, still_moves}
 use Rattle.law_recovery_script.proofs.Outlasting.{end_keeps, left_end}
+use Rattle.law_recovery_script.proofs.Telling.{handed_told, told_on, told_then}
 use Rattle.law_recovery_script.proofs.Staying.{lines_keep, same_keeps, settle_keeps}
 
 module _ {C : Type 0} (link : C → Link (List ℕ)) (steps : C → Call (List ℕ) → C → Type 0)
@@ -56,8 +57,8 @@ module _ {C : Type 0} (link : C → Link (List ℕ)) (steps : C → Call (List �
   abbrev Resting : List Event → World C → Type 0
   Resting journal world = Rests link AreProper names timers journal world
 
-  abbrev Stepped : List Event → World C → ℕ → ℕ → Pair → Type 0
-  Stepped journal new x y p = HasStepped link steps law titles Waits fifo names timers going (follow names timers) journal new x y p
+  abbrev Stepped : (early late : List Event) → World C → ℕ → ℕ → Pair → Type 0
+  Stepped early late new x y p = HasStepped link steps law titles Waits fifo names timers going (follow names timers) early late new x y p
 
   -- ---- a settle
 
@@ -85,7 +86,7 @@ module _ {C : Type 0} (link : C → Link (List ℕ)) (steps : C → Call (List �
 
   settle_steps : (old new : World C) (journal made : List Event) (hall : Hall) (queue : List (CarriedUnit (List ℕ))) (x y : ℕ) (p : Pair) → So old hall queue → Resting journal old → IsFitWorld link old
       → AllByRecursion IsUndropped made → IsFollowed link journal old hall.posts x y p → IsLive p.calling.stage → IsLive p.called.stage → Settles link steps whole 0 old made new
-      → (stepped : Stepped (journal ++ made) new x y p) × (stepped.queue ≡ [])
+      → (stepped : Stepped journal made new x y p) × (stepped.queue ≡ [])
   settle_steps old new journal made hall queue x y p s r fit all f live live_there step = (
     record {
       hall = done.went.next;
@@ -96,6 +97,7 @@ module _ {C : Type 0} (link : C → Link (List ℕ)) (steps : C → Call (List �
         next = on.next;
         leads = on.leads;
         ticked = none_ticks on.happenings p on.next on.leads (omega (arith, on.clock));
+        told = handed_told x y journal made p on.happenings on.handed;
         goes = elim on.goes [
           | inl idle ↦ inl (subst (λ (ps : List Post). IsFollowed link (journal ++ made) new ps x y on.next) (sym (none_waits link steps law titles Waits fifo names timers going follow timed done.went.next done.went.queue done.none done.went.shows.units)) idle.1)
           | inr stopped ↦ inr (stopped.ended, stopped_left new x y on.next stopped)
@@ -119,14 +121,14 @@ module _ {C : Type 0} (link : C → Link (List ℕ)) (steps : C → Call (List �
   MayGo queue script = (queue ≡ []) ⊎ IsSettledNext script
 
   -- a line, and whether the next one may go
-  record Passed (journal : List Event) (new : World C) (x y : ℕ) (p : Pair) (script : List Line) : Type 0 where
-    stepped : Stepped journal new x y p
+  record Passed (early late : List Event) (new : World C) (x y : ℕ) (p : Pair) (script : List Line) : Type 0 where
+    stepped : Stepped early late new x y p
     may : MayGo stepped.queue script
     calm : IsSettledScript script
 
   line_passes : (line : Line) (script : List Line) (old new : World C) (journal made : List Event) (hall : Hall) (queue : List (CarriedUnit (List ℕ))) (x y : ℕ) (p : Pair) → So old hall queue → Resting journal old
       → IsFitWorld link old → MayGo queue (line ∷ script) → IsSettledScript (line ∷ script) → IsProperLine line → IsUnrouted line → AllByRecursion IsUndropped made → IsFollowed link journal old hall.posts x y p
-      → IsLive p.calling.stage → IsLive p.called.stage → RunsLine link steps whole titles old line made new → Passed (journal ++ made) new x y p script
+      → IsLive p.calling.stage → IsLive p.called.stage → RunsLine link steps whole titles old line made new → Passed journal made new x y p script
   line_passes lines.Nothing script old new journal made hall queue x y p s r fit may calm proper path all f live live_there step = record {
     stepped = record {
       hall = hall;
@@ -153,20 +155,26 @@ module _ {C : Type 0} (link : C → Link (List ℕ)) (steps : C → Call (List �
   line_passes line script old new journal made hall queue x y p s r fit (inr next) calm proper path all f live live_there step = absurd next
 
   -- the pair went on, and then on
-  lasts_then : (journal journal_now : List Event) (world : World C) (x y : ℕ) (p mid : Pair) (first : List Happening) → Leads p first mid → AreTicked p first → HasLasted link journal world x y mid → journal ≡ journal_now
-      → HasLasted link journal_now world x y p
-  lasts_then journal journal_now world x y p mid first leads ticked more is = subst (λ (es : List Event). HasLasted link es world x y p) is (record {
-    happenings = first ++ more.happenings;
-    next = more.next;
-    leads = leads_then p mid more.next first more.happenings leads more.leads;
-    ticked = ticked_then first more.happenings p mid leads ticked more.ticked;
-    goes = more.goes;
-    over = more.over;
+  lasts_then : (journal here rest late : List Event) (world : World C) (x y : ℕ) (p mid : Pair) (first : List Happening) → Leads p first mid → AreTicked p first → AreTold journal here x y p first
+      → HasLastedTold link (journal ++ here) rest world x y mid → late ≡ here ++ rest → HasLastedTold link journal late world x y p
+  lasts_then journal here rest late world x y p mid first leads ticked told more is = subst (λ (es : List Event). HasLastedTold link journal es world x y p) (sym is) (record {
+    lasted = record {
+      happenings = first ++ more.lasted.happenings;
+      next = more.lasted.next;
+      leads = leads_then p mid more.lasted.next first more.lasted.happenings leads more.lasted.leads;
+      ticked = ticked_then first more.lasted.happenings p mid leads ticked more.lasted.ticked;
+      goes = elim more.lasted.goes [
+        | inl on ↦ inl (on.0, on.1, subst (λ (es : List Event). IsFollowed link es world [] x y more.lasted.next) (append_assoc journal here rest) on.2)
+        | inr ended ↦ inr ended
+      ];
+      over = more.lasted.over;
+    };
+    told = told_then x y journal here rest p mid first more.lasted.happenings leads told more.told;
   })
 
   pub lines_last : (script : List Line) (old last : World C) (journal late : List Event) (hall : Hall) (queue : List (CarriedUnit (List ℕ))) (x y : ℕ) (p : Pair) → So old hall queue → Resting journal old
       → IsFitWorld link old → MayGo queue script → IsSettledScript script → AllByRecursion IsProperLine script → AllByRecursion IsUnrouted script → AllByRecursion IsUndropped late → IsFollowed link journal old hall.posts x y p
-      → IsLive p.calling.stage → IsLive p.called.stage → RunsLines link steps whole titles old script late last → HasLasted link (journal ++ late) last x y p
+      → IsLive p.calling.stage → IsLive p.called.stage → RunsLines link steps whole titles old script late last → HasLastedTold link journal late last x y p
   lines_last [] old last journal late hall queue x y p s r fit (inr next) calm proper path all f live live_there run = absurd next
   lines_last [] old last journal late hall queue x y p s r fit (inl none) calm proper path all f live live_there run =
       let idle : IsFollowed link journal old [] x y p = subst (λ (ps : List Post). IsFollowed link journal old ps x y p) (none_waits link steps law titles Waits fifo names timers going follow timed hall queue none s.shows.units) f in
@@ -174,33 +182,39 @@ module _ {C : Type 0} (link : C → Link (List ℕ)) (steps : C → Call (List �
       let now : IsFollowed link (journal ++ late) last [] x y p =
       followed_still link journal late old last (ap (λ (v : World C). v.entities) run.1) (ap (λ (v : World C). v.ends) run.1) (ap (λ (v : World C). (link v.carrier).clock) run.1) tells [] x y p idle in
       record {
-        happenings = [];
-        next = p;
-        leads = refl;
-        ticked = tt;
-        goes = inl (idle_of link (journal ++ late) last x y p now, later_of link steps law titles Waits fifo names timers going (follow names timers) journal old hall queue x y p s idle, now);
-        over = λ both. (
-          end_keeps old last x (same_keeps old last run.1) (left_end link names timers r.w journal old r.explains x p.calling f.calling both.0),
-          end_keeps old last y (same_keeps old last run.1) (left_end link names timers r.w journal old r.explains y p.called f.called both.1),
-        );
+        lasted = record {
+          happenings = [];
+          next = p;
+          leads = refl;
+          ticked = tt;
+          goes = inl (idle_of link (journal ++ late) last x y p now, later_of link steps law titles Waits fifo names timers going (follow names timers) journal old hall queue x y p s idle, now);
+          over = λ both. (
+            end_keeps old last x (same_keeps old last run.1) (left_end link names timers r.w journal old r.explains x p.calling f.calling both.0),
+            end_keeps old last y (same_keeps old last run.1) (left_end link names timers r.w journal old r.explains y p.called f.called both.1),
+          );
+        };
+        told = tt;
       }
   lines_last (line ∷ script) old last journal late hall queue x y p s r fit may calm proper path all f live live_there run =
       let parts = all_parts IsUndropped run.1 run.2 (subst (λ (es : List Event). AllByRecursion IsUndropped es) run.4 all) in
-      let first : Passed (journal ++ run.1) run.0 x y p script = line_passes line script old run.0 journal run.1 hall queue x y p s r fit may calm proper.0 path.0 parts.0 f live live_there run.3 in
+      let first : Passed journal run.1 run.0 x y p script = line_passes line script old run.0 journal run.1 hall queue x y p s r fit may calm proper.0 path.0 parts.0 f live live_there run.3 in
       let moved = first.stepped.moved in
       let honest = line_honest link steps law titles Waits fifo names timers going follow timed line script old run.0 run.1 calm r.explains.carries.honest run.3 in
       let rests : Resting (journal ++ run.1) run.0 = line_rests link steps law titles Waits fifo names timers going follow timed line script old run.0 journal run.1 calm proper.0 honest r run.3 in
       let fits : IsFitWorld link run.0 = (line_went link steps law whole titles line old run.0 run.1 fit run.3).fit in
       let keeps : KeepsLeft run.0 last = lines_keep link steps law titles Waits fifo names timers going follow timed script run.0 last (journal ++ run.1) run.2 first.stepped.hall first.stepped.queue first.stepped.stands rests
       first.may first.calm proper.1 path.1 parts.1 run.5 in
-      let ended : IsEnded moved.next → (AreBothLeft moved.next → HaveLeft run.0 x y) → HasLasted link (journal ++ late) last x y p = λ over left.
+      let ended : IsEnded moved.next → (AreBothLeft moved.next → HaveLeft run.0 x y) → HasLastedTold link journal late last x y p = λ over left.
       record {
-        happenings = moved.happenings;
-        next = moved.next;
-        leads = moved.leads;
-        ticked = moved.ticked;
-        goes = inr over;
-        over = λ both. let here = left both in (end_keeps run.0 last x keeps here.0, end_keeps run.0 last y keeps here.1);
+        lasted = record {
+          happenings = moved.happenings;
+          next = moved.next;
+          leads = moved.leads;
+          ticked = moved.ticked;
+          goes = inr over;
+          over = λ both. let here = left both in (end_keeps run.0 last x keeps here.0, end_keeps run.0 last y keeps here.1);
+        };
+        told = subst (λ (es : List Event). AreTold journal es x y p moved.happenings) (sym run.4) (told_on x y journal run.1 run.2 p moved.happenings moved.told);
       } in
       let frozen : IsFollowed link (journal ++ run.1) run.0 first.stepped.hall.posts x y moved.next → AreBothLeft moved.next → HaveLeft run.0 x y = λ on both. (
         left_end link names timers rests.w (journal ++ run.1) run.0 rests.explains x moved.next.calling on.calling both.0,
@@ -213,9 +227,8 @@ module _ {C : Type 0} (link : C → Link (List ℕ)) (steps : C → Call (List �
           | inl one ↦ elim (live_or moved.next.called.stage) [
             | inr over ↦ ended (λ one other. over other) (frozen on)
             | inl other ↦
-                lasts_then ((journal ++ run.1) ++ run.2) (journal ++ late) last x y p moved.next moved.happenings moved.leads moved.ticked
-                (lines_last script run.0 last (journal ++ run.1) run.2 first.stepped.hall first.stepped.queue x y moved.next first.stepped.stands rests fits first.may first.calm proper.1 path.1 parts.1 on one other run.5)
-                (append_assoc journal run.1 run.2 ∙ ap (λ (es : List Event). journal ++ es) (sym run.4))
+                lasts_then journal run.1 run.2 late last x y p moved.next moved.happenings moved.leads moved.ticked moved.told
+                (lines_last script run.0 last (journal ++ run.1) run.2 first.stepped.hall first.stepped.queue x y moved.next first.stepped.stands rests fits first.may first.calm proper.1 path.1 parts.1 on one other run.5) run.4
           ]
         ]
       ]

@@ -1,5 +1,5 @@
 -- From a state in which nothing is left to deliver: lines that are settled and lose nothing, as steps of two ends that know each other.
-use Rattle.std.proofs.Common.{◌≡◌, ℕ, List, [], ◌++◌, None, refl, inl, subst}
+use Rattle.std.proofs.Common.{◌≡◌, ℕ, List, [], None, refl, inl, subst}
 use Rattle.osi_base.specs.Calls.{Call, Keeps}
 use Rattle.osi_base.specs.Link.{Link}
 use Rattle.osi_base.specs.declared.unit.Unit.{Unit as CarriedUnit}
@@ -21,7 +21,7 @@ use Rattle.law_recovery_run.proofs.Ordered.{HaveRun, is_fifo, keeps_order, runs_
 use Rattle.law_recovery_walk.specs.Following.{IsFollowed, IsLive}
 use Rattle.law_recovery_walk.proofs.Coming.{StandsSo}
 use Rattle.law_recovery_walk.proofs.Settling.{IsExplained}
-use Rattle.law_recovery_script.specs.Moving.{HasLasted}
+use Rattle.law_recovery_script.specs.Moving.{HasLastedTold}
 use Rattle.law_recovery_script.proofs.Lines.{lines_last}
 
 module _ {C : Type 0} (link : C → Link (List ℕ)) (steps : C → Call (List ℕ) → C → Type 0)
@@ -37,9 +37,9 @@ module _ {C : Type 0} (link : C → Link (List ℕ)) (steps : C → Call (List �
   fifo : IsFifo link ordered titles Waits
   fifo = is_fifo link steps titles (ReachedFrom link steps titles first) Waits prompt
 
-  pub runs_last : (early late : List Event) (old last : World C) (script : List Line) (x y : ℕ) (p : Pair) → IsExplained link early old → IsReady link steps titles first old → IsFollowed link early old [] x y p
-      → IsLive p.calling.stage → IsLive p.called.stage → RunsInOrder link steps titles old script late last → HasLasted link (early ++ late) last x y p
-  runs_last early late old last script x y p ex ready f live live_there run =
+  pub runs_told : (early late : List Event) (old last : World C) (script : List Line) (x y : ℕ) (p : Pair) → IsExplained link early old → IsReady link steps titles first old → IsFollowed link early old [] x y p
+      → IsLive p.calling.stage → IsLive p.called.stage → RunsInOrder link steps titles old script late last → HasLastedTold link early late last x y p
+  runs_told early late old last script x y p ex ready f live live_there run =
       lines_last link ordered keeps titles Waits fifo ex.titles ex.timers going follow timed script old last early late (hall_of link old) [] x y p stands rests ex.fit (inl refl) run.settled run.proper run.unrouted (undropped late run.kept) f
       live live_there have_run.runs
     where

@@ -12,13 +12,16 @@ use Rattle.script_journal.specs.declared.event.Event.{Event as JournalEvent}
 use Rattle.script_journal.specs.declared.event.Event.TheVariants as events
 use Rattle.net_world.specs.Fifo.{IsFifo}
 use Rattle.net_world.specs.Told.{told}
+use Rattle.tpdu.specs.declared.service.EndTold.TheVariants.{Gone}
+use Rattle.tpdu.specs.declared.service.GoneCause.{GoneCause}
+use Rattle.tp4_flow.specs.declared.step.EndEvent.{EndEvent}
 use Rattle.tp4_number.specs.Number.{whole}
 use Rattle.tp4_sending.specs.FlowSender.{due_of}
 use Rattle.tp4_sending.specs.Pieces.{sooner}
-use Rattle.tp4_conn.specs.End.{End, Moved, end_of}
+use Rattle.tp4_conn.specs.End.{End, Moved, end_of, gone}
 use Rattle.tp4_conn.specs.Living.{IsInTime}
 use Rattle.tp4_conn.specs.Proper.{IsProper}
-use Rattle.tp4_conn.specs.Table.{Ticked, due, stepped}
+use Rattle.tp4_conn.specs.Table.{Ticked, at as base_at, due, stepped}
 use Rattle.tp4_conn.specs.declared.end_record.EndRecord.{EndRecord}
 use Rattle.tp4_conn.specs.declared.states.StateData.{StateData}
 use Rattle.tp4_conn.specs.declared.states.StateData.TheVariants as stages
@@ -45,7 +48,7 @@ use Rattle.tp4_world.specs.declared.place.EndAt.{EndAt}
 use Rattle.tp4_world.specs.declared.place.Placed.{Placed}
 use Rattle.tp4_world.proofs.Destinations.{ActsFine, ticking_fine}
 use Rattle.tp4_world.proofs.Having.{with_any}
-use Rattle.law_tp4_lawful.proofs.Known.{IsOffered, Known}
+use Rattle.law_tp4_lawful.proofs.Known.{IsKnown, IsOffered, IsThere, Known}
 use Rattle.law_tp4_lawful.proofs.MakesPlaces.{at_same}
 use Rattle.law_tp4_lawful.proofs.Worlds.{Explains, Followed, Rests}
 use Rattle.law_tp4_lawful.proofs.WorldActs.{Went, went_nowhere, went_on}
@@ -61,12 +64,14 @@ use Rattle.law_calm_run.proofs.Queueing.{all_parts, none_dropped}
 use Rattle.law_calm_run.proofs.Ticking as calm
 use Rattle.law_recovery_run.specs.Aside.{AreFacing}
 use Rattle.law_recovery_run.proofs.Aiming.{Going}
+use Rattle.law_recovery_service.specs.Service.{HappensAt}
 use Rattle.law_recovery_steps.specs.Resting.{AreLater}
 use Rattle.law_recovery_walk.specs.Following.{IsFollowed, IsLive, IsSpoken, Stands}
 use Rattle.law_recovery_walk.specs.Settling.{IsEnded}
 use Rattle.law_recovery_walk.proofs.Coming.{StandsSo}
 use Rattle.law_recovery_walk.proofs.Leaving.{Leaves, nothing_leaves}
 use Rattle.law_recovery_walk.proofs.Settling.{live_or}
+use Rattle.law_recovery_script.specs.Moving.{IsGoneTold}
 use Rattle.law_recovery_script.proofs.Stepping.{HasMoved}
 use Rattle.law_recovery_script.specs.Over.{HaveLeft, KeepsLeft}
 use Rattle.law_recovery_script.proofs.Outlasting.{Row, Same, end_keeps, kept_is, left_end, left_on, row_stays}
@@ -75,6 +80,7 @@ use Rattle.law_recovery_going.specs.Going.{AreBothLeft}
 use Rattle.law_recovery_script.proofs.Asking.{at_place, idle_of}
 use Rattle.law_recovery_walk.proofs.Doing.{HasDone, at_two, beside, calling_did, calling_does, facing_called, facing_calling, lines_gave, lines_showed, turn, turned}
 use Rattle.law_recovery_script.proofs.Rowing.{tick_leaves}
+use Rattle.law_recovery_script.proofs.Telling.{happens_then}
 
 -- ---- an end that is due
 
@@ -119,10 +125,31 @@ turned_tick {C} link journal world posts x y p calling called t = record {
   called_over = t.calling_over;
 }
 
--- some of the two have ticked; or one of them is frozen, and if both had left, the two ends have left in the network
-pub record HasTicked {C : Type 0} (link : C → Link (List ℕ)) (journal : List JournalEvent) (world : World C) (posts : List Post) (x y : ℕ) (p : Pair) : Type 0 where
+-- the event stands in the journal, behind these lines
+pub record IsBehind (early journal : List JournalEvent) (event : JournalEvent) : Type 0 where
+  pub before : List JournalEvent
+  pub after : List JournalEvent
+  pub journal_is : journal ≡ early ++ (before ++ event ∷ after)
+
+-- where its tick makes an end gone, that stands behind these lines
+abbrev pub IsToldGone : (early journal : List JournalEvent) → (tick number : ℕ) → End → Type 0
+IsToldGone early journal tick number e = (cause : GoneCause) → (stepped whole tick e Ticked).events ≡ gone (base_at tick e.base) cause [] → IsBehind early journal (events.End number (Gone cause []))
+
+told_still : (early journal made : List JournalEvent) (tick number : ℕ) (e : End) → IsToldGone early journal tick number e → IsToldGone early (journal ++ made) tick number e
+told_still early journal made tick number e told cause is = let b = told cause is in record {
+  before = b.before;
+  after = b.after ++ made;
+  journal_is =
+      ap (λ (es : List JournalEvent). es ++ made) b.journal_is ∙ append_assoc early (b.before ++ events.End number (Gone cause []) ∷ b.after) made
+      ∙ ap (λ (es : List JournalEvent). early ++ es) (append_assoc b.before (events.End number (Gone cause []) ∷ b.after) made);
+}
+
+-- Some of the two have ticked, and are told gone behind these lines where they are; or one of them is frozen, and if both had left, the two ends have left in the network
+pub record HasTicked {C : Type 0} (link : C → Link (List ℕ)) (early journal : List JournalEvent) (world : World C) (posts : List Post) (x y : ℕ) (p : Pair) : Type 0 where
   pub calling : Bool
   pub called : Bool
+  pub told : calling ≡ true → IsToldGone early journal (p.clock + 1) x p.calling
+  pub told_there : called ≡ true → IsToldGone early journal (p.clock + 1) y p.called
   pub goes : IsInTick link journal world posts x y p calling called ⊎ (IsEnded (next p (Clock calling called)) × (AreBothLeft (next p (Clock calling called)) → HaveLeft world x y))
 
 -- an end that had no tick has one
@@ -146,7 +173,7 @@ module _ {C : Type 0} (link : C → Link (List ℕ)) (titles : List (List ℕ)) 
     (stands : end_at entity reference ≡ Some o) (is_due_now : is_due (link old.carrier).clock (Some o) ≡ true) (proper : IsProper o.base o.stage) (aside : List JournalEvent) (is_aside : IsAside aside)
     (entities : new.entities ≡ with_entity old.entities system (ticked_to (at (link old.carrier).clock entity) reference (stepped whole (link old.carrier).clock o Ticked)).entity)
     (ends : new.ends ≡ ends_after old.ends system (stepped whole (link old.carrier).clock o Ticked).events) (clock : (link new.carrier).clock ≡ (link old.carrier).clock)
-    (made_is : made ≡ events_after old.ends system entity.own (stepped whole (link old.carrier).clock o Ticked).events ++ aside) where
+    (made_is : made ≡ events_after old.ends system entity.own (stepped whole (link old.carrier).clock o Ticked).events ++ aside) (early late : List JournalEvent) (since : journal ≡ early ++ late) where
   abbrev now : ℕ
   now = (link old.carrier).clock
 
@@ -238,14 +265,55 @@ module _ {C : Type 0} (link : C → Link (List ℕ)) (titles : List (List ℕ)) 
       m_is : m ≡ M
       m_is = λ i. stepped whole (sym t.followed.clock i) (is i) Ticked
 
+  own_is : o.base.own ≡ reference
+  own_is =
+      let known : IsKnown w entity.own reference o = subst (IsThere w entity.own reference) stands ((explains.known.holds system entity there_it).there reference) in
+      sym known.sees.reference ∙ known.at.reference_is
+
+  -- the calling end had no tick, and is gone by this one
+  told_here : (posts : List Post) (x y : ℕ) (p : Pair) (called : Bool) (f : IsFollowed link journal old posts x y (next p (Clock false called))) → system ≡ f.calling.system → reference ≡ f.calling.reference
+      → IsToldGone early (journal ++ made) (p.clock + 1) x p.calling
+  told_here posts x y p called f at_it at_reference cause is = record {
+    before = late;
+    after = aside;
+    journal_is = ap (λ (es : List JournalEvent). es ++ made) since ∙ append_assoc early late made ∙ ap (λ (es : List JournalEvent). early ++ (late ++ es)) made_here;
+  }
+    where
+      same : o ≡ p.calling
+      same = end_is posts x y (next p (Clock false called)) f at_it at_reference
+
+      events_are : m.events ≡ gone (base_at (p.clock + 1) p.calling.base) cause []
+      events_are = (λ i. (stepped whole (sym f.clock i) (same i) Ticked).events) ∙ is
+
+      number_is : latest old.ends system p.calling.base.own ≡ x
+      number_is = (λ i. latest old.ends (at_it i) ((ap (λ (z : End). z.base.own) (sym same) ∙ own_is ∙ at_reference) i)) ∙ f.calling.is_end.number
+
+      made_here : made ≡ events.End x (Gone cause []) ∷ aside
+      made_here =
+          made_is ∙ ap (λ (es : List EndEvent). events_after old.ends system entity.own es ++ aside) events_are ∙ ap (λ (n : ℕ). events.End n (Gone cause []) ∷ aside) number_is
+
+  told_now : (posts : List Post) (x y : ℕ) (p : Pair) (calling called : Bool) (t : IsInTick link journal old posts x y p calling called) → system ≡ t.followed.calling.system → reference ≡ t.followed.calling.reference
+      → (calling ≡ true → IsToldGone early journal (p.clock + 1) x p.calling) → IsToldGone early (journal ++ made) (p.clock + 1) x p.calling
+  told_now posts x y p true called t at_it at_reference before = told_still early journal made (p.clock + 1) x p.calling (before refl)
+  told_now posts x y p false called t at_it at_reference before = told_here posts x y p called t.followed at_it at_reference
+
   -- whichever it is
-  pub end_ticks : (posts : List Post) (x y : ℕ) (p : Pair) (calling called : Bool) → IsInTick link journal old posts x y p calling called → HasTicked link (journal ++ made) new (posts_on posts) x y p
-  end_ticks posts x y p calling called t = elim (at_place system reference t.followed.calling.system t.followed.calling.reference) [
-    | inl here ↦ record { calling = true; called = called; goes = calling_ticks posts x y p calling called t here.0 here.1 }
+  pub end_ticks : (posts : List Post) (x y : ℕ) (p : Pair) (calling called : Bool) → IsInTick link journal old posts x y p calling called → (calling ≡ true → IsToldGone early journal (p.clock + 1) x p.calling)
+      → (called ≡ true → IsToldGone early journal (p.clock + 1) y p.called) → HasTicked link early (journal ++ made) new (posts_on posts) x y p
+  end_ticks posts x y p calling called t told told_there = elim (at_place system reference t.followed.calling.system t.followed.calling.reference) [
+    | inl here ↦ record {
+      calling = true;
+      called = called;
+      told = λ _. told_now posts x y p calling called t here.0 here.1 told;
+      told_there = λ is. told_still early journal made (p.clock + 1) y p.called (told_there is);
+      goes = calling_ticks posts x y p calling called t here.0 here.1;
+    }
     | inr not_calling ↦ elim (at_place system reference t.followed.called.system t.followed.called.reference) [
       | inl on_it ↦ record {
         calling = calling;
         called = true;
+        told = λ is. told_still early journal made (p.clock + 1) x p.calling (told is);
+        told_there = λ _. told_now posts y x (turn p) called calling (turned_tick link journal old posts x y p calling called t) on_it.0 on_it.1 told_there;
         goes = elim (calling_ticks posts y x (turn p) called calling (turned_tick link journal old posts x y p calling called t) on_it.0 on_it.1) [
           | inl on ↦ inl (turned_tick link (journal ++ made) new (posts_on posts) y x (turn p) true calling on)
           | inr ended ↦ inr (λ one other. ended.0 other one, λ both. let left = ended.1 (both.1, both.0) in (left.1, left.0))
@@ -254,6 +322,8 @@ module _ {C : Type 0} (link : C → Link (List ℕ)) (titles : List (List ℕ)) 
       | inr not_called ↦ record {
         calling = calling;
         called = called;
+        told = λ is. told_still early journal made (p.clock + 1) x p.calling (told is);
+        told_there = λ is. told_still early journal made (p.clock + 1) y p.called (told_there is);
         goes = inl (record {
           followed = beside link journal old new made done posts x y (next p (Clock calling called)) t.followed t.live t.live_there
               (leaves_other x y (facing_calling link journal old new made done posts x y (next p (Clock calling called)) t.followed t.live t.live_there) not_calling)
@@ -285,8 +355,14 @@ module _ {C : Type 0} (link : C → Link (List ℕ)) (titles : List (List ℕ)) 
     showed = λ n. ap (shown n) made_is;
   }
 
-  pub none_ticks : (posts : List Post) (x y : ℕ) (p : Pair) → HasTicked link journal old posts x y p → HasTicked link (journal ++ made) new posts x y p
-  none_ticks posts x y p h = record { calling = h.calling; called = h.called; goes = elim h.goes [ inl t ↦ inl (on t) | inr ended ↦ inr (ended.0, λ both. kept (ended.1 both)) ] }
+  pub none_ticks : (early : List JournalEvent) (posts : List Post) (x y : ℕ) (p : Pair) → HasTicked link early journal old posts x y p → HasTicked link early (journal ++ made) new posts x y p
+  none_ticks early posts x y p h = record {
+    calling = h.calling;
+    called = h.called;
+    told = λ is. told_still early journal made (p.clock + 1) x p.calling (h.told is);
+    told_there = λ is. told_still early journal made (p.clock + 1) y p.called (h.told_there is);
+    goes = elim h.goes [ inl t ↦ inl (on t) | inr ended ↦ inr (ended.0, λ both. kept (ended.1 both)) ];
+  }
     where
       kept : HaveLeft old x y → HaveLeft new x y
       kept left =
@@ -337,152 +413,165 @@ in_time_with now placed system new all one other e is = elim (with_any placed sy
 module _ {C : Type 0} (link : C → Link (List ℕ)) (steps : C → Call (List ℕ) → C → Type 0)
     (law : (old : C) (call : Call (List ℕ)) (new : C) → steps old call new → Keeps (link old) call (link new))
     (titles : List (List ℕ)) (Waits : C → List (CarriedUnit (List ℕ)) → Type 0) (fifo : IsFifo link steps titles Waits) (names : List (List ℕ)) (timers : Timers) (going : Going) (followed : Followed names timers) where
-  -- the network within a tick, and the pair
-  record Ticking (journal : List JournalEvent) (world : World C) (x y : ℕ) (p : Pair) : Type 0 where
-    w : Whole
-    explains : Explains link names timers w journal world
-    hall : Hall
-    queue : List (CarriedUnit (List ℕ))
-    shows : IsHall link titles Waits world hall queue
-    kept : AreKept titles hall.entities
-    in_time : AreAllInTime hall.clock hall.entities
-    ticked : HasTicked link journal world hall.posts x y p
+  -- behind these lines
+  module _ (early : List JournalEvent) where
+    -- the network within a tick, and the pair
+    record Ticking (journal : List JournalEvent) (world : World C) (x y : ℕ) (p : Pair) : Type 0 where
+      w : Whole
+      explains : Explains link names timers w journal world
+      hall : Hall
+      queue : List (CarriedUnit (List ℕ))
+      shows : IsHall link titles Waits world hall queue
+      kept : AreKept titles hall.entities
+      in_time : AreAllInTime hall.clock hall.entities
+      late : List JournalEvent
+      since : journal ≡ early ++ late
+      ticked : HasTicked link early journal world hall.posts x y p
 
-  silent : (now : ℕ) (e : Entity) → first_due now e ≡ None → (ticking whole now e).entity ≡ at now e
-  silent now e none = ap (λ (o : Option ℕ). (ticking_at whole now (at now e) o).entity) none
+    since_on : (journal made late : List JournalEvent) → journal ≡ early ++ late → journal ++ made ≡ early ++ (late ++ made)
+    since_on journal made late is = ap (λ (es : List JournalEvent). es ++ made) is ∙ append_assoc early late made
 
-  -- none is due
-  entity_over : (system : ℕ) (old : World C) (made : List JournalEvent) (new : World C) (entity : Entity) → entity_at old.entities system ≡ Some entity → first_due (clock_of link steps old) entity ≡ None → made ≡ []
-      → new ≡ record old { entities = with_entity old.entities system (ticking whole (clock_of link steps old) entity).entity } → (journal : List JournalEvent) (x y : ℕ) (p : Pair) → Ticking journal old x y p
-      → Ticking (journal ++ made) new x y p
-  entity_over system old made new entity there_it none made_is becomes journal x y p t =
-      let now : ℕ = (link old.carrier).clock in
-      let becomes_so : new ≡ record old { entities = with_entity old.entities system (at now entity) } = becomes ∙ ap (λ (e : Entity). record old { entities = with_entity old.entities system e }) (silent now entity none) in
-      let becomes_as : new ≡ record old { entities = with_entity old.entities system (at t.w.base.clock entity) } =
-      becomes_so ∙ ap (λ (n : ℕ). record old { entities = with_entity old.entities system (at n entity) }) t.explains.carries.clock in
-      let next_hall : Hall = record t.hall { entities = with_entity t.hall.entities system (at t.hall.clock entity) } in
-      let there_now : entity_at t.hall.entities system ≡ Some entity = sym (ap (λ (ps : List Placed). entity_at ps system) t.shows.entities) ∙ there_it in
-      let was = t.kept system entity there_now in
-      let fine : ActsFine (IsAddress titles) entity.own (record { entity = at t.hall.clock entity; events = []; tpdus = [] }) = record { own_is = refl; ends = was.ends; tpdus = tt } in
-      let proper : AreProper (at t.hall.clock entity) = record { timers = was.proper.timers; inactive = was.proper.inactive; ends = was.proper.ends } in
-      let went = went_nowhere names timers (Known names timers) IsOffered (plain_kept names timers) link steps law followed.aside t.w journal made
-      (record old { entities = with_entity old.entities system (at t.w.base.clock entity) }) new
-      (record { known = (plain_kept names timers).clock t.w journal old.entities old.ends t.explains.known system entity there_it; carries = t.explains.carries }) made_is becomes_as in
-      record {
-        w = went.next;
-        explains = went.explains;
-        hall = next_hall;
-        queue = t.queue;
-        shows = record {
-          clock = ap (λ (v : World C). (link v.carrier).clock) becomes_so ∙ t.shows.clock;
-          entities = ap (λ (v : World C). v.entities) becomes_so ∙ (λ i. with_entity (t.shows.entities i) system (at (t.shows.clock i) entity));
-          ends = ap (λ (v : World C). v.ends) becomes_so ∙ t.shows.ends;
-          waits = subst (λ (v : World C). Waits v.carrier t.queue) (sym becomes_so) t.shows.waits;
-          units = t.shows.units;
-        };
-        kept = kept_after titles t.hall.entities system entity (record { entity = at t.hall.clock entity; events = []; tpdus = [] }) t.kept there_now proper fine;
-        in_time = in_time_with t.hall.clock t.hall.entities system (at t.hall.clock entity) t.in_time (t.in_time system entity there_now);
-        ticked = none_ticks link names timers t.w journal old t.explains going new made system entity there_it (ap (λ (v : World C). v.entities) becomes_so) (ap (λ (v : World C). v.ends) becomes_so)
-            (ap (λ (v : World C). (link v.carrier).clock) becomes_so) made_is t.hall.posts x y p t.ticked;
-      }
+    silent : (now : ℕ) (e : Entity) → first_due now e ≡ None → (ticking whole now e).entity ≡ at now e
+    silent now e none = ap (λ (o : Option ℕ). (ticking_at whole now (at now e) o).entity) none
 
-  -- one is due
-  entity_ticks_one : (system : ℕ) (old mid : World C) (here : List JournalEvent) (entity : Entity) (reference : ℕ) → entity_at old.entities system ≡ Some entity
-      → first_due (clock_of link steps old) entity ≡ Some reference → Acts link steps old system entity.own (ticking whole (clock_of link steps old) entity) here mid → AllByRecursion IsUndropped here
-      → (o : End) → end_at entity reference ≡ Some o → (journal : List JournalEvent) (x y : ℕ) (p : Pair) → Ticking journal old x y p → Ticking (journal ++ here) mid x y p
-  entity_ticks_one system old mid here entity reference there_it due_at acts all o stands journal x y p t = record {
-    w = went.next;
-    explains = went.explains;
-    hall = after t.hall system A;
-    queue = a.queue;
-    shows = a.shows;
-    kept = kept_after titles t.hall.entities system entity A t.kept there_now proper.proper fine;
-    in_time = in_time_with t.hall.clock t.hall.entities system A.entity t.in_time (subst (λ (n : ℕ). AreInTime n A.entity) t.shows.clock proper.in_time);
-    ticked = subst (λ (z : Acted). HasTicked link (journal ++ here) mid (t.hall.posts ++ posted system z.tpdus) x y p) (sym is)
-        (elim t.ticked.goes [
-          | inl in_tick ↦
-              end_ticks link names timers t.w journal old t.explains going mid here system entity reference there_it o stands due_now (was.proper.ends reference o stands).proper a.does.aside a.does.is_aside
-              (ap (λ (v : World C). v.entities) acts.becomes ∙ ap (λ (z : Acted). with_entity old.entities system z.entity) is) (ap (λ (v : World C). v.ends) acts.becomes ∙ ap (λ (z : Acted). ends_after old.ends system z.events) is)
-              (a.shows.clock ∙ sym t.shows.clock)
-              (a.does.made_is ∙ (λ i. events_after (sym t.shows.ends i) system entity.own (is i).events ++ a.does.aside))
-              t.hall.posts x y p t.ticked.calling t.ticked.called in_tick
-          | inr ended ↦ record {
-            calling = t.ticked.calling;
-            called = t.ticked.called;
-            goes = inr (ended.0, λ both. let left = ended.1 both in (end_keeps old mid x keeps left.0, end_keeps old mid y keeps left.1));
-          }
-        ]);
-  }
-    where
-      now : ℕ
-      now = (link old.carrier).clock
+    -- none is due
+    entity_over : (system : ℕ) (old : World C) (made : List JournalEvent) (new : World C) (entity : Entity) → entity_at old.entities system ≡ Some entity → first_due (clock_of link steps old) entity ≡ None → made ≡ []
+        → new ≡ record old { entities = with_entity old.entities system (ticking whole (clock_of link steps old) entity).entity } → (journal : List JournalEvent) (x y : ℕ) (p : Pair) → Ticking journal old x y p
+        → Ticking (journal ++ made) new x y p
+    entity_over system old made new entity there_it none made_is becomes journal x y p t =
+        let now : ℕ = (link old.carrier).clock in
+        let becomes_so : new ≡ record old { entities = with_entity old.entities system (at now entity) } = becomes ∙ ap (λ (e : Entity). record old { entities = with_entity old.entities system e }) (silent now entity none) in
+        let becomes_as : new ≡ record old { entities = with_entity old.entities system (at t.w.base.clock entity) } =
+        becomes_so ∙ ap (λ (n : ℕ). record old { entities = with_entity old.entities system (at n entity) }) t.explains.carries.clock in
+        let next_hall : Hall = record t.hall { entities = with_entity t.hall.entities system (at t.hall.clock entity) } in
+        let there_now : entity_at t.hall.entities system ≡ Some entity = sym (ap (λ (ps : List Placed). entity_at ps system) t.shows.entities) ∙ there_it in
+        let was = t.kept system entity there_now in
+        let fine : ActsFine (IsAddress titles) entity.own (record { entity = at t.hall.clock entity; events = []; tpdus = [] }) = record { own_is = refl; ends = was.ends; tpdus = tt } in
+        let proper : AreProper (at t.hall.clock entity) = record { timers = was.proper.timers; inactive = was.proper.inactive; ends = was.proper.ends } in
+        let went = went_nowhere names timers (Known names timers) IsOffered (plain_kept names timers) link steps law followed.aside t.w journal made
+        (record old { entities = with_entity old.entities system (at t.w.base.clock entity) }) new
+        (record { known = (plain_kept names timers).clock t.w journal old.entities old.ends t.explains.known system entity there_it; carries = t.explains.carries }) made_is becomes_as in
+        record {
+          w = went.next;
+          explains = went.explains;
+          hall = next_hall;
+          queue = t.queue;
+          shows = record {
+            clock = ap (λ (v : World C). (link v.carrier).clock) becomes_so ∙ t.shows.clock;
+            entities = ap (λ (v : World C). v.entities) becomes_so ∙ (λ i. with_entity (t.shows.entities i) system (at (t.shows.clock i) entity));
+            ends = ap (λ (v : World C). v.ends) becomes_so ∙ t.shows.ends;
+            waits = subst (λ (v : World C). Waits v.carrier t.queue) (sym becomes_so) t.shows.waits;
+            units = t.shows.units;
+          };
+          kept = kept_after titles t.hall.entities system entity (record { entity = at t.hall.clock entity; events = []; tpdus = [] }) t.kept there_now proper fine;
+          in_time = in_time_with t.hall.clock t.hall.entities system (at t.hall.clock entity) t.in_time (t.in_time system entity there_now);
+          late = t.late ++ made;
+          since = since_on journal made t.late t.since;
+          ticked = none_ticks link names timers t.w journal old t.explains going new made system entity there_it (ap (λ (v : World C). v.entities) becomes_so) (ap (λ (v : World C). v.ends) becomes_so)
+              (ap (λ (v : World C). (link v.carrier).clock) becomes_so) made_is early t.hall.posts x y p t.ticked;
+        }
 
-      A : Acted
-      A = ticking whole (link old.carrier).clock entity
+    -- one is due
+    entity_ticks_one : (system : ℕ) (old mid : World C) (here : List JournalEvent) (entity : Entity) (reference : ℕ) → entity_at old.entities system ≡ Some entity
+        → first_due (clock_of link steps old) entity ≡ Some reference → Acts link steps old system entity.own (ticking whole (clock_of link steps old) entity) here mid → AllByRecursion IsUndropped here
+        → (o : End) → end_at entity reference ≡ Some o → (journal : List JournalEvent) (x y : ℕ) (p : Pair) → Ticking journal old x y p → Ticking (journal ++ here) mid x y p
+    entity_ticks_one system old mid here entity reference there_it due_at acts all o stands journal x y p t = record {
+      w = went.next;
+      explains = went.explains;
+      hall = after t.hall system A;
+      queue = a.queue;
+      shows = a.shows;
+      kept = kept_after titles t.hall.entities system entity A t.kept there_now proper.proper fine;
+      in_time = in_time_with t.hall.clock t.hall.entities system A.entity t.in_time (subst (λ (n : ℕ). AreInTime n A.entity) t.shows.clock proper.in_time);
+      late = t.late ++ here;
+      since = since_on journal here t.late t.since;
+      ticked = subst (λ (z : Acted). HasTicked link early (journal ++ here) mid (t.hall.posts ++ posted system z.tpdus) x y p) (sym is)
+          (elim t.ticked.goes [
+            | inl in_tick ↦
+                end_ticks link names timers t.w journal old t.explains going mid here system entity reference there_it o stands due_now (was.proper.ends reference o stands).proper a.does.aside a.does.is_aside
+                (ap (λ (v : World C). v.entities) acts.becomes ∙ ap (λ (z : Acted). with_entity old.entities system z.entity) is) (ap (λ (v : World C). v.ends) acts.becomes ∙ ap (λ (z : Acted). ends_after old.ends system z.events) is)
+                (a.shows.clock ∙ sym t.shows.clock)
+                (a.does.made_is ∙ (λ i. events_after (sym t.shows.ends i) system entity.own (is i).events ++ a.does.aside))
+                early t.late t.since t.hall.posts x y p t.ticked.calling t.ticked.called in_tick t.ticked.told t.ticked.told_there
+            | inr ended ↦ record {
+              calling = t.ticked.calling;
+              called = t.ticked.called;
+              told = λ is. told_still early journal here (p.clock + 1) x p.calling (t.ticked.told is);
+              told_there = λ is. told_still early journal here (p.clock + 1) y p.called (t.ticked.told_there is);
+              goes = inr (ended.0, λ both. let left = ended.1 both in (end_keeps old mid x keeps left.0, end_keeps old mid y keeps left.1));
+            }
+          ]);
+    }
+      where
+        now : ℕ
+        now = (link old.carrier).clock
 
-      there_now : entity_at t.hall.entities system ≡ Some entity
-      there_now = sym (ap (λ (ps : List Placed). entity_at ps system) t.shows.entities) ∙ there_it
+        A : Acted
+        A = ticking whole (link old.carrier).clock entity
 
-      was : IsKept titles system entity
-      was = t.kept system entity there_now
+        there_now : entity_at t.hall.entities system ≡ Some entity
+        there_now = sym (ap (λ (ps : List Placed). entity_at ps system) t.shows.entities) ∙ there_it
 
-      fine : ActsFine (IsAddress titles) entity.own A
-      fine = ticking_fine (IsAddress titles) whole now entity was.ends
+        was : IsKept titles system entity
+        was = t.kept system entity there_now
 
-      in_time_now : AreInTime now entity
-      in_time_now = subst (λ (n : ℕ). AreInTime n entity) (sym t.shows.clock) (t.in_time system entity there_now)
+        fine : ActsFine (IsAddress titles) entity.own A
+        fine = ticking_fine (IsAddress titles) whole now entity was.ends
 
-      proper : IsProperTick now A
-      proper = ticking_proper whole now entity was.proper in_time_now
+        in_time_now : AreInTime now entity
+        in_time_now = subst (λ (n : ℕ). AreInTime n entity) (sym t.shows.clock) (t.in_time system entity there_now)
 
-      is : A ≡ ticked_to (at now entity) reference (stepped whole now o Ticked)
-      is = ap (ticking_at whole now (at now entity)) due_at ∙ ap (ticking_end whole now (at now entity) reference) stands
+        proper : IsProperTick now A
+        proper = ticking_proper whole now entity was.proper in_time_now
 
-      due_now : is_due now (Some o) ≡ true
-      due_now = ap (is_due now) (sym stands) ∙ due_is now entity reference due_at
+        is : A ≡ ticked_to (at now entity) reference (stepped whole now o Ticked)
+        is = ap (ticking_at whole now (at now entity)) due_at ∙ ap (ticking_end whole now (at now entity) reference) stands
 
-      a : Acting link steps law titles Waits fifo t.hall system entity.own A here mid
-      a = acts_go link steps law titles Waits fifo old mid t.hall t.queue system was.title entity.own A here t.shows was.title_is was.own fine proper.tpdus all acts
+        due_now : is_due now (Some o) ≡ true
+        due_now = ap (is_due now) (sym stands) ∙ due_is now entity reference due_at
 
-      keeps : KeepsLeft old mid
-      keeps = left_on old mid now system entity (with_end (at now entity) reference (kept_end (stepped whole now o Ticked) (due (stepped whole now o Ticked).base (stepped whole now o Ticked).stage))) there_it
-          (ap (λ (v : World C). v.entities) acts.becomes ∙ ap (λ (z : Acted). with_entity old.entities system z.entity) is)
-          (Row reference o Ticked (kept_end (stepped whole now o Ticked) (due (stepped whole now o Ticked).base (stepped whole now o Ticked).stage)) stands
-          (kept_is (stepped whole now o Ticked) (due (stepped whole now o Ticked).base (stepped whole now o Ticked).stage)) refl
-          (ap (λ (v : World C). v.ends) acts.becomes ∙ ap (λ (z : Acted). ends_after old.ends system z.events) is
-          ∙ row_stays link names timers t.w journal old t.explains system entity there_it reference o Ticked stands))
+        a : Acting link steps law titles Waits fifo t.hall system entity.own A here mid
+        a = acts_go link steps law titles Waits fifo old mid t.hall t.queue system was.title entity.own A here t.shows was.title_is was.own fine proper.tpdus all acts
 
-      went : Went names timers (Known names timers) IsOffered (plain_kept names timers) link steps law followed.aside t.w (journal ++ here) mid
-      went = subst (λ (xs : List JournalEvent). Went names timers (Known names timers) IsOffered (plain_kept names timers) link steps law followed.aside t.w (xs ++ here) mid) (append-nil journal)
-          (went_on names timers (Known names timers) IsOffered (plain_kept names timers) link steps law followed.aside t.w journal [] here old mid system entity.own (ticking whole t.w.base.clock entity) t.explains.carries
-          (followed.ticks t.w journal old.entities old.ends system entity reference t.explains.known there_it (subst (λ (n : ℕ). first_due n entity ≡ Some reference) t.explains.carries.clock due_at))
-          (subst (λ (n : ℕ). Acts link steps old system entity.own (ticking whole n entity) here mid) t.explains.carries.clock acts))
+        keeps : KeepsLeft old mid
+        keeps = left_on old mid now system entity (with_end (at now entity) reference (kept_end (stepped whole now o Ticked) (due (stepped whole now o Ticked).base (stepped whole now o Ticked).stage))) there_it
+            (ap (λ (v : World C). v.entities) acts.becomes ∙ ap (λ (z : Acted). with_entity old.entities system z.entity) is)
+            (Row reference o Ticked (kept_end (stepped whole now o Ticked) (due (stepped whole now o Ticked).base (stepped whole now o Ticked).stage)) stands
+            (kept_is (stepped whole now o Ticked) (due (stepped whole now o Ticked).base (stepped whole now o Ticked).stage)) refl
+            (ap (λ (v : World C). v.ends) acts.becomes ∙ ap (λ (z : Acted). ends_after old.ends system z.events) is
+            ∙ row_stays link names timers t.w journal old t.explains system entity there_it reference o Ticked stands))
 
-  behind : (new : World C) (x y : ℕ) (p : Pair) (journal made here rest : List JournalEvent) → Ticking ((journal ++ here) ++ rest) new x y p → made ≡ here ++ rest → Ticking (journal ++ made) new x y p
-  behind new x y p journal made here rest t is =
-      subst (λ (es : List JournalEvent). Ticking es new x y p) (append_assoc journal here rest ∙ ap (λ (es : List JournalEvent). journal ++ es) (sym is)) t
+        went : Went names timers (Known names timers) IsOffered (plain_kept names timers) link steps law followed.aside t.w (journal ++ here) mid
+        went = subst (λ (xs : List JournalEvent). Went names timers (Known names timers) IsOffered (plain_kept names timers) link steps law followed.aside t.w (xs ++ here) mid) (append-nil journal)
+            (went_on names timers (Known names timers) IsOffered (plain_kept names timers) link steps law followed.aside t.w journal [] here old mid system entity.own (ticking whole t.w.base.clock entity) t.explains.carries
+            (followed.ticks t.w journal old.entities old.ends system entity reference t.explains.known there_it (subst (λ (n : ℕ). first_due n entity ≡ Some reference) t.explains.carries.clock due_at))
+            (subst (λ (n : ℕ). Acts link steps old system entity.own (ticking whole n entity) here mid) t.explains.carries.clock acts))
 
-  entity_ticks : (system : ℕ) (old : World C) (made : List JournalEvent) (new : World C) → TicksEntity link steps whole system old made new → AllByRecursion IsUndropped made → (journal : List JournalEvent)
-      (x y : ℕ) (p : Pair) → Ticking journal old x y p → Ticking (journal ++ made) new x y p
-  entity_ticks system old made new (NoneDue o m n entity there_it none made_is becomes) all journal x y p t = entity_over system old made new entity there_it none made_is becomes journal x y p t
-  entity_ticks system old made new (OneDue o m n entity reference mid here rest there_it due_at acts more made_is) all journal x y p t =
-      let parts = all_parts IsUndropped here rest (subst (λ (es : List JournalEvent). AllByRecursion IsUndropped es) made_is all) in
-      let e = due_end (end_at entity reference) (due_is (clock_of link steps old) entity reference due_at) in
-      behind new x y p journal made here rest
-      (entity_ticks system mid rest new more parts.1 (journal ++ here) x y p (entity_ticks_one system old mid here entity reference there_it due_at acts parts.0 e.0 e.1 journal x y p t)) made_is
-    where
-      due_end : (place : Option End) → is_due (clock_of link steps old) place ≡ true → (e : End) × (place ≡ Some e)
-      due_end None is = absurd (differ is)
-      due_end (Some e) is = (e, refl)
+    behind : (new : World C) (x y : ℕ) (p : Pair) (journal made here rest : List JournalEvent) → Ticking ((journal ++ here) ++ rest) new x y p → made ≡ here ++ rest → Ticking (journal ++ made) new x y p
+    behind new x y p journal made here rest t is =
+        subst (λ (es : List JournalEvent). Ticking es new x y p) (append_assoc journal here rest ∙ ap (λ (es : List JournalEvent). journal ++ es) (sym is)) t
 
-  all_tick : (placed : List Placed) (old : World C) (made : List JournalEvent) (new : World C) → TicksAll link steps whole old placed made new → AllByRecursion IsUndropped made → (journal : List JournalEvent)
-      (x y : ℕ) (p : Pair) → Ticking journal old x y p → Ticking (journal ++ made) new x y p
-  all_tick [] old made new step all journal x y p t =
-      subst (λ (es : List JournalEvent). Ticking es new x y p) (sym (append-nil journal) ∙ ap (λ (es : List JournalEvent). journal ++ es) (sym step.0)) (subst (λ (v : World C). Ticking journal v x y p) (sym step.1) t)
-  all_tick (one ∷ placed) old made new step all journal x y p t =
-      let parts = all_parts IsUndropped step.1 step.2 (subst (λ (es : List JournalEvent). AllByRecursion IsUndropped es) step.5 all) in
-      behind new x y p journal made step.1 step.2
-      (all_tick placed step.0 step.2 new step.4 parts.1 (journal ++ step.1) x y p (entity_ticks one.system old step.1 step.0 step.3 parts.0 journal x y p t)) step.5
+    entity_ticks : (system : ℕ) (old : World C) (made : List JournalEvent) (new : World C) → TicksEntity link steps whole system old made new → AllByRecursion IsUndropped made → (journal : List JournalEvent)
+        (x y : ℕ) (p : Pair) → Ticking journal old x y p → Ticking (journal ++ made) new x y p
+    entity_ticks system old made new (NoneDue o m n entity there_it none made_is becomes) all journal x y p t = entity_over system old made new entity there_it none made_is becomes journal x y p t
+    entity_ticks system old made new (OneDue o m n entity reference mid here rest there_it due_at acts more made_is) all journal x y p t =
+        let parts = all_parts IsUndropped here rest (subst (λ (es : List JournalEvent). AllByRecursion IsUndropped es) made_is all) in
+        let e = due_end (end_at entity reference) (due_is (clock_of link steps old) entity reference due_at) in
+        behind new x y p journal made here rest
+        (entity_ticks system mid rest new more parts.1 (journal ++ here) x y p (entity_ticks_one system old mid here entity reference there_it due_at acts parts.0 e.0 e.1 journal x y p t)) made_is
+      where
+        due_end : (place : Option End) → is_due (clock_of link steps old) place ≡ true → (e : End) × (place ≡ Some e)
+        due_end None is = absurd (differ is)
+        due_end (Some e) is = (e, refl)
+
+    all_tick : (placed : List Placed) (old : World C) (made : List JournalEvent) (new : World C) → TicksAll link steps whole old placed made new → AllByRecursion IsUndropped made → (journal : List JournalEvent)
+        (x y : ℕ) (p : Pair) → Ticking journal old x y p → Ticking (journal ++ made) new x y p
+    all_tick [] old made new step all journal x y p t =
+        subst (λ (es : List JournalEvent). Ticking es new x y p) (sym (append-nil journal) ∙ ap (λ (es : List JournalEvent). journal ++ es) (sym step.0)) (subst (λ (v : World C). Ticking journal v x y p) (sym step.1) t)
+    all_tick (one ∷ placed) old made new step all journal x y p t =
+        let parts = all_parts IsUndropped step.1 step.2 (subst (λ (es : List JournalEvent). AllByRecursion IsUndropped es) step.5 all) in
+        behind new x y p journal made step.1 step.2
+        (all_tick placed step.0 step.2 new step.4 parts.1 (journal ++ step.1) x y p (entity_ticks one.system old step.1 step.0 step.3 parts.0 journal x y p t)) step.5
 
   -- ---- a tick
 
@@ -500,11 +589,11 @@ module _ {C : Type 0} (link : C → Link (List ℕ)) (steps : C → Call (List �
           subst (λ (k : ℕ). IsInTime (due e.base e.stage) (k + 1)) at_clock ((waits hall.clock here.entity (s.rest here.system here.entity there_now)).1 here.reference e here.is_end.stands)
 
   -- the network stands as it has to be, and the pair went on
-  pub record HasStepped (journal : List JournalEvent) (new : World C) (x y : ℕ) (p : Pair) : Type 0 where
+  pub record HasStepped (early late : List JournalEvent) (new : World C) (x y : ℕ) (p : Pair) : Type 0 where
     pub hall : Hall
     pub queue : List (CarriedUnit (List ℕ))
     pub stands : StandsSo link steps law titles Waits fifo new hall queue
-    pub moved : HasMoved link journal new hall.posts x y p
+    pub moved : HasMoved link early late new hall.posts x y p
 
   -- the clock went on, and no end has ticked
   begins : (journal front : List JournalEvent) (old mid : World C) → mid.entities ≡ old.entities → mid.ends ≡ old.ends → (link mid.carrier).clock ≡ (link old.carrier).clock + 1 → IsAside front
@@ -545,7 +634,7 @@ module _ {C : Type 0} (link : C → Link (List ℕ)) (steps : C → Call (List �
 
   pub tick_steps : (old new : World C) (made : List JournalEvent) (hall : Hall) (queue : List (CarriedUnit (List ℕ))) (journal : List JournalEvent) (x y : ℕ) (p : Pair)
       → StandsSo link steps law titles Waits fifo old hall queue → queue ≡ [] → Rests link AreProper names timers journal old → AllByRecursion IsUndropped made → Ticks link steps whole old made new
-      → IsFollowed link journal old [] x y p → IsLive p.calling.stage → IsLive p.called.stage → HasStepped (journal ++ made) new x y p
+      → IsFollowed link journal old [] x y p → IsLive p.calling.stage → IsLive p.called.stage → HasStepped journal made new x y p
   tick_steps old new made hall queue journal x y p s none r all step f live live_there = record {
     hall = t.hall;
     queue = t.queue;
@@ -561,6 +650,7 @@ module _ {C : Type 0} (link : C → Link (List ℕ)) (steps : C → Call (List �
       next = next p (Clock t.ticked.calling t.ticked.called);
       leads = (idle_of link journal old x y p f, refl);
       ticked = ((λ opened. later_of journal old hall queue x y p s f), tt);
+      told = (((λ ticks. gone_at x p.calling (t.ticked.told ticks)), λ ticks. gone_at y p.called (t.ticked.told_there ticks)), tt);
       goes = elim t.ticked.goes [ inl on ↦ inl on.followed | inr ended ↦ inr ended ];
     };
   }
@@ -595,7 +685,11 @@ module _ {C : Type 0} (link : C → Link (List ℕ)) (steps : C → Call (List �
         carries = tick_goes IsOffered (plain_kept names timers).grows timers.life link steps law r.w.base later.base old.carrier step.below step.ups r.explains.carries refl (λ offer there. there) step.passes;
       }
 
-      start : Ticking (journal ++ front) mid x y p
+      -- the lines up to the one of the tick
+      till : List JournalEvent
+      till = journal ++ events.Tick ((link old.carrier).clock + 1) ∷ []
+
+      start : Ticking till (journal ++ front) mid x y p
       start = record {
         w = later;
         explains = explains;
@@ -610,9 +704,13 @@ module _ {C : Type 0} (link : C → Link (List ℕ)) (steps : C → Call (List �
         };
         kept = s.kept;
         in_time = λ system e is. (waits hall.clock e (s.rest system e is)).1;
+        late = told step.ups;
+        since = sym (append_assoc journal (events.Tick ((link old.carrier).clock + 1) ∷ []) (told step.ups));
         ticked = record {
           calling = false;
           called = false;
+          told = λ is. absurd (differ is);
+          told_there = λ is. absurd (differ is);
           goes = inl (record {
             followed = subst (λ (ps : List Post). IsFollowed link (journal ++ front) mid ps x y (next p (Clock false false))) (sym posts) (begins journal front old mid refl refl clock aside x y p f);
             live = live;
@@ -623,5 +721,11 @@ module _ {C : Type 0} (link : C → Link (List ℕ)) (steps : C → Call (List �
         };
       }
 
-      t : Ticking (journal ++ made) new x y p
-      t = behind new x y p journal made front step.later (all_tick old.entities mid step.later new step.all parts.1 (journal ++ front) x y p start) step.made_is
+      t : Ticking till (journal ++ made) new x y p
+      t = behind till new x y p journal made front step.later (all_tick till old.entities mid step.later new step.all parts.1 (journal ++ front) x y p start) step.made_is
+
+      gone_at : (n : ℕ) (e : End) → IsToldGone till (journal ++ made) (p.clock + 1) n e → IsGoneTold journal made (p.clock + 1) n e
+      gone_at n e told cause is =
+          let b = told cause is in
+          subst (λ (k : ℕ). HappensAt journal made (k + 1) (events.End n (Gone cause []))) (sym f.clock)
+          (happens_then link steps journal made old new step (journal ++ made) b.before b.after (events.End n (Gone cause [])) refl b.journal_is)

@@ -19,7 +19,7 @@ use Rattle.law_calm_run.specs.Service.{end_at_number}
 use Rattle.law_recovery_run.specs.Ordered.{IsReady, OnPrompt, RunsInOrder}
 use Rattle.law_recovery_walk.specs.Following.{IsFollowed, IsLive, Stands}
 use Rattle.law_recovery_walk.specs.Settling.{IsEnded}
-use Rattle.law_recovery_script.specs.Moving.{HasLasted, HasPlayed}
+use Rattle.law_recovery_script.specs.Moving.{HasLasted, HasLastedTold, HasPlayed}
 use Rattle.law_recovery_script.specs.Over.{HasLeftEnd}
 
 -- Over each carrier that serves again once nothing is lost: of two ends that are Opened or Closing and know each other, in a network in which nothing is left to deliver, lines that are settled
@@ -28,6 +28,12 @@ abbrev pub RunsLast : {C : Type 0} → (C → Link (List ℕ)) → (C → Call (
 RunsLast {C} link steps = OnPrompt link steps (λ titles first Waits. (timers : Timers) (early late : List Event) (old last : World C) (script : List Line) (x y : ℕ) (p : Pair)
     → AreHonestCalls link steps whole titles timers early old → IsReady link steps titles first old → IsFollowed link early old [] x y p → IsLive p.calling.stage → IsLive p.called.stage
     → RunsInOrder link steps titles old script late last → HasLasted link (early ++ late) last x y p)
+
+-- and the lines tell what happens to the two: a call of a user has its line, and an end that its tick makes gone is told so at that tick
+abbrev pub RunsAreTold : {C : Type 0} → (C → Link (List ℕ)) → (C → Call (List ℕ) → C → Type 0) → Type 0
+RunsAreTold {C} link steps = OnPrompt link steps (λ titles first Waits. (timers : Timers) (early late : List Event) (old last : World C) (script : List Line) (x y : ℕ) (p : Pair)
+    → AreHonestCalls link steps whole titles timers early old → IsReady link steps titles first old → IsFollowed link early old [] x y p → IsLive p.calling.stage → IsLive p.called.stage
+    → RunsInOrder link steps titles old script late last → HasLastedTold link early late last x y p)
 
 -- From a tick on at which nothing waits, and all is known of two Opened ends, whatever happens in order, with a tick of each end where it is due: neither is frozen before both have left
 abbrev pub EndedHaveLeft : Type 0

@@ -1,12 +1,21 @@
 -- Two partner ends of a network along lines that are settled and lose nothing, as steps of a pair (X.213, queue model; X.214, queue model).
-use Rattle.std.specs.Prelude.{◌⊎◌, ℕ, List, []}
+use Rattle.std.specs.Prelude.{◌≡◌, ◌⊎◌, ℕ, ◌+◌, true, List, [], ◌∷◌, ◌++◌, Contains}
+use Rattle.std.specs.List.{AllByRecursion}
 use Rattle.osi_base.specs.Link.{Link}
 use Rattle.script_journal.specs.declared.event.Event.{Event}
+use Rattle.script_journal.specs.declared.event.Event.TheVariants as events
+use Rattle.tpdu.specs.declared.service.EndTold.TheVariants.{Gone}
+use Rattle.tpdu.specs.declared.service.GoneCause.{GoneCause}
+use Rattle.tp4_number.specs.Number.{whole}
+use Rattle.tp4_conn.specs.End.{End, gone}
+use Rattle.tp4_conn.specs.Table.{Ticked, at, stepped}
 use Rattle.tp4_conn.specs.declared.states.InOpened.{InOpened}
 use Rattle.tp4_conn.specs.declared.timers.Timers.{Timers}
-use Rattle.law_tp4_pair.specs.Pair.{Happening, IsIdle, Leads, Pair}
+use Rattle.law_tp4_pair.specs.Pair.{Asks_called, Asks_calling, Clock, Happening, IsIdle, Leads, Pair, next as next_pair}
+use Rattle.tp4_world.specs.Telling.{call_events}
 use Rattle.tp4_world.specs.World.{World}
 use Rattle.law_recovery_going.specs.Going.{AreBothLeft, AreBothOpened, AreTicked, HasParted}
+use Rattle.law_recovery_service.specs.Service.{HappensAt}
 use Rattle.law_recovery_steps.specs.Resting.{AreLater}
 use Rattle.law_recovery_walk.specs.Following.{IsFollowed}
 use Rattle.law_recovery_walk.specs.Settling.{IsEnded}
@@ -30,3 +39,26 @@ pub record HasPlayed {C : Type 0} (link : C → Link (List ℕ)) (journal : List
   pub leads : Leads p happenings next
   pub ticked : AreTicked p happenings
   pub goes : (AreBothOpened next × IsIdle next × AreLater next × IsFollowed link journal new [] x y next) ⊎ (HasParted t p.clock o q p happenings next × HaveLeft new x y)
+
+-- ---- what the journal tells of a pair
+
+-- an end that its tick makes gone for a cause, and nothing else, is told so in these lines, at that tick
+abbrev pub IsGoneTold : (early late : List Event) → (tick number : ℕ) → End → Type 0
+IsGoneTold early late tick number e = (cause : GoneCause) → (stepped whole tick e Ticked).events ≡ gone (at tick e.base) cause [] → HappensAt early late tick (events.End number (Gone cause []))
+
+-- of two ends of these numbers: a call of a user has its line, and an end that ticks is told gone
+abbrev pub IsTold : (early late : List Event) → (x y : ℕ) → Pair → Happening → Type 0
+IsTold early late x y p (Asks_calling call) = AllByRecursion (Contains late) (call_events x call)
+IsTold early late x y p (Asks_called call) = AllByRecursion (Contains late) (call_events y call)
+IsTold early late x y p (Clock calling called) =
+    (calling ≡ true → IsGoneTold early late (p.clock + 1) x p.calling) × (called ≡ true → IsGoneTold early late (p.clock + 1) y p.called)
+IsTold early late x y p other = Prim.Unit {0}
+
+abbrev pub AreTold : (early late : List Event) → (x y : ℕ) → Pair → List Happening → Type 0
+AreTold early late x y p [] = Prim.Unit {0}
+AreTold early late x y p (happening ∷ happenings) = IsTold early late x y p happening × AreTold early late x y (next_pair p happening) happenings
+
+-- the pair lasted so, and the lines tell what happened to it
+pub record HasLastedTold {C : Type 0} (link : C → Link (List ℕ)) (early late : List Event) (new : World C) (x y : ℕ) (p : Pair) : Type 0 where
+  pub lasted : HasLasted link (early ++ late) new x y p
+  pub told : AreTold early late x y p lasted.happenings

@@ -1,6 +1,6 @@
 //! Two partner ends of a network along the lines of a script, since when nothing is lost (X.213, queue model; X.224, class 4 procedures).
 
-ghost use Rattle.law_recovery_script.specs.Laws.{EndedHaveLeft, LeftAreOver, RunsLast, RunsPart, StandByNumber};
+ghost use Rattle.law_recovery_script.specs.Laws.{EndedHaveLeft, LeftAreOver, RunsAreTold, RunsLast, RunsPart, StandByNumber};
 
 use nsap::Nsap;
 use osi_base::Carrier;
@@ -13,13 +13,21 @@ pub fn ended_have_left()
 }
 
 /// Two ends that are Opened or Closing and know each other, in a network in which nothing is left to deliver: lines that are settled and lose nothing are steps of the pair of the two, with a
-/// tick of each where it is due, until one of them is frozen; if both had left by then, the two ends have left in the network that the lines led to. Over whole numbers.
-pub fn runs_last<C: Carrier<Addr = Nsap>>()
-    ensures { RunsLast C.link C.steps }
+/// tick of each where it is due, until one of them is frozen, and tell what happens to the two; over whole numbers.
+pub fn runs_are_told<C: Carrier<Addr = Nsap>>()
+    ensures { RunsAreTold C.link C.steps }
 {
     law_tp4_history::journals_are_lawful();
     law_tp4_moves::flowed();
     law_tp4_moves::moved();
+}
+
+/// Two ends that are Opened or Closing and know each other, in a network in which nothing is left to deliver: lines that are settled and lose nothing are steps of the pair of the two, with a
+/// tick of each where it is due, until one of them is frozen; if both had left by then, the two ends have left in the network that the lines led to. Over whole numbers.
+pub fn runs_last<C: Carrier<Addr = Nsap>>()
+    ensures { RunsLast C.link C.steps }
+{
+    runs_are_told::<C>();
 }
 
 /// Two partners that are Opened, and of which all is known, in a network in which nothing is left to deliver: after lines that are settled and lose nothing both are Opened still, or the first

@@ -3,4 +3,6 @@
 
 mod laws;
 
-pub use laws::{ended_have_left, left_are_over, runs_last, runs_part, stand_by_number};
+pub use laws::{
+    ended_have_left, left_are_over, runs_are_told, runs_last, runs_part, stand_by_number,
+};

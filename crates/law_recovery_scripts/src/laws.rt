@@ -1,6 +1,6 @@
 //! What is claimed of scripts once nothing is lost any more follows from what is claimed of networks.
 
-ghost use Rattle.law_recovery_scripts.specs.Laws.{NetsArePrompt, NetsRecover, OctetsRecover, ScriptsRecover};
+ghost use Rattle.law_recovery_scripts.specs.Laws.{NetsArePrompt, NetsRecover, NetsRecoverWithoutRestart, OctetsRecover, OctetsRecoverWithoutRestart, ScriptsRecover, ScriptsRecoverWithoutRestart};
 ghost use Rattle.tp4_number.specs.Number.{whole};
 
 use script_world::RoutedNet;
@@ -17,5 +17,25 @@ pub fn scripts_recover()
     ensures octets { NetsRecover whole → OctetsRecover }
 {
     law_recovery_wire::recovers_on_wire::<RoutedNet>();
+    law_setup_times::scripts_are_ordered();
+}
+
+/// The ends of each such network recover, where no line before the recovering settle is a restart line; over whole numbers.
+pub fn nets_recover()
+    ensures { NetsRecoverWithoutRestart whole }
+{
+    law_recovery::walked_recover::<RoutedNet>();
+    law_tp4_history::journals_are_lawful();
+    law_tp4_moves::flowed();
+    law_tp4_moves::moved();
+}
+
+/// So do those of each script whose lines were read, and after whatever part of octets was run whole, where no line before the recovering settle is a restart line.
+pub fn scripts_recover_without_restart()
+    ensures scripts { ScriptsRecoverWithoutRestart }
+    ensures octets { OctetsRecoverWithoutRestart }
+{
+    nets_recover();
+    law_recovery::recovers_on_wire::<RoutedNet>();
     law_setup_times::scripts_are_ordered();
 }

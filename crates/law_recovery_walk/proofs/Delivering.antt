@@ -44,6 +44,7 @@ use Rattle.law_recovery_run.specs.Aside.{AreFacing, IsSentTo, Names}
 use Rattle.law_recovery_run.specs.Rivals.{IsGoing}
 use Rattle.law_recovery_run.proofs.Aiming.{Going}
 use Rattle.law_recovery_walk.specs.Following.{HasCcSource, IsBy, IsFollowed, IsForPartner, IsHeard, IsLive, IsSide, Speaks, Stands, is_sent_to}
+use Rattle.law_recovery_walk.specs.Settling.{IsHandedOver}
 use Rattle.law_recovery_walk.proofs.Doing as does
 use Rattle.law_recovery_walk.proofs.Doing.{HasDone, live_goes}
 use Rattle.law_recovery_walk.proofs.Leaving.{Leaves, met_leaves, nothing_leaves}
@@ -268,6 +269,7 @@ module _ {C : Type 0} (link : C → Link (List ℕ)) (titles : List (List ℕ)) 
     pub happenings : List Happening
     pub next : Pair
     pub leads : Leads p happenings next
+    pub handed : AllByRecursion IsHandedOver happenings
     pub clock : next.clock ≡ p.clock
     pub followed : IsFollowed link (journal ++ made) new (rest ++ posted a.system a.acted.tpdus) x y next
 
@@ -309,6 +311,7 @@ module _ {C : Type 0} (link : C → Link (List ℕ)) (titles : List (List ℕ)) 
           happenings = Comes_back ∷ [];
           next = comes_back p (post.sent ∷ head.left);
           leads = (tt, ap (comes_back p) (sym head.waits_are));
+          handed = (inr refl, tt);
           clock = refl;
           followed = subst (λ (n : ℕ). IsFollowed link (journal ++ made) new posts_now x y (comes_back_at n p (post.sent ∷ head.left))) (sym f.clock)
               (record {
@@ -338,6 +341,7 @@ module _ {C : Type 0} (link : C → Link (List ℕ)) (titles : List (List ℕ)) 
           happenings = Comes_forth ∷ [];
           next = comes_forth p (post.sent ∷ head.left);
           leads = (tt, ap (comes_forth p) (sym head.waits_are));
+          handed = (inl refl, tt);
           clock = refl;
           followed = subst (λ (n : ℕ). IsFollowed link (journal ++ made) new posts_now x y (comes_forth_at n p (post.sent ∷ head.left))) (sym f.clock)
               (record {
@@ -364,6 +368,7 @@ module _ {C : Type 0} (link : C → Link (List ℕ)) (titles : List (List ℕ)) 
           happenings = [];
           next = p;
           leads = refl;
+          handed = tt;
           clock = refl;
           followed = record {
             calling = here.stands;

@@ -20,6 +20,7 @@ use Rattle.law_tp4_history.specs.Tracks.{Whole}
 use Rattle.law_tp4_pair.specs.Claim.{IsUndropped}
 use Rattle.law_tp4_pair.specs.Pair.{Happening, IsIdle, Leads, Pair, next as next_pair}
 use Rattle.law_tp4_proper.specs.Rest.{AreInTime, AreProper}
+use Rattle.tp4_world.proofs.Addressees.{all_append}
 use Rattle.tp4_world.specs.Run.{Delivers, NoneLeft, OneMore, Settles, TooMany}
 use Rattle.tp4_world.specs.World.{World, entity_at, latest}
 use Rattle.tp4_world.specs.declared.place.EndAt.{EndAt}
@@ -38,7 +39,7 @@ use Rattle.law_calm_run.proofs.Posting.{AreUnitsOf}
 use Rattle.law_calm_run.proofs.Queueing.{all_parts}
 use Rattle.law_recovery_run.proofs.Aiming.{Going}
 use Rattle.law_recovery_walk.specs.Following.{IsFollowed, IsLive, IsSide, Stands}
-use Rattle.law_recovery_walk.specs.Settling.{HasGoneOn, IsEnded}
+use Rattle.law_recovery_walk.specs.Settling.{HasGoneOn, IsEnded, IsHandedOver}
 use Rattle.law_recovery_walk.proofs.Coming.{StandsSo, TellsNoUnits, delivered}
 use Rattle.law_recovery_walk.proofs.Delivering.{HasComeOn, handed_over}
 
@@ -146,6 +147,7 @@ module _ {C : Type 0} (link : C → Link (List ℕ)) (steps : C → Call (List �
     happenings : List Happening
     next : Pair
     leads : Leads p happenings next
+    handed : AllByRecursion IsHandedOver happenings
     clock : next.clock ≡ p.clock
     follows : IsFollowed link (journal ++ made) mid hall.posts x y next
 
@@ -160,6 +162,7 @@ module _ {C : Type 0} (link : C → Link (List ℕ)) (steps : C → Call (List �
       happenings = [];
       next = p;
       leads = refl;
+      handed = tt;
       clock = refl;
       follows = followed_still link journal made old mid still.entities still.ends still.clock still.none hall.posts x y p f;
     }
@@ -174,6 +177,7 @@ module _ {C : Type 0} (link : C → Link (List ℕ)) (steps : C → Call (List �
           happenings = went.happenings;
           next = went.next;
           leads = went.leads;
+          handed = went.handed;
           clock = went.clock;
           follows = went.followed;
         }
@@ -199,6 +203,7 @@ module _ {C : Type 0} (link : C → Link (List ℕ)) (steps : C → Call (List �
     pub happenings : List Happening
     pub next : Pair
     pub leads : Leads p happenings next
+    pub handed : AllByRecursion IsHandedOver happenings
     pub clock : next.clock ≡ p.clock
     pub goes : (IsIdle next × IsFollowed link journal new [] x y next) ⊎ IsStopped new x y next
 
@@ -212,7 +217,7 @@ module _ {C : Type 0} (link : C → Link (List ℕ)) (steps : C → Call (List �
       let idle : IsFollowed link journal old [] x y p = subst (λ (ps : List Post). IsFollowed link journal old ps x y p) posts f in
       let now : IsFollowed link (journal ++ made) new [] x y p =
       followed_still link journal made old new (ap (λ (v : World C). v.entities) same) (ap (λ (v : World C). v.ends) same) (ap (λ (v : World C). (link v.carrier).clock) same) tells [] x y p idle in
-      record { happenings = []; next = p; leads = refl; clock = refl; goes = inl (idle_of link (journal ++ made) new x y p now, now) }
+      record { happenings = []; next = p; leads = refl; handed = tt; clock = refl; goes = inl (idle_of link (journal ++ made) new x y p now, now) }
   settles_so count old made new (TooMany n o m l pair fresh most made_is same) journal hall queue x y p s ex all f live live_there =
       absurd (subst (λ (es : List Event). AllByRecursion IsUndropped es) made_is all).0
   settles_so count old made new (OneMore n o m l pair mid here rest fresh low delivers settles made_is) journal hall queue x y p s ex all f live live_there =
@@ -227,6 +232,7 @@ module _ {C : Type 0} (link : C → Link (List ℕ)) (steps : C → Call (List �
         happenings = first.happenings ++ later.happenings;
         next = later.next;
         leads = leads_then p first.next later.next first.happenings later.happenings first.leads later.leads;
+        handed = all_append IsHandedOver first.happenings later.happenings first.handed later.handed;
         clock = later.clock ∙ first.clock;
         goes = later.goes;
       }) in
@@ -247,9 +253,9 @@ module _ {C : Type 0} (link : C → Link (List ℕ)) (steps : C → Call (List �
       elim (live_or first.next.calling.stage) [
         | inl one ↦ elim (live_or first.next.called.stage) [
           | inl other ↦ more one other
-          | inr ended ↦ record { happenings = first.happenings; next = first.next; leads = first.leads; clock = first.clock; goes = inr (stop (λ one other. ended other)) }
+          | inr ended ↦ record { happenings = first.happenings; next = first.next; leads = first.leads; handed = first.handed; clock = first.clock; goes = inr (stop (λ one other. ended other)) }
         ]
-        | inr ended ↦ record { happenings = first.happenings; next = first.next; leads = first.leads; clock = first.clock; goes = inr (stop (λ one other. ended one)) }
+        | inr ended ↦ record { happenings = first.happenings; next = first.next; leads = first.leads; handed = first.handed; clock = first.clock; goes = inr (stop (λ one other. ended one)) }
       ]
 
   pub settles_on : (count : ℕ) (old : World C) (made : List Event) (new : World C) → Settles link steps whole count old made new → (journal : List Event) (hall : Hall) (queue : List (CarriedUnit (List ℕ))) (x y : ℕ) (p : Pair)
@@ -257,4 +263,4 @@ module _ {C : Type 0} (link : C → Link (List ℕ)) (steps : C → Call (List �
       → IsLive p.calling.stage → IsLive p.called.stage → HasGoneOn link (journal ++ made) new x y p
   settles_on count old made new settles journal hall queue x y p s ex all f live live_there =
       let on = settles_so count old made new settles journal hall queue x y p s ex all f live live_there in
-      record { happenings = on.happenings; next = on.next; leads = on.leads; clock = on.clock; goes = elim on.goes [ inl idle ↦ inl idle | inr stopped ↦ inr stopped.ended ] }
+      record { happenings = on.happenings; next = on.next; leads = on.leads; handed = on.handed; clock = on.clock; goes = elim on.goes [ inl idle ↦ inl idle | inr stopped ↦ inr stopped.ended ] }

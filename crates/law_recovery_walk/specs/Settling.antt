@@ -1,12 +1,13 @@
 -- A settle since when nothing is lost, as steps of a pair (X.213, queue model; X.214, queue model).
 use Rattle.std.specs.Prelude.{◌≡◌, ◌⊎◌, ℕ, List, []}
+use Rattle.std.specs.List.{AllByRecursion}
 use Rattle.osi_base.specs.Link.{Link}
 use Rattle.osi_base.specs.declared.unit.Unit.{Unit as CarriedUnit}
 use Rattle.script_journal.specs.Lawful.{ArePartners, shown, submitted}
 use Rattle.script_journal.specs.declared.event.Event.{Event}
 use Rattle.tp4_conn.specs.declared.states.InOpened.{InOpened}
 use Rattle.tp4_conn.specs.declared.states.StateData.TheVariants.{Opened}
-use Rattle.law_tp4_pair.specs.Pair.{Happening, IsIdle, Leads, Pair}
+use Rattle.law_tp4_pair.specs.Pair.{Comes_back, Comes_forth, Happening, IsIdle, Leads, Pair}
 use Rattle.tp4_world.specs.World.{World}
 use Rattle.law_calm_run.specs.Run.{HaveEntities}
 use Rattle.law_calm_run.proofs.Hall.{AreWaiting, Hall}
@@ -17,11 +18,17 @@ use Rattle.law_recovery_walk.specs.Following.{IsFollowed, IsLive, Stands}
 abbrev pub IsEnded : Pair → Type 0
 IsEnded p = IsLive p.calling.stage → IsLive p.called.stage → ⊥
 
--- the pair went on, and its clock stands: nothing waits any more, and it has the two ends still, with the units of the journal; or one of them is neither Opened nor Closing
+-- the first TPDU that waits for one of the two is handed over
+abbrev pub IsHandedOver : Happening → Type 0
+IsHandedOver happening = (happening ≡ Comes_forth) ⊎ (happening ≡ Comes_back)
+
+-- The pair went on by what was handed over, and its clock stands: nothing waits any more, and it has the two ends still, with the units of the journal; or one of them is neither Opened nor
+-- Closing
 pub record HasGoneOn {C : Type 0} (link : C → Link (List ℕ)) (journal : List Event) (new : World C) (x y : ℕ) (p : Pair) : Type 0 where
   pub happenings : List Happening
   pub next : Pair
   pub leads : Leads p happenings next
+  pub handed : AllByRecursion IsHandedOver happenings
   pub clock : next.clock ≡ p.clock
   pub goes : (IsIdle next × IsFollowed link journal new [] x y next) ⊎ IsEnded next
 

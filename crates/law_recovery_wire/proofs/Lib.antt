@@ -1,2 +1,2 @@
-mod Recovered
+pub mod Recovered
 pub mod Wired

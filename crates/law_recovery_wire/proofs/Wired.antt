@@ -15,8 +15,8 @@ use Rattle.tp4_world.specs.Wire.{world_on_wire}
 use Rattle.tp4_world.specs.World.{World}
 use Rattle.tp4_world.specs.declared.place.Placed.{Placed}
 use Rattle.law_calm_service.proofs.Wired.{no_ends}
-use Rattle.law_recovery_run.specs.Run.{RunsOn}
-use Rattle.law_recovery_service.specs.Recovered.{Recovered}
+use Rattle.law_recovery_run.specs.Run.{Recovers, RunsOn}
+use Rattle.law_recovery_service.specs.Service.{Recovered}
 use Rattle.law_recovery_wire.specs.Laws.{RecoversOnWire}
 use Rattle.law_recovery_wire.proofs.Recovered.{recovered_on_wire}
 
@@ -35,16 +35,17 @@ module _ {C : Type 0} (link : C → Link (List ℕ)) (steps : C → Call (List �
       let rest = lines_above titles script first.0 run.2 last (subst (λ (w : World C). RunsLines link steps wire titles w script run.2 last) first.2 run.5) in
       record { up = rest.up; runs = (first.0, run.1, run.2, first.1, run.4, rest.runs); is = rest.is }
 
-  -- a run that recovers
-  record RunsAbove (titles : List (List ℕ)) (first at_t0 last : World C) (script : List Line) (early late : List Event) : Type 0 where
-    mid : World C
-    end : World C
-    run : RunsOn link steps whole titles first mid end script early late
-    mid_is : at_t0 ≡ world_on_wire mid
-    end_is : last ≡ world_on_wire end
+  -- a run that recovers, with the same lines before its `settle`
+  pub record RunsAbove (titles : List (List ℕ)) (first at_t0 last : World C) (script : List Line) (early late : List Event) (recovers : Recovers script) : Type 0 where
+    pub mid : World C
+    pub end : World C
+    pub run : RunsOn link steps whole titles first mid end script early late
+    pub same : run.recovers ≡ recovers
+    pub mid_is : at_t0 ≡ world_on_wire mid
+    pub end_is : last ≡ world_on_wire end
 
-  run_above : (titles : List (List ℕ)) (first at_t0 last : World C) (script : List Line) (early late : List Event) → AllByRecursion (λ (one : Placed). HasNoEnd one.entity) first.entities
-      → RunsOn link steps wire titles first at_t0 last script early late → RunsAbove titles first at_t0 last script early late
+  pub run_above : (titles : List (List ℕ)) (first at_t0 last : World C) (script : List Line) (early late : List Event) → AllByRecursion (λ (one : Placed). HasNoEnd one.entity) first.entities
+      → (r : RunsOn link steps wire titles first at_t0 last script early late) → RunsAbove titles first at_t0 last script early late r.recovers
   run_above titles first at_t0 last script early late none r =
       let front = whole_run titles first r.recovers.before r.front r.old none r.early_run in
       let settle = whole_line titles front.0 lines.Settle r.here at_t0 (subst (λ (w : World C). RunsLine link steps wire titles w lines.Settle r.here at_t0) front.2 r.settle_run) in
@@ -66,6 +67,7 @@ module _ {C : Type 0} (link : C → Link (List ℕ)) (steps : C → Call (List �
           proper = r.proper;
           unrouted = r.unrouted;
         };
+        same = refl;
         mid_is = settle.2;
         end_is = back.is;
       }

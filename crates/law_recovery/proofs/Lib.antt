@@ -1,0 +1,3 @@
+pub mod Recovering
+pub mod Walking
+pub mod Wired
