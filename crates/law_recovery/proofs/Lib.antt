@@ -1,3 +1,2 @@
 pub mod Recovering
 pub mod Walking
-pub mod Wired

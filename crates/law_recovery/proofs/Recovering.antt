@@ -19,7 +19,7 @@ use Rattle.law_recovery.specs.Laws.{WalkedRecover}
 module _ {C : Type 0} (link : C → Link (List ℕ)) (steps : C → Call (List ℕ) → C → Type 0) (calls_of : RunsAreCalls link steps whole) (ready_of : RunsAreReady link steps) (goes_of : RunsGoOn link steps)
     (opened_of : OpenedAreFollowed link steps) (numbers_of : EndsHaveNumbers link steps) (pairs_of : FollowedArePairs link steps) (back_of : FollowedAreBack link steps) (tell_of : WalkedTell link steps) where
   pub walked_recover : WalkedRecover link steps
-  walked_recover titles begins walked timers made placed begun early late script first at_t0 last begins_is timed low distinct have is_first untouched starts run once calling called x y o q ends x_is y_is x_open y_open =
+  walked_recover titles begins walked timers made placed begun early late script first at_t0 last begins_is timed low distinct have is_first untouched starts run calling called x y o q ends x_is y_is x_open y_open =
       elim come.outcome [ inl still ↦ inl (back still) | inr gone ↦ inr gone ]
     where
       started : HasStarted link steps titles timers begun first
@@ -29,7 +29,7 @@ module _ {C : Type 0} (link : C → Link (List ℕ)) (steps : C → Call (List �
       calls = calls_of titles timers begun early late first at_t0 last script started run
 
       ready : IsReady link steps titles begins at_t0
-      ready = subst (λ (state : C). IsReady link steps titles state at_t0) begins_is (ready_of titles timers begun early late first at_t0 last script started run once)
+      ready = subst (λ (state : C). IsReady link steps titles state at_t0) begins_is (ready_of titles timers begun early late first at_t0 last script started run)
 
       two : Pair
       two = pair_at (link at_t0.carrier).clock (begun ++ early) calling called x y

@@ -2,19 +2,10 @@
 use Rattle.std.specs.Prelude.{ℕ, List}
 use Rattle.osi_base.specs.Calls.{Call}
 use Rattle.osi_base.specs.Link.{Link}
-use Rattle.tp4_number.specs.Number.{whole, wire}
-use Rattle.law_recovery_run.specs.Ordered.{OnPrompt}
-use Rattle.law_recovery.specs.Recovery.{RecoversWithoutRestart}
+use Rattle.tp4_number.specs.Number.{whole}
+use Rattle.law_recovery_service.specs.Service.{RecoversFrom}
 use Rattle.law_recovery_telling.specs.Walked.{AreWalked}
 
 -- where lines are steps of each two ends that know each other, the ends of each run recover
 abbrev pub WalkedRecover : {C : Type 0} → (C → Link (List ℕ)) → (C → Call (List ℕ) → C → Type 0) → Type 0
-WalkedRecover {C} link steps = (titles : List (List ℕ)) (begins : C) → AreWalked link steps titles begins → RecoversWithoutRestart link steps whole titles begins
-
--- and where they do over whole numbers, they do over the numbers of the wire
-abbrev pub RecoversOnWire : {C : Type 0} → (C → Link (List ℕ)) → (C → Call (List ℕ) → C → Type 0) → Type 0
-RecoversOnWire {C} link steps = (titles : List (List ℕ)) (begins : C) → RecoversWithoutRestart link steps whole titles begins → RecoversWithoutRestart link steps wire titles begins
-
--- so they do over each carrier that serves again once nothing is lost
-abbrev pub RecoverOnPrompt : {C : Type 0} → (C → Link (List ℕ)) → (C → Call (List ℕ) → C → Type 0) → (ℕ → ℕ → ℕ) → Type 0
-RecoverOnPrompt link steps wrap = OnPrompt link steps (λ titles begins Waits. RecoversWithoutRestart link steps wrap titles begins)
+WalkedRecover {C} link steps = (titles : List (List ℕ)) (begins : C) → AreWalked link steps titles begins → RecoversFrom link steps whole titles begins

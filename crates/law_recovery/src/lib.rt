@@ -3,4 +3,4 @@
 
 mod laws;
 
-pub use laws::{recovers_on_wire, runs_recover, walked_recover};
+pub use laws::{runs_recover, walked_recover};

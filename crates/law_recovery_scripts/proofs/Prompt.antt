@@ -12,11 +12,10 @@ use Rattle.law_clnp_fifo.specs.Calm.{titles_of}
 use Rattle.law_clnp_fifo.specs.Reached.{Reached}
 use Rattle.law_clnp_fifo.specs.Waiting.{Waits}
 use Rattle.law_clnp_fifo.proofs.Prompt.{is_prompt}
-use Rattle.law_recovery.specs.Recovery.{RecoversWithoutRestart}
 use Rattle.law_recovery_run.specs.Ordered.{LeadsOn, ReachedFrom}
 use Rattle.law_recovery_service.specs.Service.{RecoversFrom}
 use Rattle.law_run.specs.World.{Net, NetDoes, link_of_net}
-use Rattle.law_recovery_scripts.specs.Laws.{NetsArePrompt, NetsRecover, NetsRecoverWithoutRestart}
+use Rattle.law_recovery_scripts.specs.Laws.{NetsArePrompt, NetsRecover}
 
 module _ {C : Type 0} (link : C → Link (List ℕ)) (steps : C → Call (List ℕ) → C → Type 0) (titles : List (List ℕ)) where
   -- one call more
@@ -48,10 +47,4 @@ nets_prompt rows first second here there begins calm reached =
 pub nets_recover : ((titles : List (List ℕ)) (begins : Net) (Waiting : Net → List (CarriedUnit (List ℕ)) → Type 0) → IsPrompt link_of_net NetDoes titles (ReachedFrom link_of_net NetDoes titles begins) Waiting
     → RecoversFrom link_of_net NetDoes whole titles begins) → NetsRecover whole
 nets_recover recovers rows first second here there begins calm reached =
-    recovers (titles_of first second) begins (Waits rows first second here there) (nets_prompt rows first second here there begins calm reached)
-
--- so it is where no system began again before
-pub nets_recover_once : ((titles : List (List ℕ)) (begins : Net) (Waiting : Net → List (CarriedUnit (List ℕ)) → Type 0) → IsPrompt link_of_net NetDoes titles (ReachedFrom link_of_net NetDoes titles begins) Waiting
-    → RecoversWithoutRestart link_of_net NetDoes whole titles begins) → NetsRecoverWithoutRestart whole
-nets_recover_once recovers rows first second here there begins calm reached =
     recovers (titles_of first second) begins (Waits rows first second here there) (nets_prompt rows first second here there begins calm reached)

@@ -27,9 +27,6 @@ use Rattle.law_setup_times.specs.Laws.{ScriptsAreOrdered}
 use Rattle.script_world.specs.Transports.{TransportRun}
 use Rattle.script_world.specs.declared.play.World.TheVariants.{Running}
 use Rattle.script_world.proofs.Headline.{distinct, untouched}
-use Rattle.law_recovery.specs.Laws.{RecoversOnWire as RecoversOnceOnWire}
-use Rattle.law_recovery.specs.Recovery.{RecoversWithoutRestart}
-use Rattle.law_recovery_ready.specs.Ready.{HasNoRestart}
 use Rattle.law_recovery_run.specs.Run.{RunsOn}
 use Rattle.law_recovery_service.specs.Recovered.{Recovered}
 use Rattle.law_recovery_service.specs.Service.{RecoversFrom}
@@ -39,7 +36,7 @@ use Rattle.law_run.proofs.Calm.{have}
 use Rattle.law_run.proofs.CalmNet.{MakesCalm, makes_calm}
 use Rattle.law_run.proofs.CalmRun.{StartsFrom, all_unrouted, starts_from_nothing}
 use Rattle.law_run.proofs.Lawful.{RunsOn as Ran, runs_on}
-use Rattle.law_recovery_scripts.specs.Laws.{NetsRecover, NetsRecoverWithoutRestart, ScriptsRecover, ScriptsRecoverWithoutRestart}
+use Rattle.law_recovery_scripts.specs.Laws.{NetsRecover, ScriptsRecover}
 use Rattle.law_recovery_scripts.specs.Recovery.{RunsRecovering}
 use Rattle.law_recovery_scripts.proofs.Parts.{SaysBoth, lines_parts, says_joined, says_parts, set_by, settle_alone}
 
@@ -53,9 +50,6 @@ same_run one other is = cc is
 -- over the numbers of the wire
 nets_on_wire : RecoversOnWire link_of_net NetDoes → NetsRecover whole → NetsRecover wire
 nets_on_wire on_wire nets rows first second here there begins calm reached = on_wire _ begins (nets rows first second here there begins calm reached)
-
-nets_once_on_wire : RecoversOnceOnWire link_of_net NetDoes → NetsRecoverWithoutRestart whole → NetsRecoverWithoutRestart wire
-nets_once_on_wire on_wire nets rows first second here there begins calm reached = on_wire _ begins (nets rows first second here there begins calm reached)
 
 -- ---- what was set up
 
@@ -71,11 +65,6 @@ module _ (setup : SetUp) (calm : MakesCalm setup) (made : List Event) (mid : Wor
   recovers_from : NetsRecover wire → RecoversFrom link_of_net NetDoes wire (titles_said setup) starts.1.carrier
   recovers_from nets =
       subst (λ (titles : List (List ℕ)). RecoversFrom link_of_net NetDoes wire titles starts.1.carrier) (sym calm.titles)
-      (nets setup.ports calm.first calm.second calm.here calm.there starts.1.carrier calm.calm begins_known)
-
-  recovers_once_from : NetsRecoverWithoutRestart wire → RecoversWithoutRestart link_of_net NetDoes wire (titles_said setup) starts.1.carrier
-  recovers_once_from nets =
-      subst (λ (titles : List (List ℕ)). RecoversWithoutRestart link_of_net NetDoes wire titles starts.1.carrier) (sym calm.titles)
       (nets setup.ports calm.first calm.second calm.here calm.there starts.1.carrier calm.calm begins_known)
 
 -- ---- a script that runs so
@@ -170,19 +159,6 @@ module _ (texts : List (List ℕ)) (script : List Line) (names : Declared) (titl
       (are_timed found.setup.life found.setup.limits found.well.limits found.well.times.most_life) (ordered law) (distinct (titles_said found.setup) found.well.distinct) (have found.setup calm)
       (record { carrier_is = begins_first found.setup found.starts.0 found.starts.2; entities = entities_new found.setup }) (untouched found.setup) found.starts.3 on))
 
-  recovered_once : NetsRecoverWithoutRestart wire → ScriptsAreOrdered → HasNoRestart before → Recovered link_of_net timers at_t0 last early late
-  unfolding on
-  recovered_once nets law once =
-      subst (λ (events : List Event). Recovered link_of_net timers at_t0 last events late) (sym found.journal_is)
-      (subst (λ (t : Timers). Recovered link_of_net t at_t0 last (found.made ++ found.rest) late) (sym (ap (λ (r : TransportRun Net). r.timers) same))
-      (recovers_once_from found.setup calm found.made found.mid found.starts nets times found.starts.0 (entities_of found.setup) found.made found.rest late runs.parts.run first at_t0 last refl
-      (are_timed found.setup.life found.setup.limits found.well.limits found.well.times.most_life) (ordered law) (distinct (titles_said found.setup) found.well.distinct) (have found.setup calm)
-      (record { carrier_is = begins_first found.setup found.starts.0 found.starts.2; entities = entities_new found.setup }) (untouched found.setup) found.starts.3 on once))
-
 pub scripts_recover : RecoversOnWire link_of_net NetDoes → ScriptsAreOrdered → NetsRecover whole → ScriptsRecover
 scripts_recover on_wire law nets texts script names titles timers early late at_t0 last says runs =
     recovered texts script names titles timers early late at_t0 last says runs (nets_on_wire on_wire nets) law
-
-pub scripts_recover_once : RecoversOnceOnWire link_of_net NetDoes → ScriptsAreOrdered → NetsRecoverWithoutRestart whole → ScriptsRecoverWithoutRestart
-scripts_recover_once on_wire law nets texts script names titles timers early late at_t0 last says runs once =
-    recovered_once texts script names titles timers early late at_t0 last says runs (nets_once_on_wire on_wire nets) law once

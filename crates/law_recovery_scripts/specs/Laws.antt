@@ -14,12 +14,10 @@ use Rattle.script_lines.specs.declared.line.Line.{Line}
 use Rattle.script_lines.specs.declared.words.Dialect.TheVariants as dialects
 use Rattle.tp4_conn.specs.declared.timers.Timers.{Timers}
 use Rattle.law_recovery_run.specs.Ordered.{ReachedFrom}
-use Rattle.law_recovery.specs.Recovery.{RecoversWithoutRestart}
-use Rattle.law_recovery_ready.specs.Ready.{HasNoRestart}
 use Rattle.law_recovery_service.specs.Recovered.{Recovered}
 use Rattle.law_recovery_service.specs.Service.{RecoversFrom}
 use Rattle.law_run.specs.World.{Net, NetDoes, TransportNet, link_of_net}
-use Rattle.law_recovery_scripts.specs.Recovery.{RecoversWhereKept, RecoversWhereNoneRestarts, RunsRecovering}
+use Rattle.law_recovery_scripts.specs.Recovery.{RecoversWhereKept, RunsRecovering}
 
 -- ---- networks
 
@@ -43,20 +41,3 @@ ScriptsRecover = (texts : List (List ℕ)) (script : List Line) (names : Declare
 -- whatever octets are read
 abbrev pub OctetsRecover : Type 0
 OctetsRecover = (octets : List ℕ) → RecoversWhereKept octets
-
--- ---- where no line before the recovering `settle` is a `restart` line
-
--- the ends of each run of a network of two end systems on one LAN recover
-abbrev pub NetsRecoverWithoutRestart : (ℕ → ℕ → ℕ) → Type 0
-NetsRecoverWithoutRestart wrap = (rows : List PortRow) (first second : Setting) (here there : Port) (begins : Net) → IsCalmNet rows first second here there → Reached rows first second begins
-    → RecoversWithoutRestart link_of_net NetDoes wrap (titles_of first second) begins
-
--- and so do those of each script whose lines were read
-abbrev pub ScriptsRecoverWithoutRestart : Type 0
-ScriptsRecoverWithoutRestart = (texts : List (List ℕ)) (script : List Line) (names : Declared) (titles : List (List ℕ)) (timers : Timers) (early late : List Event) (at_t0 last : TransportNet)
-    → Says (nothing_declared dialects.Run) texts script names → (runs : RunsRecovering script titles timers early late at_t0 last) → HasNoRestart runs.parts.recovers.before
-    → Recovered link_of_net timers at_t0 last early late
-
--- whatever octets are read
-abbrev pub OctetsRecoverWithoutRestart : Type 0
-OctetsRecoverWithoutRestart = (octets : List ℕ) → RecoversWhereNoneRestarts octets

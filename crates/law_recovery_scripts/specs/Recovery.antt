@@ -11,7 +11,6 @@ use Rattle.tp4_conn.specs.declared.timers.Timers.{Timers}
 use Rattle.line_loop.specs.Writing.{IsPrefix}
 use Rattle.law_tp4_pair.specs.Calm.{IsOneLan}
 use Rattle.law_recovery_run.specs.Run.{IsKept, Recovers}
-use Rattle.law_recovery_ready.specs.Ready.{HasNoRestart}
 use Rattle.law_recovery_service.specs.Recovered.{Recovered}
 use Rattle.law_run.specs.Bench.{Bench}
 use Rattle.law_run.specs.Transcript.{IsRun, RanWhole, lines_handled}
@@ -37,11 +36,4 @@ pub record RunsRecovering (script : List Line) (titles : List (List ℕ)) (timer
 abbrev pub RecoversWhereKept : List ℕ → Type 0
 RecoversWhereKept octets = (front : List ℕ) (journal : List Event) (last : Bench) → IsPrefix front octets → (run : IsRun front journal last) → RanWhole front journal last run
     → (titles : List (List ℕ)) (timers : Timers) (early late : List Event) (at_t0 ends : TransportNet) → RunsRecovering (lines_handled front journal last run) titles timers early late at_t0 ends
-    → Recovered link_of_net timers at_t0 ends early late
-
--- where no line before that `settle` is a `restart` line
-abbrev pub RecoversWhereNoneRestarts : List ℕ → Type 0
-RecoversWhereNoneRestarts octets = (front : List ℕ) (journal : List Event) (last : Bench) → IsPrefix front octets → (run : IsRun front journal last) → RanWhole front journal last run
-    → (titles : List (List ℕ)) (timers : Timers) (early late : List Event) (at_t0 ends : TransportNet)
-    → (runs : RunsRecovering (lines_handled front journal last run) titles timers early late at_t0 ends) → HasNoRestart runs.parts.recovers.before
     → Recovered link_of_net timers at_t0 ends early late

@@ -3,4 +3,4 @@
 
 mod laws;
 
-pub use laws::{nets_are_prompt, nets_recover, scripts_recover, scripts_recover_without_restart};
+pub use laws::{nets_are_prompt, nets_recover, scripts_recover};

@@ -5,4 +5,4 @@ returns-clause-whole_numbers g c titles begins queue_of prompt = c.walked_recove
 
 pub returns-clause-wire_numbers : goal.returns-clause-wire_numbers
 returns-clause-wire_numbers g c titles begins queue_of prompt =
-    c.recovers_on_wire.ensures titles begins (c.walked_recover.ensures titles begins (c.runs_are_told.ensures titles begins queue_of prompt))
+    c.recovers_on_wire.ensures.begins titles begins (c.walked_recover.ensures titles begins (c.runs_are_told.ensures titles begins queue_of prompt))

@@ -2,12 +2,12 @@ use Rattle.law_tp4_lawful.proofs.ActsLines.{Flowing}
 use Rattle.law_setup.proofs.Made.{net_law}
 use Rattle.law_recovery.proofs.Walking.{walked}
 use Rattle.law_run.specs.World.{NetDoes, link_of_net}
-use Rattle.law_recovery_scripts.proofs.Prompt.{nets_recover_once}
+use Rattle.law_recovery_scripts.proofs.Prompt.{nets_recover}
 use Rattle.law_recovery_scripts.proofs.laws.nets_recover.Goals as goal
 
 pub returns : goal.returns
 returns c =
     let flow = c.flowed.ensures in
     let flowing : Flowing = record { step = flow.step; partner = flow.partner; later = flow.later; offered = flow.offered; plain = flow.plain; noted = flow.noted } in
-    nets_recover_once (λ titles begins Waiting prompt.
+    nets_recover (λ titles begins Waiting prompt.
     c.walked_recover.ensures titles begins (walked link_of_net NetDoes net_law flowing flow.known c.journals_are_lawful.ensures.begins c.moved.ensures.going titles begins Waiting prompt))
