@@ -13,7 +13,8 @@ use Rattle.tp4_number.proofs.Past.{if_kept, kept_low}
 use Rattle.tp4_number.proofs.Sound.{Sound, reads}
 use Rattle.tp4_number.proofs.Steps.{all_sound}
 use Rattle.tp4_sending.specs.Pieces.{count_in, cut_at}
-use Rattle.law_tp4_history.proofs.Complete.{AllFull, Complete, one_piece, shown_on}
+use Rattle.law_tp4_history.specs.Complete.{AllFull, Complete}
+use Rattle.law_tp4_history.proofs.Complete.{one_piece, shown_on}
 use Rattle.law_tp4_recovery.specs.Views.{IsWithin}
 use Rattle.law_recovery_going.specs.Fitting.{AllShort, HasPieces, IsReadIn}
 

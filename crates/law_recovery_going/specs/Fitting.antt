@@ -5,7 +5,7 @@ use Rattle.tp4_number.specs.Receiver.{Receiver, judged}
 use Rattle.tp4_number.specs.declared.got.Got.TheVariants.{Kept}
 use Rattle.tp4_number.specs.declared.piece.Piece.{Piece}
 use Rattle.tp4_sending.specs.Pieces.{cut_at}
-use Rattle.law_tp4_history.proofs.Complete.{AllFull, Complete}
+use Rattle.law_tp4_history.specs.Complete.{AllFull, Complete}
 
 -- each unit has at most 16,384 octets
 abbrev pub AllShort : List (List ℕ) → Type 0

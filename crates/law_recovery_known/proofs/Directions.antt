@@ -34,7 +34,7 @@ use Rattle.law_tp4_history.specs.Ends.{Terms}
 use Rattle.law_tp4_history.specs.History.{IsPartner}
 use Rattle.law_tp4_history.specs.Line.{empty}
 use Rattle.law_tp4_history.specs.Tracks.{IsRun, Track, Whole}
-use Rattle.law_tp4_history.proofs.Complete.{Complete}
+use Rattle.law_tp4_history.specs.Complete.{Complete}
 use Rattle.law_tp4_history.proofs.Lines.{Fine, fine_empty, fine_runs, line_sound}
 use Rattle.law_tp4_history.proofs.Meets.{swap}
 use Rattle.law_tp4_history.proofs.Sound.{one_partner}

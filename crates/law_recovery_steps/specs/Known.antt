@@ -17,7 +17,7 @@ use Rattle.tp4_conn.specs.declared.states.InOpened.{InOpened}
 use Rattle.tp4_conn.specs.declared.states.StateData.TheVariants.{Opened}
 use Rattle.law_recovery_ends.specs.Due.{AreTriedBy, IsTriedBy}
 use Rattle.script_journal.specs.Lawful.{expediteds, normals}
-use Rattle.law_tp4_history.proofs.Complete.{AllFull, Complete}
+use Rattle.law_tp4_history.specs.Complete.{AllFull, Complete}
 use Rattle.law_tp4_pair.specs.Pair.{Account, IsIdle, Pair, back_units, forth_units}
 use Rattle.law_tp4_pair.specs.steps.Flowing.{IsOrdered}
 

@@ -6,7 +6,7 @@ use Rattle.tp4_flow.specs.Half.{Half}
 use Rattle.tp4_sending.specs.FlowSender.{FlowSender}
 use Rattle.tp4_sending.specs.Pieces.{count_in}
 use Rattle.script_journal.specs.Lawful.{expediteds, normals}
-use Rattle.law_tp4_history.proofs.Complete.{AllFull, Complete}
+use Rattle.law_tp4_history.specs.Complete.{AllFull, Complete}
 use Rattle.law_tp4_pair.specs.Pair.{Account}
 
 -- the sender keeps what is not acknowledged, what was shown are the units of the pieces below the number expected, and expedited units are shown in order. The receiver

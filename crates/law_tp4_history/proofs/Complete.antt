@@ -11,6 +11,7 @@ use Rattle.tp4_number.proofs.Past.{if_kept}
 use Rattle.tp4_number.specs.declared.piece.Piece.{Piece}
 use Rattle.tp4_number.specs.Window.{Joined, joined, joined_by, begun_by, is_larger}
 use Rattle.tp4_sending.specs.Pieces.{count_in, cut_of, cut_at}
+use Rattle.law_tp4_history.specs.Complete.{AllFull, Begun, Complete}
 
 -- a unit has a piece for each `size` of its octets, and for the rest
 module _ (size len : ℕ) (some : 0 < size) where
@@ -43,22 +44,6 @@ module _ (size len : ℕ) (some : 0 < size) where
               absurd (omega (arith, more, suc-mul (len / size) size, h, whole, rest)))
         ]
       ]
-
--- each unit has octets
-abbrev pub AllFull : List (List ℕ) → Type 0
-AllFull [] = record {}
-AllFull (unit ∷ units) = (0 < length unit) × AllFull units
-
--- n pieces of the first unit were joined to this
-abbrev pub Begun : ℕ → List (List ℕ) → ℕ → List ℕ → Type 0
-Begun size [] n begun = (n ≡ 0) × (begun ≡ [])
-Begun size (unit ∷ units) n begun = (n * size < length unit) × (begun ≡ take (n * size) unit)
-
--- the first n pieces of the units were joined to these units, and to the octets of the next
-abbrev pub Complete : ℕ → List (List ℕ) → ℕ → List (List ℕ) → List ℕ → Type 0
-Complete size units n [] begun = Begun size units n begun
-Complete size [] n (s ∷ shown) begun = ⊥
-Complete size (unit ∷ units) n (s ∷ shown) begun = (s ≡ unit) × (count_in size unit ≤ n) × Complete size units (n - count_in size unit) shown begun
 
 -- the unit in which piece n stands
 abbrev pub unit_at : ℕ → List (List ℕ) → ℕ → ℕ

@@ -23,7 +23,8 @@ use Rattle.tp4_number.proofs.Past.{if_kept, kept_low}
 use Rattle.tp4_number.proofs.Expedited.{all_alone, all_obey}
 use Rattle.script_journal.specs.Lawful.{Marked, Normal, Expedited, normals, expediteds, befores, IsQueue}
 use Rattle.law_tp4_history.specs.Line.{all_normal, Line, Happening, Submit, Clock, Flows, Expedites, IsUnit, CarriesPiece, CarriesUnit, urged_by, Can, next, Runs, empty}
-use Rattle.law_tp4_history.proofs.Complete.{AllFull, Complete, unit_at, front, complete_more, full_more, cut_more, shown_whole, unit_low, Joins, joins}
+use Rattle.law_tp4_history.specs.Complete.{AllFull, Complete}
+use Rattle.law_tp4_history.proofs.Complete.{unit_at, front, complete_more, full_more, cut_more, shown_whole, unit_low, Joins, joins}
 use Rattle.law_tp4_history.proofs.Marks.{normals-append, expediteds-append, normals_all, expediteds_all, befores_low, befores_kept, befores_new}
 use Rattle.law_tp4_history.proofs.Outstanding.{IsOutstanding, outstanding_event, outstanding_quiet, urgently_more}
 

@@ -12,7 +12,7 @@ use Rattle.tp4_conn.specs.End.{Moved}
 use Rattle.script_journal.specs.Lawful.{Marked, normals}
 use Rattle.tp4_flow.specs.declared.step.EndEvent.{EndEvent}
 use Rattle.tp4_number.specs.declared.piece.Piece.{Piece}
-use Rattle.law_tp4_history.proofs.Complete.{AllFull}
+use Rattle.law_tp4_history.specs.Complete.{AllFull}
 use Rattle.law_tp4_moves.specs.Lines.{shown_in}
 use Rattle.law_tp4_pair.specs.Pair.{Account}
 use Rattle.law_tp4_pair.specs.steps.Carrying.{Carries, pieces_in, units_in}

@@ -23,7 +23,8 @@ use Rattle.tp4_sending.specs.declared.tries.Tries.{Tries}
 use Rattle.tp4_sending.proofs.Goings.{piece_there}
 use Rattle.law_tp4_moves.specs.Lines.{shown_in}
 use Rattle.law_tp4_moves.proofs.FlowUnits.{cut_behind, freed_front}
-use Rattle.law_tp4_history.proofs.Complete.{AllFull, Complete, complete_more, cut_more, full_more, one_piece, shown_on}
+use Rattle.law_tp4_history.specs.Complete.{AllFull, Complete}
+use Rattle.law_tp4_history.proofs.Complete.{complete_more, cut_more, full_more, one_piece, shown_on}
 use Rattle.law_tp4_pair.specs.steps.Carrying.{AreLeft, ArePieces, Carries, piece_in, pieces_in, unit_in, units_in}
 use Rattle.law_tp4_pair.specs.steps.Flowing.{HasUnit, IsOrdered}
 use Rattle.law_tp4_pair.specs.steps.Waiting.{dt_in, dts_in, ed_in, eds_in, wires}

@@ -17,7 +17,7 @@ use Rattle.tp4_sending.proofs.Frees.{freed_left}
 use Rattle.tp4_sending.proofs.Settles.{new_settled}
 use Rattle.tp4_number.specs.declared.piece.Piece.{Piece}
 use Rattle.script_journal.specs.Lawful.{Marked, normals}
-use Rattle.law_tp4_history.proofs.Complete.{AllFull}
+use Rattle.law_tp4_history.specs.Complete.{AllFull}
 use Rattle.law_tp4_moves.specs.Lines.{shown_in}
 use Rattle.law_tp4_pair.specs.steps.Carrying.{Carries, pieces_in, units_in}
 use Rattle.law_tp4_pair.proofs.Carried.{carries_at, empty_by, freed_carry, sends_carry, wires_count}

@@ -26,7 +26,7 @@ use Rattle.law_tp4_moves.specs.Lines.{given, shown_in}
 use Rattle.tp4_conn.specs.Table.{Called, at, on_call}
 use Rattle.tp4_conn.specs.UserWait.{user_wait_accept}
 use Rattle.script_journal.specs.Lawful.{expediteds, normals}
-use Rattle.law_tp4_history.proofs.Complete.{Complete}
+use Rattle.law_tp4_history.specs.Complete.{Complete}
 use Rattle.law_tp4_pair.specs.steps.Carrying.{AreLeft, Carries}
 use Rattle.law_tp4_pair.specs.steps.Flowing.{IsCalm}
 use Rattle.law_tp4_pair.specs.Pair.{Accepts, Account, Asks_called, IsIdle, IsNew, Pair, back_units, forth_units, next}

@@ -11,7 +11,7 @@ use Rattle.tp4_flow.specs.declared.step.Sent.{Sent}
 use Rattle.tp4_sending.specs.FlowSender.{FlowSender}
 use Rattle.tp4_sending.specs.Pieces.{count_in, cut_at}
 use Rattle.tp4_sending.specs.declared.tries.Tries.{Tries}
-use Rattle.law_tp4_history.proofs.Complete.{AllFull, Complete}
+use Rattle.law_tp4_history.specs.Complete.{AllFull, Complete}
 
 -- the pieces of DTs, the units of EDs
 abbrev pub piece_in : Tpdu → List Piece
