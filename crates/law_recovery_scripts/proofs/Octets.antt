@@ -11,7 +11,7 @@ use Rattle.law_run.specs.Bench.{Bench, bench_meaning, first_bench}
 use Rattle.law_run.specs.Transcript.{IsRun, RanWhole, lines_handled, lines_run, texts_in}
 use Rattle.law_run.specs.World.{TransportNet, link_of_net, world_acts}
 use Rattle.law_recovery_scripts.specs.Laws.{OctetsRecover, ScriptsRecover}
-use Rattle.law_recovery_scripts.specs.Recovery.{RunsRecovering}
+use Rattle.law_run.specs.Recovery.{RunsRecovering}
 
 module _ (law : ScriptsRecover) where
   texts_recover : (texts : List (List ℕ)) (journal : List Event) (last : Bench) (runs : Runs bench_meaning first_bench texts journal last) (titles : List (List ℕ)) (timers : Timers) (early late : List Event)

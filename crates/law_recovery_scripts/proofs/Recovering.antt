@@ -37,7 +37,7 @@ use Rattle.law_run.proofs.CalmNet.{MakesCalm, makes_calm}
 use Rattle.law_run.proofs.CalmRun.{StartsFrom, all_unrouted, starts_from_nothing}
 use Rattle.law_run.proofs.Lawful.{RunsOn as Ran, runs_on}
 use Rattle.law_recovery_scripts.specs.Laws.{NetsRecover, ScriptsRecover}
-use Rattle.law_recovery_scripts.specs.Recovery.{RunsRecovering}
+use Rattle.law_run.specs.Recovery.{RunsRecovering}
 use Rattle.law_recovery_scripts.proofs.Parts.{SaysBoth, lines_parts, says_joined, says_parts, set_by, settle_alone}
 
 -- what runs, with these titles and times

@@ -17,7 +17,8 @@ use Rattle.law_recovery_run.specs.Ordered.{ReachedFrom}
 use Rattle.law_recovery_service.specs.Recovered.{Recovered}
 use Rattle.law_recovery_service.specs.Service.{RecoversFrom}
 use Rattle.law_run.specs.World.{Net, NetDoes, TransportNet, link_of_net}
-use Rattle.law_recovery_scripts.specs.Recovery.{RecoversWhereKept, RunsRecovering}
+use Rattle.law_run.specs.Recovery.{RunsRecovering}
+use Rattle.law_run.specs.Transcript.{RecoversWhereKept}
 
 -- ---- networks
 

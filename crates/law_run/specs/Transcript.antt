@@ -15,10 +15,12 @@ use Rattle.script_bench.specs.Told.{OutcomeRun as OutcomeRunOf, RanScript as Ran
 use Rattle.script_lines.specs.declared.words.Dialect.TheVariants as dialects
 use Rattle.law_run.specs.Bench.{Bench, first_bench, bench_meaning, most_events}
 use Rattle.law_run.specs.Calm.{ServesUsers}
-use Rattle.law_run.specs.World.{TransportNet, frozen_of, life_of, running, strays_of, titles_of, world_acts, WorldRun}
+use Rattle.law_run.specs.Recovery.{RunsRecovering}
+use Rattle.law_run.specs.World.{TransportNet, frozen_of, life_of, link_of_net, running, strays_of, titles_of, world_acts, WorldRun}
 use Rattle.script_journal.specs.Lawful.{KeepsSilence, Lawful}
 use Rattle.script_journal.specs.RawLawful.{RawLawful}
 use Rattle.line_loop.specs.Writing.{IsPrefix}
+use Rattle.law_recovery_service.specs.Recovered.{Recovered}
 use Rattle.tp4_conn.specs.declared.timers.Timers.{Timers}
 
 -- the texts are the lines of a script, and by the run of the network they have this journal and leave that network; where that tells no
@@ -87,9 +89,15 @@ abbrev pub ServesWhereCalm : List ℕ → Type 0
 ServesWhereCalm octets = (front : List ℕ) (journal : List Event) (last : Bench) → IsPrefix front octets → (run : IsRun front journal last) → RanWhole front journal last run
     → (titles : List (List ℕ)) (timers : Timers) (ends : TransportNet) → last.world ≡ running titles timers ends → IsCalmScript (lines_handled front journal last run) → ServesUsers last.names journal titles ends
 
+-- whatever front of the octets was run whole: where its lines are such a script and ran so, its ends recover
+abbrev pub RecoversWhereKept : List ℕ → Type 0
+RecoversWhereKept octets = (front : List ℕ) (journal : List Event) (last : Bench) → IsPrefix front octets → (run : IsRun front journal last) → RanWhole front journal last run
+    → (titles : List (List ℕ)) (timers : Timers) (early late : List Event) (at_t0 ends : TransportNet) → RunsRecovering (lines_handled front journal last run) titles timers early late at_t0 ends
+    → Recovered link_of_net timers at_t0 ends early late
+
 -- of the octets read, what was written is told as the status says, and tells the run of the network for the lines of the
 -- script; whatever part of the octets was run, each raw unit that is shown was sent, and each end shows what its partner submitted,
--- unless a frame was injected; a system that began again is silent; where the lines are calm, nothing is missing; and no more was read than an input may have, and one read more
+-- unless a frame was injected; a system that began again is silent; where the lines are calm, nothing is missing; where they lose nothing any more, ends recover; and no more was read than an input may have, and one read more
 pub record IsTranscript (end : Type 0) (read written : List ℕ) (status : Status) : Type 0 where
   pub outcome : Outcome bench_meaning end first_bench read written status
   pub run : OutcomeRun end read written status outcome
@@ -97,4 +105,5 @@ pub record IsTranscript (end : Type 0) (read written : List ℕ) (status : Statu
   pub lawful : ShowsWhatWasSubmitted read
   pub silent : ShowsSilence read
   pub calm : ServesWhereCalm read
+  pub recovers : RecoversWhereKept read
   pub within : length read ≤ most_octets + most_read

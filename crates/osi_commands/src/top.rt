@@ -14,6 +14,7 @@ use crate::kinds::run_kind;
 use crate::laws::generated_scripts_are_lawful;
 use crate::storm::write_storm;
 use capture_decode::decode;
+use law_recovery_scripts::scripts_recover;
 use law_run::{NetWorld, calm_scripts_are_served, ends_are_lawful, systems_are_silent};
 use line_loop::write_last;
 use osi_base::{Bytes, NoMemory, PlainSink, PlainSource, Sink, Source, Status};
@@ -80,6 +81,7 @@ fn carry_out<S: Source, K: Sink>(
             ends_are_lawful();
             systems_are_silent();
             calm_scripts_are_served();
+            scripts_recover();
             run_script::<NetWorld, S, K>(alloc, source, sink)
         }
         Command::Frames => write_capture(alloc, source, sink),

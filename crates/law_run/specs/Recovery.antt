@@ -8,12 +8,8 @@ use Rattle.script_journal.specs.declared.event.Event.{Event}
 use Rattle.script_lines.specs.declared.line.Line.{Line}
 use Rattle.script_lines.specs.declared.line.Line.TheVariants as lines
 use Rattle.tp4_conn.specs.declared.timers.Timers.{Timers}
-use Rattle.line_loop.specs.Writing.{IsPrefix}
 use Rattle.law_tp4_pair.specs.Calm.{IsOneLan}
 use Rattle.law_recovery_run.specs.Run.{IsKept, Recovers}
-use Rattle.law_recovery_service.specs.Recovered.{Recovered}
-use Rattle.law_run.specs.Bench.{Bench}
-use Rattle.law_run.specs.Transcript.{IsRun, RanWhole, lines_handled}
 use Rattle.law_run.specs.World.{TransportNet, WorldRun, WorldRuns, link_of_net, running}
 
 -- two end systems on one LAN; and after the start, from one `settle` on, each line that does anything is settled, and none before it is an `inject` line
@@ -31,9 +27,3 @@ pub record RunsRecovering (script : List Line) (titles : List (List ℕ)) (timer
   pub none_left : IsLeastFresh (link_of_net at_t0.carrier) None
   pub late_run : WorldRuns (running titles timers at_t0) parts.recovers.after late (running titles timers last)
   pub kept : AllByRecursion IsKept late
-
--- whatever front of the octets was run whole: where its lines are such a script and ran so, its ends recover
-abbrev pub RecoversWhereKept : List ℕ → Type 0
-RecoversWhereKept octets = (front : List ℕ) (journal : List Event) (last : Bench) → IsPrefix front octets → (run : IsRun front journal last) → RanWhole front journal last run
-    → (titles : List (List ℕ)) (timers : Timers) (early late : List Event) (at_t0 ends : TransportNet) → RunsRecovering (lines_handled front journal last run) titles timers early late at_t0 ends
-    → Recovered link_of_net timers at_t0 ends early late
