@@ -9,7 +9,7 @@ use osi_base::Bytes;
 use std::collections::VecDeque;
 
 /// A piece of a unit that is lent.
-#[derive(Clone, Copy, Debug)]
+#[derive(Clone, Copy)]
 pub struct PieceRef<'a> {
     /// The unit ends with it.
     pub last: bool,
