@@ -7,3 +7,4 @@ pub mod Sweeping
 pub mod Routers
 pub mod Standing
 pub mod Swept
+pub mod Tagging

@@ -1,5 +1,5 @@
 -- What holds of every table and of the hellos that it heard (ISO 9542, record configuration function, flush old configuration function).
-use Rattle.std.specs.Prelude.{◌≡◌, ℕ, ◌+◌, ◌<◌, ◌≤◌, List, [], ◌∷◌, ◌++◌}
+use Rattle.std.specs.Prelude.{◌≡◌, ℕ, ◌<◌, ◌≤◌, List, [], ◌∷◌, ◌++◌}
 use Rattle.esis_tables.specs.Told.{IsRouter, Told, known_hop}
 use Rattle.esis_tables.specs.Rows.{IsTable, Rows, count_with, find_row, heard_table, router_in, swept_table}
 use Rattle.esis_tables.specs.Stands.{Stands}

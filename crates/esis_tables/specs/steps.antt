@@ -2,3 +2,4 @@
 pub mod Places
 pub mod Least
 pub mod Deadlines
+pub mod Tags

@@ -12,6 +12,7 @@ ghost use Rattle.esis_tables.specs.steps.Deadlines.{AreDeadlines, IsKept, IsList
 ghost use Rattle.esis_tables.specs.steps.Least.{IsLeastRouter, IsRouterHop, is_lesser};
 
 use crate::holding_time::{Heard, Row};
+use crate::rows::TaggedRows;
 use due_links::DueList;
 use nsap::{Hop, Nsap};
 use osi_base::{NoMemory, Tick};
@@ -47,8 +48,7 @@ impl From<NoMemory> for HearRefusal {
 pub struct AddressTable {
     alloc: Global,
     clock: Tick,
-    // A ring, of which the shorter part moves where a row goes: none where it is the first, which is mostly the one that was heard longest ago.
-    rows: VecDeque<Row>,
+    rows: TaggedRows,
     /// When rows are known no longer, in their order: a tick takes out those alone, and looks at none where none is due. Made by the first hello.
     due: Option<DueList>,
 }
@@ -61,9 +61,9 @@ impl Model for AddressTable {
 
     ghost Value = { Rows };
 
-    ghost view = { λ a. record { clock = a.clock; rows = a.rows.items } };
+    ghost view = { λ a. record { clock = a.clock; rows = a.rows } };
 
-    ghost invariant = { λ a. IsTable a.rows.items × IsDue a.due a.rows.items };
+    ghost invariant = { λ a. IsTable a.rows × IsDue a.due a.rows };
 }
 
 impl AddressTable {
@@ -74,7 +74,7 @@ impl AddressTable {
         AddressTable {
             alloc,
             clock: 0,
-            rows: VecDeque::new(alloc),
+            rows: TaggedRows::new(alloc),
             due: None,
         }
     }
@@ -83,7 +83,7 @@ impl AddressTable {
     pub fn find(&self, now: Tick, address: &Nsap) -> Option<Hop>
         ensures { result ≡ find_row self.now.rows now address.now }
     {
-        let row = self.row(address)?;
+        let row = self.rows.row(address)?;
         if row.is_known(now) {
             Some(row.heard.hop)
         } else {
@@ -95,7 +95,7 @@ impl AddressTable {
     pub fn is_empty(&self) -> bool
         ensures { IsTrue result ↔ (self.now.rows ≡ []) }
     {
-        self.rows.is_empty()
+        self.rows.ring().is_empty()
     }
 
     /// The hop to the known intermediate system of least title.
@@ -103,7 +103,7 @@ impl AddressTable {
         ensures least { IsRouterHop self.now.rows now result }
         ensures value { result ≡ router_in self.now.rows now }
     {
-        hop_to_router(&self.rows, now)
+        hop_to_router(self.rows.ring(), now)
     }
 
     /// Hears a hello that names these addresses.
@@ -114,12 +114,12 @@ impl AddressTable {
         ensures err { OnErr result (self.new ≡ self.old) }
     {
         let mut due = made(self.due.take(), self.alloc)?;
-        let stood = self.rows.len();
+        let stood = self.rows.ring().len();
         match places_of(self.alloc, &mut self.rows, names, heard) {
             Ok(places) => {
-                renew(&mut self.rows, heard, &places);
-                list_new(&mut due, &self.rows, stood);
-                keep_noted(&mut due, &self.rows, &places);
+                self.rows.renew(heard, &places);
+                list_new(&mut due, self.rows.ring(), stood);
+                keep_noted(&mut due, self.rows.ring(), &places);
                 self.due = Some(due);
                 self.clock = heard.tick;
                 Ok(())
@@ -141,69 +141,40 @@ impl AddressTable {
             sweep_due(due, &mut self.rows, now);
         }
     }
-
-    // The row of an address.
-    fn row(&self, address: &Nsap) -> Option<&Row>
-        ensures { option_copied result ≡ row_at self.now.rows address.now }
-    {
-        self.rows.iter().find(|row| row.address == *address)
-    }
-}
-
-// The place of the row of an address.
-fn place_in(rows: &VecDeque<Row>, address: &Nsap) -> Option<usize>
-    ensures { result ≡ position (λ row. pointwise nat_eq row.address address.now) rows.now.items }
-{
-    rows.iter().position(|row| row.address == *address)
-}
-
-// Puts a row behind the others.
-fn put(rows: &mut VecDeque<Row>, address: Nsap, heard: &Heard) -> Result<(), NoMemory>
-    ensures ok { OnOk result (rows.new.items ≡ rows.old.items ++ record { address = address; heard = heard.now } ∷ []) }
-    ensures err { OnErr result (rows.new.items ≡ rows.old.items) }
-{
-    let title: Option<Nsap> = heard.hop.title;
-    let hop = Hop {
-        port: heard.hop.port,
-        title,
-    };
-    let heard = Heard { hop, ..*heard };
-    rows.push_back(Row { address, heard })?;
-    Ok(())
 }
 
 // The place of the row of an address, which is put behind the others where there is none.
-fn place_of(rows: &mut VecDeque<Row>, name: &Nsap, heard: &Heard) -> Result<usize, HearRefusal>
-    requires { IsTable rows.old.items }
-    ensures table { IsTable rows.new.items }
-    ensures ok { OnOk result (rows.new.items ≡ row_added rows.old.items name.now heard.now) }
-    ensures place { IfOk result (IsPlace rows.new.items name.now) }
-    ensures full { result ≡ Err Full → (256 ≤ length rows.old.items) × (has_row rows.old.items name.now ≡ false) }
-    ensures err { OnErr result (rows.new.items ≡ rows.old.items) }
+fn place_of(rows: &mut TaggedRows, name: &Nsap, heard: &Heard) -> Result<usize, HearRefusal>
+    requires { IsTable rows.old }
+    ensures table { IsTable rows.new }
+    ensures ok { OnOk result (rows.new ≡ row_added rows.old name.now heard.now) }
+    ensures place { IfOk result (IsPlace rows.new name.now) }
+    ensures full { result ≡ Err Full → (256 ≤ length rows.old) × (has_row rows.old name.now ≡ false) }
+    ensures err { OnErr result (rows.new ≡ rows.old) }
 {
-    if let Some(place) = place_in(rows, name) {
+    if let Some(place) = rows.place_in(name) {
         return Ok(place);
     }
-    if rows.len() >= MOST_ROWS {
+    if rows.ring().len() >= MOST_ROWS {
         return Err(HearRefusal::Full);
     }
-    put(rows, *name, heard)?;
-    Ok(rows.len() - 1)
+    rows.put(*name, heard)?;
+    Ok(rows.ring().len() - 1)
 }
 
 // Puts a row for each name that has none, and gives the places of the rows that are named.
 fn places_of(
     alloc: Global,
-    rows: &mut VecDeque<Row>,
+    rows: &mut TaggedRows,
     names: &[Nsap],
     heard: &Heard,
 ) -> Result<Vec<usize>, HearRefusal>
-    requires { IsTable rows.old.items }
-    ensures table { IsTable rows.new.items }
-    ensures ok { OnOk result (rows.new.items ≡ rows_with rows.old.items (told_by names.now heard.now)) }
-    ensures places { IfOk result (λ places. ArePlaces names.now rows.new.items places.items) }
-    ensures full { result ≡ Err Full → 256 < count_with rows.old.items (told_by names.now heard.now) }
-    ensures kept { take (length rows.old.items) rows.new.items ≡ rows.old.items }
+    requires { IsTable rows.old }
+    ensures table { IsTable rows.new }
+    ensures ok { OnOk result (rows.new ≡ rows_with rows.old (told_by names.now heard.now)) }
+    ensures places { IfOk result (λ places. ArePlaces names.now rows.new places.items) }
+    ensures full { result ≡ Err Full → 256 < count_with rows.old (told_by names.now heard.now) }
+    ensures kept { take (length rows.old) rows.new ≡ rows.old }
 {
     let mut places = Vec::new(alloc);
     for name in names {
@@ -221,16 +192,6 @@ fn note(places: &mut Vec<usize>, place: usize) -> Result<(), NoMemory>
 {
     places.push(place)?;
     Ok(())
-}
-
-// The rows at these places hold what was heard.
-fn renew(rows: &mut VecDeque<Row>, heard: &Heard, places: &[usize])
-    requires { All (λ place. place < length rows.old.items) places.now }
-    ensures { IsRenewed heard.now places.now rows.old.items rows.new.items }
-{
-    for place in places {
-        rows[*place].heard = *heard;
-    }
 }
 
 // What is due is the deadline of each row, made where it was not.
@@ -278,23 +239,15 @@ fn keep_noted(due: &mut DueList, rows: &VecDeque<Row>, places: &[usize])
 // Only the rows that are known stay. None is looked at where none is due; where one goes, the shorter part of the ring beside it moves.
 // Apart, so that a tick before the first hello has no room for these values to clear.
 #[inline(never)]
-fn sweep_due(due: &mut DueList, rows: &mut VecDeque<Row>, now: Tick)
-    requires { AreDeadlines rows.old.items due.old.ticks }
-    ensures due { AreDeadlines rows.new.items due.new.ticks }
+fn sweep_due(due: &mut DueList, rows: &mut TaggedRows, now: Tick)
+    requires { AreDeadlines rows.old due.old.ticks }
+    ensures due { AreDeadlines rows.new due.new.ticks }
     ensures most { due.new.most ≡ due.old.most }
-    ensures rows { rows.new.items ≡ filter (is_row_known now) rows.old.items }
+    ensures rows { rows.new ≡ filter (is_row_known now) rows.old }
 {
     while let Some(place) = due.pop(now) {
-        take_out(rows, place);
+        rows.remove(place);
     }
-}
-
-// The row at a place goes.
-fn take_out(rows: &mut VecDeque<Row>, place: usize)
-    requires { place < length rows.old.items }
-    ensures { rows.new.items ≡ remove rows.old.items place }
-{
-    rows.remove(place);
 }
 
 // The hop to the known intermediate system of least title.

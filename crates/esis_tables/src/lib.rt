@@ -7,6 +7,7 @@ mod holding_time;
 mod laws;
 mod neighbours;
 mod redirects;
+mod rows;
 
 pub use address_table::HearRefusal;
 pub use laws::{
