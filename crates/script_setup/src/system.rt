@@ -12,7 +12,7 @@ use nsap::{Hop, Nsap, Prefix, TRANSPORT};
 use osi_base::{Bytes, NoMemory};
 use std::alloc::Global;
 use std::marker::Model;
-use tp4_conn::Timers;
+use tp4_conn::{Timers, Uncounted};
 use tp4_entity::{TpEntity, TsapRefusal};
 
 /// A system with its routes and transport selectors.
@@ -81,7 +81,7 @@ impl System {
         alloc: Global,
         references: u16,
         timers: Timers,
-    ) -> Result<TpEntity, NoMemory>
+    ) -> Result<TpEntity<Uncounted>, NoMemory>
         requires least { 1 ≤ references }
         requires most { references ≤ 64 }
         requires timed { IsTimed timers }
@@ -98,7 +98,7 @@ impl System {
 }
 
 /// The entity takes connections at a selector at which it took none.
-fn register(entity: &mut TpEntity, selector: &[u8]) -> Result<(), NoMemory>
+fn register(entity: &mut TpEntity<Uncounted>, selector: &[u8]) -> Result<(), NoMemory>
     requires { is_registered entity.old.selectors selector.now ≡ false }
     ensures { OnOk result (entity.new ≡ record entity.old { selectors = entity.old.selectors ++ selector.now ∷ [] }) }
 {

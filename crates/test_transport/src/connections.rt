@@ -16,7 +16,6 @@ mod table;
 mod tpdus;
 mod words;
 
-use crate::looks::{due_of, state_of, tick_end};
 use crate::words::{bytes, events_of, number, pair, plain, word};
 use nsap::Nsap;
 use osi_base::{Bytes, Tick};
@@ -24,7 +23,7 @@ use script::SCRIPT;
 use std::alloc::Global;
 use std::process::Abort;
 use std::test::Fail;
-use tp4_conn::{ConnectCall, ConnectRequest, Connection, Timers, UserCall};
+use tp4_conn::{ConnectCall, ConnectRequest, Connection, Timers, Uncounted, UserCall};
 use tp4_flow::{Sent, Step};
 use tpdu::{Format, Options, TpduRef};
 use tpdus::tpdu;
@@ -34,7 +33,7 @@ use words::{Sizes, options};
 #[derive(Drop)]
 struct Play {
     alloc: Global,
-    end: Box<Connection>,
+    end: Box<Connection<Uncounted>>,
     out: Step,
     clock: Tick,
     ghost behind: { end.value.base.clock ≤ clock },
@@ -125,7 +124,10 @@ impl Play {
 
     /// Whether the partner's end of that reference called it.
     fn called_by(&self, words: &[&str]) -> Result<String, Fail> {
-        if self.end.is_called_by(&system(0x0b)?, pair(words, 1)?) {
+        if self
+            .end
+            .is_called_by(&system(0x0b)?, pair(words, 1)?, &mut Uncounted)
+        {
             return Ok(format!(in self.alloc; "yes ")?);
         }
         Ok(format!(in self.alloc; "no ")?)
@@ -134,7 +136,7 @@ impl Play {
     fn tick(&mut self, words: &[&str]) -> Result<String, Fail> {
         self.clock = number(words, 1)?.max(self.clock).min(4_000_000_000);
         self.in_time()?;
-        tick_end(&mut self.end, self.clock, &mut self.out)?;
+        self.end.tick(self.clock, &mut self.out, &mut Uncounted)?;
         Ok(String::new(self.alloc))
     }
 
@@ -142,7 +144,7 @@ impl Play {
     fn in_time(&self) -> Result<(), Fail>
         ensures { OnOk result (IsInTime (due self.now.end.value.base self.now.end.value.stage) self.now.clock) }
     {
-        match due_of(&self.end) {
+        match self.end.next_due(&mut Uncounted) {
             Some(due) if due < self.clock => Err(Fail::from("a due tick was left out")),
             _ => Ok(()),
         }
@@ -157,19 +159,28 @@ impl Play {
             _ => words.len(),
         };
         let octets = bytes(self.alloc, word(words, place))?;
-        let tpdu = tpdu(words, self.end.format(), sum, octets.as_slice())?;
-        if !self.end.matches(&system(from)?, &tpdu) {
+        let tpdu = tpdu(
+            words,
+            self.end.format(&mut Uncounted),
+            sum,
+            octets.as_slice(),
+        )?;
+        if !self.end.matches(&system(from)?, &tpdu, &mut Uncounted) {
             return Ok(format!(in self.alloc; "unknown ")?);
         }
         self.in_time()?;
-        self.end.on_tpdu(self.clock, &tpdu, &mut self.out)?;
+        self.end
+            .on_tpdu(self.clock, &tpdu, &mut self.out, &mut Uncounted)?;
         Ok(String::new(self.alloc))
     }
 
     fn ask(&mut self, words: &[&str]) -> Result<String, Fail> {
         let call = user_call(self.alloc, words)?;
         self.in_time()?;
-        match self.end.user(self.clock, call, &mut self.out) {
+        match self
+            .end
+            .user(self.clock, call, &mut self.out, &mut Uncounted)
+        {
             Ok(()) => Ok(String::new(self.alloc)),
             Err(why) => Ok(format!(in self.alloc; "no {why:?} ")?),
         }
@@ -178,8 +189,8 @@ impl Play {
     /// The answer, the state, the due tick, the events and the TPDUs.
     fn shown(&self, answer: &str) -> Result<String, Fail> {
         let alloc = self.alloc;
-        let mut text = format!(in alloc; "{answer}{:?}", state_of(&self.end))?;
-        if let Some(due) = due_of(&self.end) {
+        let mut text = format!(in alloc; "{answer}{:?}", self.end.state(&mut Uncounted))?;
+        if let Some(due) = self.end.next_due(&mut Uncounted) {
             text.push_str(format!(in alloc; " {due}")?.as_str())?;
         }
         text.push_str(events_of(alloc, &self.out)?.as_str())?;
@@ -244,7 +255,7 @@ fn called(
     options: Options,
     octets: &[u8],
     out: &mut Step,
-) -> Result<Connection, Fail>
+) -> Result<Connection<Uncounted>, Fail>
     requires { IsSized options }
     ensures { IfOk result (λ end. end.base.clock ≡ 0) }
 {

@@ -1,21 +1,22 @@
 //! An entity of address 490b01 that takes connections at the selector `bb`, call by call.
 
-ghost use Rattle.std.specs.Prelude.{◌≡◌, ◌≤◌, IfOk, OnOk};
+ghost use Rattle.std.specs.Prelude.{◌≡◌, ◌<◌, ◌≤◌, ◌+◌, if◌then◌else◌, IfOk, OnOk};
 ghost use Rattle.tp4_conn.specs.Calls.{IsCall};
 ghost use Rattle.tp4_conn.specs.End.{IsSized};
 ghost use Rattle.tp4_entity.specs.Dues.{AreFrom};
 
 mod script;
 
-use crate::looks::tick_first;
 use crate::words::{bytes, events_of, number, pair, word};
 use nsap::Nsap;
-use osi_base::{Bytes, Tick};
+use osi_base::{Bytes, NoMemory, Tick};
 use script::SCRIPT;
 use std::alloc::Global;
+use std::marker::Brand;
 use std::process::Abort;
+use std::sync::ledger::{Blank, Ledger};
 use std::test::Fail;
-use tp4_conn::{ConnectRequest, Timers, UserCall};
+use tp4_conn::{ConnectRequest, Counted, Looks, Timers, Uncounted, UserCall};
 use tp4_entity::TpEntity;
 use tp4_flow::{Sent, Step};
 use tpdu::{Format, Options, write_tpdu};
@@ -34,7 +35,7 @@ const TIMERS: Timers = Timers {
 #[derive(Drop)]
 struct Play {
     alloc: Global,
-    entity: Box<TpEntity>,
+    entity: Box<TpEntity<Uncounted>>,
     out: Step,
     clock: Tick,
     ghost behind: { entity.value.clock ≤ clock },
@@ -54,8 +55,50 @@ fn each_call_by_hand(rt: HostRuntime) -> Result<(), Fail> {
     Ok(())
 }
 
+/// The ticks of an entity whose end calls at 0, and is due at 8: looks at it are counted in a ledger.
+#[test]
+fn ticks_in_a_ledger(rt: HostRuntime) -> Result<(), Fail> {
+    tick_twice::<Brand>(&rt, rt.alloc(), Blank::new(1))
+}
+
+fn tick_twice<L: Ledger>(rt: &impl Abort, alloc: Global, blank: Blank) -> Result<(), Fail>
+    requires name { blank.name ≡ L.name }
+    requires parts { blank.parts ≡ L.parts }
+    requires some { 0 < blank.parts }
+{
+    let mut looks = Counted::<L>::new(blank);
+    let mut out = Step::new(alloc);
+    let mut entity = Box::new(alloc, TpEntity::new(alloc, address("490b01")?, 2, TIMERS)?)?;
+    let request = connect_request(alloc, Bytes::of(Vec::new(alloc)))?;
+    in_time(&entity, 0)?;
+    let _ = entity.connect(0, request, &mut out, &mut looks);
+    in_time(&entity, 7)?;
+    let was_due = tick_counted(&mut entity, 7, &mut out, &mut looks)?;
+    assert!(rt; !was_due);
+    in_time(&entity, 8)?;
+    let was_due = tick_counted(&mut entity, 8, &mut out, &mut looks)?;
+    assert!(rt; was_due);
+    Ok(())
+}
+
+/// A tick in a ledger: two looks at most where an end was due, and none where none was.
+fn tick_counted<L: Ledger>(
+    entity: &mut TpEntity<Counted<L>>,
+    now: Tick,
+    out: &mut Step,
+    looks: &mut Counted<L>,
+) -> Result<bool, NoMemory>
+    requires clock { entity.old.clock ≤ now }
+    requires now { now ≤ 4000000000 }
+    requires due { AreFrom now entity.old.ends }
+    ensures looks { IfOk result (λ was_due. looks.new ≤ looks.old + (if was_due then 2 else 0)) }
+    ensures clock { entity.new.clock ≤ now }
+{
+    entity.tick_next(now, out, looks)
+}
+
 /// A tick at which an end was due may not be left out.
-fn in_time(entity: &TpEntity, clock: Tick) -> Result<(), Fail>
+fn in_time<K: Looks>(entity: &TpEntity<K>, clock: Tick) -> Result<(), Fail>
     ensures { OnOk result (AreFrom clock entity.now.ends) }
 {
     if clock > 0 && entity.due_by(clock - 1) {
@@ -142,6 +185,7 @@ impl Play {
             address(word(words, 1))?,
             octets.as_slice(),
             &mut self.out,
+            &mut Uncounted,
         )?;
         Ok(String::new(self.alloc))
     }
@@ -149,7 +193,10 @@ impl Play {
     fn call(&mut self, words: &[&str]) -> Result<String, Fail> {
         let request = connect_request(self.alloc, bytes(self.alloc, word(words, 1))?)?;
         self.in_time()?;
-        match self.entity.connect(self.clock, request, &mut self.out) {
+        match self
+            .entity
+            .connect(self.clock, request, &mut self.out, &mut Uncounted)
+        {
             Ok(reference) => Ok(format!(in self.alloc; "{reference}")?),
             Err(why) => Ok(format!(in self.alloc; "no {why:?}")?),
         }
@@ -158,10 +205,13 @@ impl Play {
     fn ask(&mut self, words: &[&str]) -> Result<String, Fail> {
         let call = user_call(self.alloc, words)?;
         self.in_time()?;
-        match self
-            .entity
-            .user(self.clock, pair(words, 1)?, call, &mut self.out)
-        {
+        match self.entity.user(
+            self.clock,
+            pair(words, 1)?,
+            call,
+            &mut self.out,
+            &mut Uncounted,
+        ) {
             Ok(()) => Ok(String::new(self.alloc)),
             Err(why) => Ok(format!(in self.alloc; "no {why:?}")?),
         }
@@ -169,7 +219,9 @@ impl Play {
 
     fn tick(&mut self) -> Result<String, Fail> {
         self.in_time()?;
-        let was_due = tick_first(&mut self.entity, self.clock, &mut self.out)?;
+        let was_due = self
+            .entity
+            .tick_next(self.clock, &mut self.out, &mut Uncounted)?;
         Ok(format!(in self.alloc; "{was_due}")?)
     }
 
@@ -184,10 +236,16 @@ impl Play {
         for reference in 1..=64 {
             let request = connect_request(self.alloc, Bytes::of(Vec::new(self.alloc)))?;
             self.in_time()?;
-            self.entity.connect(self.clock, request, &mut self.out)?;
-            let refusal = [6, 0x80, 0, reference, 0, 0, 3];
             self.entity
-                .on_unit(self.clock, address("490a01")?, &refusal, &mut self.out)?;
+                .connect(self.clock, request, &mut self.out, &mut Uncounted)?;
+            let refusal = [6, 0x80, 0, reference, 0, 0, 3];
+            self.entity.on_unit(
+                self.clock,
+                address("490a01")?,
+                &refusal,
+                &mut self.out,
+                &mut Uncounted,
+            )?;
         }
         self.out = Step::new(self.alloc);
         Ok(String::new(self.alloc))
@@ -199,12 +257,14 @@ impl Play {
     }
 
     fn free(&mut self, words: &[&str]) -> Result<String, Fail> {
-        let is_free = self.entity.is_free(self.clock, pair(words, 1)?);
+        let is_free = self
+            .entity
+            .is_free(self.clock, pair(words, 1)?, &mut Uncounted);
         Ok(format!(in self.alloc; "{is_free}")?)
     }
 
     fn state(&mut self, words: &[&str]) -> Result<String, Fail> {
-        match self.entity.state_of(pair(words, 1)?) {
+        match self.entity.state_of(pair(words, 1)?, &mut Uncounted) {
             Some(state) => Ok(format!(in self.alloc; "{state:?}")?),
             None => Ok(format!(in self.alloc; "none")?),
         }

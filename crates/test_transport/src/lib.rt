@@ -9,8 +9,6 @@ mod due;
 #[cfg(test)]
 mod entities;
 #[cfg(test)]
-mod looks;
-#[cfg(test)]
 mod numbers;
 #[cfg(test)]
 mod receiving;

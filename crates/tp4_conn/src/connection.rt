@@ -21,37 +21,38 @@ use crate::end_record::{EndRecord, copied};
 use crate::matching::{fits, has_sum, wants_sum};
 use crate::proposed::{proposed_by, proposed_in};
 use crate::refusal::refusal;
-use crate::{CallRefusal, ConnectCall, InCrWait, StateData, Steps, Timers, UserCall, state_table};
+use crate::{CallRefusal, ConnectCall, InCrWait, Looks, StateData, Timers, UserCall, state_table};
 use nsap::Nsap;
 use osi_base::{NoMemory, Tick};
 use std::alloc::Global;
-use std::marker::Model;
+use std::marker::{Model, PhantomData};
 use std::mem;
-use std::sync::ledger::Ledger;
 use tp4_flow::{EndEvent, Step, What};
 use tp4_sending::{Tries, sooner};
 use tpdu::{Format, State, TpduCause, TpduRef};
 
-/// One end of a connection.
-pub struct Connection {
+/// One end of a connection, and the type of the count of the looks at it.
+pub struct Connection<K> {
     alloc: Global,
     base: EndRecord,
     stage: StateData,
+    looks: PhantomData<K>,
 }
 
 // By hand, so that it is proved here alone: what is derived is proved again in each crate that lets one go.
-impl Drop for Connection {
+impl<K> Drop for Connection<K> {
     fn drop(self) {
         let Connection {
             alloc: _,
             base: _,
             stage: _,
+            looks: _,
         } = self;
     }
 }
 
 // The timers are in their ranges, and no tick is ahead of the clock; where a CC was sent and not answered, its sendings are at most T1 apart.
-impl Model for Connection {
+impl<K> Model for Connection<K> {
     ghost use Rattle.tp4_conn.specs.End.{End};
     ghost use Rattle.tp4_conn.specs.steps.Kept.{IsEnd, IsWaiting};
 
@@ -62,7 +63,7 @@ impl Model for Connection {
     ghost invariant = { λ a. IsEnd a.base a.stage × IsWaiting a.base.timers a.stage };
 }
 
-impl Connection {
+impl<K: Looks> Connection<K> {
     /// An end that calls: its CR is sent for the first time.
     #[tactic(auto, using(crate::proofs::Sizes::proposal_by))]
     pub fn connect(
@@ -70,7 +71,7 @@ impl Connection {
         now: Tick,
         call: ConnectCall,
         out: &mut Step,
-    ) -> Result<Connection, NoMemory>
+    ) -> Result<Connection<K>, NoMemory>
         requires now { now ≤ 4000000000 }
         requires timers { IsTimed call.rules }
         requires size { IsSized call.request.options }
@@ -96,7 +97,12 @@ impl Connection {
             octets: request.octets,
             tries: Tries::once(now),
         });
-        Ok(Connection { alloc, base, stage })
+        Ok(Connection {
+            alloc,
+            base,
+            stage,
+            looks: PhantomData,
+        })
     }
 
     /// An end that a CR calls: the connect indication.
@@ -109,7 +115,7 @@ impl Connection {
         cr: &TpduRef<'_>,
         rules: Timers,
         out: &mut Step,
-    ) -> Result<Connection, NoMemory>
+    ) -> Result<Connection<K>, NoMemory>
         requires now { now ≤ 4000000000 }
         requires timers { IsTimed rules }
         requires cr { kind_for (tpdu_of cr.now) ≡ Cr }
@@ -147,46 +153,57 @@ impl Connection {
         };
         base.indicate(alloc, octets, out)?;
         let stage = StateData::UserWait { since: now };
-        Ok(Connection { alloc, base, stage })
+        Ok(Connection {
+            alloc,
+            base,
+            stage,
+            looks: PhantomData,
+        })
     }
 
     /// Its state.
-    pub fn state<L: Ledger>(&self, steps: &mut Steps<L>) -> State
+    pub fn state(&self, looks: &mut K) -> State
         ensures value { result ≡ state_of self.now.stage }
-        ensures step { steps.new ≡ steps.old + 1 }
+        ensures looks { K.made looks.new ≡ K.made looks.old + K.each }
     {
-        steps.add();
+        looks.add();
         self.stage.state()
     }
 
     /// The agreed format, which stays in Closing and Frozen; normal where nothing was agreed.
-    pub fn format(&self) -> Format
-        ensures { result ≡ agreed_format self.now.base.agreed }
+    pub fn format(&self, looks: &mut K) -> Format
+        ensures value { result ≡ agreed_format self.now.base.agreed }
+        ensures looks { K.made looks.new ≡ K.made looks.old + K.each }
     {
+        looks.add();
         self.base.format()
     }
 
     /// Whether a TPDU that is no CR, with this end's reference as destination, matches it.
-    pub fn matches(&self, from: &Nsap, tpdu: &TpduRef<'_>) -> bool
-        ensures { result ≡ is_match self.now.base self.now.stage from.now (tpdu_of tpdu.now) }
+    pub fn matches(&self, from: &Nsap, tpdu: &TpduRef<'_>, looks: &mut K) -> bool
+        ensures value { result ≡ is_match self.now.base self.now.stage from.now (tpdu_of tpdu.now) }
+        ensures looks { K.made looks.new ≡ K.made looks.old + K.each }
     {
+        looks.add();
         self.base.to == *from && fits(&self.base, &self.stage, tpdu)
     }
 
     /// Whether it is a called end of that calling address and reference.
-    pub fn is_called_by(&self, from: &Nsap, reference: u16) -> bool
-        ensures { result ≡ is_called_by self.now.base from.now reference }
+    pub fn is_called_by(&self, from: &Nsap, reference: u16, looks: &mut K) -> bool
+        ensures value { result ≡ is_called_by self.now.base from.now reference }
+        ensures looks { K.made looks.new ≡ K.made looks.old + K.each }
     {
+        looks.add();
         self.base.is_called && self.base.to == *from && self.base.partner == reference
     }
 
     /// The least tick at which `tick` changes more than the clock, or sends something.
-    pub fn next_due<L: Ledger>(&self, steps: &mut Steps<L>) -> Option<Tick>
+    pub fn next_due(&self, looks: &mut K) -> Option<Tick>
         ensures value { result ≡ due self.now.base self.now.stage }
         ensures least { (now : ℕ) → IsDue (at now self.now.base) self.now.stage }
-        ensures step { steps.new ≡ steps.old + 1 }
+        ensures looks { K.made looks.new ≡ K.made looks.old + K.each }
     {
-        steps.add();
+        looks.add();
         let timers = self.base.timers;
         match &self.stage {
             StateData::CrWait(wait) => Some(wait.tries.last + timers.t1),
@@ -219,7 +236,13 @@ impl Connection {
     ///
     /// A refused call changes nothing, but where memory ran out: the end is then Frozen.
     #[tactic(auto, using(crate::proofs::Takings::refused_later))]
-    pub fn user(&mut self, now: Tick, call: UserCall, out: &mut Step) -> Result<(), CallRefusal>
+    pub fn user(
+        &mut self,
+        now: Tick,
+        call: UserCall,
+        out: &mut Step,
+        looks: &mut K,
+    ) -> Result<(), CallRefusal>
         requires clock { self.old.base.clock ≤ now }
         requires now { now ≤ 4000000000 }
         requires due { IsInTime (due self.old.base self.old.stage) now }
@@ -233,7 +256,9 @@ impl Connection {
         ensures later { OnOk result (IsBefore (due self.old.base self.old.stage) now → IsBefore (due self.new.base self.new.stage) now) }
         ensures kept { IsSame self.old.base self.new.base }
         ensures clock { self.new.base.clock ≤ now }
+        ensures looks { K.made looks.new ≡ K.made looks.old + K.each }
     {
+        looks.add();
         if let Some(why) = refusal(&self.base, &self.stage, &call) {
             return Err(why);
         }
@@ -251,7 +276,13 @@ impl Connection {
     /// A matching TPDU came.
     ///
     /// One that lacks an agreed checksum is told, and changes nothing.
-    pub fn on_tpdu(&mut self, now: Tick, tpdu: &TpduRef<'_>, out: &mut Step) -> Result<(), NoMemory>
+    pub fn on_tpdu(
+        &mut self,
+        now: Tick,
+        tpdu: &TpduRef<'_>,
+        out: &mut Step,
+        looks: &mut K,
+    ) -> Result<(), NoMemory>
         requires clock { self.old.base.clock ≤ now }
         requires now { now ≤ 4000000000 }
         requires due { IsInTime (due self.old.base self.old.stage) now }
@@ -261,7 +292,9 @@ impl Connection {
         ensures later { OnOk result (IsBefore (due self.old.base self.old.stage) now → IsBefore (due self.new.base self.new.stage) now) }
         ensures kept { IsSame self.old.base self.new.base }
         ensures clock { self.new.base.clock ≤ now }
+        ensures looks { K.made looks.new ≡ K.made looks.old + K.each }
     {
+        looks.add();
         if wants_sum(&self.base, &self.stage, tpdu) && !has_sum(tpdu) {
             return out.event(EndEvent {
                 reference: 0,
@@ -275,12 +308,7 @@ impl Connection {
     }
 
     /// A tick of the clock. The end is due at a later tick then, or no more.
-    pub fn tick<L: Ledger>(
-        &mut self,
-        now: Tick,
-        out: &mut Step,
-        steps: &mut Steps<L>,
-    ) -> Result<(), NoMemory>
+    pub fn tick(&mut self, now: Tick, out: &mut Step, looks: &mut K) -> Result<(), NoMemory>
         requires clock { self.old.base.clock ≤ now }
         requires now { now ≤ 4000000000 }
         requires due { IsInTime (due self.old.base self.old.stage) now }
@@ -288,9 +316,9 @@ impl Connection {
         ensures later { OnOk result (IsBefore (due self.new.base self.new.stage) now) }
         ensures kept { IsSame self.old.base self.new.base }
         ensures clock { self.new.base.clock ≤ now }
-        ensures counted { steps.new ≡ steps.old + 1 }
+        ensures looks { K.made looks.new ≡ K.made looks.old + K.each }
     {
-        steps.add();
+        looks.add();
         self.base.clock = now;
         let stage = mem::replace(&mut self.stage, StateData::Frozen { at: now });
         self.stage = state_table::on_tick(self.alloc, &self.base, stage, out)?;

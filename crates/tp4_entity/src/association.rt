@@ -23,12 +23,12 @@ ghost use Rattle.tp4_entity.specs.Unit.{extended_of};
 ghost use Rattle.tp4_entity.specs.steps.Places.{IsBehind, IsPlace, Lasts, Places, format_of, takes_at};
 
 use crate::TpEntity;
-use crate::references::{due_at, free_place, keep, state_of};
+use crate::references::{due_at, free_place, keep};
 use due_links::Due;
 use nsap::Nsap;
 use osi_base::{Bytes, NoMemory, Tick};
 use std::alloc::Global;
-use tp4_conn::Connection;
+use tp4_conn::{Connection, Looks};
 use tp4_flow::{EndEvent, Sent, Step, What};
 use tpdu::{Format, Kind, State, Tpdu, TpduRef};
 
@@ -44,13 +44,14 @@ const NO_REFERENCE: u8 = 129;
 /// A CC belongs to no end.
 const NO_END: u8 = 132;
 
-impl TpEntity {
+impl<K: Looks> TpEntity<K> {
     /// What a TPDU does that came from an address.
     pub(crate) fn on_tpdu(
         &mut self,
         from: &Nsap,
         tpdu: &TpduRef<'_>,
         out: &mut Step,
+        looks: &mut K,
     ) -> Result<(), NoMemory>
         requires now { self.old.clock ≤ 4000000000 }
         requires due { AreFrom self.old.clock self.old.ends }
@@ -60,13 +61,19 @@ impl TpEntity {
         ensures clock { self.new.clock ≡ self.old.clock }
     {
         match destination_of(tpdu) {
-            Some(destination) => self.pass_to_end(destination, from, tpdu, out),
-            None => self.on_cr(from, tpdu, out),
+            Some(destination) => self.pass_to_end(destination, from, tpdu, out, looks),
+            None => self.on_cr(from, tpdu, out, looks),
         }
     }
 
     /// A CR: the first of the five rules that applies.
-    fn on_cr(&mut self, from: &Nsap, cr: &TpduRef<'_>, out: &mut Step) -> Result<(), NoMemory>
+    fn on_cr(
+        &mut self,
+        from: &Nsap,
+        cr: &TpduRef<'_>,
+        out: &mut Step,
+        looks: &mut K,
+    ) -> Result<(), NoMemory>
         requires now { self.old.clock ≤ 4000000000 }
         requires due { AreFrom self.old.clock self.old.ends }
         requires cr { kind_for (tpdu_of cr.now) ≡ Cr }
@@ -78,7 +85,7 @@ impl TpEntity {
         let TpduRef::Cr { source, called, .. } = *cr else {
             unreachable!();
         };
-        self.answer_cr(from, source, called, cr, out)
+        self.answer_cr(from, source, called, cr, out, looks)
     }
 
     /// A CR of that source reference, to that selector.
@@ -89,6 +96,7 @@ impl TpEntity {
         called: &[u8],
         cr: &TpduRef<'_>,
         out: &mut Step,
+        looks: &mut K,
     ) -> Result<(), NoMemory>
         requires now { self.old.clock ≤ 4000000000 }
         requires due { AreFrom self.old.clock self.old.ends }
@@ -98,16 +106,16 @@ impl TpEntity {
         ensures lasts { OnOk result (Lasts self.old.clock self.old.ends self.new.ends) }
         ensures clock { self.new.clock ≡ self.old.clock }
     {
-        if is_called_live(&self.ends, from, source) {
+        if is_any_called(&self.ends, false, from, source, looks) {
             return Ok(());
         }
-        if is_called_frozen(&self.ends, from, source) {
+        if is_any_called(&self.ends, true, from, source, looks) {
             return out.send(refusal_dr(self.alloc, from, source, AGAIN));
         }
         if !self.is_registered(called) {
             return out.send(refusal_dr(self.alloc, from, source, NO_SELECTOR));
         }
-        self.make_called_end(from, source, cr, out)
+        self.make_called_end(from, source, cr, out, looks)
     }
 
     /// A CR makes a new end, where a reference is free.
@@ -117,6 +125,7 @@ impl TpEntity {
         source: u16,
         cr: &TpduRef<'_>,
         out: &mut Step,
+        looks: &mut K,
     ) -> Result<(), NoMemory>
         requires now { self.old.clock ≤ 4000000000 }
         requires due { AreFrom self.old.clock self.old.ends }
@@ -126,12 +135,12 @@ impl TpEntity {
         ensures lasts { OnOk result (Lasts self.old.clock self.old.ends self.new.ends) }
         ensures clock { self.new.clock ≡ self.old.clock }
     {
-        let Some(place) = free_place(&self.ends, self.clock) else {
+        let Some(place) = free_place(&self.ends, self.clock, looks) else {
             return out.send(refusal_dr(self.alloc, from, source, NO_REFERENCE));
         };
         let own = place as u16 + 1;
         let end = Connection::incoming(self.alloc, self.clock, own, *from, cr, self.timers, out)?;
-        self.put(place, end);
+        self.put(place, end, looks);
         Ok(())
     }
 
@@ -142,6 +151,7 @@ impl TpEntity {
         from: &Nsap,
         tpdu: &TpduRef<'_>,
         out: &mut Step,
+        looks: &mut K,
     ) -> Result<(), NoMemory>
         requires now { self.old.clock ≤ 4000000000 }
         requires due { AreFrom self.old.clock self.old.ends }
@@ -165,20 +175,22 @@ impl TpEntity {
             from,
             tpdu,
             out,
+            looks,
         )
     }
 }
 
 /// The end there takes a TPDU that matches it; else the TPDU belongs to no end.
-fn take_place(
+fn take_place<K: Looks>(
     alloc: Global,
-    place: &mut Option<Connection>,
+    place: &mut Option<Connection<K>>,
     due: &mut Due,
     id: u32,
     now: Tick,
     from: &Nsap,
     tpdu: &TpduRef<'_>,
     out: &mut Step,
+    looks: &mut K,
 ) -> Result<(), NoMemory>
     requires behind { IsBehind now place.old }
     requires now { now ≤ 4000000000 }
@@ -191,19 +203,20 @@ fn take_place(
     ensures later { OnOk result (IsBefore (due_at place.old) now → IsBefore (due_at place.new) now) }
     ensures due { due.new ≡ slice_set due.old id (due_at place.new) }
 {
-    let outcome = take_there(alloc, place, now, from, tpdu, out);
-    keep(due, id, due_at(place));
+    let outcome = take_there(alloc, place, now, from, tpdu, out, looks);
+    keep(due, id, due_at(place, looks));
     outcome
 }
 
 /// The end there takes a TPDU that matches it; else the TPDU belongs to no end.
-fn take_there(
+fn take_there<K: Looks>(
     alloc: Global,
-    place: &mut Option<Connection>,
+    place: &mut Option<Connection<K>>,
     now: Tick,
     from: &Nsap,
     tpdu: &TpduRef<'_>,
     out: &mut Step,
+    looks: &mut K,
 ) -> Result<(), NoMemory>
     requires behind { IsBehind now place.old }
     requires now { now ≤ 4000000000 }
@@ -215,7 +228,7 @@ fn take_there(
     ensures later { OnOk result (IsBefore (due_at place.old) now → IsBefore (due_at place.new) now) }
 {
     match place {
-        Some(end) if end.matches(from, tpdu) => end.on_tpdu(now, tpdu, out),
+        Some(end) if end.matches(from, tpdu, looks) => end.on_tpdu(now, tpdu, out, looks),
         _ => unmatched(alloc, from, tpdu, out),
     }
 }
@@ -314,29 +327,43 @@ fn confirmation(to: &Nsap, destination: u16, source: u16) -> Sent
     }
 }
 
-/// Whether a called end of that calling address and reference stands that is not frozen.
-fn is_called_live(places: &[Option<Connection>], from: &Nsap, reference: u16) -> bool
-    ensures { result ≡ list_any (is_called false from.now reference) places.now }
+/// Whether a called end of that calling address and reference stands that is frozen, or one that is not.
+fn is_any_called<K: Looks>(
+    places: &[Option<Connection<K>>],
+    frozen: bool,
+    from: &Nsap,
+    reference: u16,
+    looks: &mut K,
+) -> bool
+    ensures { result ≡ list_any (is_called frozen from.now reference) places.now }
 {
-    places.iter().any(|place| match place {
-        Some(end) => end.is_called_by(from, reference) && !is_frozen(end),
-        None => false,
-    })
+    for place in places {
+        if is_called(place, frozen, from, reference, looks) {
+            return true;
+        }
+    }
+    false
 }
 
-/// Whether a frozen called end of that calling address and reference stands.
-fn is_called_frozen(places: &[Option<Connection>], from: &Nsap, reference: u16) -> bool
-    ensures { result ≡ list_any (is_called true from.now reference) places.now }
+/// Whether the end there is a called one of that calling address and reference that is frozen, or one that is not.
+fn is_called<K: Looks>(
+    place: &Option<Connection<K>>,
+    frozen: bool,
+    from: &Nsap,
+    reference: u16,
+    looks: &mut K,
+) -> bool
+    ensures { result ≡ is_called frozen from.now reference place.now }
 {
-    places.iter().any(|place| match place {
-        Some(end) => end.is_called_by(from, reference) && is_frozen(end),
+    match place {
+        Some(end) => { end.is_called_by(from, reference, looks) && is_frozen(end, looks) == frozen }
         None => false,
-    })
+    }
 }
 
 /// Whether an end is frozen.
-fn is_frozen(end: &Connection) -> bool
+fn is_frozen<K: Looks>(end: &Connection<K>, looks: &mut K) -> bool
     ensures { result ≡ is_frozen end.now.stage }
 {
-    state_of(end) == State::Frozen
+    end.state(looks) == State::Frozen
 }

@@ -1,6 +1,6 @@
 //! The ends of a system by their references, and what its users ask (X.224, class 4: connection establishment; frozen references).
 
-ghost use Rattle.std.specs.Prelude.{◌≡◌, ◌≢◌, ◌≤◌, ◌<◌, ◌+◌, ◌-◌, [], ◌∷◌, ◌++◌, Some, None, Err, true, false, length, option_copied, replicate, slice_get, is_some, if◌then◌else◌, IfErr, IfOk, OnErr, OnOk};
+ghost use Rattle.std.specs.Prelude.{◌≡◌, ◌≢◌, ◌≤◌, ◌<◌, ◌+◌, ◌-◌, ◌*◌, [], ◌∷◌, ◌++◌, Some, None, Err, true, false, length, option_copied, replicate, slice_get, is_some, if◌then◌else◌, IfErr, IfOk, OnErr, OnOk};
 ghost use Rattle.tp4_number.specs.Number.{wire};
 ghost use Rattle.tp4_conn.specs.Calls.{IsCall};
 ghost use Rattle.tp4_conn.specs.End.{IsSized, IsTimed};
@@ -20,8 +20,7 @@ ghost use Rattle.tp4_entity.specs.declared.refusal.TsapRefusal.TheVariants.{Tsap
 ghost use Rattle.tp4_entity.specs.steps.Places.{IsOwn};
 
 use crate::references::{
-    call_place, clear_dues, clear_places, clock_after, free_place, is_over, no_ends, state_of,
-    tick_place,
+    call_place, clear_dues, clear_places, clock_after, free_place, is_over, no_ends, tick_place,
 };
 use crate::{ConnectRefusal, EntityRefusal, TsapRefusal};
 use due_links::Due;
@@ -29,29 +28,28 @@ use nsap::Nsap;
 use osi_base::{Bytes, NoMemory, Tick};
 use std::alloc::Global;
 use std::marker::Model;
-use std::sync::ledger::Ledger;
-use tp4_conn::{ConnectRequest, Connection, Steps, Timers, UserCall};
+use tp4_conn::{ConnectRequest, Connection, Looks, Timers, UserCall};
 use tp4_flow::Step;
 use tpdu::State;
 
 /// The most octets of a connect request.
 const MOST_OCTETS: usize = 32;
 
-/// The ends of a system.
-pub struct TpEntity {
+/// The ends of a system, and the type of the count of the looks at them.
+pub struct TpEntity<K> {
     pub(crate) alloc: Global,
     pub(crate) own: Nsap,
     pub(crate) timers: Timers,
     pub(crate) clock: Tick,
     pub(crate) selectors: Vec<Bytes>,
-    pub(crate) ends: Vec<Option<Connection>>,
+    pub(crate) ends: Vec<Option<Connection<K>>>,
     /// When each place is due, so that a tick goes over the due ends and over no others.
     pub(crate) due: Due,
     pub(crate) restarted: Option<Tick>,
 }
 
 // By hand, so that it is proved here alone: what is derived is proved again in each crate that lets one go.
-impl Drop for TpEntity {
+impl<K> Drop for TpEntity<K> {
     fn drop(self) {
         let TpEntity {
             alloc: _,
@@ -68,7 +66,7 @@ impl Drop for TpEntity {
 
 // The timers are in their ranges, there are 1 to 64 references, and each end has its reference, these timers and no later clock;
 // each place is due when its end is.
-impl Model for TpEntity {
+impl<K> Model for TpEntity<K> {
     ghost use Rattle.tp4_entity.specs.Entity.{Entity};
     ghost use Rattle.std.specs.Prelude.{◌≡◌};
     ghost use Rattle.tp4_entity.specs.Dues.{dues_of};
@@ -82,14 +80,14 @@ impl Model for TpEntity {
         × (a.due ≡ dues_of a.ends.items) };
 }
 
-impl TpEntity {
+impl<K: Looks> TpEntity<K> {
     /// An entity of that address, with so many references, and no end.
     pub fn new(
         alloc: Global,
         own: Nsap,
         references: u16,
         rules: Timers,
-    ) -> Result<TpEntity, NoMemory>
+    ) -> Result<TpEntity<K>, NoMemory>
         requires least { 1 ≤ references }
         requires most { references ≤ 64 }
         requires timers { IsTimed rules }
@@ -117,18 +115,18 @@ impl TpEntity {
     }
 
     /// The state of the end at a reference; none exactly where no end stands there.
-    pub fn state_of(&self, reference: u16) -> Option<State>
+    pub fn state_of(&self, reference: u16, looks: &mut K) -> Option<State>
         ensures { result ≡ state_at self.now reference }
     {
         match self.end_at(reference) {
-            Some(end) => Some(state_of(end)),
+            Some(end) => Some(end.state(looks)),
             None => None,
         }
     }
 
     /// Whether the reference is one of the entity's, and free: no end stands there, or one that entered Frozen more than F ticks ago. None is
     /// while the entity is silent.
-    pub fn is_free(&self, now: Tick, reference: u16) -> bool
+    pub fn is_free(&self, now: Tick, reference: u16, looks: &mut K) -> bool
         requires clock { self.now.clock ≤ now }
         ensures { result ≡ is_free now self.now reference }
     {
@@ -136,7 +134,7 @@ impl TpEntity {
             return false;
         }
         match self.end_at(reference) {
-            Some(end) => is_over(end, now),
+            Some(end) => is_over(end, now, looks),
             None => true,
         }
     }
@@ -192,6 +190,7 @@ impl TpEntity {
         now: Tick,
         request: ConnectRequest,
         out: &mut Step,
+        looks: &mut K,
     ) -> Result<u16, ConnectRefusal>
         requires clock { self.old.clock ≤ now }
         requires now { now ≤ 4000000000 }
@@ -213,10 +212,10 @@ impl TpEntity {
         if MOST_OCTETS < request.octets.as_slice().len() {
             return Err(ConnectRefusal::TooLong);
         }
-        let Some(place) = free_place(&self.ends, now) else {
+        let Some(place) = free_place(&self.ends, now, looks) else {
             return Err(ConnectRefusal::RefsSpent);
         };
-        match self.call_from(place, now, request, out) {
+        match self.call_from(place, now, request, out, looks) {
             Ok(reference) => Ok(reference),
             Err(NoMemory) => Err(ConnectRefusal::NoMemory),
         }
@@ -231,6 +230,7 @@ impl TpEntity {
         reference: u16,
         call: UserCall,
         out: &mut Step,
+        looks: &mut K,
     ) -> Result<(), EntityRefusal>
         requires clock { self.old.clock ≤ now }
         requires now { now ≤ 4000000000 }
@@ -258,6 +258,7 @@ impl TpEntity {
             now,
             call,
             out,
+            looks,
         ) {
             Ok(()) => {
                 self.clock = now;
@@ -272,12 +273,7 @@ impl TpEntity {
 
     /// The due end of least reference ticks, and is taken out where it is due no more; one end fewer is due then. False exactly where
     /// none is due. An end is looked at twice, and none where none is due.
-    pub fn tick_next<L: Ledger>(
-        &mut self,
-        now: Tick,
-        out: &mut Step,
-        steps: &mut Steps<L>,
-    ) -> Result<bool, NoMemory>
+    pub fn tick_next(&mut self, now: Tick, out: &mut Step, looks: &mut K) -> Result<bool, NoMemory>
         requires clock { self.old.clock ≤ now }
         requires now { now ≤ 4000000000 }
         requires due { AreFrom now self.old.ends }
@@ -288,7 +284,7 @@ impl TpEntity {
         ensures later { OnOk result (AreLater now self.old.ends → AreLater now self.new.ends) }
         ensures rest { IfOk result (λ was_due. was_due ≡ false → AreLater now self.new.ends) }
         ensures clock { self.new.clock ≤ now }
-        ensures steps { IfOk result (λ was_due. steps.new ≤ steps.old + (if was_due then 2 else 0)) }
+        ensures looks { IfOk result (λ was_due. K.made looks.new ≤ K.made looks.old + (if was_due then 2 else 0) * K.each) }
     {
         self.set_clock(now);
         let Some(place) = self.due.pop(now) else {
@@ -300,7 +296,7 @@ impl TpEntity {
             place,
             now,
             out,
-            steps,
+            looks,
         )?;
         Ok(true)
     }

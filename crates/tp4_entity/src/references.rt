@@ -1,6 +1,6 @@
 //! The places of ends, each of one reference (X.224, class 4: frozen references).
 
-ghost use Rattle.std.specs.Prelude.{◌≡◌, ◌==◌, ◌≢◌, ◌≤◌, ◌<◌, ℕ, ◌+◌, length, slice_set, IfSome, IsSome, Some, None, Err, position, replicate, IfErr, IfOk, OnOk, if◌then◌else◌, false};
+ghost use Rattle.std.specs.Prelude.{◌≡◌, ◌==◌, ◌≢◌, ◌≤◌, ◌<◌, ℕ, ◌+◌, ◌*◌, length, slice_set, IfSome, IsSome, Some, None, Err, position, replicate, IfErr, IfOk, OnOk, if◌then◌else◌, false};
 ghost use Rattle.tp4_number.specs.Number.{wire};
 ghost use Rattle.tp4_conn.specs.Calls.{IsCall, state_of};
 ghost use Rattle.tp4_conn.specs.Dues.{IsBefore};
@@ -19,14 +19,15 @@ use crate::EntityRefusal;
 use due_links::Due;
 use osi_base::{NoMemory, Tick};
 use std::alloc::Global;
-use std::marker::Brand;
-use std::sync::ledger::{Blank, Ledger};
-use tp4_conn::{CallRefusal, Connection, Steps, UserCall};
+use tp4_conn::{CallRefusal, Connection, Looks, UserCall};
 use tp4_flow::Step;
 use tpdu::State;
 
 /// So many places without ends.
-pub(crate) fn no_ends(alloc: Global, count: usize) -> Result<Vec<Option<Connection>>, NoMemory>
+pub(crate) fn no_ends<K>(
+    alloc: Global,
+    count: usize,
+) -> Result<Vec<Option<Connection<K>>>, NoMemory>
     ensures { IfOk result (λ ends. ends.items ≡ replicate count None) }
 {
     let mut ends = Vec::new(alloc);
@@ -37,7 +38,7 @@ pub(crate) fn no_ends(alloc: Global, count: usize) -> Result<Vec<Option<Connecti
 }
 
 /// No end stands at any place then.
-pub(crate) fn clear_places(places: &mut [Option<Connection>])
+pub(crate) fn clear_places<K>(places: &mut [Option<Connection<K>>])
     ensures { places.new ≡ replicate (length places.old) None }
 {
     for at in 0..places.len() {
@@ -56,23 +57,23 @@ pub(crate) fn clear_dues(due: &mut Due, count: u32)
 }
 
 /// Whether no end stands there, or one that entered Frozen more than F ticks ago.
-fn is_free_place(place: &Option<Connection>, now: Tick) -> bool
+fn is_free_place<K: Looks>(place: &Option<Connection<K>>, now: Tick, looks: &mut K) -> bool
     requires { IsBehind now place.now }
     ensures { result ≡ is_free_place now place.now }
 {
     match place {
-        Some(end) => is_over(end, now),
+        Some(end) => is_over(end, now, looks),
         None => true,
     }
 }
 
 /// Whether an end entered Frozen more than F ticks ago.
-pub(crate) fn is_over(end: &Connection, now: Tick) -> bool
+pub(crate) fn is_over<K: Looks>(end: &Connection<K>, now: Tick, looks: &mut K) -> bool
     requires { end.now.base.clock ≤ now }
     ensures { result ≡ is_free_place now (Some end.now) }
 {
-    match state_of(end) {
-        State::Frozen => match due_of(end) {
+    match end.state(looks) {
+        State::Frozen => match end.next_due(looks) {
             Some(due) => due <= now,
             None => true,
         },
@@ -86,59 +87,29 @@ pub(crate) fn is_over(end: &Connection, now: Tick) -> bool
 }
 
 /// The first place that is free.
-pub(crate) fn free_place(places: &[Option<Connection>], now: Tick) -> Option<usize>
+pub(crate) fn free_place<K: Looks>(
+    places: &[Option<Connection<K>>],
+    now: Tick,
+    looks: &mut K,
+) -> Option<usize>
     requires { AreBehind now places.now }
     ensures value { result ≡ position (is_free_place now) places.now }
     ensures within { IfSome result (λ place. place < length places.now) }
 {
     for (at, place) in places.iter().enumerate() {
-        if is_free_place(place, now) {
+        if is_free_place(place, now, looks) {
             return Some(at);
         }
     }
     None
 }
 
-/// When an end is due next, where nobody counts the looks at it.
-pub(crate) fn due_of(end: &Connection) -> Option<Tick>
-    ensures { result ≡ due end.now.base end.now.stage }
-{
-    due_counted::<Brand>(end, Blank::new(1))
-}
-
-/// When an end is due next; the look is counted in a ledger of its own.
-fn due_counted<L: Ledger>(end: &Connection, blank: Blank) -> Option<Tick>
-    requires name { blank.name ≡ L.name }
-    requires parts { blank.parts ≡ L.parts }
-    requires some { 0 < blank.parts }
-    ensures { result ≡ due end.now.base end.now.stage }
-{
-    end.next_due(&mut Steps::<L>::new(blank))
-}
-
-/// The state of an end, where nobody counts the looks at it.
-pub(crate) fn state_of(end: &Connection) -> State
-    ensures { result ≡ state_of end.now.stage }
-{
-    state_counted::<Brand>(end, Blank::new(1))
-}
-
-/// The state of an end; the look is counted in a ledger of its own.
-fn state_counted<L: Ledger>(end: &Connection, blank: Blank) -> State
-    requires name { blank.name ≡ L.name }
-    requires parts { blank.parts ≡ L.parts }
-    requires some { 0 < blank.parts }
-    ensures { result ≡ state_of end.now.stage }
-{
-    end.state(&mut Steps::<L>::new(blank))
-}
-
 /// When the end there is due.
-pub(crate) fn due_at(place: &Option<Connection>) -> Option<Tick>
+pub(crate) fn due_at<K: Looks>(place: &Option<Connection<K>>, looks: &mut K) -> Option<Tick>
     ensures { result ≡ due_at place.now }
 {
     match place {
-        Some(end) => due_of(end),
+        Some(end) => end.next_due(looks),
         None => None,
     }
 }
@@ -157,13 +128,14 @@ pub(crate) fn keep(due: &mut Due, id: u32, tick: Option<Tick>)
 }
 
 /// A call of the user of the end there.
-pub(crate) fn call_place(
-    place: &mut Option<Connection>,
+pub(crate) fn call_place<K: Looks>(
+    place: &mut Option<Connection<K>>,
     due: &mut Due,
     id: u32,
     now: Tick,
     call: UserCall,
     out: &mut Step,
+    looks: &mut K,
 ) -> Result<(), EntityRefusal>
     requires behind { IsBehind now place.old }
     requires now { now ≤ 4000000000 }
@@ -180,17 +152,18 @@ pub(crate) fn call_place(
     ensures later { OnOk result (IsBefore (due_at place.old) now → IsBefore (due_at place.new) now) }
     ensures due { due.new ≡ slice_set due.old id (due_at place.new) }
 {
-    let outcome = call_there(place, now, call, out);
-    keep(due, id, due_at(place));
+    let outcome = call_there(place, now, call, out, looks);
+    keep(due, id, due_at(place, looks));
     outcome
 }
 
 /// A call of the user of the end there, but for its due tick.
-fn call_there(
-    place: &mut Option<Connection>,
+fn call_there<K: Looks>(
+    place: &mut Option<Connection<K>>,
     now: Tick,
     call: UserCall,
     out: &mut Step,
+    looks: &mut K,
 ) -> Result<(), EntityRefusal>
     requires behind { IsBehind now place.old }
     requires now { now ≤ 4000000000 }
@@ -206,17 +179,18 @@ fn call_there(
     ensures later { OnOk result (IsBefore (due_at place.old) now → IsBefore (due_at place.new) now) }
 {
     match place {
-        Some(end) => call_end(end, now, call, out),
+        Some(end) => call_end(end, now, call, out, looks),
         None => Err(EntityRefusal::NoSuchEnd),
     }
 }
 
 /// A call of the user of an end.
-fn call_end(
-    end: &mut Connection,
+fn call_end<K: Looks>(
+    end: &mut Connection<K>,
     now: Tick,
     call: UserCall,
     out: &mut Step,
+    looks: &mut K,
 ) -> Result<(), EntityRefusal>
     requires behind { end.old.base.clock ≤ now }
     requires now { now ≤ 4000000000 }
@@ -231,7 +205,7 @@ fn call_end(
     ensures later { OnOk result (IsBefore (due end.old.base end.old.stage) now → IsBefore (due end.new.base end.new.stage) now) }
     ensures kept { (timers : Timers) (reference : ℕ) → IsPlace timers now reference (Some end.old) → IsPlace timers now reference (Some end.new) }
 {
-    match end.user(now, call, out) {
+    match end.user(now, call, out, looks) {
         Ok(()) => Ok(()),
         Err(why) => Err(EntityRefusal::Call(why)),
     }
@@ -248,13 +222,13 @@ pub(crate) fn clock_after(why: EntityRefusal, clock: Tick, now: Tick) -> Tick
 }
 
 /// The end there ticks, and is taken out where it is due no more. No end is due there then.
-pub(crate) fn tick_place<L: Ledger>(
-    place: &mut Option<Connection>,
+pub(crate) fn tick_place<K: Looks>(
+    place: &mut Option<Connection<K>>,
     due: &mut Due,
     id: u32,
     now: Tick,
     out: &mut Step,
-    steps: &mut Steps<L>,
+    looks: &mut K,
 ) -> Result<(), NoMemory>
     requires there { IsSome place.old }
     requires behind { IsBehind now place.old }
@@ -264,14 +238,14 @@ pub(crate) fn tick_place<L: Ledger>(
     ensures step { OnOk result (Places (ticks_at wire now place.old) place.new out.old out.new) }
     ensures later { OnOk result (is_due now place.new ≡ false) }
     ensures due { due.new ≡ slice_set due.old id (due_at place.new) }
-    ensures steps { steps.new ≤ steps.old + 2 }
+    ensures looks { K.made looks.new ≤ K.made looks.old + 2 * K.each }
     ensures kept { (timers : Timers) (reference : ℕ) → IsPlace timers now reference place.old → IsPlace timers now reference place.new }
 {
     let Some(end) = place else {
         unreachable!();
     };
-    let outcome = end.tick(now, out, steps);
-    let next = end.next_due(steps);
+    let outcome = end.tick(now, out, looks);
+    let next = end.next_due(looks);
     keep(due, id, next);
     outcome?;
     if next.is_none() {

@@ -9,14 +9,14 @@ ghost use Rattle.tp4_entity.specs.Step.{DoesSo, connecting};
 ghost use Rattle.tp4_entity.specs.steps.Places.{IsOwn, Lasts};
 
 use crate::TpEntity;
-use crate::references::{due_of, keep};
+use crate::references::keep;
 use osi_base::{Bytes, NoMemory, Tick};
-use tp4_conn::{ConnectCall, ConnectRequest, Connection};
+use tp4_conn::{ConnectCall, ConnectRequest, Connection, Looks};
 use tp4_flow::Step;
 
-impl TpEntity {
+impl<K: Looks> TpEntity<K> {
     /// The end that stands at a reference.
-    pub(crate) fn end_at(&self, reference: u16) -> Option<&Connection>
+    pub(crate) fn end_at(&self, reference: u16) -> Option<&Connection<K>>
         ensures { option_copied result ≡ end_at self.now reference }
     {
         if reference == 0 {
@@ -53,12 +53,12 @@ impl TpEntity {
     }
 
     /// An end comes to a place.
-    pub(crate) fn put(&mut self, place: usize, end: Connection)
+    pub(crate) fn put(&mut self, place: usize, end: Connection<K>, looks: &mut K)
         requires within { place < length self.old.ends }
         requires own { IsOwn self.old.timers self.old.clock (place + 1) end }
         ensures { self.new ≡ with_end self.old (place + 1) (Some end) }
     {
-        keep(&mut self.due, place as u32, due_of(&end));
+        keep(&mut self.due, place as u32, end.next_due(looks));
         self.ends[place] = Some(end);
     }
 
@@ -69,6 +69,7 @@ impl TpEntity {
         now: Tick,
         request: ConnectRequest,
         out: &mut Step,
+        looks: &mut K,
     ) -> Result<u16, NoMemory>
         requires within { place < length self.old.ends }
         requires clock { self.old.clock ≤ now }
@@ -89,7 +90,7 @@ impl TpEntity {
         };
         let end = Connection::connect(self.alloc, now, call, out)?;
         self.set_clock(now);
-        self.put(place, end);
+        self.put(place, end, looks);
         Ok(own)
     }
 }

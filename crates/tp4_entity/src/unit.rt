@@ -17,10 +17,11 @@ ghost use Rattle.tp4_flow.specs.declared.step.What.TheVariants.{BadTpdu, Silent}
 use crate::TpEntity;
 use nsap::Nsap;
 use osi_base::{NoMemory, Tick};
+use tp4_conn::Looks;
 use tp4_flow::{EndEvent, Step, What};
 use tpdu::{Format, TpduFault, TpduRef, read_first};
 
-impl TpEntity {
+impl<K: Looks> TpEntity<K> {
     /// A unit that came from an address.
     ///
     /// At an octet that is no TPDU's the reading stops, and the fault is told. A silent entity tells `Silent` alone.
@@ -30,6 +31,7 @@ impl TpEntity {
         from: Nsap,
         octets: &[u8],
         out: &mut Step,
+        looks: &mut K,
     ) -> Result<(), NoMemory>
         requires clock { self.old.clock ≤ now }
         requires now { now ≤ 4000000000 }
@@ -43,7 +45,7 @@ impl TpEntity {
             self.set_clock(now);
             return ignore(out);
         }
-        self.hear_unit(now, from, octets, out)
+        self.hear_unit(now, from, octets, out, looks)
     }
 
     /// A unit that is heard: its TPDUs one after another.
@@ -53,6 +55,7 @@ impl TpEntity {
         from: Nsap,
         octets: &[u8],
         out: &mut Step,
+        looks: &mut K,
     ) -> Result<(), NoMemory>
         requires clock { self.old.clock ≤ now }
         requires now { now ≤ 4000000000 }
@@ -65,33 +68,37 @@ impl TpEntity {
         self.set_clock(now);
         let mut rest = octets;
         while !rest.is_empty() {
-            let (tpdu, behind) = match self.read(rest) {
+            let (tpdu, behind) = match self.read(rest, looks) {
                 Ok(found) => found,
                 Err(fault) => return tell(fault, out),
             };
-            self.on_tpdu(&from, &tpdu, out)?;
+            self.on_tpdu(&from, &tpdu, out, looks)?;
             rest = behind;
         }
         Ok(())
     }
 
     /// The first TPDU of the octets, in the formats that the ends agreed on.
-    fn read<'a>(&self, octets: &'a [u8]) -> Result<(TpduRef<'a>, &'a [u8]), TpduFault>
+    fn read<'a>(
+        &self,
+        octets: &'a [u8],
+        looks: &mut K,
+    ) -> Result<(TpduRef<'a>, &'a [u8]), TpduFault>
         ensures ok { IfOk result (λ found. BeginsWithTpdu (extended_of self.now) octets.now (seen found.0) found.1.now) }
         ensures fault { IfErr result (IsTpduFault (extended_of self.now) octets.now) }
     {
-        match self.extended_front(octets) {
+        match self.extended_front(octets, looks) {
             Some(reference) => read_first(octets, &[reference]),
             None => read_first(octets, &[]),
         }
     }
 
     /// Where a destination reference stands in a TPDU that has one: that reference, where its end agreed on extended formats.
-    fn extended_front(&self, octets: &[u8]) -> Option<u16>
+    fn extended_front(&self, octets: &[u8], looks: &mut K) -> Option<u16>
         ensures { result ≡ extended_front self.now (destination_in octets.now) }
     {
         let reference = destination_in(octets)?;
-        if self.is_extended(reference) {
+        if self.is_extended(reference, looks) {
             Some(reference)
         } else {
             None
@@ -99,11 +106,11 @@ impl TpEntity {
     }
 
     /// Whether the end at a reference agreed on extended formats.
-    fn is_extended(&self, reference: u16) -> bool
+    fn is_extended(&self, reference: u16, looks: &mut K) -> bool
         ensures { result ≡ is_extended (format_of (end_at self.now reference)) }
     {
         match self.end_at(reference) {
-            Some(end) => match end.format() {
+            Some(end) => match end.format(looks) {
                 Format::Normal => false,
                 Format::Extended => true,
             },

@@ -1,5 +1,6 @@
 //! Where entities stand, and where ends were made.
 
+use tp4_conn::Uncounted;
 use tp4_entity::TpEntity;
 
 /// The transport entity of a system.
@@ -7,7 +8,7 @@ use tp4_entity::TpEntity;
 pub struct Placed {
     /// The number of the system.
     pub system: u8,
-    pub entity: TpEntity,
+    pub entity: TpEntity<Uncounted>,
 }
 
 /// Where an end was made.

@@ -25,10 +25,8 @@ use nsap::Nsap;
 use osi_base::{Arrival, NoMemory, Tick, Unit};
 use std::alloc::Global;
 use std::collections::VecDeque;
-use std::marker::Brand;
-use std::sync::ledger::{Blank, Ledger};
-use tp4_conn::{ConnectRequest, Steps, UserCall};
-use tp4_entity::{ConnectRefusal, EntityRefusal, TpEntity};
+use tp4_conn::{ConnectRequest, Uncounted, UserCall};
+use tp4_entity::{ConnectRefusal, EntityRefusal};
 use tp4_flow::Step;
 
 /// The entities, and their ends by number; and lists that hold nothing of value between calls, but have room. Each call that uses
@@ -71,8 +69,8 @@ pub fn has_ended(transport: &Transport, place: usize, now: Tick, number: u32, en
         unreachable!();
     };
     let is_latest = transport.ends.latest(end.system, end.reference) == number;
-    let is_gone = one.entity.state_of(end.reference).is_none();
-    !is_latest || is_gone || one.entity.is_free(now, end.reference)
+    let is_gone = one.entity.state_of(end.reference, &mut Uncounted).is_none();
+    !is_latest || is_gone || one.entity.is_free(now, end.reference, &mut Uncounted)
 }
 
 /// The entity at a place takes a unit.
@@ -95,8 +93,7 @@ pub fn hear_at(
     let Some(one) = entities.get_mut(place) else {
         unreachable!();
     };
-    one.entity
-        .on_unit(now, unit.from, unit.octets.as_slice(), out)
+    one.entity.on_unit(now, unit.from, unit.octets.as_slice(), out, &mut Uncounted)
 }
 
 /// A user of the entity at a place asks for a connection.
@@ -124,7 +121,7 @@ pub fn connect_at(
     let Some(one) = entities.get_mut(place) else {
         unreachable!();
     };
-    one.entity.connect(now, request, out)
+    one.entity.connect(now, request, out, &mut Uncounted)
 }
 
 /// The entity at a place begins again.
@@ -166,7 +163,7 @@ pub fn user_at(
     let Some(one) = entities.get_mut(place) else {
         unreachable!();
     };
-    one.entity.user(now, reference, call, out)
+    one.entity.user(now, reference, call, out, &mut Uncounted)
 }
 
 /// The due end of least reference of the entity at a place ticks; false exactly where none is due.
@@ -191,29 +188,5 @@ pub fn tick_at(
     let Some(one) = entities.get_mut(place) else {
         unreachable!();
     };
-    tick_counted::<Brand>(&mut one.entity, now, out, Blank::new(1))
-}
-
-/// The due end of least reference of an entity ticks; the looks at it are counted in a ledger of their own.
-fn tick_counted<L: Ledger>(
-    entity: &mut TpEntity,
-    now: Tick,
-    out: &mut Step,
-    blank: Blank,
-) -> Result<bool, NoMemory>
-    requires name { blank.name ≡ L.name }
-    requires parts { blank.parts ≡ L.parts }
-    requires some { 0 < blank.parts }
-    requires low { now ≤ 4000000000 }
-    requires clock { entity.old.clock ≤ now }
-    requires from { AreFrom now entity.old.ends }
-    ensures due { IfOk result (λ was_due. was_due ≡ is_some (first_due now entity.old)) }
-    ensures step { OnOk result (DoesSo (ticking wire now entity.old) entity.new out.old out.new) }
-    ensures fewer { IfOk result (λ was_due. was_due ≡ true → dues now entity.new + 1 ≡ dues now entity.old) }
-    ensures from { OnOk result (AreFrom now entity.new.ends) }
-    ensures later { OnOk result (AreLater now entity.old.ends → AreLater now entity.new.ends) }
-    ensures rest { IfOk result (λ was_due. was_due ≡ false → AreLater now entity.new.ends) }
-    ensures clock { entity.new.clock ≤ now }
-{
-    entity.tick_next(now, out, &mut Steps::<L>::new(blank))
+    one.entity.tick_next(now, out, &mut Uncounted)
 }

@@ -34,7 +34,7 @@ at_next now ends above h =
     subst (λ (n : ℕ). AreFrom n ends) next (later_next (now - 1) ends (not_due (now - 1) ends h))
 
 pub returns : goal.returns
-returns c = elim c.else-clock-gt0.branch [
+returns g c = elim c.else-clock-gt0.branch [
   | else-clock-gt0-via-then-clock-gt0+else-due_by w ↦ at_next c.args.clock c.args.entity.now.ends w.if-clock-gt0.true (sym w.due_by.ensures ∙ w.if-due_by.false)
   | else-clock-gt0-via-else-clock-gt0 w ↦ at_first c.args.clock c.args.entity.now.ends (omega (arith, w.if-clock-gt0.false))
 ]

@@ -17,4 +17,4 @@ by_call None here why h is = absurd cc
 by_call (Some cause) here why h is = let same = h cause refl in cc
 
 pub returns-in-Err-clause-refused : goal.returns-in-Err-clause-refused
-returns-in-Err-clause-refused c why is = by_call _ c.in-Err.why why c.in-Err.ensures.refused is
+returns-in-Err-clause-refused g c why is = by_call _ c.in-Err.why why c.in-Err.ensures.refused is

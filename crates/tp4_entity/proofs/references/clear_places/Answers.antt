@@ -4,5 +4,5 @@ use Rattle.tp4_entity.proofs.Clearing.{clears}
 use Rattle.tp4_entity.proofs.references.clear_places.Goals as goal
 
 pub loop-at-preserved : goal.loop-at-preserved
-loop-at-preserved c =
+loop-at-preserved g c =
     ap (λ (places : List (Option End)). slice_set places c.loop-at.at None) c.loop-at.invariant ∙ clears c.loop-at.at c.args.places.now (omega (arith, c.loop-at-test.true))

@@ -4,4 +4,4 @@ use Rattle.tp4_entity.proofs.PlaceLaws.{Place}
 use Rattle.tp4_entity.proofs.references.free_place.Given as goal
 
 abbrev pub invariant-loop-at : goal.invariant-loop-at
-invariant-loop-at l = (k : ℕ) (place : Place) → k < l.at → slice_get l.places k ≡ Some place → is_free_place l.now place ≡ false
+invariant-loop-at g l = (k : ℕ) (place : Place) → k < l.at → slice_get l.places k ≡ Some place → is_free_place l.now place ≡ false

@@ -7,7 +7,7 @@ use Rattle.tp4_conn.proofs.Sizes.{read_proposal}
 use Rattle.tp4_conn.proofs.connection.Connection.incoming.Goals as goal
 
 pub invariant_of-result : goal.invariant_of-result
-invariant_of-result c =
+invariant_of-result g c =
     let allowed = subst (λ t. IsAllowed Normal (tpdu_of t)) c.in-Cr.is c.requires.allowed in
     let few = allowed.few_credits in
     let same = c.from.ensures in (

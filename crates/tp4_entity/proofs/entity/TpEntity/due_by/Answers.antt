@@ -6,11 +6,11 @@ use Rattle.tp4_entity.proofs.Dues.{first_none, first_some}
 use Rattle.tp4_entity.proofs.entity.TpEntity.due_by.Goals as goal
 
 pub returns-in-Some : goal.returns-in-Some
-returns-in-Some c =
+returns-in-Some g c =
     first_some c.args.now c.in-Some.tick c.self.inside.due c.self.inside.ends.items c.self.invariant.1 c.in-Some.ensures
     ∙ ap (λ (e : Entity). list_any (is_due c.args.now) e.ends) c.self.view_is
 
 pub returns-in-None : goal.returns-in-None
-returns-in-None c =
+returns-in-None g c =
     first_none c.args.now c.self.inside.due c.self.inside.ends.items c.self.invariant.1 c.in-None.ensures
     ∙ ap (λ (e : Entity). list_any (is_due c.args.now) e.ends) c.self.view_is

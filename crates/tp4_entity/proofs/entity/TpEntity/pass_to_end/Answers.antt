@@ -11,13 +11,13 @@ use Rattle.tp4_entity.proofs.PlaceLaws.{Place, end_is, entity_at, entity_set, pa
 use Rattle.tp4_entity.proofs.entity.TpEntity.pass_to_end.Goals as goal
 
 pub take_place-requires-clause-behind : goal.take_place-requires-clause-behind
-take_place-requires-clause-behind c =
+take_place-requires-clause-behind g c =
     let at = c.from.result - 1 in
     let there = slice_get_read c.self.inside.ends.items _ at c.in-Some.place.now c.self.inside.ends.ok.0 (c.in-Some.ensures.variant.0 refl) c.in-Some.ensures.value in
     place_behind c.self.inside.timers c.self.inside.clock c.self.inside.clock (at + 1) c.in-Some.place.now (omega arith) (entity_at _ at c.in-Some.place.now c.self.invariant.0 there)
 
 pub take_place-requires-clause-allowed : goal.take_place-requires-clause-allowed
-take_place-requires-clause-allowed c =
+take_place-requires-clause-allowed g c =
     let at = c.from.result - 1 in
     let there = slice_get_read c.self.inside.ends.items _ at c.in-Some.place.now c.self.inside.ends.ok.0 (c.in-Some.ensures.variant.0 refl) c.in-Some.ensures.value in
     let at_is : c.args.destination ≡ at + 1 = omega arith in
@@ -25,7 +25,7 @@ take_place-requires-clause-allowed c =
     subst (λ (p : Place). IsAllowed (format_of p) (tpdu_of c.args.tpdu.now)) is c.requires.allowed
 
 pub invariant_of-self-2 : goal.invariant_of-self-2
-invariant_of-self-2 c =
+invariant_of-self-2 g c =
     let at = c.from.result - 1 in
     let there = slice_get_read c.self.inside.ends.items _ at c.in-Some.place.now c.self.inside.ends.ok.0 (c.in-Some.ensures.variant.0 refl) c.in-Some.ensures.value in (
       entity_set _ at (at + 1) c.take_place.new.place c.self.invariant.0
@@ -34,7 +34,7 @@ invariant_of-self-2 c =
     )
 
 pub returns-in_default-clause-step : goal.returns-in_default-clause-step
-returns-in_default-clause-step c =
+returns-in_default-clause-step g c =
     let at = c.from.result - 1 in
     let beyond = past_from _ _ c.in_default.ensures.variant.1 in
     let past = slice_get_past c.self.inside.ends.items at (omega (arith, beyond, c.self.inside.ends.ok.0)) in
@@ -44,7 +44,7 @@ returns-in_default-clause-step c =
     c.unmatched-in_default.ensures
 
 pub returns-clause-step : goal.returns-clause-step
-returns-clause-step c =
+returns-clause-step g c =
     let at = c.from.result - 1 in
     let there = slice_get_read c.self.inside.ends.items _ at c.in-Some.place.now c.self.inside.ends.ok.0 (c.in-Some.ensures.variant.0 refl) c.in-Some.ensures.value in
     let at_is : c.args.destination ≡ at + 1 = omega arith in
@@ -53,13 +53,13 @@ returns-clause-step c =
     c.take_place.ensures.step
 
 pub take_place-requires-clause-from : goal.take_place-requires-clause-from
-take_place-requires-clause-from c =
+take_place-requires-clause-from g c =
     let at = c.from.result - 1 in
     let there = slice_get_read c.self.inside.ends.items _ at c.in-Some.place.now c.self.inside.ends.ok.0 (c.in-Some.ensures.variant.0 refl) c.in-Some.ensures.value in
     from_get c.self.inside.clock at c.self.inside.ends.items c.in-Some.place.now (subst (λ (e : Entity). AreFrom e.clock e.ends) (sym c.self.view_is) c.requires.due) there
 
 pub returns-clause-lasts : goal.returns-clause-lasts
-returns-clause-lasts c =
+returns-clause-lasts g c =
     let at = c.from.result - 1 in
     let there = slice_get_read c.self.inside.ends.items _ at c.in-Some.place.now c.self.inside.ends.ok.0 (c.in-Some.ensures.variant.0 refl) c.in-Some.ensures.value in
     on_ok_both c.take_place.result

@@ -7,11 +7,11 @@ use Rattle.tp4_entity.proofs.PlaceLaws.{entity_set}
 use Rattle.tp4_entity.proofs.entity.TpEntity.put.Goals as goal
 
 pub invariant_of-self : goal.invariant_of-self
-invariant_of-self c =
+invariant_of-self g c =
     let same = ap (λ (e : Entity). length e.ends) c.self.view_is in (
       entity_set _ c.args.place (c.args.place + 1) (Some c.args.end) c.self.invariant.0
           (subst (λ (e : Entity). IsOwn e.timers e.clock (c.args.place + 1) c.args.end) (sym c.self.view_is) c.requires.own) refl,
-      due_put c.self.inside.due c.keep.new.due c.self.inside.ends.items c.args.place (Some c.args.end) c.due_of.result c.self.invariant.1 c.keep.ensures c.due_of.ensures,
+      due_put c.self.inside.due c.keep.new.due c.self.inside.ends.items c.args.place (Some c.args.end) c.next_due.result c.self.invariant.1 c.keep.ensures c.next_due.ensures.value,
     )
 
 -- the place of a reference is the one below it
@@ -21,7 +21,7 @@ set_there e at end =
     ap (λ (n : ℕ). record e { ends = slice_set e.ends n end }) same
 
 pub returns : goal.returns
-returns c =
+returns g c =
     set_there (record {
       own = c.self.inside.own;
       timers = c.self.inside.timers;

@@ -8,14 +8,14 @@ use Rattle.tp4_entity.proofs.PlaceLaws.{call_done, entity_over, entity_at, entit
 use Rattle.tp4_entity.proofs.entity.TpEntity.user.Goals as goal
 
 pub call_place-requires-clause-behind : goal.call_place-requires-clause-behind
-call_place-requires-clause-behind c =
+call_place-requires-clause-behind g c =
     let at = c.from.result - 1 in
     let there = slice_get_read c.self.inside.ends.items _ at c.in-Some.place.now c.self.inside.ends.ok.0 (c.in-Some.ensures.variant.0 refl) c.in-Some.ensures.value in
     let clock = ap (λ (e : Entity). e.clock) c.self.view_is in
     place_behind c.self.inside.timers c.self.inside.clock c.args.now (at + 1) c.in-Some.place.now (omega (arith, clock, c.requires.clock)) (entity_at _ at c.in-Some.place.now c.self.invariant.0 there)
 
 pub invariant_of-self-in-Ok : goal.invariant_of-self-in-Ok
-invariant_of-self-in-Ok c =
+invariant_of-self-in-Ok g c =
     let at = c.from.result - 1 in
     let there = slice_get_read c.self.inside.ends.items _ at c.in-Some.place.now c.self.inside.ends.ok.0 (c.in-Some.ensures.variant.0 refl) c.in-Some.ensures.value in
     let clock = ap (λ (e : Entity). e.clock) c.self.view_is in (
@@ -24,7 +24,7 @@ invariant_of-self-in-Ok c =
     )
 
 pub invariant_of-self-in-Err : goal.invariant_of-self-in-Err
-invariant_of-self-in-Err c =
+invariant_of-self-in-Err g c =
     let at = c.from.result - 1 in
     let there = slice_get_read c.self.inside.ends.items _ at c.in-Some.place.now c.self.inside.ends.ok.0 (c.in-Some.ensures.variant.0 refl) c.in-Some.ensures.value in
     let clock = ap (λ (e : Entity). e.clock) c.self.view_is in
@@ -35,50 +35,50 @@ invariant_of-self-in-Err c =
     )
 
 pub returns-in-Ok-clause-allowed : goal.returns-in-Ok-clause-allowed
-returns-in-Ok-clause-allowed c =
+returns-in-Ok-clause-allowed g c =
     let at = c.from.result - 1 in
     let there = slice_get_read c.self.inside.ends.items _ at c.in-Some.place.now c.self.inside.ends.ok.0 (c.in-Some.ensures.variant.0 refl) c.in-Some.ensures.value in
     refusal_at _ _ c.args.reference at c.args.call c.in-Some.place.now c.self.view_is (omega arith) there ∙ c.in-Ok.ensures.allowed
 
 pub returns-in-Ok-clause-step : goal.returns-in-Ok-clause-step
-returns-in-Ok-clause-step c =
+returns-in-Ok-clause-step g c =
     let at = c.from.result - 1 in
     let there = slice_get_read c.self.inside.ends.items _ at c.in-Some.place.now c.self.inside.ends.ok.0 (c.in-Some.ensures.variant.0 refl) c.in-Some.ensures.value in
     call_done _ _ c.args.now c.args.reference at c.args.call c.in-Some.place.now c.call_place.new.place c.args.out.now c.call_place.new.out c.self.view_is (omega arith) there c.in-Ok.ensures.step
 
 pub returns-in-Ok-clause-refused : goal.returns-in-Ok-clause-refused
-returns-in-Ok-clause-refused c why is =
+returns-in-Ok-clause-refused g c why is =
     let at = c.from.result - 1 in
     let there = slice_get_read c.self.inside.ends.items _ at c.in-Some.place.now c.self.inside.ends.ok.0 (c.in-Some.ensures.variant.0 refl) c.in-Some.ensures.value in
     let none = sym is ∙ refusal_at _ _ c.args.reference at c.args.call c.in-Some.place.now c.self.view_is (omega arith) there ∙ c.in-Ok.ensures.allowed in
     absurd cc
 
 pub returns-in-Err-clause-refused : goal.returns-in-Err-clause-refused
-returns-in-Err-clause-refused c why is =
+returns-in-Err-clause-refused g c why is =
     let at = c.from.result - 1 in
     let there = slice_get_read c.self.inside.ends.items _ at c.in-Some.place.now c.self.inside.ends.ok.0 (c.in-Some.ensures.variant.0 refl) c.in-Some.ensures.value in
     c.in-Err.ensures.refused why (sym (refusal_at _ _ c.args.reference at c.args.call c.in-Some.place.now c.self.view_is (omega arith) there) ∙ is)
 
 pub returns-in-Err-clause-why : goal.returns-in-Err-clause-why
-returns-in-Err-clause-why c other =
+returns-in-Err-clause-why g c other =
     let at = c.from.result - 1 in
     let there = slice_get_read c.self.inside.ends.items _ at c.in-Some.place.now c.self.inside.ends.ok.0 (c.in-Some.ensures.variant.0 refl) c.in-Some.ensures.value in
     refusal_at _ _ c.args.reference at c.args.call c.in-Some.place.now c.self.view_is (omega arith) there ∙ c.in-Err.ensures.why other
 
 pub call_place-requires-clause-from : goal.call_place-requires-clause-from
-call_place-requires-clause-from c =
+call_place-requires-clause-from g c =
     let at = c.from.result - 1 in
     let there = slice_get_read c.self.inside.ends.items _ at c.in-Some.place.now c.self.inside.ends.ok.0 (c.in-Some.ensures.variant.0 refl) c.in-Some.ensures.value in
     from_get c.args.now at c.self.inside.ends.items c.in-Some.place.now (subst (λ (e : Entity). AreFrom c.args.now e.ends) (sym c.self.view_is) c.requires.due) there
 
 pub returns-in-Ok-clause-from : goal.returns-in-Ok-clause-from
-returns-in-Ok-clause-from c =
+returns-in-Ok-clause-from g c =
     let at = c.from.result - 1 in
     let there = slice_get_read c.self.inside.ends.items _ at c.in-Some.place.now c.self.inside.ends.ok.0 (c.in-Some.ensures.variant.0 refl) c.in-Some.ensures.value in
     (lasts_set c.args.now at _ _ c.in-Some.place.now c.call_place.new.place c.self.view_is c.requires.due there c.in-Ok.ensures.from c.in-Ok.ensures.later).0
 
 pub returns-in-Ok-clause-later : goal.returns-in-Ok-clause-later
-returns-in-Ok-clause-later c =
+returns-in-Ok-clause-later g c =
     let at = c.from.result - 1 in
     let there = slice_get_read c.self.inside.ends.items _ at c.in-Some.place.now c.self.inside.ends.ok.0 (c.in-Some.ensures.variant.0 refl) c.in-Some.ensures.value in
     (lasts_set c.args.now at _ _ c.in-Some.place.now c.call_place.new.place c.self.view_is c.requires.due there c.in-Ok.ensures.from c.in-Ok.ensures.later).1

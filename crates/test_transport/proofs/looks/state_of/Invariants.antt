@@ -1,4 +1,0 @@
-use Rattle.test_transport.proofs.looks.state_of.Given as goal
-
-abbrev pub ghosts-state_counted : goal.ghosts-state_counted
-ghosts-state_counted a = record { name = a.blank.name; parts = a.blank.parts }

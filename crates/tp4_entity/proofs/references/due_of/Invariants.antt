@@ -1,4 +1,0 @@
-use Rattle.tp4_entity.proofs.references.due_of.Given as goal
-
-abbrev pub ghosts-due_counted : goal.ghosts-due_counted
-ghosts-due_counted a = record { name = a.blank.name; parts = a.blank.parts }
