@@ -20,7 +20,7 @@ use osi_base::{Bytes, HeaderRefusal, NoMemory, Unit};
 use std::alloc::Global;
 
 impl SystemSetup {
-    /// The frames of a PDU with these data in place of its own, which are copied only where they are cut.
+    /// The frames of a PDU of that length with these data in place of its own, which are copied only where they are cut.
     ///
     /// None exactly where it does not fit the room of the LAN and may not be cut.
     // Inlined: the PDU and the frame are large values, which are moved once less for each unit.
@@ -31,13 +31,15 @@ impl SystemSetup {
         to: Port,
         pdu: Pdu,
         body: &[u8],
+        length: usize,
     ) -> Result<Option<UnitFrames>, NoMemory>
         requires setting { IsSetting self.now }
         requires port { IsSome (port_on self.now to.lan) }
         requires written { MayBeWritten (with_body pdu body.now) }
+        requires length { length ≡ length_of_pdu (with_body pdu body.now) }
         ensures { IfOk result (λ frames. CutFrames self.now to (with_body pdu body.now) (option_map frames_in frames)) }
     {
-        if length_with(&pdu, body) <= self.room(to.lan) as usize {
+        if length <= self.room(to.lan) as usize {
             let frame = self.frame_with(alloc, to, &pdu, body)?;
             return Ok(Some(UnitFrames::One(frame)));
         }

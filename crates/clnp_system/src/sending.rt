@@ -4,7 +4,7 @@ ghost use Rattle.std.specs.Prelude.{◌≡◌, ◌≤◌, ◌∷◌, ◌++◌, I
 ghost use Rattle.std.specs.List.{AllByRecursion};
 ghost use Rattle.pdu_parts.specs.Field.{IsAddress};
 ghost use Rattle.clnp_options.specs.Titles.{entries};
-ghost use Rattle.clnp_header.specs.Writing.{with_body};
+ghost use Rattle.clnp_header.specs.Writing.{pdu_length, with_body};
 ghost use Rattle.clnp_system.specs.Node.{frames_in};
 ghost use Rattle.clnp_system.specs.Sending.{first_pdu, first_segment, pdu_with, recording_options, route_options};
 ghost use Rattle.clnp_system.specs.Setting.{IsAddressed, IsSetting, path_of, port_on};
@@ -26,6 +26,13 @@ const PARTIAL: u8 = 0;
 /// The octets of a recording.
 const RECORDING_OCTETS: usize = 63;
 
+/// The initial PDU of a unit, without the unit's octets, and its length with them.
+#[derive(Drop)]
+struct InitialPdu {
+    pdu: Pdu,
+    length: usize,
+}
+
 impl SystemSetup {
     /// The frames of a unit to the hop, with that identifier where it may be cut. None exactly where it does not fit and may
     /// not be cut.
@@ -42,8 +49,8 @@ impl SystemSetup {
         requires hop { IsSome (port_on self.now hop.now.port.lan) }
         ensures { IfOk result (λ frames. CutFrames self.now hop.now.port (first_pdu self.now unit.now wish id) (option_map frames_in frames)) }
     {
-        let pdu = self.first_pdu(alloc, unit, wish, id)?;
-        self.frames_with(alloc, hop.port, pdu, unit.octets.as_slice())
+        let InitialPdu { pdu, length } = self.first_pdu(alloc, unit, wish, id)?;
+        self.frames_with(alloc, hop.port, pdu, unit.octets.as_slice(), length)
     }
 
     /// The initial PDU of a unit, with that identifier where it may be cut, and without the unit's octets.
@@ -53,17 +60,19 @@ impl SystemSetup {
         unit: &Unit<Nsap>,
         wish: Wish,
         id: u16,
-    ) -> Result<Pdu, NoMemory>
+    ) -> Result<InitialPdu, NoMemory>
         requires setting { IsSetting self.now }
         requires unit { length unit.now.octets ≤ 16384 }
-        ensures value { IfOk result (λ pdu. with_body pdu unit.now.octets ≡ first_pdu self.now unit.now wish id) }
-        ensures writable { IfOk result (λ pdu. MayBeWritten (with_body pdu unit.now.octets)) }
+        ensures value { IfOk result (λ first. with_body first.pdu unit.now.octets ≡ first_pdu self.now unit.now wish id) }
+        ensures writable { IfOk result (λ first. MayBeWritten (with_body first.pdu unit.now.octets)) }
+        ensures length { IfOk result (λ first. first.length ≡ pdu_length (with_body first.pdu unit.now.octets)) }
     {
         addressed(unit);
         let mut pdu = self.pdu_with(alloc, unit, wish, id)?;
-        let total = length_with(&pdu, unit.octets.as_slice()) as u16;
+        let length = length_with(&pdu, unit.octets.as_slice());
+        let total = length as u16;
         pdu.segment = first_segment(wish.cut, id, total);
-        Ok(pdu)
+        Ok(InitialPdu { pdu, length })
     }
 
     /// The initial PDU of a unit, with a total length of 0, and without the unit's octets.
