@@ -86,7 +86,7 @@ one_step titles old new made kept step = More old made new new made [] (λ syste
 
 -- ---- arrivals
 
-fits : (titles : List (List ℕ)) (system : ℕ) (entity : Entity) (to : List ℕ) → IsKept titles system entity → IsUser titles to system → selector_of to ≡ 1 → entity.own ≡ to
+pub fits : (titles : List (List ℕ)) (system : ℕ) (entity : Entity) (to : List ℕ) → IsKept titles system entity → IsUser titles to system → selector_of to ≡ 1 → entity.own ≡ to
 fits titles system entity to kept user one =
     let title : user.title ≡ kept.title = some_title user.title kept.title (sym user.title_is ∙ kept.title_is) in
     let selector : user.selector ≡ 1 = sym (selector_of-append (system_part user.title) user.selector) ∙ ap selector_of (sym user.address_is) ∙ one in
@@ -95,10 +95,10 @@ fits titles system entity to kept user one =
     some_title : (one other : List ℕ) → Some one ≡ Some other → one ≡ other
     some_title one other is = cc is
 
-both_true : (one other : Bool) → one ≡ true → other ≡ true → (one && other) ≡ true
+pub both_true : (one other : Bool) → one ≡ true → other ≡ true → (one && other) ≡ true
 both_true one other p q = ap (λ (b : Bool). b && other) p ∙ q
 
-first_false : (one other : Bool) → one ≡ false → (one && other) ≡ false
+pub first_false : (one other : Bool) → one ≡ false → (one && other) ≡ false
 first_false one other p = ap (λ (b : Bool). b && other) p
 
 module _ {C : Type 0} (link : C → Link (List ℕ)) (steps : C → Call (List ℕ) → C → Type 0)
@@ -137,12 +137,12 @@ module _ {C : Type 0} (link : C → Link (List ℕ)) (steps : C → Call (List �
 
   -- ---- what came up
 
-  hears_none : (ups : List (Up (List ℕ))) (old new : World C) (made : List Event) → arrivals ups ≡ [] → HearsAll link steps whole old ups made new → (made ≡ []) × (new ≡ old)
+  pub hears_none : (ups : List (Up (List ℕ))) (old new : World C) (made : List Event) → arrivals ups ≡ [] → HearsAll link steps whole old ups made new → (made ≡ []) × (new ≡ old)
   hears_none [] old new made none h = h
   hears_none (Noted note ∷ ups) old new made none h = hears_none ups old new made none h
   hears_none (Came arrival ∷ ups) old new made none h = absurd cc
 
-  hears_one : (ups : List (Up (List ℕ))) (old new : World C) (arrival : Arrival (List ℕ)) (made : List Event) → arrivals ups ≡ arrival ∷ [] → HearsAll link steps whole old ups made new
+  pub hears_one : (ups : List (Up (List ℕ))) (old new : World C) (arrival : Arrival (List ℕ)) (made : List Event) → arrivals ups ≡ arrival ∷ [] → HearsAll link steps whole old ups made new
       → Hears link steps whole old arrival made new
   hears_one [] old new arrival made one h = absurd cc
   hears_one (Noted note ∷ ups) old new arrival made one h = hears_one ups old new arrival made one h

@@ -18,6 +18,7 @@ use Rattle.tp4_entity.specs.Unit.{EndsWith, Faulty, HearsUnit, Separates, Whole,
 use Rattle.law_tp4_proper.specs.Units.{IsBad, IsOne}
 use Rattle.law_tp4_proper.proofs.OneUnits.{one_in_unit}
 use Rattle.law_calm_run.proofs.Hall.{IsReadBy}
+use Rattle.law_tp4_lawful.proofs.WorldHears.{acted_same}
 
 -- the TPDU, as it is read
 abbrev pub was : Sent → TpduAndSum
@@ -63,12 +64,6 @@ module _ (e : Entity) (octets : List ℕ) (sent : Sent) (fits : IsSendable sent)
       never bad = some _ (sym bad.told_is ∙ no_fault rest told (subst (λ (ts : List TpduAndSum). Separates (extended_of e) octets ts rest) bad.tpdus_are s) ends)
 
 -- ---- what the entity does
-
-acted_same : (a b : Acted) → a.entity ≡ b.entity → a.events ≡ b.events → a.tpdus ≡ b.tpdus → a ≡ b
-acted_same a b one told tpdus =
-    ap (λ (x : Entity). record { entity = x; events = a.events; tpdus = a.tpdus }) one
-    ∙ ap (λ (es : List EndEvent). record { entity = b.entity; events = es; tpdus = a.tpdus }) told
-    ∙ ap (λ (ts : List Sent). record { entity = b.entity; events = b.events; tpdus = ts }) tpdus
 
 -- the entity hears that TPDU
 pub heard_as : (now : ℕ) (e : Entity) (from octets : List ℕ) (sent : Sent) (acted : Acted) → IsSendable sent → IsWritten sent.format sent.sum sent.tpdu octets

@@ -1,7 +1,6 @@
 -- A network before its first line is one in which all is as it has to be: its entities stand at the addresses of their systems, and have no end.
-use Rattle.std.proofs.Common.{◌≡◌, ◌≤◌, ℕ, ◌==◌, Bool, true, false, cond, List, [], ◌∷◌, length, slice_get, Option, Some, None, refl, sym, ◌∙◌, ap, subst, inl, arith}
-use Rattle.std.specs.Prelude.{option_map, replicate}
-use Rattle.std.specs.List.{AllByRecursion, find}
+use Rattle.std.proofs.Common.{◌≡◌, ◌≤◌, ℕ, List, [], ◌∷◌, length, slice_get, Option, Some, None, refl, sym, ◌∙◌, ap, subst, inl}
+use Rattle.std.specs.List.{AllByRecursion}
 use Rattle.osi_base.specs.Calls.{Call, Keeps}
 use Rattle.osi_base.specs.Link.{Link}
 use Rattle.osi_base.specs.declared.unit.Unit.{Unit as CarriedUnit}
@@ -15,40 +14,17 @@ use Rattle.tp4_entity.specs.Entity.{Entity}
 use Rattle.law_tp4_proper.specs.Rest.{IsAtRest}
 use Rattle.law_tp4_proper.proofs.Ends.{new_rests}
 use Rattle.tp4_world.specs.First.{HasNoEnd, IsNew}
-use Rattle.tp4_world.specs.World.{World, entity_at, is_of}
-use Rattle.tp4_world.specs.declared.place.Placed.{Placed}
+use Rattle.tp4_world.specs.World.{World, entity_at}
 use Rattle.tp4_world.proofs.Destinations.{EndsFine}
 use Rattle.law_tp4_lawful.specs.First.{IsUntouched}
-use Rattle.law_tp4_lawful.proofs.WorldPlaces.{none_some, some_same}
+use Rattle.law_tp4_lawful.proofs.WorldPlaces.{none_some}
+use Rattle.law_tp4_lawful.proofs.WorldStarts.{all_none, found}
 use Rattle.law_calm_run.specs.Run.{IsCalmRun, IsStart}
 use Rattle.law_calm_run.proofs.Hall.{Hall, IsAddress}
 use Rattle.law_calm_run.proofs.Posting.{IsKept}
 use Rattle.law_calm_run.proofs.Going.{HasSettled, Stands}
 use Rattle.law_calm_run.proofs.Lines.{lines_go}
 use Rattle.law_calm_run.proofs.Never.{AreNever}
-
--- the entity of a system is one of those placed there
-pub record IsOne (P : Placed → Type 0) (system : ℕ) (e : Entity) : Type 0 where
-  pub one : Placed
-  pub system_is : one.system ≡ system
-  pub entity_is : one.entity ≡ e
-  pub holds : P one
-
-equal : (n m : ℕ) → (n == m) ≡ true → n ≡ m
-equal n m is = grind arith
-
-pub found : (P : Placed → Type 0) (placed : List Placed) (system : ℕ) (e : Entity) → AllByRecursion P placed → entity_at placed system ≡ Some e → IsOne P system e
-found P [] system e all is = absurd (none_some e is)
-found P (one ∷ placed) system e all is = by_first (is_of system one) refl is (found P placed system e all.1)
-  where
-    by_first : (here : Bool) → is_of system one ≡ here → option_map (λ (x : Placed). x.entity) (cond here (Some one) (find (is_of system) placed)) ≡ Some e
-        → (entity_at placed system ≡ Some e → IsOne P system e) → IsOne P system e
-    by_first true at is rest = record { one = one; system_is = equal one.system system at; entity_is = some_same one.entity e is; holds = all.0 }
-    by_first false at is rest = rest is
-
-all_none : (ends : List (Option End)) → AllByRecursion (λ place. place ≡ None) ends → ends ≡ replicate (length ends) None
-all_none [] none = refl
-all_none (place ∷ ends) none = ap (λ (p : Option End). p ∷ ends) none.0 ∙ ap (λ (ps : List (Option End)). None ∷ ps) (all_none ends none.1)
 
 none_fine : (Fine : List ℕ → Type 0) (ends : List (Option End)) → AllByRecursion (λ place. place ≡ None) ends → EndsFine Fine ends
 none_fine Fine [] none = tt

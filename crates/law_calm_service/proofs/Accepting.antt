@@ -66,7 +66,7 @@ use Rattle.law_calm_service.proofs.Continuing.{get_set_same, some_same}
 use Rattle.law_calm_service.proofs.Keeping.{has_story}
 use Rattle.law_calm_service.proofs.Partnering.{none_waits}
 use Rattle.law_calm_service.proofs.Placing.{IsWhere, party_of, where_it_stands}
-use Rattle.law_calm_service.proofs.Telling.{first_there}
+use Rattle.law_tp4_lawful.proofs.ActsHeld.{first_there}
 use Rattle.tpdu.specs.declared.service.EndTold.TheVariants as tells
 
 -- ---- one end

@@ -23,7 +23,7 @@ use Rattle.law_calm_run.specs.Run.{IsStart}
 use Rattle.law_calm_run.proofs.Hall.{AreAllProper, Done, Goes, Hall, More, Step}
 use Rattle.law_calm_service.proofs.Story.{Numbers, Story, address_of}
 use Rattle.law_calm_service.proofs.Continuing.{none_some}
-use Rattle.law_calm_run.proofs.Starting.{found}
+use Rattle.law_tp4_lawful.proofs.WorldStarts.{found}
 
 none_there : (ends : List (Option End)) → AllByRecursion (λ place. place ≡ None) ends → (n : ℕ) → there (slice_get ends n) ≡ None
 none_there [] none n = refl

@@ -38,21 +38,21 @@ same_ok one other e = cc e
 ok_or_err : {A : Type 0} (one : A) (cause : DropCause) → ◌≡◌ {A = Result A DropCause} (Ok one) (Err cause) → ⊥
 ok_or_err one cause e = absurd (cc e)
 
-same_offer : {A : Type 0} (one other : CarriedUnit A) (wish more : Wish) → Offering one wish ≡ Offering other more → (one ≡ other) × (wish ≡ more)
+pub same_offer : {A : Type 0} (one other : CarriedUnit A) (wish more : Wish) → Offering one wish ≡ Offering other more → (one ≡ other) × (wish ≡ more)
 same_offer one other wish more e = (cc e, cc e)
 
-same_choice : {A B : Type 0} (pick system other more : ℕ) → ◌≡◌ {A = Asked A} (Choosing pick system) (Choosing other more) → ◌≡◌ {A = Asked B} (Choosing pick system) (Choosing other more)
+pub same_choice : {A B : Type 0} (pick system other more : ℕ) → ◌≡◌ {A = Asked A} (Choosing pick system) (Choosing other more) → ◌≡◌ {A = Asked B} (Choosing pick system) (Choosing other more)
 same_choice pick system other more e = cc e
 
-same_injection : {A B : Type 0} (lan system other more : ℕ) (octets others : List ℕ) → ◌≡◌ {A = Asked A} (Injecting lan system octets) (Injecting other more others)
+pub same_injection : {A B : Type 0} (lan system other more : ℕ) (octets others : List ℕ) → ◌≡◌ {A = Asked A} (Injecting lan system octets) (Injecting other more others)
     → ◌≡◌ {A = Asked B} (Injecting lan system octets) (Injecting other more others)
 same_injection lan system other more octets others e = cc e
 
-same_chosen : {A B : Type 0} (pick system other more : ℕ) (answer picked : Picked) → ◌≡◌ {A = Call A} (Choose pick system answer) (Choose other more picked)
+pub same_chosen : {A B : Type 0} (pick system other more : ℕ) (answer picked : Picked) → ◌≡◌ {A = Call A} (Choose pick system answer) (Choose other more picked)
     → ◌≡◌ {A = Call B} (Choose pick system answer) (Choose other more picked)
 same_chosen pick system other more answer picked e = cc e
 
-same_injected : {A B : Type 0} (lan system other more : ℕ) (octets others : List ℕ) (answer injected : Injected)
+pub same_injected : {A B : Type 0} (lan system other more : ℕ) (octets others : List ℕ) (answer injected : Injected)
     → ◌≡◌ {A = Call A} (Inject lan system octets answer) (Inject other more others injected) → ◌≡◌ {A = Call B} (Inject lan system octets answer) (Inject other more others injected)
 same_injected lan system other more octets others answer injected e = cc e
 

@@ -2,9 +2,7 @@
 use Rattle.std.proofs.Common.{◌≡◌, ℕ, ◌+◌, ◌<◌, ◌≤◌, List, ◌++◌, length, Option, Some, None, refl, sym, ◌∙◌, ap, subst, arith}
 use Rattle.std.specs.List.{filter}
 use Rattle.nsap.specs.declared.port.Port.{Port}
-use Rattle.osi_base.specs.declared.unit.Injected.{Injected}
 use Rattle.osi_base.specs.declared.unit.Offered.{Offered}
-use Rattle.osi_base.specs.declared.unit.Picked.{Picked}
 use Rattle.osi_base.specs.declared.unit.Unit.{Unit as CarriedUnit}
 use Rattle.osi_base.specs.declared.unit.Up.{Up}
 use Rattle.osi_base.specs.declared.unit.Wish.{Wish}
@@ -12,7 +10,7 @@ use Rattle.osi_base.specs.Calls.{Call, Offer, Choose, Inject, NextUp, Tick}
 use Rattle.osi_base.specs.Floated.{is_young}
 use Rattle.osi_base.specs.Gathering.{Gathers}
 use Rattle.osi_base.specs.Link.{Link}
-use Rattle.law_carrier_answers.specs.Answers.{Asked, Offering, Choosing, Injecting, OneStep, asked_of}
+use Rattle.law_carrier_answers.specs.Answers.{OneStep, asked_of}
 use Rattle.law_carrier_answers.proofs.Gatherings.{one_gathering}
 use Rattle.lan_bag.specs.Bag.{BagStep, link_of}
 use Rattle.inactive_step.specs.declared.row.Way.{Way}
@@ -22,7 +20,7 @@ use Rattle.inactive_step.specs.Rows.{longest}
 use Rattle.inactive_step.specs.Step.{Brings, InactiveArrives, InactiveOffers, InactiveStep, InactiveTakesUp, InactiveTicks, Long, NoWay, Sent, counted, floated, plain_wish, strays_in}
 use Rattle.law_inactive_answers.specs.Laws.{OneNetAnswer}
 use Rattle.law_clnp_answers.proofs.Bags.{one_bag_answer}
-use Rattle.law_clnp_answers.proofs.Steps.{one_front}
+use Rattle.law_clnp_answers.proofs.Steps.{one_front, same_choice, same_chosen, same_injected, same_injection, same_offer}
 
 no_way : {A : Type 0} (found : Option A) (one : A) → found ≡ None → found ≡ Some one → ⊥
 no_way found one a b = absurd cc
@@ -30,26 +28,8 @@ no_way found one a b = absurd cc
 same_way : (found : Option Way) (one other : Way) → found ≡ Some one → found ≡ Some other → one ≡ other
 same_way found one other a b = cc
 
-same_offer : {A : Type 0} (one other : CarriedUnit A) (wish more : Wish) → Offering one wish ≡ Offering other more → (one ≡ other) × (wish ≡ more)
-same_offer one other wish more e = (cc e, cc e)
-
-same_choice : {A B : Type 0} (pick system other more : ℕ) → ◌≡◌ {A = Asked A} (Choosing pick system) (Choosing other more) → ◌≡◌ {A = Asked B} (Choosing pick system) (Choosing other more)
-same_choice pick system other more e = cc e
-
-same_injection : {A B : Type 0} (lan system other more : ℕ) (octets others : List ℕ) → ◌≡◌ {A = Asked A} (Injecting lan system octets) (Injecting other more others)
-    → ◌≡◌ {A = Asked B} (Injecting lan system octets) (Injecting other more others)
-same_injection lan system other more octets others e = cc e
-
 same_answer : {A : Type 0} (one other : CarriedUnit A) (wish more : Wish) (answer offered : Offered) → Offer one wish answer ≡ Offer other more offered → answer ≡ offered
 same_answer one other wish more answer offered e = cc e
-
-same_chosen : {A B : Type 0} (pick system other more : ℕ) (answer picked : Picked) → ◌≡◌ {A = Call A} (Choose pick system answer) (Choose other more picked)
-    → ◌≡◌ {A = Call B} (Choose pick system answer) (Choose other more picked)
-same_chosen pick system other more answer picked e = cc e
-
-same_injected : {A B : Type 0} (lan system other more : ℕ) (octets others : List ℕ) (answer injected : Injected)
-    → ◌≡◌ {A = Call A} (Inject lan system octets answer) (Inject other more others injected) → ◌≡◌ {A = Call B} (Inject lan system octets answer) (Inject other more others injected)
-same_injected lan system other more octets others answer injected e = cc e
 
 module _ {C : Type 0} (link : C → Link Port) (steps : C → Call Port → C → Type 0) (once : OneStep steps) where
   -- ---- a call below, and what it brings up

@@ -33,6 +33,7 @@ use Rattle.tp4_conn.specs.Opened.{dt_as, hearing, is_expedited, opened_as, opene
 use Rattle.tp4_conn.specs.Table.{Called, Event, Ticked, Took, at as now_at, on_call, on_tick, on_tpdu, stepped}
 use Rattle.tp4_conn.specs.UserWait.{user_wait_accept, user_wait_refuse, user_wait_tick}
 use Rattle.tp4_conn.specs.WaitBeforeClose.{wait_before_close_tick, wait_before_close_tpdu}
+use Rattle.law_tp4_credit.proofs.GivingRows.{knows_at}
 use Rattle.law_tp4_credit.specs.Giving.{EventGives, Gives, GivesCredit, KnowsCredit}
 use Rattle.law_recovery_pair.specs.Viewing.{IsWithin, KeepsView}
 use Rattle.law_recovery_pair.proofs.Viewing.{ak_keep, done_keep, open_keep, submit_keep, tick_keep, urge_keep}
@@ -314,18 +315,9 @@ module _ (credit : ℕ) where
     untaken_view (Closing c) event knows = tt
     untaken_view (Frozen when) event knows = tt
 
-  known_at : (now : ℕ) (b : EndRecord) (stage : StateData) → KnowsCredit credit b stage → KnowsCredit credit (now_at now b) stage
-  known_at now b (CrWait w) knows = tt
-  known_at now b (WaitBeforeClose w) knows = tt
-  known_at now b (UserWait since) knows = knows
-  known_at now b (AkWait w) knows = knows
-  known_at now b (Opened o) knows = knows
-  known_at now b (Closing c) knows = tt
-  known_at now b (Frozen when) knows = tt
-
   pub row_knows : (wrap : ℕ → ℕ → ℕ) (now : ℕ) (e : End) (event : Event) → Gives credit e.base e.stage → EventGives credit event → StageKnows credit e.stage
       → RowKnows credit e.stage event (stepped wrap now e event).stage
-  row_knows wrap now e (Called call) g is knows = call_view wrap (now_at now e.base) e.stage call knows (known_at now e.base e.stage g.knows)
+  row_knows wrap now e (Called call) g is knows = call_view wrap (now_at now e.base) e.stage call knows (knows_at credit now e.base e.stage g.knows)
   row_knows wrap now e (Took tpdu sum) g is knows =
       if_kept (λ (m : Moved). RowKnows credit e.stage (Took tpdu sum) m.stage) (wants_sum e.base e.stage tpdu && not sum) _ _
       (λ _. untaken_view wrap e.base e.stage (Took tpdu sum) knows) (λ _. tpdu_view wrap (now_at now e.base) e.stage tpdu sum knows is)

@@ -49,7 +49,7 @@ use Rattle.law_tp4_lawful.proofs.WorldPlaces.{none_some}
 use Rattle.law_calm_run.specs.Run.{HaveEntities, IsUnrouted}
 use Rattle.law_calm_run.proofs.Going.{have_after}
 use Rattle.law_calm_run.proofs.Hall.{IsAddress}
-use Rattle.law_calm_run.proofs.Starting.{found}
+use Rattle.law_tp4_lawful.proofs.WorldStarts.{found}
 use Rattle.law_recovery_run.specs.Ordered.{LeadsOn, ReachedFrom}
 
 -- ---- ends that are none

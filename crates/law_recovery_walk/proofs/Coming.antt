@@ -1,6 +1,6 @@
 -- A delivery of a settle: nothing that an entity hears, or the first TPDU that waits, which the entity at its address hears.
 use Rattle.std.proofs.Common.{◌≡◌, ◌⊎◌, ℕ, Bool, true, false, List, [], ◌∷◌, ◌++◌, Option, Some, None, refl, sym, ◌∙◌, ap, subst, inl, inr, append-nil}
-use Rattle.std.specs.Prelude.{◌==◌, ◌&&◌, nat_eq}
+use Rattle.std.specs.Prelude.{◌==◌, nat_eq}
 use Rattle.std.specs.Cmp.Lexicographic.{bytes_decides, pointwise}
 use Rattle.std.specs.List.{AllByRecursion}
 use Rattle.nsap.specs.Address.{selector_of, system_part}
@@ -10,11 +10,9 @@ use Rattle.osi_base.specs.Link.{IsLeastFresh, Link}
 use Rattle.osi_base.specs.declared.unit.Arrival.{Arrival}
 use Rattle.osi_base.specs.declared.unit.Picked.TheVariants.{Taken as WasPicked}
 use Rattle.osi_base.specs.declared.unit.Unit.{Unit as CarriedUnit}
-use Rattle.osi_base.specs.declared.unit.Up.{Up}
-use Rattle.osi_base.specs.declared.unit.Up.TheVariants.{Unit as Came, Note as Noted}
 use Rattle.script_journal.specs.Lawful.{Marked, shown, submitted}
 use Rattle.script_journal.specs.declared.event.Event.{Event}
-use Rattle.net_world.specs.Fifo.{First, Hands, IsFifo, IsUser, Nothing, arrivals}
+use Rattle.net_world.specs.Fifo.{First, Hands, IsFifo, IsUser, Nothing}
 use Rattle.net_world.specs.Told.{picked_event, told}
 use Rattle.tpdu.specs.Values.{TpduAndSum}
 use Rattle.tpdu.specs.Writing.{IsWritten}
@@ -31,7 +29,7 @@ use Rattle.law_tp4_history.specs.Journals.{IsAside}
 use Rattle.law_tp4_proper.specs.Rest.{IsProperStep}
 use Rattle.law_tp4_proper.proofs.Heards.{taken_rests}
 use Rattle.law_tp4_pair.specs.Claim.{IsUndropped}
-use Rattle.tp4_world.specs.Run.{Acts, Delivers, Hears, HearsAll, HearsIf, is_for, transport_address}
+use Rattle.tp4_world.specs.Run.{Acts, Delivers, Hears, HearsIf, is_for, transport_address}
 use Rattle.tp4_world.specs.Telling.{events_after}
 use Rattle.tp4_world.specs.World.{World, entity_at}
 use Rattle.tp4_world.specs.declared.place.EndAt.{EndAt}
@@ -39,23 +37,18 @@ use Rattle.tp4_world.specs.declared.place.Placed.{Placed}
 use Rattle.tp4_world.proofs.Destinations.{ActsFine, taking_fine}
 use Rattle.law_tp4_lawful.proofs.ActsTold.{lines_give_none}
 use Rattle.law_tp4_lawful.proofs.WorldAsides.{AreQuiet, are_aside, picked_quiet, told_quiet}
+use Rattle.law_tp4_lawful.proofs.WorldHears.{acted_same}
 use Rattle.law_tp4_lawful.proofs.WorldOutcomes.{one_unit}
 use Rattle.law_tp4_lawful.proofs.WorldPlaces.{some_same}
 use Rattle.law_calm_run.proofs.Hall.{Hall, IsAddress, Post, after}
 use Rattle.law_calm_run.proofs.Posting.{AreUnitsOf, IsHall, IsKept, IsUnitOf}
-use Rattle.law_calm_run.proofs.Going.{Stands, acts_go, have_after, kept_after, waiting_after}
+use Rattle.law_calm_run.proofs.Going.{Stands, acts_go, both_true, first_false, fits, have_after, hears_none, hears_one, kept_after, waiting_after}
 use Rattle.law_calm_run.proofs.Queueing.{all_parts, none_dropped}
 use Rattle.law_calm_run.proofs.Reading.{heard_as}
 use Rattle.law_recovery_walk.specs.Following.{IsHeard}
 use Rattle.law_recovery_walk.proofs.Delivering.{HasActed}
 
 -- ---- what an entity hears
-
-acted_same : (a b : Acted) → a.entity ≡ b.entity → a.events ≡ b.events → a.tpdus ≡ b.tpdus → a ≡ b
-acted_same a b one told tpdus =
-    ap (λ (x : Entity). record { entity = x; events = a.events; tpdus = a.tpdus }) one
-    ∙ ap (λ (es : List EndEvent). record { entity = b.entity; events = es; tpdus = a.tpdus }) told
-    ∙ ap (λ (ts : List Sent). record { entity = b.entity; events = b.events; tpdus = ts }) tpdus
 
 heard_is : (now : ℕ) (e : Entity) (from octets : List ℕ) (sent : Sent) (acted : Acted) → IsSendable sent → IsWritten sent.format sent.sum sent.tpdu octets → HearsUnit whole now e from octets acted
     → IsHeard now e from sent acted
@@ -98,18 +91,6 @@ taken_is now e from octets sent acted fits written takes = by (is_silent now e) 
 
 -- ---- arrivals
 
-fits : (titles : List (List ℕ)) (system : ℕ) (entity : Entity) (to : List ℕ) → IsKept titles system entity → IsUser titles to system → selector_of to ≡ 1 → entity.own ≡ to
-fits titles system entity to kept user one =
-    let title : user.title ≡ kept.title = some_same user.title kept.title (sym user.title_is ∙ kept.title_is) in
-    let selector : user.selector ≡ 1 = sym (selector_of-append (system_part user.title) user.selector) ∙ ap selector_of (sym user.address_is) ∙ one in
-    kept.own ∙ ap transport_address (sym title) ∙ ap (λ (n : ℕ). system_part user.title ++ n ∷ []) (sym selector) ∙ sym user.address_is
-
-both_true : (one other : Bool) → one ≡ true → other ≡ true → (one && other) ≡ true
-both_true one other p q = ap (λ (b : Bool). b && other) p ∙ q
-
-first_false : (one other : Bool) → one ≡ false → (one && other) ≡ false
-first_false one other p = ap (λ (b : Bool). b && other) p
-
 -- no units
 pub record TellsNoUnits (made : List Event) : Type 0 where
   pub gave : (n : ℕ) → submitted n made ≡ []
@@ -121,28 +102,6 @@ aside_tells made aside = record { gave = λ n. (aside.units n).0; showed = λ n.
 module _ {C : Type 0} (link : C → Link (List ℕ)) (steps : C → Call (List ℕ) → C → Type 0)
     (law : (old : C) (call : Call (List ℕ)) (new : C) → steps old call new → Keeps (link old) call (link new))
     (titles : List (List ℕ)) (Waits : C → List (CarriedUnit (List ℕ)) → Type 0) (fifo : IsFifo link steps titles Waits) where
-  hears_none : (ups : List (Up (List ℕ))) (old new : World C) (made : List Event) → arrivals ups ≡ [] → HearsAll link steps whole old ups made new → (made ≡ []) × (new ≡ old)
-  hears_none [] old new made none h = h
-  hears_none (Noted note ∷ ups) old new made none h = hears_none ups old new made none h
-  hears_none (Came arrival ∷ ups) old new made none h = absurd cc
-
-  hears_one : (ups : List (Up (List ℕ))) (old new : World C) (arrival : Arrival (List ℕ)) (made : List Event) → arrivals ups ≡ arrival ∷ [] → HearsAll link steps whole old ups made new
-      → Hears link steps whole old arrival made new
-  hears_one [] old new arrival made one h = absurd cc
-  hears_one (Noted note ∷ ups) old new arrival made one h = hears_one ups old new arrival made one h
-  hears_one (Came first ∷ ups) old new arrival made one h =
-      let rest = hears_none ups h.0 new h.2 (tail_is first arrival (arrivals ups) one) h.4 in
-      let all : made ≡ h.1 = h.5 ∙ ap (λ (es : List Event). h.1 ++ es) rest.0 ∙ append-nil h.1 in
-      subst (λ (a : Arrival (List ℕ)). Hears link steps whole old a made new) (head_is first arrival (arrivals ups) one)
-      (subst (λ (es : List Event). Hears link steps whole old first es new) (sym all)
-      (subst (λ (x : World C). Hears link steps whole old first h.1 x) (sym rest.1) h.3))
-    where
-      head_is : (x y : Arrival (List ℕ)) (xs : List (Arrival (List ℕ))) → x ∷ xs ≡ y ∷ [] → x ≡ y
-      head_is x y xs is = cc is
-
-      tail_is : (x y : Arrival (List ℕ)) (xs : List (Arrival (List ℕ))) → x ∷ xs ≡ y ∷ [] → xs ≡ []
-      tail_is x y xs is = cc is
-
   abbrev pub StandsSo : World C → Hall → List (CarriedUnit (List ℕ)) → Type 0
   StandsSo world hall queue = Stands link steps law titles Waits fifo world hall queue
 
@@ -316,7 +275,7 @@ module _ {C : Type 0} (link : C → Link (List ℕ)) (steps : C → Call (List �
 
       by : Hands titles Waits queue d.ups d.below → IsStill old hall made new ⊎ HasCome old hall made new
       by (Nothing none waits) =
-          let h = hears_none d.ups mid new d.later none d.hears in
+          let h = hears_none link steps law titles Waits fifo d.ups mid new d.later none d.hears in
           let shows : IsHall link titles Waits mid hall queue =
           record { clock = clock ∙ s.shows.clock; entities = s.shows.entities; ends = s.shows.ends; waits = waits; units = s.shows.units } in
           let is : own ∷ told d.ups ≡ made = sym (d.made_is ∙ ap (λ (es : List Event). (own ∷ told d.ups) ++ es) h.0 ∙ append-nil (own ∷ told d.ups)) in
@@ -329,7 +288,7 @@ module _ {C : Type 0} (link : C → Link (List ℕ)) (steps : C → Call (List �
             none = subst TellsNoUnits is (aside_tells (own ∷ told d.ups) (are_aside (own ∷ told d.ups) quiet));
           })
       by (First unit left system queue_is arrived user waits) =
-          let h = hears_one d.ups mid new (record { system = system; unit = unit }) d.later arrived d.hears in
+          let h = hears_one link steps law titles Waits fifo d.ups mid new (record { system = system; unit = unit }) d.later arrived d.hears in
           elim (subst (λ (q : List (CarriedUnit (List ℕ))). AreUnitsOf titles q hall.posts) queue_is s.shows.units) [
             | inl raw ↦ inl (raw_heard old new hall queue s d.below unit left system user waits clock (own ∷ told d.ups) d.later made quiet d.made_is parts.1 raw.0 raw.1 h)
             | inr p ↦ inr (post_heard old new hall queue s d.below unit left system user waits clock (own ∷ told d.ups) d.later made quiet d.made_is parts.1 p.0 p.1 p.2 p.3 p.4 h)

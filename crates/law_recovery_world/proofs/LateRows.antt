@@ -1,5 +1,5 @@
 -- Each row of an end: it tries, acknowledges and takes nothing later than now, and its receiving half keeps its places.
-use Rattle.std.proofs.Common.{◌≡◌, ◌≤◌, ℕ, ◌+◌, ◌==◌, ◌&&◌, not, nat_le, nat_lt, List, [], ◌∷◌, Option, Some, None, refl, sym, ◌∙◌, arith}
+use Rattle.std.proofs.Common.{◌≡◌, ◌≤◌, ℕ, ◌+◌, ◌==◌, ◌&&◌, not, nat_le, List, [], ◌∷◌, Option, Some, None, refl, sym, ◌∙◌, arith}
 use Rattle.tpdu.specs.declared.tpdu.Tpdu.{Tpdu}
 use Rattle.tpdu.specs.declared.tpdu.Tpdu.TheVariants.{Cr, Cc, Dr, Dc, Dt, Ed, Ak, Ea, Er}
 use Rattle.tp4_number.specs.declared.got.Got.{Got}
@@ -24,25 +24,20 @@ use Rattle.tp4_conn.specs.declared.call.UserCall.TheVariants.{Accept, Refuse, No
 use Rattle.tp4_conn.specs.declared.end_record.EndRecord.{EndRecord}
 use Rattle.tp4_conn.specs.declared.halves.Halves.{Halves}
 use Rattle.tp4_conn.specs.declared.states.InAkWait.{InAkWait}
-use Rattle.tp4_conn.specs.declared.states.InClosing.{InClosing}
-use Rattle.tp4_conn.specs.declared.states.InCrWait.{InCrWait}
 use Rattle.tp4_conn.specs.declared.states.InOpened.{InOpened}
-use Rattle.tp4_conn.specs.declared.states.InWaitBeforeClose.{InWaitBeforeClose}
 use Rattle.tp4_conn.specs.declared.states.StateData.{StateData}
 use Rattle.tp4_conn.specs.declared.states.StateData.TheVariants.{CrWait, WaitBeforeClose, UserWait, AkWait, Opened, Closing, Frozen}
-use Rattle.tp4_conn.specs.Agreeing.{agreed_by, flow_rules, halves_of, is_within, options_in}
-use Rattle.tp4_conn.specs.AkWait.{ak_wait_tick, ak_wait_tpdu, opening}
-use Rattle.tp4_conn.specs.Closing.{closing_tick, closing_tpdu}
-use Rattle.tp4_conn.specs.CrWait.{cr_wait_tick, cr_wait_tpdu}
-use Rattle.tp4_conn.specs.End.{End, Moved, span}
+use Rattle.tp4_conn.specs.Agreeing.{agreed_by, flow_rules, halves_of}
+use Rattle.tp4_conn.specs.AkWait.{opening}
+use Rattle.tp4_conn.specs.CrWait.{confirmed}
+use Rattle.tp4_conn.specs.End.{End, Moved}
 use Rattle.tp4_conn.specs.Matching.{wants_sum}
 use Rattle.tp4_conn.specs.Opened.{dt_as, hearing, is_expedited, opened_as, opened_tick, opened_tpdu}
 use Rattle.tp4_conn.specs.Table.{Called, Event, Ticked, Took, at as now_at, on_call, on_tick, on_tpdu, stepped}
-use Rattle.tp4_conn.specs.UserWait.{user_wait_accept, user_wait_refuse, user_wait_tick}
-use Rattle.tp4_conn.specs.WaitBeforeClose.{wait_before_close_tick, wait_before_close_tpdu}
 use Rattle.law_recovery_ends.specs.Due.{AreTriedBy, HasTried, IsTriedBy}
 use Rattle.law_recovery_world.specs.Steady.{AreLate, IsRoomy, StageLate, says_of}
 use Rattle.law_recovery_world.proofs.Late.{IsBy, acknowledged_by, done_by, opened_by, submitted_by, ticked_by, urged_by}
+use Rattle.law_recovery_world.proofs.RowsWithout.{HasNone, ak_wait_later, ak_wait_row, call_without, tick_without, tpdu_without}
 
 -- ---- at a later tick
 
@@ -154,24 +149,6 @@ module _ (credit : ℕ) (b : EndRecord) (low : b.timers.credit ≤ 15) (gives_it
         let o : InOpened = record { took = b.clock; acked = b.clock; halves = record w.halves { sending = s.sender } } in
         opened_late o now_low now_low (with_sender w.halves _ l.fits l.roomy (opened_by b.clock (at b.clock w.halves.sending) (clocked w.halves.sending l.tried))) tpdu
 
-    ak_wait_late : (tpdu : Tpdu) → Row (ak_wait_tpdu whole b w tpdu)
-    unfolding ak_wait_tpdu
-    ak_wait_late (Ak destination number given subsequence confirmation) = opening_late (Ak destination number given subsequence confirmation)
-    ak_wait_late (Dt destination last number text) = opening_late (Dt destination last number text)
-    ak_wait_late (Ed destination last number text) = opening_late (Ed destination last number text)
-    ak_wait_late (Ea destination number) = opening_late (Ea destination number)
-    ak_wait_late (Dr destination source reason info text) = tt
-    ak_wait_late (Er destination cause rejected) = tt
-    ak_wait_late (Cr given source width calling called size preferred extra version classes ack_time text) = l
-    ak_wait_late (Cc given destination source width calling called size preferred extra version classes ack_time text) = l
-    ak_wait_late (Dc destination source) = l
-
-    ak_wait_later : Row (ak_wait_tick b w)
-    unfolding ak_wait_tick
-    ak_wait_later =
-        if_kept Row (nat_lt b.clock (w.tries.last + b.timers.t1)) _ _ (λ _. l)
-        (λ _. if_kept Row (nat_lt w.tries.count b.timers.sendings) _ _ (λ _. l) (λ _. tt))
-
     ak_wait_call : (call : UserCall) → Row (on_call b (AkWait w) call)
     ak_wait_call (Normal unit) = with_sender w.halves _ l.fits l.roomy (submitted_by b.clock (at b.clock w.halves.sending) unit (clocked w.halves.sending l.tried))
     ak_wait_call (Urgent unit) = with_sender w.halves _ l.fits l.roomy (urged_by b.clock (at b.clock w.halves.sending) unit (clocked w.halves.sending l.tried))
@@ -180,102 +157,45 @@ module _ (credit : ℕ) (b : EndRecord) (low : b.timers.credit ≤ 15) (gives_it
     ak_wait_call (Accept options octets) = l
     ak_wait_call (Refuse octets) = l
 
+  -- of a state without halves nothing is asked
+  none_late : (m : Moved) → HasNone m.stage → Row m
+  none_late m none = by m.stage none
+    where
+      by : (stage : StateData) → HasNone stage → StageLate credit b.clock stage
+      by (AkWait w) none = absurd none
+      by (Opened o) none = absurd none
+      by (CrWait w) none = tt
+      by (WaitBeforeClose w) none = tt
+      by (UserWait since) none = tt
+      by (Closing c) none = tt
+      by (Frozen when) none = tt
+
   -- halves that begin
   begun_late : (c : EndRecord) (options : Options) → c.timers.credit ≤ 15 → c.timers.credit ≡ credit → AreLate credit b.clock (halves_of c options)
   begun_late c options few same = record { tried = record { window = tt; urgent = tt }; fits = empty_fits (flow_rules c options) c.timers.credit few; roomy = Wider refl refl (omega (arith, same)) }
 
-  cr_wait_late : (w : InCrWait) (tpdu : Tpdu) → Row (cr_wait_tpdu b w tpdu)
-  unfolding cr_wait_tpdu
-  cr_wait_late w (Cc given destination source width calling called size preferred extra version classes ack_time text) =
-      if_kept Row (is_within b.proposed width size preferred extra) _ _
-      (λ _.
-      let c : EndRecord = record b { partner = source; credit = given; agreed = Some (options_in width size preferred extra) } in
-      let h : Halves = halves_of c (options_in width size preferred extra) in
-      let begun : AreLate credit b.clock h = begun_late c (options_in width size preferred extra) low gives_it in
-      (now_low, now_low, with_sender h _ begun.fits begun.roomy (opened_by b.clock (at b.clock h.sending) (clocked h.sending begun.tried))))
-      (λ _. tt)
-  cr_wait_late w (Dr destination source reason info text) = tt
-  cr_wait_late w other = tt
-
-  cr_wait_later : (w : InCrWait) → Row (cr_wait_tick b w)
-  unfolding cr_wait_tick
-  cr_wait_later w =
-      if_kept Row (nat_lt b.clock (w.tries.last + b.timers.t1)) _ _ (λ _. tt)
-      (λ _. if_kept Row (nat_lt w.tries.count b.timers.sendings) _ _ (λ _. tt) (λ _. tt))
-
-  parting_late : (w : InWaitBeforeClose) (tpdu : Tpdu) → Row (wait_before_close_tpdu b w tpdu)
-  unfolding wait_before_close_tpdu
-  parting_late w (Cc given destination source width calling called size preferred extra version classes ack_time text) = tt
-  parting_late w (Dr destination source reason info text) = tt
-  parting_late w other = tt
-
-  parting_later : (w : InWaitBeforeClose) → Row (wait_before_close_tick b w)
-  unfolding wait_before_close_tick
-  parting_later w =
-      if_kept Row (nat_lt b.clock (w.request.tries.last + b.timers.t1)) _ _ (λ _. tt)
-      (λ _. if_kept Row (nat_lt w.request.tries.count b.timers.sendings) _ _ (λ _. tt) (λ _. tt))
-
-  user_wait_later : (since : ℕ) → Row (user_wait_tick b since)
-  unfolding user_wait_tick
-  user_wait_later since = if_kept Row (nat_lt b.clock (since + b.timers.inactive)) _ _ (λ _. tt) (λ _. tt)
-
-  closing_late : (c : InClosing) (tpdu : Tpdu) → Row (closing_tpdu b c tpdu)
-  unfolding closing_tpdu
-  closing_late c (Dc destination source) = tt
-  closing_late c (Dr destination source reason info text) = tt
-  closing_late c other = tt
-
-  closing_later : (c : InClosing) → Row (closing_tick b c)
-  unfolding closing_tick
-  closing_later c =
-      if_kept Row (nat_le (c.from + span b.timers) b.clock) _ _ (λ _. tt)
-      (λ _. if_kept Row (nat_lt b.clock (c.last + b.timers.t1)) _ _ (λ _. tt) (λ _. tt))
-
-  user_wait_call : (since : ℕ) (call : UserCall) → Row (on_call b (UserWait since) call)
-  unfolding user_wait_accept user_wait_refuse
-  user_wait_call since (Accept options octets) = begun_late (record b { agreed = Some (agreed_by b.proposed options) }) (agreed_by b.proposed options) low gives_it
-  user_wait_call since (Refuse octets) = tt
-  user_wait_call since (Normal unit) = tt
-  user_wait_call since (Urgent unit) = tt
-  user_wait_call since (Window granted) = tt
-  user_wait_call since (Disconnect octets) = tt
-
-  cr_wait_call : (w : InCrWait) (call : UserCall) → Row (on_call b (CrWait w) call)
-  cr_wait_call w (Accept options octets) = tt
-  cr_wait_call w (Refuse octets) = tt
-  cr_wait_call w (Normal unit) = tt
-  cr_wait_call w (Urgent unit) = tt
-  cr_wait_call w (Window granted) = tt
-  cr_wait_call w (Disconnect octets) = tt
+  opens_late : (source given : ℕ) (options : Options) (text : List ℕ) → Row (confirmed (record b { partner = source; credit = given; agreed = Some options }) options text)
+  opens_late source given options text =
+      let h : Halves = halves_of (record b { partner = source; credit = given; agreed = Some options }) options in
+      let begun : AreLate credit b.clock h = begun_late (record b { partner = source; credit = given; agreed = Some options }) options low gives_it in
+      (now_low, now_low, with_sender h _ begun.fits begun.roomy (opened_by b.clock (at b.clock h.sending) (clocked h.sending begun.tried)))
 
   -- ---- all rows
 
   tpdu_late : (stage : StateData) (tpdu : Tpdu) → StageLate credit b.clock stage → Row (on_tpdu whole b stage tpdu)
-  tpdu_late (CrWait w) tpdu l = cr_wait_late w tpdu
-  tpdu_late (WaitBeforeClose w) tpdu l = parting_late w tpdu
-  tpdu_late (UserWait since) tpdu l = tt
-  tpdu_late (AkWait w) tpdu l = ak_wait_late w l tpdu
+  tpdu_late (AkWait w) tpdu l = ak_wait_row b Row none_late w l (opening_late w l) tpdu
   tpdu_late (Opened o) tpdu l = opened_late (hearing b o) now_low l.1 l.2 tpdu
-  tpdu_late (Closing c) tpdu l = closing_late c tpdu
-  tpdu_late (Frozen when) tpdu l = tt
+  tpdu_late other tpdu l = tpdu_without b Row none_late opens_late other tt tpdu
 
   tick_late : (stage : StateData) → StageLate credit b.clock stage → Row (on_tick b stage)
-  tick_late (CrWait w) l = cr_wait_later w
-  tick_late (WaitBeforeClose w) l = parting_later w
-  tick_late (UserWait since) l = user_wait_later since
-  tick_late (AkWait w) l = ak_wait_later w l
+  tick_late (AkWait w) l = ak_wait_later b Row none_late w l l
   tick_late (Opened o) l = opened_later o l.0 l.1 l.2
-  tick_late (Closing c) l = closing_later c
-  tick_late (Frozen when) l = tt
+  tick_late other l = tick_without b Row none_late other tt
 
   call_late : (stage : StateData) (call : UserCall) → StageLate credit b.clock stage → Row (on_call b stage call)
-  call_late (CrWait w) call l = cr_wait_call w call
-  call_late (WaitBeforeClose w) call l = tt
-  call_late (UserWait since) call l = user_wait_call since call
   call_late (AkWait w) call l = ak_wait_call w l call
   call_late (Opened o) call l = opened_call o l.0 l.1 l.2 call
-  call_late (Closing c) call l = tt
-  call_late (Frozen when) call l = tt
+  call_late other call l = call_without b Row none_late (λ asked octets. begun_late (record b { agreed = Some (agreed_by b.proposed asked) }) (agreed_by b.proposed asked) low gives_it) other tt call
 
 pub row_late : (credit now : ℕ) (e : End) (event : Event) → e.base.timers.credit ≤ 15 → e.base.timers.credit ≡ credit → StageLate credit now e.stage → StageLate credit now (stepped whole now e event).stage
 row_late credit now e (Called call) low same l = call_late credit (now_at now e.base) low same e.stage call l

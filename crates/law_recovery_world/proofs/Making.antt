@@ -1,6 +1,7 @@
 -- An end in AkWait keeps its halves as they were made when its user accepted, but for units that wait, and its clock; and it sent its CC no later than now.
 use Rattle.std.specs.Prelude.{not}
-use Rattle.std.proofs.Common.{◌≤◌, ◌+◌, ◌++◌, ◌==◌, ◌&&◌, ℕ, nat_le, nat_lt, List, [], ◌∷◌, refl, sym, subst, arith}
+use Rattle.std.proofs.Common.{◌≤◌, ◌+◌, ◌++◌, ◌==◌, ◌&&◌, ℕ, nat_le, List, [], ◌∷◌, Some, refl, sym, subst, arith}
+use Rattle.tpdu.specs.declared.service.Options.{Options}
 use Rattle.tpdu.specs.declared.tpdu.Tpdu.{Tpdu}
 use Rattle.tpdu.specs.declared.tpdu.Tpdu.TheVariants.{Cr, Cc, Dr, Dc, Dt, Ed, Ak, Ea, Er}
 use Rattle.tp4_number.specs.Number.{whole}
@@ -17,23 +18,18 @@ use Rattle.tp4_conn.specs.declared.call.UserCall.TheVariants.{Accept, Refuse, No
 use Rattle.tp4_conn.specs.declared.end_record.EndRecord.{EndRecord}
 use Rattle.tp4_conn.specs.declared.halves.Halves.{Halves}
 use Rattle.tp4_conn.specs.declared.states.InAkWait.{InAkWait}
-use Rattle.tp4_conn.specs.declared.states.InClosing.{InClosing}
-use Rattle.tp4_conn.specs.declared.states.InCrWait.{InCrWait}
 use Rattle.tp4_conn.specs.declared.states.InOpened.{InOpened}
-use Rattle.tp4_conn.specs.declared.states.InWaitBeforeClose.{InWaitBeforeClose}
 use Rattle.tp4_conn.specs.declared.states.StateData.{StateData}
 use Rattle.tp4_conn.specs.declared.states.StateData.TheVariants.{CrWait, WaitBeforeClose, UserWait, AkWait, Opened, Closing, Frozen}
-use Rattle.tp4_conn.specs.Agreeing.{agreed_by, is_within}
-use Rattle.tp4_conn.specs.AkWait.{ak_wait_tick, ak_wait_tpdu, opening}
-use Rattle.tp4_conn.specs.Closing.{closing_tick, closing_tpdu}
-use Rattle.tp4_conn.specs.CrWait.{cr_wait_tick, cr_wait_tpdu}
-use Rattle.tp4_conn.specs.End.{End, Moved, span}
+use Rattle.tp4_conn.specs.Agreeing.{agreed_by}
+use Rattle.tp4_conn.specs.AkWait.{opening}
+use Rattle.tp4_conn.specs.End.{End, Moved}
 use Rattle.tp4_conn.specs.Matching.{wants_sum}
 use Rattle.tp4_conn.specs.Opened.{dt_as, hearing, is_expedited, opened_as, opened_tick, opened_tpdu}
 use Rattle.tp4_conn.specs.Table.{Called, Event, Ticked, Took, at as now_at, on_call, on_tick, on_tpdu, stepped}
-use Rattle.tp4_conn.specs.UserWait.{user_wait_accept, user_wait_refuse, user_wait_tick}
-use Rattle.tp4_conn.specs.WaitBeforeClose.{wait_before_close_tick, wait_before_close_tpdu}
+use Rattle.tp4_conn.specs.UserWait.{accepted}
 use Rattle.law_recovery_world.specs.Steady.{IsMade, StageMade}
+use Rattle.law_recovery_world.proofs.RowsWithout.{HasNone, ak_wait_later, ak_wait_row, call_without, tick_without, tpdu_without}
 
 -- the clock of an end is no part of it
 made_at : (now : ℕ) (b : EndRecord) (h : Halves) → IsMade b h → IsMade (now_at now b) h
@@ -106,22 +102,6 @@ module _ (b : EndRecord) where
     opening_made : (tpdu : Tpdu) → Row (opening whole b w.halves tpdu)
     opening_made tpdu = opened_made (record { took = b.clock; acked = b.clock; halves = record w.halves { sending = (opened (at b.clock w.halves.sending)).sender } }) tpdu
 
-    ak_wait_made : (tpdu : Tpdu) → Row (ak_wait_tpdu whole b w tpdu)
-    unfolding ak_wait_tpdu
-    ak_wait_made (Ak destination number given subsequence confirmation) = opening_made (Ak destination number given subsequence confirmation)
-    ak_wait_made (Dt destination last number text) = opening_made (Dt destination last number text)
-    ak_wait_made (Ed destination last number text) = opening_made (Ed destination last number text)
-    ak_wait_made (Ea destination number) = opening_made (Ea destination number)
-    ak_wait_made (Dr destination source reason info text) = tt
-    ak_wait_made (Er destination cause rejected) = tt
-    ak_wait_made (Cr given source width calling called size preferred extra version classes ack_time text) = f
-    ak_wait_made (Cc given destination source width calling called size preferred extra version classes ack_time text) = f
-    ak_wait_made (Dc destination source) = f
-
-    ak_wait_later : Row (ak_wait_tick b w)
-    unfolding ak_wait_tick
-    ak_wait_later = if_kept Row (nat_lt b.clock (w.tries.last + b.timers.t1)) _ _ (λ _. f) (λ _. if_kept Row (nat_lt w.tries.count b.timers.sendings) _ _ (λ _. (omega arith, f.1)) (λ _. tt))
-
     normal_made : (unit : List ℕ) → IsMade b (record w.halves { sending = (submitted (at b.clock w.halves.sending) unit).sender })
     normal_made unit = subst (λ (h : Halves). IsMade b (record h { sending = (submitted (at b.clock h.sending) unit).sender })) (sym f.1.halves)
         (record { options = f.1.options; agreed = f.1.agreed; clock = b.clock; units = f.1.units ++ unit ∷ []; expedited = f.1.expedited; halves = refl })
@@ -138,94 +118,38 @@ module _ (b : EndRecord) where
     ak_wait_call (Accept options octets) = f
     ak_wait_call (Refuse octets) = f
 
-  -- ---- the other states
+  -- of a state without halves nothing is asked
+  none_made : (m : Moved) → HasNone m.stage → Row m
+  none_made m none = by m.stage none
+    where
+      by : (stage : StateData) → HasNone stage → StageMade b.clock m.base stage
+      by (AkWait w) none = absurd none
+      by (Opened o) none = absurd none
+      by (CrWait w) none = tt
+      by (WaitBeforeClose w) none = tt
+      by (UserWait since) none = tt
+      by (Closing c) none = tt
+      by (Frozen when) none = tt
 
-  cr_wait_made : (w : InCrWait) (tpdu : Tpdu) → Row (cr_wait_tpdu b w tpdu)
-  unfolding cr_wait_tpdu
-  cr_wait_made w (Cc given destination source width calling called size preferred extra version classes ack_time text) =
-      if_kept Row (is_within b.proposed width size preferred extra) _ _ (λ _. tt) (λ _. tt)
-  cr_wait_made w (Dr destination source reason info text) = tt
-  cr_wait_made w other = tt
-
-  cr_wait_later : (w : InCrWait) → Row (cr_wait_tick b w)
-  unfolding cr_wait_tick
-  cr_wait_later w =
-      if_kept Row (nat_lt b.clock (w.tries.last + b.timers.t1)) _ _ (λ _. tt)
-      (λ _. if_kept Row (nat_lt w.tries.count b.timers.sendings) _ _ (λ _. tt) (λ _. tt))
-
-  parting_made : (w : InWaitBeforeClose) (tpdu : Tpdu) → Row (wait_before_close_tpdu b w tpdu)
-  unfolding wait_before_close_tpdu
-  parting_made w (Cc given destination source width calling called size preferred extra version classes ack_time text) = tt
-  parting_made w (Dr destination source reason info text) = tt
-  parting_made w other = tt
-
-  parting_later : (w : InWaitBeforeClose) → Row (wait_before_close_tick b w)
-  unfolding wait_before_close_tick
-  parting_later w =
-      if_kept Row (nat_lt b.clock (w.request.tries.last + b.timers.t1)) _ _ (λ _. tt)
-      (λ _. if_kept Row (nat_lt w.request.tries.count b.timers.sendings) _ _ (λ _. tt) (λ _. tt))
-
-  user_wait_later : (since : ℕ) → Row (user_wait_tick b since)
-  unfolding user_wait_tick
-  user_wait_later since = if_kept Row (nat_lt b.clock (since + b.timers.inactive)) _ _ (λ _. tt) (λ _. tt)
-
-  closing_made : (c : InClosing) (tpdu : Tpdu) → Row (closing_tpdu b c tpdu)
-  unfolding closing_tpdu
-  closing_made c (Dc destination source) = tt
-  closing_made c (Dr destination source reason info text) = tt
-  closing_made c other = tt
-
-  closing_later : (c : InClosing) → Row (closing_tick b c)
-  unfolding closing_tick
-  closing_later c =
-      if_kept Row (nat_le (c.from + span b.timers) b.clock) _ _ (λ _. tt)
-      (λ _. if_kept Row (nat_lt b.clock (c.last + b.timers.t1)) _ _ (λ _. tt) (λ _. tt))
-
-  user_wait_call : (since : ℕ) (call : UserCall) → Row (on_call b (UserWait since) call)
-  unfolding user_wait_accept user_wait_refuse
-  user_wait_call since (Accept asked octets) = (omega arith, record { options = agreed_by b.proposed asked; agreed = refl; clock = 0; units = []; expedited = []; halves = refl })
-  user_wait_call since (Refuse octets) = tt
-  user_wait_call since (Normal unit) = tt
-  user_wait_call since (Urgent unit) = tt
-  user_wait_call since (Window granted) = tt
-  user_wait_call since (Disconnect octets) = tt
-
-  cr_wait_call : (w : InCrWait) (call : UserCall) → Row (on_call b (CrWait w) call)
-  cr_wait_call w (Accept options octets) = tt
-  cr_wait_call w (Refuse octets) = tt
-  cr_wait_call w (Normal unit) = tt
-  cr_wait_call w (Urgent unit) = tt
-  cr_wait_call w (Window granted) = tt
-  cr_wait_call w (Disconnect octets) = tt
+  accepts_made : (asked : Options) (octets : List ℕ) → Row (accepted (record b { agreed = Some (agreed_by b.proposed asked) }) (agreed_by b.proposed asked) octets)
+  accepts_made asked octets = (omega arith, record { options = agreed_by b.proposed asked; agreed = refl; clock = 0; units = []; expedited = []; halves = refl })
 
   -- ---- all rows
 
   tpdu_made : (stage : StateData) (tpdu : Tpdu) → StageMade b.clock b stage → Row (on_tpdu whole b stage tpdu)
-  tpdu_made (CrWait w) tpdu f = cr_wait_made w tpdu
-  tpdu_made (WaitBeforeClose w) tpdu f = parting_made w tpdu
-  tpdu_made (UserWait since) tpdu f = tt
-  tpdu_made (AkWait w) tpdu f = ak_wait_made w f tpdu
+  tpdu_made (AkWait w) tpdu f = ak_wait_row b Row none_made w f (opening_made w f) tpdu
   tpdu_made (Opened o) tpdu f = opened_made (hearing b o) tpdu
-  tpdu_made (Closing c) tpdu f = closing_made c tpdu
-  tpdu_made (Frozen when) tpdu f = tt
+  tpdu_made other tpdu f = tpdu_without b Row none_made (λ source given options text. tt) other tt tpdu
 
   tick_made : (stage : StateData) → StageMade b.clock b stage → Row (on_tick b stage)
-  tick_made (CrWait w) f = cr_wait_later w
-  tick_made (WaitBeforeClose w) f = parting_later w
-  tick_made (UserWait since) f = user_wait_later since
-  tick_made (AkWait w) f = ak_wait_later w f
+  tick_made (AkWait w) f = ak_wait_later b Row none_made w f (omega arith, f.1)
   tick_made (Opened o) f = opened_later o
-  tick_made (Closing c) f = closing_later c
-  tick_made (Frozen when) f = tt
+  tick_made other f = tick_without b Row none_made other tt
 
   call_made : (stage : StateData) (call : UserCall) → StageMade b.clock b stage → Row (on_call b stage call)
-  call_made (CrWait w) call f = cr_wait_call w call
-  call_made (WaitBeforeClose w) call f = tt
-  call_made (UserWait since) call f = user_wait_call since call
   call_made (AkWait w) call f = ak_wait_call w f call
   call_made (Opened o) call f = opened_call o call
-  call_made (Closing c) call f = tt
-  call_made (Frozen when) call f = tt
+  call_made other call f = call_without b Row none_made accepts_made other tt call
 
 pub row_made : (now : ℕ) (e : End) (event : Event) → StageMade now e.base e.stage → StageMade now (stepped whole now e event).base (stepped whole now e event).stage
 row_made now e (Called call) f = call_made (now_at now e.base) e.stage call (stage_at now e.base e.stage f)

@@ -1,6 +1,7 @@
 -- Where expedited data is not agreed no row of an end has to do with it: none is submitted, so none is sent.
 use Rattle.std.specs.Prelude.{not, is_some}
-use Rattle.std.proofs.Common.{◌≡◌, ◌-◌, ◌==◌, ◌||◌, ◌&&◌, ◌+◌, ◌++◌, ℕ, zero, suc, Bool, true, false, nat_le, nat_lt, List, [], ◌∷◌, length, Option, Some, None, refl, sym, ◌∙◌, ap, true≢false}
+use Rattle.std.proofs.Common.{◌≡◌, ◌-◌, ◌==◌, ◌||◌, ◌&&◌, ◌+◌, ◌++◌, ℕ, zero, suc, Bool, true, false, nat_le, List, [], ◌∷◌, length, Option, Some, None, refl, sym, ◌∙◌, ap, true≢false}
+use Rattle.tpdu.specs.declared.service.Options.{Options}
 use Rattle.tpdu.specs.declared.tpdu.Tpdu.{Tpdu}
 use Rattle.tpdu.specs.declared.tpdu.Tpdu.TheVariants.{Cr, Cc, Dr, Dc, Dt, Ed, Ak, Ea, Er}
 use Rattle.tp4_number.specs.Number.{near, whole, wire}
@@ -20,24 +21,19 @@ use Rattle.tp4_conn.specs.declared.call.UserCall.{UserCall}
 use Rattle.tp4_conn.specs.declared.call.UserCall.TheVariants.{Accept, Refuse, Normal, Urgent, Window, Disconnect}
 use Rattle.tp4_conn.specs.declared.end_record.EndRecord.{EndRecord}
 use Rattle.tp4_conn.specs.declared.states.InAkWait.{InAkWait}
-use Rattle.tp4_conn.specs.declared.states.InClosing.{InClosing}
-use Rattle.tp4_conn.specs.declared.states.InCrWait.{InCrWait}
 use Rattle.tp4_conn.specs.declared.states.InOpened.{InOpened}
-use Rattle.tp4_conn.specs.declared.states.InWaitBeforeClose.{InWaitBeforeClose}
 use Rattle.tp4_conn.specs.declared.states.StateData.{StateData}
 use Rattle.tp4_conn.specs.declared.states.StateData.TheVariants.{CrWait, WaitBeforeClose, UserWait, AkWait, Opened, Closing, Frozen}
-use Rattle.tp4_conn.specs.Agreeing.{halves_of, is_within, options_in}
-use Rattle.tp4_conn.specs.AkWait.{ak_wait_tick, ak_wait_tpdu, opening}
+use Rattle.tp4_conn.specs.Agreeing.{halves_of}
+use Rattle.tp4_conn.specs.AkWait.{opening}
 use Rattle.tp4_conn.specs.Calls.{call_refusal, urgent_unit_refusal}
-use Rattle.tp4_conn.specs.Closing.{closing_tick, closing_tpdu}
-use Rattle.tp4_conn.specs.CrWait.{cr_wait_tick, cr_wait_tpdu}
-use Rattle.tp4_conn.specs.End.{End, Moved, span}
+use Rattle.tp4_conn.specs.CrWait.{confirmed}
+use Rattle.tp4_conn.specs.End.{End, Moved}
 use Rattle.tp4_conn.specs.Matching.{wants_sum}
 use Rattle.tp4_conn.specs.Opened.{dt_as, hearing, is_expedited, opened_as, opened_tick, opened_tpdu}
 use Rattle.tp4_conn.specs.Table.{Called, Event, Ticked, Took, at as now_at, on_call, on_tick, on_tpdu, stepped}
-use Rattle.tp4_conn.specs.UserWait.{user_wait_accept, user_wait_refuse, user_wait_tick}
-use Rattle.tp4_conn.specs.WaitBeforeClose.{wait_before_close_tick, wait_before_close_tpdu}
 use Rattle.law_recovery_world.specs.Steady.{IsWithoutUrgent, StageUrges}
+use Rattle.law_recovery_world.proofs.RowsWithout.{HasNone, ak_wait_later, ak_wait_row, call_without, tick_without, tpdu_without}
 
 -- a call that is not refused
 abbrev pub IsUnrefused : End → Event → Type 0
@@ -153,22 +149,6 @@ module _ (b : EndRecord) where
         let o : InOpened = record { took = b.clock; acked = b.clock; halves = record w.halves { sending = s.sender } } in
         opened_urges o (λ none. opened_without (at b.clock w.halves.sending) (f none)) tpdu
 
-    ak_wait_urges : (tpdu : Tpdu) → Row (ak_wait_tpdu whole b w tpdu)
-    unfolding ak_wait_tpdu
-    ak_wait_urges (Ak destination number given subsequence confirmation) = opening_urges (Ak destination number given subsequence confirmation)
-    ak_wait_urges (Dt destination last number text) = opening_urges (Dt destination last number text)
-    ak_wait_urges (Ed destination last number text) = opening_urges (Ed destination last number text)
-    ak_wait_urges (Ea destination number) = opening_urges (Ea destination number)
-    ak_wait_urges (Dr destination source reason info text) = tt
-    ak_wait_urges (Er destination cause rejected) = tt
-    ak_wait_urges (Cr given source width calling called size preferred extra version classes ack_time text) = f
-    ak_wait_urges (Cc given destination source width calling called size preferred extra version classes ack_time text) = f
-    ak_wait_urges (Dc destination source) = f
-
-    ak_wait_later : Row (ak_wait_tick b w)
-    unfolding ak_wait_tick
-    ak_wait_later = if_kept Row (nat_lt b.clock (w.tries.last + b.timers.t1)) _ _ (λ _. f) (λ _. if_kept Row (nat_lt w.tries.count b.timers.sendings) _ _ (λ _. f) (λ _. tt))
-
     ak_wait_call : (call : UserCall) → call_refusal b (AkWait w) call ≡ None → Row (on_call b (AkWait w) call)
     ak_wait_call (Normal unit) e = λ none. submitted_without (at b.clock w.halves.sending) unit (f none)
     ak_wait_call (Urgent unit) e = λ none. absurd (urgent_allowed (is_expedited b.agreed) (urgent_refusal w.halves.sending (length unit)) e none)
@@ -177,94 +157,38 @@ module _ (b : EndRecord) where
     ak_wait_call (Accept options octets) e = f
     ak_wait_call (Refuse octets) e = f
 
-  cr_wait_urges : (w : InCrWait) (tpdu : Tpdu) → Row (cr_wait_tpdu b w tpdu)
-  unfolding cr_wait_tpdu
-  cr_wait_urges w (Cc given destination source width calling called size preferred extra version classes ack_time text) =
-      if_kept Row (is_within b.proposed width size preferred extra) _ _
-      (λ _. λ none. opened_without (at b.clock (halves_of (record b { partner = source; credit = given; agreed = Some (options_in width size preferred extra) }) (options_in width size preferred extra)).sending) refl)
-      (λ _. tt)
-  cr_wait_urges w (Dr destination source reason info text) = tt
-  cr_wait_urges w other = tt
+  -- of a state without halves nothing is asked
+  none_urges : (m : Moved) → HasNone m.stage → Row m
+  none_urges m none = by m.stage none
+    where
+      by : (stage : StateData) → HasNone stage → StageUrges m.base.agreed stage
+      by (AkWait w) none = absurd none
+      by (Opened o) none = absurd none
+      by (CrWait w) none = tt
+      by (WaitBeforeClose w) none = tt
+      by (UserWait since) none = tt
+      by (Closing c) none = tt
+      by (Frozen when) none = tt
 
-  cr_wait_later : (w : InCrWait) → Row (cr_wait_tick b w)
-  unfolding cr_wait_tick
-  cr_wait_later w =
-      if_kept Row (nat_lt b.clock (w.tries.last + b.timers.t1)) _ _ (λ _. tt)
-      (λ _. if_kept Row (nat_lt w.tries.count b.timers.sendings) _ _ (λ _. tt) (λ _. tt))
-
-  parting_urges : (w : InWaitBeforeClose) (tpdu : Tpdu) → Row (wait_before_close_tpdu b w tpdu)
-  unfolding wait_before_close_tpdu
-  parting_urges w (Cc given destination source width calling called size preferred extra version classes ack_time text) = tt
-  parting_urges w (Dr destination source reason info text) = tt
-  parting_urges w other = tt
-
-  parting_later : (w : InWaitBeforeClose) → Row (wait_before_close_tick b w)
-  unfolding wait_before_close_tick
-  parting_later w =
-      if_kept Row (nat_lt b.clock (w.request.tries.last + b.timers.t1)) _ _ (λ _. tt)
-      (λ _. if_kept Row (nat_lt w.request.tries.count b.timers.sendings) _ _ (λ _. tt) (λ _. tt))
-
-  user_wait_later : (since : ℕ) → Row (user_wait_tick b since)
-  unfolding user_wait_tick
-  user_wait_later since = if_kept Row (nat_lt b.clock (since + b.timers.inactive)) _ _ (λ _. tt) (λ _. tt)
-
-  closing_urges : (c : InClosing) (tpdu : Tpdu) → Row (closing_tpdu b c tpdu)
-  unfolding closing_tpdu
-  closing_urges c (Dc destination source) = tt
-  closing_urges c (Dr destination source reason info text) = tt
-  closing_urges c other = tt
-
-  closing_later : (c : InClosing) → Row (closing_tick b c)
-  unfolding closing_tick
-  closing_later c =
-      if_kept Row (nat_le (c.from + span b.timers) b.clock) _ _ (λ _. tt)
-      (λ _. if_kept Row (nat_lt b.clock (c.last + b.timers.t1)) _ _ (λ _. tt) (λ _. tt))
-
-  user_wait_call : (since : ℕ) (call : UserCall) → Row (on_call b (UserWait since) call)
-  unfolding user_wait_accept user_wait_refuse
-  user_wait_call since (Accept options octets) = λ none. refl
-  user_wait_call since (Refuse octets) = tt
-  user_wait_call since (Normal unit) = tt
-  user_wait_call since (Urgent unit) = tt
-  user_wait_call since (Window granted) = tt
-  user_wait_call since (Disconnect octets) = tt
-
-  cr_wait_call : (w : InCrWait) (call : UserCall) → Row (on_call b (CrWait w) call)
-  cr_wait_call w (Accept options octets) = tt
-  cr_wait_call w (Refuse octets) = tt
-  cr_wait_call w (Normal unit) = tt
-  cr_wait_call w (Urgent unit) = tt
-  cr_wait_call w (Window granted) = tt
-  cr_wait_call w (Disconnect octets) = tt
+  opens_urges : (source given : ℕ) (options : Options) (text : List ℕ) → Row (confirmed (record b { partner = source; credit = given; agreed = Some options }) options text)
+  opens_urges source given options text = λ none. opened_without (at b.clock (halves_of (record b { partner = source; credit = given; agreed = Some options }) options).sending) refl
 
   -- ---- all rows
 
   tpdu_urges : (stage : StateData) (tpdu : Tpdu) → StageUrges b.agreed stage → Row (on_tpdu whole b stage tpdu)
-  tpdu_urges (CrWait w) tpdu f = cr_wait_urges w tpdu
-  tpdu_urges (WaitBeforeClose w) tpdu f = parting_urges w tpdu
-  tpdu_urges (UserWait since) tpdu f = tt
-  tpdu_urges (AkWait w) tpdu f = ak_wait_urges w f tpdu
+  tpdu_urges (AkWait w) tpdu f = ak_wait_row b Row none_urges w f (opening_urges w f) tpdu
   tpdu_urges (Opened o) tpdu f = opened_urges (hearing b o) f tpdu
-  tpdu_urges (Closing c) tpdu f = closing_urges c tpdu
-  tpdu_urges (Frozen when) tpdu f = tt
+  tpdu_urges other tpdu f = tpdu_without b Row none_urges opens_urges other tt tpdu
 
   tick_urges : (stage : StateData) → StageUrges b.agreed stage → Row (on_tick b stage)
-  tick_urges (CrWait w) f = cr_wait_later w
-  tick_urges (WaitBeforeClose w) f = parting_later w
-  tick_urges (UserWait since) f = user_wait_later since
-  tick_urges (AkWait w) f = ak_wait_later w f
+  tick_urges (AkWait w) f = ak_wait_later b Row none_urges w f f
   tick_urges (Opened o) f = opened_later o f
-  tick_urges (Closing c) f = closing_later c
-  tick_urges (Frozen when) f = tt
+  tick_urges other f = tick_without b Row none_urges other tt
 
   call_urges : (stage : StateData) (call : UserCall) → call_refusal b stage call ≡ None → StageUrges b.agreed stage → Row (on_call b stage call)
-  call_urges (CrWait w) call e f = cr_wait_call w call
-  call_urges (WaitBeforeClose w) call e f = tt
-  call_urges (UserWait since) call e f = user_wait_call since call
   call_urges (AkWait w) call e f = ak_wait_call w f call e
   call_urges (Opened o) call e f = opened_call o f call e
-  call_urges (Closing c) call e f = tt
-  call_urges (Frozen when) call e f = tt
+  call_urges other call e f = call_without b Row none_urges (λ asked octets. λ none. refl) other tt call
 
 pub row_urges : (now : ℕ) (e : End) (event : Event) → IsUnrefused e event → StageUrges e.base.agreed e.stage → StageUrges (stepped whole now e event).base.agreed (stepped whole now e event).stage
 row_urges now e (Called call) allowed f = call_urges (now_at now e.base) e.stage call (refused_at call allowed) f

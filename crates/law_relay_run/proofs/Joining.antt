@@ -25,7 +25,8 @@ use Rattle.tp4_world.specs.Run.{BeginsAt, Connects, ConnectsBy, IsRefused, clock
 use Rattle.tp4_world.specs.World.{World, entity_at, latest, with_entity}
 use Rattle.tp4_world.specs.declared.place.EndAt.{EndAt}
 use Rattle.tp4_world.specs.declared.place.Placed.{Placed}
-use Rattle.law_tp4_lawful.proofs.MakesPlaces.{at_same, entity_same}
+use Rattle.law_tp4_lawful.proofs.Frames.{entity_set}
+use Rattle.law_tp4_lawful.proofs.MakesPlaces.{at_same}
 use Rattle.tp4_relay.specs.declared.pair.Pair.{Pair}
 use Rattle.tp4_relay.specs.declared.pair.Phase.TheVariants.{Begun}
 use Rattle.tp4_relay.specs.Allowed.{AreLine, IsLine}
@@ -106,7 +107,7 @@ module _ {C : Type 0} (link : C → Link (List ℕ)) (steps : C → Call (List �
       subst (λ (w : World C). IsAsking old w) (sym is) (λ other r x end at_x stands number. elim (cases_eq other system) [
         | inl same ↦ elim (cases_eq r reference) [
           | inl here ↦
-              let own : Some next ≡ Some x = sym (entity_same old.entities system e next there) ∙ subst (λ (k : ℕ). entity_at (with_entity old.entities system next) k ≡ Some x) same at_x in
+              let own : Some next ≡ Some x = sym (entity_set old.entities system e next there) ∙ subst (λ (k : ℕ). entity_at (with_entity old.entities system next) k ≡ Some x) same at_x in
               let x_is : next ≡ x = cc own in
               let put : Some (end_of m) ≡ Some end =
               sym (at_same (at now e) reference (Some (end_of m)) f.least f.most) ∙ subst (λ (k : ℕ). end_at next k ≡ Some end) here (subst (λ (y : Entity). end_at y r ≡ Some end) (sym x_is) stands) in

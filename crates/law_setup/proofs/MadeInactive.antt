@@ -121,7 +121,7 @@ inactive_serves = record {
   least = serves.least;
 }
 
-all_fit : (setup : SetUp) → IsWell setup → IsInOctets setup → AllByRecursion FitsRow (inactive_rows setup)
+pub all_fit : (setup : SetUp) → IsWell setup → IsInOctets setup → AllByRecursion FitsRow (inactive_rows setup)
 all_fit setup w o =
     of_rows FitsRow setup.lans setup.ports 0 setup.systems
     (λ place system row is found.

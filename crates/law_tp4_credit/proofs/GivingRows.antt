@@ -241,7 +241,7 @@ module _ (credit : ℕ) where
     call_gives (Frozen when) call knows = still _ timers tt tt
 
   -- the tick does not count
-  knows_at : (now : ℕ) (b : EndRecord) (stage : StateData) → KnowsCredit credit b stage → KnowsCredit credit (now_at now b) stage
+  pub knows_at : (now : ℕ) (b : EndRecord) (stage : StateData) → KnowsCredit credit b stage → KnowsCredit credit (now_at now b) stage
   knows_at now b (CrWait w) knows = tt
   knows_at now b (WaitBeforeClose w) knows = tt
   knows_at now b (UserWait since) knows = knows

@@ -1,5 +1,6 @@
 pub mod Acting
 pub mod Acts
+pub mod ActsHeld
 pub mod ActsLines
 pub mod ActsRows
 pub mod ActsSame

@@ -1,47 +1,11 @@
--- One entity of a network changes, at one of its references.
-use Rattle.std.proofs.Common.{◌≡◌, ◌≢◌, ◌⊎◌, inl, inr, ℕ, zero, suc, ◌+◌, ◌-◌, ◌<◌, ◌≤◌, Bool, true, false, cond, List, [], ◌∷◌, ◌++◌, length, slice_get, slice_set, Option, Some, refl, sym, ap, ◌∙◌, arith}
-use Rattle.std.specs.Prelude.{if◌then◌else◌, option_map, find}
-use Rattle.std.proofs.lemmas.Bool.{eqb-true, cases_Bool}
+-- One entity changes at one of its references, and an end more is made.
+use Rattle.std.proofs.Common.{◌≡◌, ◌≢◌, ◌⊎◌, inl, inr, ℕ, zero, suc, ◌+◌, ◌-◌, ◌<◌, ◌≤◌, Bool, true, List, [], ◌∷◌, ◌++◌, length, slice_get, slice_set, Option, Some, refl, sym, ap, ◌∙◌, arith}
+use Rattle.std.specs.Prelude.{if◌then◌else◌}
 use Rattle.tp4_conn.specs.End.{End}
 use Rattle.tp4_entity.specs.Entity.{Entity, end_at, there, with_end}
 use Rattle.tp4_entity.proofs.PlaceLaws.{end_at_of}
-use Rattle.tp4_world.specs.World.{entity_at, is_of, latest, latest_from, is_at, with_entity}
+use Rattle.tp4_world.specs.World.{latest, latest_from, is_at}
 use Rattle.tp4_world.specs.declared.place.EndAt.{EndAt}
-use Rattle.tp4_world.specs.declared.place.Placed.{Placed}
-
-abbrev found : Bool → Placed → List Placed → ℕ → Option Entity
-found b one placed system = option_map (λ (x : Placed). x.entity) (cond b (Some one) (find (is_of system) placed))
-
-pub entity_same : (placed : List Placed) (system : ℕ) (old new : Entity) → entity_at placed system ≡ Some old → entity_at (with_entity placed system new) system ≡ Some new
-entity_same [] system old new h = absurd cc
-entity_same (one ∷ placed) system old new h = by (entity_same placed system old new) (is_of system one) refl
-  where
-    by : (entity_at placed system ≡ Some old → entity_at (with_entity placed system new) system ≡ Some new) → (b : Bool) → is_of system one ≡ b → entity_at (with_entity (one ∷ placed) system new) system ≡ Some new
-    by later true is =
-        ap (λ (b : Bool). entity_at (if b then record one { entity = new } ∷ placed else one ∷ with_entity placed system new) system) is
-        ∙ ap (λ (b : Bool). found b (record one { entity = new }) placed system) is
-    by later false is =
-        ap (λ (b : Bool). entity_at (if b then record one { entity = new } ∷ placed else one ∷ with_entity placed system new) system) is
-        ∙ ap (λ (b : Bool). found b one (with_entity placed system new) system) is
-        ∙ later (sym (ap (λ (b : Bool). found b one placed system) is) ∙ h)
-
-same_rest : (b : Bool) (one : Placed) (others placed : List Placed) (system : ℕ) → entity_at others system ≡ entity_at placed system → found b one others system ≡ found b one placed system
-same_rest true one others placed system same = refl
-same_rest false one others placed system same = same
-
-pub entity_other : (placed : List Placed) (system other : ℕ) (new : Entity) → other ≢ system → entity_at (with_entity placed system new) other ≡ entity_at placed other
-entity_other [] system other new apart = refl
-entity_other (one ∷ placed) system other new apart = by (entity_other placed system other new apart) (is_of system one) refl
-  where
-    by : entity_at (with_entity placed system new) other ≡ entity_at placed other → (b : Bool) → is_of system one ≡ b → entity_at (with_entity (one ∷ placed) system new) other ≡ entity_at (one ∷ placed) other
-    by later true is =
-        let no : is_of other one ≡ false = elim (cases_Bool (is_of other one)) [ inl same ↦ absurd (apart (sym (eqb-true one.system other same) ∙ eqb-true one.system system is)) | inr different ↦ different ] in
-        ap (λ (b : Bool). entity_at (if b then record one { entity = new } ∷ placed else one ∷ with_entity placed system new) other) is
-        ∙ ap (λ (b : Bool). found b (record one { entity = new }) placed other) no
-        ∙ sym (ap (λ (b : Bool). found b one placed other) no)
-    by later false is =
-        ap (λ (b : Bool). entity_at (if b then record one { entity = new } ∷ placed else one ∷ with_entity placed system new) other) is
-        ∙ same_rest (is_of other one) one (with_entity placed system new) placed other later
 
 -- ---- places of an entity
 

@@ -1,11 +1,9 @@
 -- A TPDU comes that is no CR: the end that it matches takes it, or the entity tells it, and answers a CC and a DR.
-use Rattle.std.proofs.Common.{◌≡◌, ◌≢◌, ◌==◌, ◌&&◌, inl, inr, ℕ, zero, suc, ◌+◌, ◌≤◌, Bool, true, false, List, [], ◌∷◌, Option, Some, None, refl, sym, ap, subst, ◌∙◌, arith, Contains}
-use Rattle.std.specs.Prelude.{if◌then◌else◌, option_map}
+use Rattle.std.proofs.Common.{◌≡◌, ◌==◌, ◌&&◌, inl, inr, ℕ, zero, suc, ◌+◌, ◌≤◌, Bool, true, false, List, [], ◌∷◌, Option, Some, None, refl, sym, ap, subst, ◌∙◌, arith, Contains}
+use Rattle.std.specs.Prelude.{if◌then◌else◌}
 use Rattle.std.proofs.lemmas.Bool.{eqb-false}
-use Rattle.std.proofs.lemmas.Option.{none-some, same_Some}
 use Rattle.script_journal.specs.declared.event.Event.{Event}
 use Rattle.tpdu.specs.declared.tpdu.Format.{Format}
-use Rattle.tpdu.specs.declared.tpdu.Format.TheVariants as formats
 use Rattle.tpdu.specs.declared.tpdu.Tpdu.{Tpdu as WireTpdu}
 use Rattle.tpdu.specs.declared.tpdu.Tpdu.TheVariants as wires
 use Rattle.tpdu.specs.Kinds.{has_number}
@@ -13,7 +11,6 @@ use Rattle.tpdu.specs.Values.{destination_of, format_for}
 use Rattle.tpdu.specs.Writing.{IsAllowed, kind_for}
 use Rattle.tp4_number.specs.Formats.{block_of}
 use Rattle.tp4_number.specs.Number.{whole}
-use Rattle.tpdu.specs.declared.service.Options.{Options}
 use Rattle.tp4_flow.specs.declared.step.EndEvent.{EndEvent}
 use Rattle.tp4_flow.specs.declared.step.Sent.{Sent}
 use Rattle.tp4_flow.specs.declared.step.What.TheVariants.{Unknown}
@@ -29,7 +26,7 @@ use Rattle.tp4_entity.specs.Entity.{Entity, end_at, moved}
 use Rattle.tp4_entity.specs.Unit.{extended_of}
 use Rattle.tp4_entity.specs.steps.Places.{format_of}
 use Rattle.tp4_entity.proofs.Formats.{format_is}
-use Rattle.law_tp4_history.specs.Ends.{Times, Terms, Cr, Cc, Dr, Flow, Tpdu, Offer, Sent as SentBy}
+use Rattle.law_tp4_history.specs.Ends.{Times, Terms, Cc, Dr, Flow, Tpdu, Offer, Sent as SentBy}
 use Rattle.law_tp4_history.specs.History.{IsPartner, IsTaken, answers_to}
 use Rattle.law_tp4_history.specs.Journals.{IsAside, MakesNone, makes_end}
 use Rattle.law_tp4_history.specs.Tracks.{Track, Whole, IsTold}
@@ -41,7 +38,7 @@ use Rattle.law_tp4_history.proofs.Tracked.{Tracked, all_told, reached_base}
 use Rattle.law_tp4_history.proofs.Written.{Kept, written_kept, written_reached}
 use Rattle.law_tp4_moves.specs.Lines.{IsKnownEvent}
 use Rattle.law_tp4_moves.specs.Moves.{times_of}
-use Rattle.law_tp4_moves.specs.Seen.{IsNumbered, seen, terms_of}
+use Rattle.law_tp4_moves.specs.Seen.{IsNumbered, seen}
 use Rattle.law_tp4_moves.proofs.Beginnings.{fit_times}
 use Rattle.law_tp4_moves.proofs.Sources.{read_sourced}
 use Rattle.tp4_world.specs.Telling.{events_after}
@@ -52,47 +49,13 @@ use Rattle.law_tp4_lawful.proofs.Acting.{Acts}
 use Rattle.law_tp4_lawful.proofs.Known.{AreTerms, IsKnown, IsOffered, IsReadAs, IsThere, Known}
 use Rattle.law_tp4_lawful.proofs.Worlds.{Follows}
 use Rattle.law_tp4_lawful.proofs.MeetsAside.{noted, replied}
+use Rattle.law_tp4_lawful.proofs.ReferencesMet.{agreed_is, is_flow, no_request, same_format, target_of}
 
 -- what an end has to know of an offer that it takes
 abbrev pub KnowsTaken : Type 0
 KnowsTaken = (times : Times) (w : Whole) (terms : Terms) (b : EndRecord) (stage : StateData) (tpdu : WireTpdu) (sum : Bool) (x n : ℕ) (o : Offer) (own : Track) → IsTold times w
     → Contains w.base.offers o → o.tpdu ≡ seen n tpdu → (o.tpdu.kind ≡ Flow → IsNumbered (block_of (agreed_format b.agreed)) n tpdu) → (o.tpdu.kind ≡ Flow → o.origin ≡ SentBy x)
     → (o.tpdu.kind ≡ Cc → (own.is_begun ≡ true) × (o.tpdu.terms ≡ terms)) → IsKnownEvent terms b stage (Some o) (Took tpdu sum) own (w.track x)
-
--- ---- what is seen of a TPDU
-
-target_of : (t : WireTpdu) (n r : ℕ) → destination_of t ≡ Some r → (seen n t).target ≡ r
-target_of (wires.Cr credit source width calling called size preferred extra version classes ack_time text) n r h = absurd (none-some _ h)
-target_of (wires.Cc credit destination source width calling called size preferred extra version classes ack_time text) n r h = same_Some _ _ h
-target_of (wires.Dr destination source reason info text) n r h = same_Some _ _ h
-target_of (wires.Dc destination source) n r h = same_Some _ _ h
-target_of (wires.Er destination cause rejected) n r h = same_Some _ _ h
-target_of (wires.Dt destination last number text) n r h = same_Some _ _ h
-target_of (wires.Ed destination last number text) n r h = same_Some _ _ h
-target_of (wires.Ak destination number credit subsequence confirmation) n r h = same_Some _ _ h
-target_of (wires.Ea destination number) n r h = same_Some _ _ h
-
-no_request : (t : WireTpdu) (n r : ℕ) → destination_of t ≡ Some r → (seen n t).kind ≢ Cr
-no_request (wires.Cr credit source width calling called size preferred extra version classes ack_time text) n r h = absurd (none-some _ h)
-no_request other n r h = λ e. cc e
-
-is_flow : (t : WireTpdu) (n : ℕ) → has_number (kind_for t) ≡ true → (seen n t).kind ≡ Flow
-is_flow (wires.Dt destination last number text) n h = refl
-is_flow (wires.Ed destination last number text) n h = refl
-is_flow (wires.Ak destination number credit subsequence confirmation) n h = refl
-is_flow (wires.Ea destination number) n h = refl
-is_flow other n h = absurd cc
-
-same_format : (one other : Format) → is_extended one ≡ is_extended other → one ≡ other
-same_format formats.Normal formats.Normal h = refl
-same_format formats.Normal formats.Extended h = absurd (cc h)
-same_format formats.Extended formats.Normal h = absurd (cc h)
-same_format formats.Extended formats.Extended h = refl
-
--- the format that was agreed
-agreed_is : (agreed : Option Options) (terms : Terms) (b : Bool) → option_map terms_of agreed ≡ Some terms → b ≡ terms.is_extended → b ≡ is_extended (agreed_format agreed)
-agreed_is None terms b h e = absurd (none-some _ h)
-agreed_is (Some options) terms b h e = e ∙ sym (ap (λ (t : Terms). t.is_extended) (same_Some _ _ h))
 
 both : (a b : Bool) → (a && b) ≡ true → b ≡ true
 both true b h = h

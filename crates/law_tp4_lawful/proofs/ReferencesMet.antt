@@ -65,7 +65,7 @@ same_format formats.Extended formats.Normal h = absurd (cc h)
 same_format formats.Extended formats.Extended h = refl
 
 -- the format that was agreed
-agreed_is : (agreed : Option Options) (terms : Terms) (b : Bool) → option_map terms_of agreed ≡ Some terms → b ≡ terms.is_extended → b ≡ is_extended (agreed_format agreed)
+pub agreed_is : (agreed : Option Options) (terms : Terms) (b : Bool) → option_map terms_of agreed ≡ Some terms → b ≡ terms.is_extended → b ≡ is_extended (agreed_format agreed)
 agreed_is None terms b h e = absurd (none-some _ h)
 agreed_is (Some options) terms b h e = e ∙ sym (ap (λ (t : Terms). t.is_extended) (same_Some _ _ h))
 

@@ -54,7 +54,7 @@ set_or (one ∷ places) (suc k) (suc j) place end h = elim (set_or places k j pl
 ]
 
 -- an end that stands then was put there, or stood before
-placed_or : (e : Entity) (reference : ℕ) (place : Option End) (r : ℕ) (end : End) → 1 ≤ reference → end_at (with_end e reference place) r ≡ Some end
+pub placed_or : (e : Entity) (reference : ℕ) (place : Option End) (r : ℕ) (end : End) → 1 ≤ reference → end_at (with_end e reference place) r ≡ Some end
     → ((r ≡ reference) × (place ≡ Some end)) ⊎ (end_at e r ≡ Some end)
 placed_or e zero place r end least h = absurd (omega (arith, least))
 placed_or e (suc k) place zero end least h = absurd (cc h)
@@ -71,13 +71,13 @@ placed_or e (suc k) place (suc j) end least h =
 abbrev pub AreOf : Entity → Type 0
 AreOf e = (r : ℕ) (end : End) → end_at e r ≡ Some end → IsEndOf r end
 
-placed_of : (e : Entity) (reference : ℕ) (place : Option End) → 1 ≤ reference → AreOf e → ((end : End) → place ≡ Some end → IsEndOf reference end) → AreOf (with_end e reference place)
+pub placed_of : (e : Entity) (reference : ℕ) (place : Option End) → 1 ≤ reference → AreOf e → ((end : End) → place ≡ Some end → IsEndOf reference end) → AreOf (with_end e reference place)
 placed_of e reference place least all here r end h = elim (placed_or e reference place r end least h) [
   | inl now ↦ subst (λ (n : ℕ). IsEndOf n end) (sym now.0) (here end now.1)
   | inr before ↦ all r end before
 ]
 
-only_end : (reference : ℕ) (one end : End) → IsEndOf reference one → Some one ≡ Some end → IsEndOf reference end
+pub only_end : (reference : ℕ) (one end : End) → IsEndOf reference one → Some one ≡ Some end → IsEndOf reference end
 only_end reference one end is h = let same : one ≡ end = cc h in subst (IsEndOf reference) same is
 
 row_end : (reference : ℕ) (m : Moved) → IsRowOf reference m → (end : End) → Some (end_of m) ≡ Some end → IsEndOf reference end
@@ -112,13 +112,13 @@ stays_same s = record { ends = refl; stood = λ system reference is. is; restart
 
 -- ---- what is told
 
-events_append : (ends : List EndAt) (system : ℕ) (address : List ℕ) (xs ys : List EndEvent)
+pub events_append : (ends : List EndAt) (system : ℕ) (address : List ℕ) (xs ys : List EndEvent)
     → events_after ends system address (xs ++ ys) ≡ events_after ends system address xs ++ events_after (ends_after ends system xs) system address ys
 events_append ends system address [] ys = refl
 events_append ends system address (x ∷ xs) ys =
     ap (λ (told : List Told). event_for system address (latest (ends_with ends system x x.what) system x.reference) x.reference x.what ∷ told) (events_append (ends_with ends system x x.what) system address xs ys)
 
-ends_append : (ends : List EndAt) (system : ℕ) (xs ys : List EndEvent) → ends_after ends system (xs ++ ys) ≡ ends_after (ends_after ends system xs) system ys
+pub ends_append : (ends : List EndAt) (system : ℕ) (xs ys : List EndEvent) → ends_after ends system (xs ++ ys) ≡ ends_after (ends_after ends system xs) system ys
 ends_append ends system [] ys = refl
 ends_append ends system (x ∷ xs) ys = ends_append (ends_with ends system x x.what) system xs ys
 

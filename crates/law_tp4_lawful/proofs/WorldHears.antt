@@ -47,7 +47,7 @@ use Rattle.law_tp4_lawful.proofs.WorldPlaces.{with_again}
 use Rattle.tp4_world.proofs.Having.{with_first}
 use Rattle.tp4_entity.specs.References.{is_silent}
 
-acted_same : (a b : Acted) → a.entity ≡ b.entity → a.events ≡ b.events → a.tpdus ≡ b.tpdus → a ≡ b
+pub acted_same : (a b : Acted) → a.entity ≡ b.entity → a.events ≡ b.events → a.tpdus ≡ b.tpdus → a ≡ b
 acted_same a b entity told tpdus =
     ap (λ (e : Entity). record { entity = e; events = a.events; tpdus = a.tpdus }) entity
     ∙ ap (λ (es : List EndEvent). record { entity = b.entity; events = es; tpdus = a.tpdus }) told

@@ -90,7 +90,7 @@ no_end_at e none reference = by_zero (reference == 0)
     by_zero true = refl
     by_zero false = none_there e.ends none (reference - 1)
 
-all_none : (ends : List (Option End)) → AllByRecursion (λ place. place ≡ None) ends → ends ≡ replicate (length ends) None
+pub all_none : (ends : List (Option End)) → AllByRecursion (λ place. place ≡ None) ends → ends ≡ replicate (length ends) None
 all_none [] none = refl
 all_none (place ∷ ends) none = ap (λ (p : Option End). p ∷ ends) none.0 ∙ ap (λ (ps : List (Option End)). None ∷ ps) (all_none ends none.1)
 

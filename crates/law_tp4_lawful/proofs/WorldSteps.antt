@@ -18,8 +18,6 @@ use Rattle.tp4_entity.specs.References.{is_free}
 use Rattle.tp4_entity.specs.Standing.{Empty, Goes, IsFreeAt, Moves, Over, Stays}
 use Rattle.tp4_entity.specs.Step.{calling, calling_end, end_refusal, kept_end, refused_by, ticked_to, ticking, ticking_at, ticking_end}
 use Rattle.tp4_entity.proofs.Standings.{ticking_keeps}
-use Rattle.tp4_flow.specs.declared.step.EndEvent.{EndEvent}
-use Rattle.tp4_flow.specs.declared.step.Sent.{Sent}
 use Rattle.law_tp4_history.specs.Ends.{End, frozen}
 use Rattle.law_tp4_history.specs.History.{IsFree, May, Release}
 use Rattle.law_tp4_history.specs.Journals.{IsAside, Written}
@@ -39,6 +37,7 @@ use Rattle.law_tp4_lawful.proofs.Worlds.{AfterCall, AfterTick, Follows}
 use Rattle.law_tp4_lawful.proofs.Frames.{owners_with, place_there}
 use Rattle.law_tp4_lawful.proofs.FramesKnown.{Frames, calls_back, holds_on, keeps, known_on, known_stays, number_at, pair_low, partner_back, terms_back}
 use Rattle.law_tp4_lawful.proofs.WorldAsides.{are_aside}
+use Rattle.law_tp4_lawful.proofs.WorldHears.{acted_same}
 use Rattle.law_tp4_lawful.proofs.WorldKnown.{known_at}
 use Rattle.law_tp4_lawful.proofs.WorldPlaces.{none_some}
 use Rattle.std.specs.Prelude.{is_none}
@@ -173,12 +172,6 @@ module _ (titles : List (List ℕ)) (timers : Timers) (w : Whole) (journal : Lis
 -- a frozen end does nothing
 still : (b : EndRecord) (stage : StateData) (when : ℕ) → stage ≡ Frozen when → ((on_tick b stage).events ≡ []) × ((on_tick b stage).tpdus ≡ [])
 still b stage when is = (ap (λ (s : StateData). (on_tick b s).events) is, ap (λ (s : StateData). (on_tick b s).tpdus) is)
-
-acted_same : (a b : Acted) → a.entity ≡ b.entity → a.events ≡ b.events → a.tpdus ≡ b.tpdus → a ≡ b
-acted_same a b one told tpdus =
-    ap (λ (x : Entity). record { entity = x; events = a.events; tpdus = a.tpdus }) one
-    ∙ ap (λ (es : List EndEvent). record { entity = b.entity; events = es; tpdus = a.tpdus }) told
-    ∙ ap (λ (ts : List Sent). record { entity = b.entity; events = b.events; tpdus = ts }) tpdus
 
 pub after_tick : (titles : List (List ℕ)) (timers : Timers) → Acts titles timers → AfterTick titles timers
 after_tick titles timers acts w journal entities ends system entity reference known is due_is =

@@ -28,7 +28,7 @@ use Rattle.law_clnp_answers.proofs.written.Octets.{all_both}
 use Rattle.law_clnp_answers.proofs.written.Pieces.{SentAll, sent_pdus}
 use Rattle.law_clnp_answers.proofs.written.Ways.{of_good}
 
-code_fits : (reason : Reason) → code_of reason < 256
+pub code_fits : (reason : Reason) → code_of reason < 256
 code_fits reasons.NotSpecified = omega arith
 code_fits reasons.ProtocolProcedure = omega arith
 code_fits reasons.IncorrectChecksum = omega arith
