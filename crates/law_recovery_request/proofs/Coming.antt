@@ -25,7 +25,7 @@ use Rattle.tp4_conn.specs.declared.states.InCrWait.{InCrWait}
 use Rattle.tp4_conn.specs.declared.states.StateData.{StateData}
 use Rattle.tp4_conn.specs.declared.states.StateData.TheVariants as stages
 use Rattle.tp4_conn.specs.declared.timers.Timers.{Timers}
-use Rattle.tp4_entity.specs.Association.{met, met_by, refusal, unmatched}
+use Rattle.tp4_entity.specs.Association.{is_registered, met, met_by, refusal, unmatched}
 use Rattle.tp4_entity.specs.Entity.{Acted, Entity, at, end_at, moved}
 use Rattle.tp4_entity.specs.References.{is_free_place, is_silent}
 use Rattle.tp4_entity.proofs.Standings.{within}
@@ -42,7 +42,8 @@ use Rattle.law_tp4_lawful.proofs.Acts.{stage_of}
 use Rattle.law_tp4_lawful.proofs.ActsRows.{AreTold, row_of}
 use Rattle.law_tp4_lawful.proofs.ActsTold.{ends_stay}
 use Rattle.law_tp4_lawful.proofs.Known.{IsKnown, IsReadAs, IsThere}
-use Rattle.law_tp4_lawful.proofs.MakesPlaces.{at_same, entity_other, entity_same}
+use Rattle.law_tp4_lawful.proofs.Frames.{entity_other, entity_set}
+use Rattle.law_tp4_lawful.proofs.MakesPlaces.{at_same}
 use Rattle.law_tp4_lawful.proofs.Worlds.{Explains}
 use Rattle.law_tp4_ended.proofs.Entities.{did_take}
 use Rattle.law_tp4_ended.proofs.Places.{silent_like}
@@ -51,8 +52,8 @@ use Rattle.law_calm_run.proofs.Hall.{Post, posted}
 use Rattle.law_recovery_run.proofs.Aside.{both_are, kept_place}
 use Rattle.law_recovery_walk.specs.Following.{Stands}
 use Rattle.law_recovery_walk.proofs.Delivering.{HasActed}
-use Rattle.law_recovery_request.specs.Requesting.{AreListening, AreUnanswered, HasTaken, IsPast, IsReason, IsRefusal, IsUnanswered, cr_from, in_cr_wait}
-use Rattle.law_recovery_request.proofs.Meeting.{ComesFrom, IsAsked, IsFound, IsMet, Made, Makes, New, Refused, Stays, Takes, There, Was, Went, answer_row, asks, comes_from, cr_wait_row, found, goes_on, met_is, unanswered_row, user_waits, waits_on}
+use Rattle.law_recovery_request.specs.Requesting.{AreListening, AreUnanswered, HasTaken, IsPast, IsRefusal, IsUnanswered, cr_from, in_cr_wait}
+use Rattle.law_recovery_request.proofs.Meeting.{ComesFrom, IsAsked, IsFound, IsMet, IsReasonOf, Made, Makes, New, Refused, Stays, Takes, There, Was, Went, answer_row, asks, comes_from, cr_wait_row, found, goes_on, met_is, reason_as, reason_of, unanswered_row, user_waits, waits_on}
 
 -- ---- lists
 
@@ -89,7 +90,20 @@ seen_calls birth took last b stage seen asking = absurd asking
 
 -- ---- an end in CrWait, and the end that it calls
 
-module _ {C : Type 0} (system x : ℕ) (from : List ℕ) (b : EndRecord) (r : InCrWait) where
+-- where that selector is not registered at an entity at that address, that is known
+abbrev pub AreRegistered : {C : Type 0} → Type 0 → World C → List ℕ → List ℕ → Type 0
+AreRegistered N world to called = (system : ℕ) (entity : Entity) → entity_at world.entities system ≡ Some entity → entity.own ≡ to → is_registered entity.selectors called ≡ false → N
+
+-- the TPDU is a DR by which a CR is refused
+pub record IsRefusalOf (from : List ℕ) (N : Type 0) (own : ℕ) (tpdu : WireTpdu) : Type 0 where
+  pub reason : ℕ
+  pub is_reason : IsReasonOf N reason
+  pub is : tpdu ≡ (refusal from own reason).tpdu
+
+pub refusal_of : (from : List ℕ) (N : Type 0) (own : ℕ) (tpdu : WireTpdu) → IsRefusalOf from N own tpdu → IsRefusal from own tpdu
+refusal_of from N own tpdu f = record { reason = f.reason; is_reason = reason_of N f.reason f.is_reason; is = f.is }
+
+module _ {C : Type 0} (system x : ℕ) (from : List ℕ) (N : Type 0) (b : EndRecord) (r : InCrWait) where
   -- it stands
   pub record IsHere (world : World C) : Type 0 where
     pub entity : Entity
@@ -118,7 +132,7 @@ module _ {C : Type 0} (system x : ℕ) (from : List ℕ) (b : EndRecord) (r : In
     pub there : entity_at world.entities at_system ≡ Some entity
     pub own_is : entity.own ≡ b.to
     pub reason : ℕ
-    pub is_reason : IsReason reason
+    pub is_reason : IsReasonOf N reason
     pub waits : Contains posts (record { system = at_system; sent = refusal from b.own reason })
 
   -- its CR waits, or the DR, or its called end is there
@@ -162,13 +176,13 @@ module _ {C : Type 0} (link : C → Link (List ℕ)) (titles : List (List ℕ)) 
   -- ---- the systems
 
   new_there : entity_at new.entities a.system ≡ Some a.acted.entity
-  new_there = ap (λ (ps : List Placed). entity_at ps a.system) a.entities ∙ entity_same old.entities a.system a.entity a.acted.entity a.there
+  new_there = ap (λ (ps : List Placed). entity_at ps a.system) a.entities ∙ entity_set old.entities a.system a.entity a.acted.entity a.there
 
   -- the entity of a system acted, or is as it was
-  abbrev IsPlaced : ℕ → Entity → Type 0
+  abbrev pub IsPlaced : ℕ → Entity → Type 0
   IsPlaced s z = ((s ≡ a.system) × (z ≡ a.entity) × (entity_at new.entities s ≡ Some a.acted.entity)) ⊎ (entity_at new.entities s ≡ Some z)
 
-  placed : (s : ℕ) (z : Entity) → entity_at old.entities s ≡ Some z → IsPlaced s z
+  pub placed : (s : ℕ) (z : Entity) → entity_at old.entities s ≡ Some z → IsPlaced s z
   placed s z there = by (s == a.system) refl
     where
       by : (c : Bool) → (s == a.system) ≡ c → IsPlaced s z
@@ -215,26 +229,28 @@ module _ {C : Type 0} (link : C → Link (List ℕ)) (titles : List (List ℕ)) 
 
   -- ---- the two ends
 
-  module _ (system x : ℕ) (from : List ℕ) (b : EndRecord) (r : InCrWait) where
-    abbrev asking : End
+  module _ (system x : ℕ) (from : List ℕ) (N : Type 0) (b : EndRecord) (r : InCrWait) where
+    abbrev pub asking : End
     asking = in_cr_wait b r
 
-    number_here : IsHere system x from b r old → latest new.ends system b.own ≡ x
+    number_here : IsHere system x from N b r old → latest new.ends system b.own ≡ x
     number_here h = number_on system b.own x h.entity asking h.there h.stands refl h.number
 
-    taken_at : (t : WireTpdu) (sum : Bool) (entity : Entity) → entity_at new.entities system ≡ Some entity → end_at entity b.own ≡ Some (end_of (takes whole now b (stages.CrWait r) t sum)) → IsHere system x from b r old
+    taken_at : (t : WireTpdu) (sum : Bool) (entity : Entity) → entity_at new.entities system ≡ Some entity → end_at entity b.own ≡ Some (end_of (takes whole now b (stages.CrWait r) t sum)) → IsHere system x from N b r old
         → Stands new x (end_of (takes whole (link new.carrier).clock b (stages.CrWait r) t sum))
     taken_at t sum entity there stands h =
         subst (λ (n : ℕ). Stands new x (end_of (takes whole n b (stages.CrWait r) t sum))) (sym a.clock)
         (record { system = system; reference = b.own; entity = entity; is_end = record { there = there; stands = stands; number = number_here h } })
 
-    -- it took what came; and that is a DR as a CR is refused by, or it came for it
+    -- it took what came, by its row; and that is a DR as a CR is refused by, or it came for it
     pub record IsTakenHere : Type 0 where
       pub has : HasTaken link new x b r
-      pub whence : IsRefusal from b.own has.tpdu ⊎ ((sum : Bool) × Read has.tpdu sum × (destination_of has.tpdu ≡ Some b.own) × (a.system ≡ system))
+      pub at_it : a.system ≡ system
+      pub row : a.acted ≡ moved e b.own (stepped whole now asking (Took has.tpdu has.sum))
+      pub whence : IsRefusalOf from N b.own has.tpdu ⊎ ((sum : Bool) × Read has.tpdu sum × (destination_of has.tpdu ≡ Some b.own) × (a.system ≡ system))
 
     -- the calling end
-    here_on : IsHere system x from b r old → IsHere system x from b r new ⊎ IsTakenHere
+    pub here_on : IsHere system x from N b r old → IsHere system x from N b r new ⊎ IsTakenHere
     here_on h = elim (placed system h.entity h.there) [
       | inl acts ↦
           let own : a.acted.entity.own ≡ from = a.kept ∙ ap (λ (z : Entity). z.own) (sym acts.1) ∙ h.own_is in
@@ -251,6 +267,8 @@ module _ {C : Type 0} (link : C → Link (List ℕ)) (titles : List (List ℕ)) 
                   taken = taken_at took.t took.sum a.acted.entity acts.2 took.stands h;
                   past = subst (λ (n : ℕ). IsPast (takes whole n b (stages.CrWait r) took.t took.sum).stage) (sym a.clock) past;
                 };
+                at_it = sym acts.0;
+                row = took.is;
                 whence = inr (took.sum, took.read, took.target, sym acts.0);
               })
             ]
@@ -259,7 +277,7 @@ module _ {C : Type 0} (link : C → Link (List ℕ)) (titles : List (List ℕ)) 
     ]
 
     -- no called end of it was answered
-    unanswered_on : AreUnanswered old b.to from b.own → AreUnanswered new b.to from b.own
+    pub unanswered_on : AreUnanswered old b.to from b.own → AreUnanswered new b.to from b.own
     unanswered_on was s own z f there own_is stands called = elim (with_any old.entities a.system s a.acted.entity z (ap (λ (ps : List Placed). entity_at ps s) (sym a.entities) ∙ there)) [
       | inl here ↦ by (sym a.kept ∙ ap (λ (i : Entity). i.own) (sym here.1) ∙ own_is) (comes_from Read now e a.sender.own a.acted met_so own f (ap (λ (i : Entity). end_at i own) (sym here.1) ∙ stands))
       | inr before ↦ was s own z f before own_is stands called
@@ -284,7 +302,7 @@ module _ {C : Type 0} (link : C → Link (List ℕ)) (titles : List (List ℕ)) 
         ])
 
     -- its called end
-    waiting_on : IsWaiting system x from b r old → IsWaiting system x from b r new
+    waiting_on : IsWaiting system x from N b r old → IsWaiting system x from N b r new
     waiting_on d = elim (placed d.at_system d.entity d.there) [
       | inl acts ↦
           elim (goes_on Read now e a.sender.own a.acted met_so d.own d.end (ap (λ (z : Entity). end_at z d.own) (sym acts.1) ∙ d.stands) (ap stop_of d.stage)) [
@@ -320,7 +338,7 @@ module _ {C : Type 0} (link : C → Link (List ℕ)) (titles : List (List ℕ)) 
     posts_now = rest ++ posted a.system a.acted.tpdus
 
     -- a DR that waits behind the first
-    refused_on : (d : IsRefused system x from b r old (post ∷ rest)) → Contains rest (record { system = d.at_system; sent = refusal from b.own d.reason }) → IsRefused system x from b r new posts_now
+    refused_on : (d : IsRefused system x from N b r old (post ∷ rest)) → Contains rest (record { system = d.at_system; sent = refusal from b.own d.reason }) → IsRefused system x from N b r new posts_now
     refused_on d waits = elim (placed d.at_system d.entity d.there) [
       | inl acts ↦ record {
         at_system = d.at_system;
@@ -343,8 +361,8 @@ module _ {C : Type 0} (link : C → Link (List ℕ)) (titles : List (List ℕ)) 
     ]
 
     -- the CR comes
-    cr_comes : IsHere system x from b r old → AreUnanswered old b.to from b.own → AreListening now old b.to → post ≡ cr_from system b r → IsPending system x from b r new posts_now
-    cr_comes h was listens is = by (subst (IsAsked now e from b.own) (sym acted_is) (asks now e from b r.octets (is_summed sent.sum sent.tpdu)))
+    cr_comes : IsHere system x from N b r old → AreUnanswered old b.to from b.own → AreListening now old b.to → AreRegistered N old b.to b.called → post ≡ cr_from system b r → IsPending system x from N b r new posts_now
+    cr_comes h was listens selects is = by (subst (IsAsked now e from b.own b.called) (sym acted_is) (asks now e from b r.octets (is_summed sent.sum sent.tpdu)))
       where
         sent : Sent
         sent = request b r.octets
@@ -361,7 +379,7 @@ module _ {C : Type 0} (link : C → Link (List ℕ)) (titles : List (List ℕ)) 
         acted_is : a.acted ≡ met whole now e from (sent.tpdu, is_summed sent.sum sent.tpdu)
         acted_is = came_as sent from sent_is (ap (λ (z : Entity). z.own) sender_is ∙ h.own_is) refl (listens a.system a.entity a.there to_is)
 
-        by : IsAsked now e from b.own a.acted → IsPending system x from b r new posts_now
+        by : IsAsked now e from b.own b.called a.acted → IsPending system x from N b r new posts_now
         by (There any acted) =
             let f : IsFound e from b.own = found e from b.own any in
             let waits = user_waits f.end.stage (was a.system f.own a.entity f.end a.there to_is f.stands f.called) f.held in
@@ -395,14 +413,14 @@ module _ {C : Type 0} (link : C → Link (List ℕ)) (titles : List (List ℕ)) 
           there = new_there;
           own_is = a.kept ∙ to_is;
           reason = reason;
-          is_reason = is_reason;
+          is_reason = reason_as (is_registered a.entity.selectors b.called ≡ false) N reason (selects a.system a.entity a.there to_is) is_reason;
           waits = Contains-append_right rest (posted a.system a.acted.tpdus) _
               (subst (λ (l : List Sent). Contains (posted a.system l) (record { system = a.system; sent = refusal from b.own reason })) (sym (ap (λ (z : Acted). z.tpdus) acted))
               (Contains-push [] (record { system = a.system; sent = refusal from b.own reason })));
         })
 
     -- the DR comes
-    dr_comes : IsFitWorld link old → IsHere system x from b r old → (d : IsRefused system x from b r old (post ∷ rest)) → post ≡ record { system = d.at_system; sent = refusal from b.own d.reason } → IsTakenHere
+    dr_comes : IsFitWorld link old → IsHere system x from N b r old → (d : IsRefused system x from N b r old (post ∷ rest)) → post ≡ record { system = d.at_system; sent = refusal from b.own d.reason } → IsTakenHere
     dr_comes fit h d is = record {
       has = record {
         tpdu = dr;
@@ -411,6 +429,8 @@ module _ {C : Type 0} (link : C → Link (List ℕ)) (titles : List (List ℕ)) 
         taken = taken_at dr sum a.acted.entity (ap (entity_at new.entities) (sym at_it) ∙ new_there) stands_now h;
         past = answer_row (now_at (link new.carrier).clock b) r dr refl;
       };
+      at_it = at_it;
+      row = moved_is;
       whence = inl (record { reason = d.reason; is_reason = d.is_reason; is = refl });
     }
       where
@@ -457,18 +477,18 @@ module _ {C : Type 0} (link : C → Link (List ℕ)) (titles : List (List ℕ)) 
             ap (λ (z : Acted). end_at z.entity b.own) moved_is ∙ at_same e b.own (Some (end_of m)) inside.least inside.most
 
     -- one delivery
-    pub unsettled_on : IsFitWorld link old → AreListening now old b.to → IsUnsettled system x from b r old (post ∷ rest) → IsUnsettled system x from b r new posts_now ⊎ IsTakenHere
-    unsettled_on fit listens o = by o.pending
+    pub unsettled_on : IsFitWorld link old → AreListening now old b.to → AreRegistered N old b.to b.called → IsUnsettled system x from N b r old (post ∷ rest) → IsUnsettled system x from N b r new posts_now ⊎ IsTakenHere
+    unsettled_on fit listens selects o = by o.pending
       where
-        stays : IsPending system x from b r new posts_now → IsUnsettled system x from b r new posts_now ⊎ IsTakenHere
+        stays : IsPending system x from N b r new posts_now → IsUnsettled system x from N b r new posts_now ⊎ IsTakenHere
         stays pending = elim (here_on o.here) [
           | inl here ↦ inl (record { here = here; unanswered = unanswered_on o.unanswered; pending = pending })
           | inr taken ↦ inr taken
         ]
 
-        by : IsPending system x from b r old (post ∷ rest) → IsUnsettled system x from b r new posts_now ⊎ IsTakenHere
+        by : IsPending system x from N b r old (post ∷ rest) → IsUnsettled system x from N b r new posts_now ⊎ IsTakenHere
         by (Asking waits) = elim (first_or_rest post (cr_from system b r) rest waits) [
-          | inl first ↦ stays (cr_comes o.here o.unanswered listens first)
+          | inl first ↦ stays (cr_comes o.here o.unanswered listens selects first)
           | inr later ↦ stays (Asking (Contains-append_left rest (posted a.system a.acted.tpdus) _ later))
         ]
         by (Refusing d) = elim (first_or_rest post (record { system = d.at_system; sent = refusal from b.own d.reason }) rest d.waits) [

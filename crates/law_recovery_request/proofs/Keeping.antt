@@ -23,7 +23,7 @@ use Rattle.tp4_conn.specs.Table.{Took, stepped}
 use Rattle.tp4_conn.specs.declared.end_record.EndRecord.{EndRecord}
 use Rattle.tp4_conn.specs.declared.states.InCrWait.{InCrWait}
 use Rattle.tp4_conn.specs.declared.timers.Timers.{Timers}
-use Rattle.tp4_entity.specs.Association.{met, refusal}
+use Rattle.tp4_entity.specs.Association.{is_registered, met, refusal}
 use Rattle.tp4_entity.specs.Entity.{Acted, Entity, at, end_at}
 use Rattle.tp4_entity.specs.Unit.{extended_of}
 use Rattle.tp4_entity.specs.steps.Places.{format_of}
@@ -47,9 +47,9 @@ use Rattle.law_recovery_walk.proofs.Delivering.{HasActed}
 use Rattle.law_tp4_ended.proofs.Worlds.{IsFitWorld}
 use Rattle.law_recovery_walk.proofs.Naming.{NamedBy, row_aims, row_named, row_sourced}
 use Rattle.law_recovery_walk.proofs.Waiting.{posted_each}
-use Rattle.law_recovery_request.specs.Requesting.{AreListening, AreUnanswered, HasTaken, IsReason, IsRefusal, cr_from, in_cr_wait}
-use Rattle.law_recovery_request.proofs.Coming.{IsHere, IsUnsettled, came_as, met_so, unsettled_on}
-use Rattle.law_recovery_request.proofs.Meeting.{IsAnswerTo, IsAsked, IsMet, Made, Makes, Refused, Stays, Takes, There, asks, no_fit}
+use Rattle.law_recovery_request.specs.Requesting.{AreListening, AreUnanswered, HasTaken, cr_from, in_cr_wait}
+use Rattle.law_recovery_request.proofs.Coming.{AreRegistered, IsHere, IsRefusalOf, IsUnsettled, came_as, met_so, unsettled_on}
+use Rattle.law_recovery_request.proofs.Meeting.{IsAnswerTo, IsAsked, IsMet, IsReasonOf, Made, Makes, Refused, Stays, Takes, There, asks, no_fit, reason_as}
 
 -- ---- what is read
 
@@ -79,14 +79,14 @@ read_sourced entity sent t sum read has = by (has_number (kind_for sent.tpdu)) r
 -- ---- what waits
 
 -- the DR by which a CR is refused
-pub record IsRefusalTo (from : List ℕ) (own : ℕ) (sent : Sent) : Type 0 where
+pub record IsRefusalTo (from : List ℕ) (N : Type 0) (own : ℕ) (sent : Sent) : Type 0 where
   pub reason : ℕ
-  pub is_reason : IsReason reason
+  pub is_reason : IsReasonOf N reason
   pub is : sent ≡ refusal from own reason
 
 -- it is for the end only if it is that, it is in its name only if it is its CR, and a CC has a source
-pub record IsKeptApart (system : ℕ) (from : List ℕ) (b : EndRecord) (r : InCrWait) (post : Post) : Type 0 where
-  pub refused : IsSentTo from b.own post.sent → IsRefusalTo from b.own post.sent
+pub record IsKeptApart (system : ℕ) (from : List ℕ) (N : Type 0) (b : EndRecord) (r : InCrWait) (post : Post) : Type 0 where
+  pub refused : IsSentTo from b.own post.sent → IsRefusalTo from N b.own post.sent
   pub named : post.system ≡ system → Names b.own post.sent.tpdu → post ≡ cr_from system b r
   pub sourced : HasSource (seen 0 post.sent.tpdu)
 
@@ -101,9 +101,9 @@ both_of P Q R [] f ps qs = tt
 both_of P Q R (sent ∷ sents) f ps qs = (f sent ps.0 qs.0, both_of P Q R sents f ps.1 qs.1)
 
 module _ {C : Type 0} (link : C → Link (List ℕ)) (titles : List (List ℕ)) (timers : Timers) (w : Whole) (journal : List JournalEvent) (old : World C) (explains : Explains link titles timers w journal old)
-    (going : Going) (new : World C) (post : Post) (rest : List Post) (made : List JournalEvent) (a : HasActed link old new post made) (system x : ℕ) (from : List ℕ) (b : EndRecord) (r : InCrWait)
-    (h : IsHere system x from b r old) (was : AreUnanswered old b.to from b.own) (listens : AreListening (link old.carrier).clock old b.to)
-    (quiet : AllByRecursion (IsKeptApart system from b r) (post ∷ rest)) where
+    (going : Going) (new : World C) (post : Post) (rest : List Post) (made : List JournalEvent) (a : HasActed link old new post made) (system x : ℕ) (from : List ℕ) (N : Type 0) (b : EndRecord) (r : InCrWait)
+    (h : IsHere system x from N b r old) (was : AreUnanswered old b.to from b.own) (listens : AreListening (link old.carrier).clock old b.to)
+    (selects : AreRegistered N old b.to b.called) (quiet : AllByRecursion (IsKeptApart system from N b r) (post ∷ rest)) where
   abbrev now : ℕ
   now = (link old.carrier).clock
 
@@ -128,8 +128,8 @@ module _ {C : Type 0} (link : C → Link (List ℕ)) (titles : List (List ℕ)) 
       quiet.0.named (explains.known.apart post.system system a.sender h.entity a.sender_there h.there (from_is ∙ sym h.own_is)) (read_names a.entity post.sent t sum b.own read names)
 
   -- which is answered by that DR alone
-  cr_refused : post ≡ cr_from system b r → AllByRecursion (IsRefusalTo from b.own) a.acted.tpdus
-  cr_refused is = by (subst (IsAsked now e from b.own) (sym acted_is) (asks now e from b r.octets (is_summed sent.sum sent.tpdu)))
+  cr_refused : post ≡ cr_from system b r → AllByRecursion (IsRefusalTo from N b.own) a.acted.tpdus
+  cr_refused is = by (subst (IsAsked now e from b.own b.called) (sym acted_is) (asks now e from b r.octets (is_summed sent.sum sent.tpdu)))
     where
       sent : Sent
       sent = request b r.octets
@@ -137,22 +137,25 @@ module _ {C : Type 0} (link : C → Link (List ℕ)) (titles : List (List ℕ)) 
       sender_is : a.sender ≡ h.entity
       sender_is = same_Some a.sender h.entity (sym a.sender_there ∙ ap (λ (p : Post). entity_at old.entities p.system) is ∙ h.there)
 
+      to_is : a.entity.own ≡ b.to
+      to_is = a.own_is ∙ ap (λ (p : Post). p.sent.to) is
+
       acted_is : a.acted ≡ met whole now e from (sent.tpdu, is_summed sent.sum sent.tpdu)
       acted_is = came_as link titles timers w journal old explains new post rest made a sent from (ap (λ (p : Post). p.sent) is) (ap (λ (z : Entity). z.own) sender_is ∙ h.own_is) refl
-          (listens a.system a.entity a.there (a.own_is ∙ ap (λ (p : Post). p.sent.to) is))
+          (listens a.system a.entity a.there to_is)
 
-      by : IsAsked now e from b.own a.acted → AllByRecursion (IsRefusalTo from b.own) a.acted.tpdus
-      by (There any acted) = subst (AllByRecursion (IsRefusalTo from b.own)) (sym (ap (λ (z : Acted). z.tpdus) acted)) tt
-      by (Made own base octets free called acted) = subst (AllByRecursion (IsRefusalTo from b.own)) (sym (ap (λ (z : Acted). z.tpdus) acted)) tt
+      by : IsAsked now e from b.own b.called a.acted → AllByRecursion (IsRefusalTo from N b.own) a.acted.tpdus
+      by (There any acted) = subst (AllByRecursion (IsRefusalTo from N b.own)) (sym (ap (λ (z : Acted). z.tpdus) acted)) tt
+      by (Made own base octets free called acted) = subst (AllByRecursion (IsRefusalTo from N b.own)) (sym (ap (λ (z : Acted). z.tpdus) acted)) tt
       by (Refused reason is_reason acted) =
-          subst (AllByRecursion (IsRefusalTo from b.own)) (sym (ap (λ (z : Acted). z.tpdus) acted)) (record { reason = reason; is_reason = is_reason; is = refl }, tt)
+          subst (AllByRecursion (IsRefusalTo from N b.own)) (sym (ap (λ (z : Acted). z.tpdus) acted)) (record { reason = reason; is_reason = reason_as (is_registered a.entity.selectors b.called ≡ false) N reason (selects a.system a.entity a.there to_is) is_reason; is = refl }, tt)
 
   -- what the end itself takes
-  pub turned : (t : WireTpdu) (sum : Bool) → IsReadAs a.entity post.sent (t, sum) → destination_of t ≡ Some b.own → a.system ≡ system → IsRefusal from b.own t
+  pub turned : (t : WireTpdu) (sum : Bool) → IsReadAs a.entity post.sent (t, sum) → destination_of t ≡ Some b.own → a.system ≡ system → IsRefusalOf from N b.own t
   turned t sum read target at_it =
       let owner : a.entity ≡ h.entity = same_Some a.entity h.entity (sym a.there ∙ ap (entity_at old.entities) at_it ∙ h.there) in
       let to_is : post.sent.to ≡ from = sym a.own_is ∙ ap (λ (z : Entity). z.own) owner ∙ h.own_is in
-      let refused : IsRefusalTo from b.own post.sent = quiet.0.refused (record { address = to_is; target = sym read.target ∙ target }) in
+      let refused : IsRefusalTo from N b.own post.sent = quiet.0.refused (record { address = to_is; target = sym read.target ∙ target }) in
       record {
         reason = refused.reason;
         is_reason = refused.is_reason;
@@ -161,14 +164,14 @@ module _ {C : Type 0} (link : C → Link (List ℕ)) (titles : List (List ℕ)) 
 
   -- each TPDU that the entity sends
   abbrev Apart : Sent → Type 0
-  Apart sent = IsKeptApart system from b r (record { system = a.system; sent = sent })
+  Apart sent = IsKeptApart system from N b r (record { system = a.system; sent = sent })
 
   answered : AllByRecursion (IsAnswerTo (λ t sum. IsReadAs a.entity post.sent (t, sum)) a.sender.own) a.acted.tpdus → AllByRecursion Apart a.acted.tpdus
   answered answers =
-      both_of (IsAnswerTo (λ t sum. IsReadAs a.entity post.sent (t, sum)) a.sender.own) (λ (sent : Sent). IsSentTo from b.own sent → IsRefusalTo from b.own sent) Apart a.acted.tpdus
+      both_of (IsAnswerTo (λ t sum. IsReadAs a.entity post.sent (t, sum)) a.sender.own) (λ (sent : Sent). IsSentTo from b.own sent → IsRefusalTo from N b.own sent) Apart a.acted.tpdus
       (λ sent answer refused. record { refused = refused; named = λ at_it names. absurd (answer.unnamed b.own some names); sourced = answer.sourced })
       answers
-      (each_of (IsAnswerTo (λ t sum. IsReadAs a.entity post.sent (t, sum)) a.sender.own) (IsSentTo from b.own) (IsRefusalTo from b.own) (post ≡ cr_from system b r) a.acted.tpdus
+      (each_of (IsAnswerTo (λ t sum. IsReadAs a.entity post.sent (t, sum)) a.sender.own) (IsSentTo from b.own) (IsRefusalTo from N b.own) (post ≡ cr_from system b r) a.acted.tpdus
       (λ sent answer to_it. is_cr answer.t answer.sum answer.read (sym answer.to ∙ to_it.address)
       (subst (λ (n : ℕ). Names n answer.t) (same_Some answer.source b.own (sym answer.target ∙ to_it.target)) answer.names)) cr_refused answers)
 
@@ -257,7 +260,7 @@ module _ {C : Type 0} (link : C → Link (List ℕ)) (titles : List (List ℕ)) 
   -- ---- all that waits then
 
   -- the end itself takes that DR, and sends nothing
-  own_apart : (t : WireTpdu) (sum : Bool) (o : End) → IsRefusal from b.own t → o ≡ asking → AllByRecursion Apart (stepped whole now o (Took t sum)).tpdus
+  own_apart : (t : WireTpdu) (sum : Bool) (o : End) → IsRefusalOf from N b.own t → o ≡ asking → AllByRecursion Apart (stepped whole now o (Took t sum)).tpdus
   unfolding cr_wait_tpdu
   own_apart t sum o is same =
       subst (λ (z : End). AllByRecursion Apart (stepped whole now z (Took t sum)).tpdus) (sym same)
@@ -283,25 +286,25 @@ module _ {C : Type 0} (link : C → Link (List ℕ)) (titles : List (List ℕ)) 
       by false d at_it own = back (moved_apart t sum reference o read target there match (λ here. absurd (eqb-false a.system system at_it here)))
   sent_apart (Makes reference base octets free own is) = subst (AllByRecursion Apart) (sym (ap (λ (z : Acted). z.tpdus) is)) tt
 
-  pub apart_on : AllByRecursion (IsKeptApart system from b r) (rest ++ posted a.system a.acted.tpdus)
-  apart_on = all_append (IsKeptApart system from b r) rest (posted a.system a.acted.tpdus) quiet.1
-      (posted_each (IsKeptApart system from b r) a.system a.acted.tpdus (sent_apart (met_so link titles timers w journal old explains new post rest made a)))
+  pub apart_on : AllByRecursion (IsKeptApart system from N b r) (rest ++ posted a.system a.acted.tpdus)
+  apart_on = all_append (IsKeptApart system from N b r) rest (posted a.system a.acted.tpdus) quiet.1
+      (posted_each (IsKeptApart system from N b r) a.system a.acted.tpdus (sent_apart (met_so link titles timers w journal old explains new post rest made a)))
 
 -- one delivery, where it was so before
 pub unsettled_so : {C : Type 0} (link : C → Link (List ℕ)) (titles : List (List ℕ)) (timers : Timers) (w : Whole) (journal : List JournalEvent) (old : World C)
     (explains : Explains link titles timers w journal old) (fit : IsFitWorld link old) (going : Going) (new : World C) (post : Post) (rest : List Post) (made : List JournalEvent)
-    (a : HasActed link old new post made) (system x : ℕ) (from : List ℕ) (b : EndRecord) (r : InCrWait) (P : Type 0) → AreListening (link old.carrier).clock old b.to → IsUnsettled system x from b r old (post ∷ rest)
-    → (P → AllByRecursion (IsKeptApart system from b r) (post ∷ rest))
-    → (IsUnsettled system x from b r new (rest ++ posted a.system a.acted.tpdus) × (P → AllByRecursion (IsKeptApart system from b r) (rest ++ posted a.system a.acted.tpdus)))
-    ⊎ ((has : HasTaken link new x b r) × (P → IsRefusal from b.own has.tpdu))
-unsettled_so {C} link titles timers w journal old explains fit going new post rest made a system x from b r P listens u quiet =
-    elim (unsettled_on link titles timers w journal old explains new post rest made a system x from b r fit listens u) [
-      | inl next ↦ inl (next, λ p. apart_on link titles timers w journal old explains going new post rest made a system x from b r u.here u.unanswered listens (quiet p))
+    (a : HasActed link old new post made) (system x : ℕ) (from : List ℕ) (N : Type 0) (b : EndRecord) (r : InCrWait) (P : Type 0) → AreListening (link old.carrier).clock old b.to → AreRegistered N old b.to b.called → IsUnsettled system x from N b r old (post ∷ rest)
+    → (P → AllByRecursion (IsKeptApart system from N b r) (post ∷ rest))
+    → (IsUnsettled system x from N b r new (rest ++ posted a.system a.acted.tpdus) × (P → AllByRecursion (IsKeptApart system from N b r) (rest ++ posted a.system a.acted.tpdus)))
+    ⊎ ((has : HasTaken link new x b r) × (P → IsRefusalOf from N b.own has.tpdu))
+unsettled_so {C} link titles timers w journal old explains fit going new post rest made a system x from N b r P listens selects u quiet =
+    elim (unsettled_on link titles timers w journal old explains new post rest made a system x from N b r fit listens selects u) [
+      | inl next ↦ inl (next, λ p. apart_on link titles timers w journal old explains going new post rest made a system x from N b r u.here u.unanswered listens selects (quiet p))
       | inr taken ↦ inr (
         taken.has,
         λ p. elim taken.whence [
           | inl is ↦ is
-          | inr q ↦ turned link titles timers w journal old explains going new post rest made a system x from b r u.here u.unanswered listens (quiet p) taken.has.tpdu q.0 q.1 q.2 q.3
+          | inr q ↦ turned link titles timers w journal old explains going new post rest made a system x from N b r u.here u.unanswered listens selects (quiet p) taken.has.tpdu q.0 q.1 q.2 q.3
         ],
       )
     ]

@@ -145,6 +145,7 @@ module _ (Read : WireTpdu → Bool → Type 0) (now : ℕ) (e : Entity) (from : 
     pub match : is_match o.base o.stage from t ≡ true
     pub fit : fits o.base o.stage t ≡ true
     pub stands : end_at acted.entity reference ≡ Some (end_of (takes whole now o.base o.stage t sum))
+    pub is : acted ≡ moved e reference (stepped whole now o (Took t sum))
 
   moved_here : (reference : ℕ) (p : End) (m : Moved) → end_at e reference ≡ Some p → acted ≡ moved e reference m → end_at acted.entity reference ≡ Some (end_of m)
   moved_here reference p m there is =
@@ -171,6 +172,7 @@ module _ (Read : WireTpdu → Bool → Type 0) (now : ℕ) (e : Entity) (from : 
             match = subst (λ (z : End). is_match z.base z.stage from t ≡ true) it match;
             fit = subst (λ (z : End). fits z.base z.stage t ≡ true) it (both_are _ _ match).1;
             stands = ap (end_at acted.entity) at_it ∙ moved_here reference p (stepped whole now p (Took t sum)) there is ∙ ap (λ (z : End). Some (end_of (stepped whole now z (Took t sum)))) it;
+            is = is ∙ (λ i. moved e (sym at_it i) (stepped whole now (it i) (Took t sum)));
           })
       by false apart = inl (moved_elsewhere reference r (stepped whole now p (Took t sum)) (within e reference p there).least apart is ∙ stands)
   goes_on (Makes reference base octets free own is) r o stands goes = by (r == reference) refl
@@ -264,19 +266,40 @@ cr_wait_row now b r t sum fit =
 
 -- ---- a CR
 
--- a called end for that caller is there; or one is made; or a DR goes back
-pub data IsAsked (now : ℕ) (e : Entity) (from : List ℕ) (source : ℕ) (m : Acted) : Type 0 where
-  There : list_any (is_called false from source) e.ends ≡ true → m ≡ answers e [] → IsAsked now e from source m
-  Made : (reference : ℕ) (base : EndRecord) (octets : List ℕ) → Free now reference e → is_called_by base from source ≡ true → m ≡ moved e reference (indicated base octets) → IsAsked now e from source m
-  Refused : (reason : ℕ) → IsReason reason → m ≡ answers e (refusal from source reason ∷ []) → IsAsked now e from source m
+-- why a CR is refused: its end is frozen; its selector is not registered, of which that is known; no reference is free
+abbrev pub IsReasonOf : Type 0 → ℕ → Type 0
+IsReasonOf Unregistered reason = (reason ≡ 131) ⊎ (((reason ≡ 3) × Unregistered) ⊎ (reason ≡ 129))
 
-pub asks : (now : ℕ) (e : Entity) (from : List ℕ) (b : EndRecord) (octets : List ℕ) (sum : Bool) → IsAsked now e from b.own (met whole now e from ((request b octets).tpdu, sum))
+pub reason_as : (One Other : Type 0) (reason : ℕ) → (One → Other) → IsReasonOf One reason → IsReasonOf Other reason
+reason_as One Other reason f (inl frozen) = inl frozen
+reason_as One Other reason f (inr (inl three)) = inr (inl (three.0, f three.1))
+reason_as One Other reason f (inr (inr spent)) = inr (inr spent)
+
+pub reason_of : (One : Type 0) (reason : ℕ) → IsReasonOf One reason → IsReason reason
+reason_of One reason (inl frozen) = inl frozen
+reason_of One reason (inr (inl three)) = inr (inl three.0)
+reason_of One reason (inr (inr spent)) = inr (inr spent)
+
+-- a called end for that caller is there; or one is made; or a DR goes back
+pub data IsAsked (now : ℕ) (e : Entity) (from : List ℕ) (source : ℕ) (called : List ℕ) (m : Acted) : Type 0 where
+  There : list_any (is_called false from source) e.ends ≡ true → m ≡ answers e [] → IsAsked now e from source called m
+  Made : (reference : ℕ) (base : EndRecord) (octets : List ℕ) → Free now reference e → is_called_by base from source ≡ true → m ≡ moved e reference (indicated base octets) → IsAsked now e from source called m
+  Refused : (reason : ℕ) → IsReasonOf (is_registered e.selectors called ≡ false) reason → m ≡ answers e (refusal from source reason ∷ []) → IsAsked now e from source called m
+
+pub asks : (now : ℕ) (e : Entity) (from : List ℕ) (b : EndRecord) (octets : List ℕ) (sum : Bool) → IsAsked now e from b.own b.called (met whole now e from ((request b octets).tpdu, sum))
 asks now e from b octets sum =
-    if_kept (IsAsked now e from b.own) (list_any (is_called false from b.own) e.ends) _ _ (λ there. There there refl)
-    (λ _. if_kept (IsAsked now e from b.own) (list_any (is_called true from b.own) e.ends) _ _ (λ _. Refused 131 (inl refl) refl)
-    (λ _. if_kept (IsAsked now e from b.own) (not (is_registered e.selectors b.called)) _ _ (λ _. Refused 3 (inr (inl refl)) refl) (λ _. by (least_free now e) refl)))
+    if_kept (IsAsked now e from b.own b.called) (list_any (is_called false from b.own) e.ends) _ _ (λ there. There there refl)
+    (λ _. if_kept (IsAsked now e from b.own b.called) (list_any (is_called true from b.own) e.ends) _ _ (λ _. Refused 131 (inl refl) refl)
+    (λ _. if_kept (IsAsked now e from b.own b.called) (not (is_registered e.selectors b.called)) _ _ (λ none. Refused 3 (inr (inl (refl, registered none))) refl) (λ _. by (least_free now e) refl)))
   where
-    by : (free : Option ℕ) → least_free now e ≡ free → IsAsked now e from b.own (new_end now e from b.own (request b octets).tpdu free)
+    registered : not (is_registered e.selectors b.called) ≡ true → is_registered e.selectors b.called ≡ false
+    registered none = turned (is_registered e.selectors b.called) none
+      where
+        turned : (c : Bool) → not c ≡ true → c ≡ false
+        turned true is = absurd (cc is)
+        turned false is = refl
+
+    by : (free : Option ℕ) → least_free now e ≡ free → IsAsked now e from b.own b.called (new_end now e from b.own (request b octets).tpdu free)
     by None is = Refused 129 (inr (inr refl)) refl
     by (Some reference) is =
         Made reference

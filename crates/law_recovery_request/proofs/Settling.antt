@@ -48,13 +48,13 @@ use Rattle.law_recovery_walk.specs.Following.{Stands}
 use Rattle.law_recovery_walk.proofs.Coming.{StandsSo, delivered}
 use Rattle.law_recovery_walk.proofs.Settling.{IsExplained}
 use Rattle.law_recovery_request.specs.Requesting.{AreListening, AreUnanswered, HasTaken, IsAnswered, IsApart, IsIndicated, IsRefusal, cr_from, in_cr_wait}
-use Rattle.law_recovery_request.proofs.Coming.{Asking, IsHere, IsPending, IsUnsettled, IsWaiting, Refusing, Waiting, listens_on, none_there}
+use Rattle.law_recovery_request.proofs.Coming.{Asking, IsHere, IsPending, IsUnsettled, IsWaiting, Refusing, Waiting, listens_on, none_there, refusal_of}
 use Rattle.law_recovery_request.proofs.Keeping.{IsKeptApart, unsettled_so}
 
 -- ---- where nothing waits
 
-module _ {C : Type 0} (link : C → Link (List ℕ)) (journal : List Event) (world : World C) (ex : IsExplained link journal world) (system x : ℕ) (from : List ℕ) (b : EndRecord) (r : InCrWait)
-    (h : IsHere system x from b r world) (u : AreUnanswered world b.to from b.own) (d : IsWaiting system x from b r world) where
+module _ {C : Type 0} (link : C → Link (List ℕ)) (journal : List Event) (world : World C) (ex : IsExplained link journal world) (system x : ℕ) (from : List ℕ) (N : Type 0) (b : EndRecord) (r : InCrWait)
+    (h : IsHere system x from N b r world) (u : AreUnanswered world b.to from b.own) (d : IsWaiting system x from N b r world) where
   abbrev calling : Stands world x (in_cr_wait b r)
   calling = record { system = system; reference = b.own; entity = h.entity; is_end = record { there = h.there; stands = h.stands; number = h.number } }
 
@@ -115,19 +115,23 @@ indicated_on {C} journal made world x b r i = record {
 
 -- ---- a settle
 
+-- of a selector that is not registered nothing need be known
+abbrev Any : Type 0
+Any = Prim.Unit {0}
+
 module _ {C : Type 0} (link : C → Link (List ℕ)) (steps : C → Call (List ℕ) → C → Type 0)
     (law : (old : C) (call : Call (List ℕ)) (new : C) → steps old call new → Keeps (link old) call (link new))
     (titles : List (List ℕ)) (Waits : C → List (CarriedUnit (List ℕ)) → Type 0) (fifo : IsFifo link steps titles Waits)
     (followed : (titles : List (List ℕ)) (timers : Timers) → Followed titles timers) (going : Going) (system x : ℕ) (from : List ℕ) (b : EndRecord) (r : InCrWait) (P : Type 0) where
   abbrev IsUnsettledSo : World C → List Post → Type 0
-  IsUnsettledSo world posts = IsUnsettled system x from b r world posts
+  IsUnsettledSo world posts = IsUnsettled system x from Any b r world posts
 
   -- and what waits beside it
   abbrev IsBeside : List Post → Type 0
-  IsBeside posts = P → AllByRecursion (IsKeptApart system from b r) posts
+  IsBeside posts = P → AllByRecursion (IsKeptApart system from Any b r) posts
 
   -- the timers of an end that stands are those of the network
-  timed : (journal : List Event) (world : World C) (ex : IsExplained link journal world) → IsHere system x from b r world → IsTimed ex.timers
+  timed : (journal : List Event) (world : World C) (ex : IsExplained link journal world) → IsHere system x from Any b r world → IsTimed ex.timers
   timed journal world ex h =
       let known = known_at link ex.titles ex.timers ex.w journal world ex.explains x system h.entity b.own (in_cr_wait b r) (record { there = h.there; stands = h.stands; number = h.number }) in
       subst IsTimed ((ex.explains.known.holds system h.entity h.there).theirs b.own (in_cr_wait b r) h.stands) known.0.sees.timers
@@ -157,7 +161,7 @@ module _ {C : Type 0} (link : C → Link (List ℕ)) (steps : C → Call (List �
     pending = by o.pending;
   }
     where
-      by : IsPending system x from b r old posts → IsPending system x from b r new posts
+      by : IsPending system x from Any b r old posts → IsPending system x from Any b r new posts
       by (Asking waits) = Asking waits
       by (Refusing d) = Refusing (record {
         at_system = d.at_system;
@@ -203,17 +207,17 @@ module _ {C : Type 0} (link : C → Link (List ℕ)) (steps : C → Call (List �
       beside = beside;
     })
     | inr come ↦
-        elim (unsettled_so link ex.titles ex.timers ex.w journal old ex.explains ex.fit going mid come.post come.rest made come.a system x from b r P listens (subst (IsUnsettledSo old) come.posts_are o)
+        elim (unsettled_so link ex.titles ex.timers ex.w journal old ex.explains ex.fit going mid come.post come.rest made come.a system x from Any b r P listens (λ place entity there own none. tt) (subst (IsUnsettledSo old) come.posts_are o)
         (subst IsBeside come.posts_are beside)) [
           | inl next ↦ inl (record {
             hall = after (record hall { posts = come.rest }) come.a.system come.a.acted;
             queue = come.queue;
             stands = come.stands;
-            listens = listens_on link ex.titles ex.timers ex.w journal old ex.explains mid come.post come.rest made come.a system x from b r ex.fit listens;
+            listens = listens_on link ex.titles ex.timers ex.w journal old ex.explains mid come.post come.rest made come.a system x from Any b r ex.fit listens;
             unsettled = next.0;
             beside = next.1;
           })
-          | inr taken ↦ inr taken
+          | inr taken ↦ inr (taken.0, λ p. refusal_of from Any b.own taken.0.tpdu (taken.1 p))
         ]
   ]
 
@@ -226,10 +230,10 @@ module _ {C : Type 0} (link : C → Link (List ℕ)) (steps : C → Call (List �
       let last : IsUnsettledSo old [] = subst (IsUnsettledSo old) posts unsettled in
       inl (subst (λ (w : World C). IsIndicated (journal ++ made) w x b r) (sym same) (indicated_on journal made old x b r (by last last.pending)))
     where
-      by : IsUnsettledSo old [] → IsPending system x from b r old [] → IsIndicated journal old x b r
+      by : IsUnsettledSo old [] → IsPending system x from Any b r old [] → IsIndicated journal old x b r
       by last (Asking waits) = absurd (none_there (cr_from system b r) waits)
       by last (Refusing d) = absurd (none_there (record { system = d.at_system; sent = refusal from b.own d.reason }) d.waits)
-      by last (Waiting d) = is_indicated link journal old ex system x from b r last.here last.unanswered d
+      by last (Waiting d) = is_indicated link journal old ex system x from Any b r last.here last.unanswered d
   settles_on count old made new (TooMany n o m l pair fresh most made_is same) journal hall queue s ex all unsettled listens beside =
       absurd (subst (λ (es : List Event). AllByRecursion IsUndropped es) made_is all).0
   settles_on count old made new (OneMore n o m l pair mid here rest fresh low delivers settles made_is) journal hall queue s ex all unsettled listens beside =
@@ -258,13 +262,13 @@ module _ {C : Type 0} (link : C → Link (List ℕ)) (steps : C → Call (List �
 
 -- an end in CrWait stands at its own reference
 module _ {C : Type 0} (link : C → Link (List ℕ)) (journal : List Event) (world : World C) (ex : IsExplained link journal world) (x : ℕ) (b : EndRecord) (r : InCrWait) (c : Stands world x (in_cr_wait b r)) where
-  own_is : c.reference ≡ b.own
+  pub own_is : c.reference ≡ b.own
   own_is =
       let known = known_at link ex.titles ex.timers ex.w journal world ex.explains x c.system c.entity c.reference (in_cr_wait b r) c.is_end in
       sym known.0.at.reference_is ∙ known.0.sees.reference
 
-  here : IsHere c.system x c.entity.own b r world
-  here = record {
+  pub here : (N : Type 0) → IsHere c.system x c.entity.own N b r world
+  here N = record {
     entity = c.entity;
     there = c.is_end.there;
     own_is = refl;
@@ -272,15 +276,15 @@ module _ {C : Type 0} (link : C → Link (List ℕ)) (journal : List Event) (wor
     number = ap (latest world.ends c.system) (sym own_is) ∙ c.is_end.number;
   }
 
-  pub begins : (posts : List Post) → AreUnanswered world b.to c.entity.own c.reference → Contains posts (cr_from c.system b r) → IsUnsettled c.system x c.entity.own b r world posts
-  begins posts unanswered waits = record { here = here; unanswered = subst (AreUnanswered world b.to c.entity.own) own_is unanswered; pending = Asking waits }
+  pub begins : (posts : List Post) → AreUnanswered world b.to c.entity.own c.reference → Contains posts (cr_from c.system b r) → IsUnsettled c.system x c.entity.own Any b r world posts
+  begins posts unanswered waits = record { here = here Any; unanswered = subst (AreUnanswered world b.to c.entity.own) own_is unanswered; pending = Asking waits }
 
 pub goes_on : {C : Type 0} (link : C → Link (List ℕ)) (journal : List Event) (world : World C) (ex : IsExplained link journal world) (x : ℕ) (b : EndRecord) (r : InCrWait) (posts : List Post)
-    → (i : IsIndicated journal world x b r) → IsUnsettled i.calling.system x i.calling.entity.own b r world posts
+    → (i : IsIndicated journal world x b r) → IsUnsettled i.calling.system x i.calling.entity.own Any b r world posts
 goes_on {C} link journal world ex x b r posts i =
     let own : i.calling.reference ≡ b.own = own_is link journal world ex x b r i.calling in
     record {
-      here = here link journal world ex x b r i.calling;
+      here = here link journal world ex x b r i.calling Any;
       unanswered = subst (AreUnanswered world b.to i.calling.entity.own) own i.unanswered;
       pending = Waiting (record {
         at_system = i.called.system;
@@ -305,7 +309,7 @@ listening {C} link journal world ex x b r i system entity there own =
     (ex.fit system entity there).audible i.called.reference i.end (ap (λ (e : Entity). end_at e i.called.reference) entity_is ∙ i.called.is_end.stands)
 
 -- what waits beside it there
-pub begins_apart : (system : ℕ) (from : List ℕ) (b : EndRecord) (r : InCrWait) (posts : List Post) → AllByRecursion (IsApart system from b r) posts → AllByRecursion (IsKeptApart system from b r) posts
+pub begins_apart : (system : ℕ) (from : List ℕ) (b : EndRecord) (r : InCrWait) (posts : List Post) → AllByRecursion (IsApart system from b r) posts → AllByRecursion (IsKeptApart system from Any b r) posts
 begins_apart system from b r [] all = tt
 begins_apart system from b r (post ∷ posts) all =
     (record { refused = λ to_it. absurd (all.0.none to_it); named = all.0.named; sourced = all.0.sourced }, begins_apart system from b r posts all.1)

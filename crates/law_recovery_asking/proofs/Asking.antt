@@ -1,0 +1,213 @@
+-- A call of a user, where nothing waits or the next `settle` is still to come: it is of the end that asked, or of one that it called, or neither sees anything of it; and a connect makes another end.
+use Rattle.std.proofs.Common.{◌≡◌, inl, inr, ℕ, ◌≤◌, true, List, [], ◌∷◌, ◌++◌, length, Option, Some, None, refl, sym, ◌∙◌, ap, subst, Contains}
+use Rattle.std.proofs.lemmas.Option.{none-some, same_Some}
+use Rattle.osi_base.specs.Link.{Link}
+use Rattle.script_journal.specs.declared.event.Event.{Event as JournalEvent}
+use Rattle.script_journal.specs.declared.event.Event.TheVariants as events
+use Rattle.tp4_number.specs.Number.{whole}
+use Rattle.tp4_conn.specs.Calls.{IsCall, call_refusal}
+use Rattle.tp4_conn.specs.End.{End, Moved, end_of, frozen_for}
+use Rattle.tp4_conn.specs.Making.{connected}
+use Rattle.tp4_conn.specs.Matching.{is_called_by}
+use Rattle.tp4_conn.specs.Table.{Called, stepped}
+use Rattle.tp4_conn.specs.declared.call.ConnectRequest.{ConnectRequest}
+use Rattle.tp4_conn.specs.declared.call.UserCall.{UserCall}
+use Rattle.tp4_conn.specs.declared.call.UserCall.TheVariants as asks
+use Rattle.tp4_conn.specs.declared.end_record.EndRecord.{EndRecord}
+use Rattle.tp4_conn.specs.declared.states.InCrWait.{InCrWait}
+use Rattle.tp4_conn.specs.declared.states.StateData.{StateData}
+use Rattle.tp4_conn.specs.declared.states.StateData.TheVariants as stages
+use Rattle.tp4_conn.specs.declared.timers.Timers.{Timers}
+use Rattle.tp4_entity.specs.Entity.{Entity, at, end_at, with_end}
+use Rattle.tp4_entity.specs.References.{is_free_place, least_free}
+use Rattle.tp4_entity.specs.Step.{call_of, connecting}
+use Rattle.tp4_entity.proofs.Standings.{free_least}
+use Rattle.law_tp4_history.specs.Tracks.{Whole}
+use Rattle.law_tp4_moves.specs.Moves.{stop_of}
+use Rattle.tp4_world.specs.Telling.{call_events, ends_after}
+use Rattle.tp4_world.specs.World.{World, entity_at, latest, with_entity}
+use Rattle.tp4_world.specs.declared.place.EndAt.{EndAt}
+use Rattle.law_tp4_lawful.proofs.MakesPlaces.{at_other, at_same}
+use Rattle.law_tp4_lawful.proofs.Worlds.{Explains}
+use Rattle.law_calm_run.proofs.Hall.{Post, posted}
+use Rattle.law_recovery_run.proofs.Aiming.{Going}
+use Rattle.law_recovery_run.proofs.Aside.{kept_place}
+use Rattle.law_recovery_walk.proofs.Beside.{latest_elsewhere}
+use Rattle.law_recovery_request.specs.Requesting.{IsUnanswered, in_cr_wait}
+use Rattle.law_recovery_request.proofs.Coming.{IsHere, IsPending}
+use Rattle.law_recovery_script.proofs.Asking.{at_place}
+use Rattle.law_recovery_asking.specs.Asked.{By_user}
+use Rattle.law_recovery_asking.proofs.Beside.{Changes, bare_on, replied_on, still_pending}
+use Rattle.law_recovery_asking.proofs.Replying.{Replies, call_replies}
+use Rattle.law_recovery_asking.proofs.Rowing.{IsCalled, apart_posts, called_or, is_it, row_bare, row_pending, row_replied, row_replies}
+use Rattle.law_recovery_asking.proofs.State.{AreApart, Asked, Early, IsBare, IsOn, Replied, Told}
+use Rattle.law_recovery_asking.proofs.Telling.{first_is, told_before, told_behind}
+
+-- an end in CrWait takes no other call than its user's disconnect
+parts : (b : EndRecord) (r : InCrWait) (call : UserCall) → call_refusal b (stages.CrWait r) call ≡ None → (octets : List ℕ) × (call ≡ asks.Disconnect octets)
+parts b r (asks.Disconnect octets) may = (octets, refl)
+parts b r (asks.Accept options octets) may = absurd (cc may)
+parts b r (asks.Refuse octets) may = absurd (cc may)
+parts b r (asks.Normal octets) may = absurd (cc may)
+parts b r (asks.Urgent octets) may = absurd (cc may)
+parts b r (asks.Window credit) may = absurd (cc may)
+
+-- an end that takes a call is not frozen
+call_goes : (b : EndRecord) (stage : StateData) (call : UserCall) → call_refusal b stage call ≡ None → stop_of stage ≡ None
+call_goes b (stages.CrWait w) call may = refl
+call_goes b (stages.WaitBeforeClose w) call may = refl
+call_goes b (stages.UserWait since) call may = refl
+call_goes b (stages.AkWait w) call may = refl
+call_goes b (stages.Opened o) call may = refl
+call_goes b (stages.Closing c) call may = refl
+call_goes b (stages.Frozen when) call may = absurd (cc may)
+
+-- ---- a call
+
+module _ {C : Type 0} (link : C → Link (List ℕ)) (titles : List (List ℕ)) (timers : Timers) (w : Whole) (journal : List JournalEvent) (old : World C) (explains : Explains link titles timers w journal old)
+    (going : Going) (new : World C) (made : List JournalEvent) (number : ℕ) (end : EndAt) (entity : Entity) (call : UserCall) (there : entity_at old.entities end.system ≡ Some entity)
+    (number_is : latest old.ends end.system end.reference ≡ number) (o : End) (stands : end_at entity end.reference ≡ Some o) (allowed : call_refusal o.base o.stage call ≡ None) (proper : IsCall call)
+    (entities : new.entities ≡ with_entity old.entities end.system (with_end (at (link old.carrier).clock entity) end.reference (Some (end_of (stepped whole (link old.carrier).clock o (Called call))))))
+    (ends : new.ends ≡ ends_after old.ends end.system (stepped whole (link old.carrier).clock o (Called call)).events) (clock : (link new.carrier).clock ≡ (link old.carrier).clock)
+    (rest : List JournalEvent) (made_is : made ≡ call_events number call ++ rest) where
+  abbrev now : ℕ
+  now = (link old.carrier).clock
+
+  abbrev m : Moved
+  m = stepped whole now o (Called call)
+
+  abbrev place : Option End
+  place = Some (end_of m)
+
+  place_is : (e : End) → place ≡ Some e → e ≡ end_of m
+  place_is e is = sym (same_Some (end_of m) e is)
+
+  goes : stop_of o.stage ≡ None
+  goes = call_goes o.base o.stage call allowed
+
+  module _ (x system : ℕ) (from : List ℕ) (N : Type 0) (first : EndRecord) (asked : InCrWait) (late : List JournalEvent) (posts : List Post) where
+    abbrev On : Type 0
+    On = IsOn link x system from N first asked (late ++ made) new (posts ++ posted end.system m.tpdus)
+
+    module _ (b : EndRecord) (r : InCrWait) (h : IsHere system x from N b r old) where
+      -- its user disconnects
+      parted : end.system ≡ system → end.reference ≡ b.own → On
+      parted at_it same =
+          let is : o ≡ in_cr_wait b r = is_it link titles timers w journal old explains going new end.system entity there end.reference o stands (Called call) place place_is entities ends clock x system from N b r h at_it same in
+          let d = parts b r call (subst (λ (z : End). call_refusal z.base z.stage call ≡ None) is allowed) in
+          let x_is : number ≡ x = sym number_is ∙ (λ i. latest old.ends (at_it i) (same i)) ∙ h.number in
+          let here : made ≡ events.Disconnect x d.0 ∷ rest = made_is ∙ (λ i. call_events (x_is i) (d.1 i) ++ rest) in
+          Told (told_behind N late made x (By_user d.0 (subst (λ (es : List JournalEvent). Contains es (events.Disconnect x d.0)) (sym here) (first_is (events.Disconnect x d.0) rest))))
+
+      abbrev Calls : Type 0
+      Calls = IsCalled link titles timers w journal old explains going new end.system entity there end.reference o stands (Called call) place place_is entities ends clock x system from N b r h
+
+      -- the user of its called end answers
+      answers : IsBare link x system from N b r old posts → (end.system ≡ system → end.reference ≡ b.own → ⊥) → Calls → On
+      answers bare apart called = by o.stage refl (bare.unanswered end.system end.reference entity o there called.0 stands called.1)
+        where
+          by : (stage : StateData) → o.stage ≡ stage → IsUnanswered o.stage → On
+          by (stages.UserWait since) is un =
+              let same : o ≡ record { base = o.base; stage = stages.UserWait since } = ap (λ (z : StateData). record { base = o.base; stage = z }) is in
+              let says : Replies from N b.own m = subst (λ (z : End). Replies from N b.own (stepped whole now z (Called call))) (sym same)
+              (call_replies now o.base since call from N b.own called.1 (subst (λ (z : StateData). call_refusal o.base z call ≡ None) is allowed)) in
+              Replied b r (row_replies link titles timers w journal old explains going new end.system entity there end.reference o stands (Called call) place place_is entities ends clock x system from N b r h apart posts says.sent called
+              says.is says.reply bare)
+          by (stages.Frozen when) is un = absurd (cc (ap stop_of (sym is) ∙ goes))
+          by other is un = absurd (subst IsUnanswered is un)
+
+      abbrev aside : (end.system ≡ system → end.reference ≡ b.own → ⊥) → (Calls → ⊥) → AreApart system from N b r (posted end.system m.tpdus)
+      aside apart other =
+          apart_posts link titles timers w journal old explains going new end.system entity there end.reference o stands (Called call) place place_is entities ends clock x system from N b r h apart other goes tt tt (allowed, proper)
+          (λ named. named)
+
+      abbrev stays : (apart : end.system ≡ system → end.reference ≡ b.own → ⊥) → (Calls → ⊥) → IsBare link x system from N b r old posts → IsBare link x system from N b r new (posts ++ posted end.system m.tpdus)
+      stays apart other bare =
+          row_bare link titles timers w journal old explains going new end.system entity there end.reference o stands (Called call) place place_is entities ends clock x system from N b r h apart other posts (aside apart other) bare
+
+      -- which of these
+      which : IsBare link x system from N b r old posts → ((end.system ≡ system → end.reference ≡ b.own → ⊥) → (Calls → ⊥) → On) → On
+      which bare still = elim (at_place end.system end.reference system b.own) [
+        | inl here ↦ parted here.0 here.1
+        | inr apart ↦
+            elim (called_or link titles timers w journal old explains going new end.system entity there end.reference o stands (Called call) place place_is entities ends clock x system from N b r h) [
+              | inl called ↦ answers bare apart called
+              | inr other ↦ still apart other
+            ]
+      ]
+
+    pub call_on : IsOn link x system from N first asked late old posts → On
+    call_on (Early k) = which first asked k.here k (λ apart other. Early (stays first asked k.here apart other k))
+    call_on (Asked b r k p) = which b r k.here k (λ apart other. Asked b r (stays b r k.here apart other k)
+        (row_pending link titles timers w journal old explains going new end.system entity there end.reference o stands (Called call) place place_is entities ends clock x system from N b r k.here apart other posts p))
+    call_on (Replied b r k) = elim (at_place end.system end.reference system b.own) [
+      | inl here ↦ parted b r k.here here.0 here.1
+      | inr apart ↦
+          Replied b r (row_replied link titles timers w journal old explains going new end.system entity there end.reference o stands (Called call) place place_is entities ends clock x system from N b r k.here apart posts k)
+    ]
+    call_on (Told t) = Told (told_before N late made x t)
+
+-- ---- a connect
+
+module _ {C : Type 0} (link : C → Link (List ℕ)) (old new : World C) (made : List JournalEvent) (s : ℕ) (entity : Entity) (there : entity_at old.entities s ≡ Some entity) (request : ConnectRequest) (reference : ℕ)
+    (free : least_free (link old.carrier).clock entity ≡ Some reference) (entities : new.entities ≡ with_entity old.entities s (connecting (link old.carrier).clock entity reference request).entity)
+    (ends : new.ends ≡ old.ends ++ record { system = s; reference = reference } ∷ []) (clock : (link new.carrier).clock ≡ (link old.carrier).clock) where
+  abbrev begin_now : ℕ
+  begin_now = (link old.carrier).clock
+
+  abbrev begun : Moved
+  begun = connected begin_now (call_of entity reference request)
+
+  abbrev begins : Changes link old new
+  begins = record {
+    system = s;
+    entity = entity;
+    changed = with_end (at begin_now entity) reference (Some (end_of begun));
+    reference = reference;
+    there = there;
+    entities = entities;
+    own = refl;
+    silent = λ n. refl;
+    selectors = refl;
+    others = λ other apart. at_other (at begin_now entity) reference other (Some (end_of begun)) (free_least begin_now reference entity free).least apart;
+    numbers = λ at_system other apart. ap (λ (es : List EndAt). latest es at_system other) ends ∙ latest_elsewhere old.ends (record { system = s; reference = reference }) at_system other apart;
+    clock = clock;
+  }
+
+  -- where an end stands that is not frozen, none is made
+  taken : (at_system at_reference : ℕ) (z : Entity) (e : End) → entity_at old.entities at_system ≡ Some z → end_at z at_reference ≡ Some e → stop_of e.stage ≡ None → at_system ≡ s → at_reference ≡ reference → ⊥
+  taken at_system at_reference z e at_it at_own goes here same =
+      let owner : z ≡ entity = same_Some z entity (sym at_it ∙ ap (entity_at old.entities) here ∙ there) in
+      kept_place begin_now (frozen_for e.base.timers) e.stage goes (ap (is_free_place begin_now) (sym at_own ∙ (λ i. end_at (owner i) (same i))) ∙ (free_least begin_now reference entity free).free)
+
+  module _ (x system : ℕ) (from : List ℕ) (N : Type 0) (first : EndRecord) (asked : InCrWait) (late : List JournalEvent) (posts : List Post) where
+    abbrev Begun : Type 0
+    Begun = IsOn link x system from N first asked (late ++ made) new (posts ++ posted s begun.tpdus)
+
+    module _ (b : EndRecord) (r : InCrWait) (h : IsHere system x from N b r old) where
+      elsewhere : system ≡ s → b.own ≡ reference → ⊥
+      elsewhere = taken system b.own h.entity (in_cr_wait b r) h.there h.stands refl
+
+      bare_begun : IsBare link x system from N b r old posts → IsBare link x system from N b r new (posts ++ posted s begun.tpdus)
+      bare_begun bare = bare_on link old new begins x system from N b r posts (posted s begun.tpdus) bare elsewhere
+          (λ p at_it to called. absurd (not_called p (sym (same_Some (end_of begun) p (sym stands_new ∙ at_it))) called))
+          (record { refused = λ to_it. absurd (none-some b.own to_it.target); named = λ at_it names. absurd (elsewhere (sym at_it) (sym names)); sourced = λ kind. absurd (cc kind) }, tt)
+        where
+          inside : (1 ≤ reference) × (reference ≤ length entity.ends)
+          inside = let f = free_least begin_now reference entity free in (f.least, f.most)
+
+          stands_new : end_at (with_end (at begin_now entity) reference (Some (end_of begun))) reference ≡ Some (end_of begun)
+          stands_new = at_same (at begin_now entity) reference (Some (end_of begun)) inside.0 inside.1
+
+          not_called : (p : End) → p ≡ end_of begun → is_called_by p.base from b.own ≡ true → ⊥
+          not_called p is called = cc (ap (λ (z : End). is_called_by z.base from b.own) (sym is) ∙ called)
+
+      pending_begun : IsPending system x from N b r old posts → IsPending system x from N b r new (posts ++ posted s begun.tpdus)
+      pending_begun p = still_pending link old new begins x system from N b r posts (posted s begun.tpdus) p
+          (λ d. taken d.at_system d.own d.entity d.end d.there d.stands (ap stop_of d.stage))
+
+    pub connect_on : IsOn link x system from N first asked late old posts → Begun
+    connect_on (Early k) = Early (bare_begun first asked k.here k)
+    connect_on (Asked b r k p) = Asked b r (bare_begun b r k.here k) (pending_begun b r k.here p)
+    connect_on (Replied b r k) = Replied b r (replied_on link old new begins x system from N b r posts (posted s begun.tpdus) k (elsewhere b r k.here))
+    connect_on (Told t) = Told (told_before N late made x t)

@@ -1,0 +1,16 @@
+pub mod Asking
+pub mod Beside
+pub mod Hearing
+pub mod Lines
+pub mod Meeting
+pub mod Recovering
+pub mod Replying
+pub mod Rowing
+pub mod Settling
+pub mod Starting
+pub mod State
+pub mod Telling
+pub mod TickRows
+pub mod Ticking
+pub mod Trying
+pub mod Wired

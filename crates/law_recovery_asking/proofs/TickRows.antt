@@ -1,0 +1,374 @@
+-- An end ticks that is due: the end that asked sends its CR again, or its sendings are over; an end that it called gives up its user; or neither sees anything of it.
+use Rattle.std.proofs.Common.{◌≡◌, ◌⊎◌, inl, inr, ℕ, ◌+◌, nat_lt, true, false, List, [], ◌∷◌, ◌++◌, Option, Some, None, refl, sym, ◌∙◌, ap, subst, arith, append-nil, append_assoc}
+use Rattle.std.proofs.lemmas.Bool.{leb-true, ltb-true}
+use Rattle.std.proofs.lemmas.List.Elements.{Contains-append_right, Contains-push}
+use Rattle.std.proofs.lemmas.Option.{none-some, same_Some}
+use Rattle.std.specs.List.{Contains}
+use Rattle.osi_base.specs.Link.{Link}
+use Rattle.script_journal.specs.declared.event.Event.{Event as JournalEvent}
+use Rattle.tpdu.specs.declared.service.EndTold.TheVariants as tells
+use Rattle.tpdu.specs.declared.service.GoneCause.TheVariants.{Exhausted}
+use Rattle.tp4_number.specs.Number.{whole}
+use Rattle.tp4_number.proofs.Past.{if_kept}
+use Rattle.tp4_flow.specs.declared.step.Sent.{Sent}
+use Rattle.tp4_sending.specs.Pieces.{again}
+use Rattle.tp4_conn.specs.Agreeing.{request}
+use Rattle.tp4_conn.specs.CrWait.{cr_wait_tick}
+use Rattle.tp4_conn.specs.End.{End, Moved, end_of, frozen, gone}
+use Rattle.tp4_conn.specs.Matching.{is_called_by}
+use Rattle.tp4_conn.specs.Table.{Ticked, at as now_at, due, on_tick, stepped}
+use Rattle.tp4_conn.specs.declared.end_record.EndRecord.{EndRecord}
+use Rattle.tp4_conn.specs.declared.states.InCrWait.{InCrWait}
+use Rattle.tp4_conn.specs.declared.states.StateData.{StateData}
+use Rattle.tp4_conn.specs.declared.states.StateData.TheVariants as stages
+use Rattle.tp4_conn.specs.declared.timers.Timers.{Timers}
+use Rattle.tp4_entity.specs.Entity.{Entity, at, end_at, with_end}
+use Rattle.tp4_entity.specs.Step.{is_due, kept_end}
+use Rattle.law_tp4_history.specs.Tracks.{Whole}
+use Rattle.law_tp4_moves.specs.Moves.{stop_of}
+use Rattle.tp4_world.specs.Telling.{ends_after, events_after}
+use Rattle.tp4_world.specs.World.{World, entity_at, latest, with_entity}
+use Rattle.tp4_world.specs.declared.place.EndAt.{EndAt}
+use Rattle.tp4_world.specs.declared.place.Placed.{Placed}
+use Rattle.tp4_world.proofs.Addressees.{all_append}
+use Rattle.law_tp4_lawful.proofs.Worlds.{Explains}
+use Rattle.law_calm_run.proofs.Hall.{Post, posted}
+use Rattle.law_recovery_run.proofs.Aiming.{Going}
+use Rattle.law_recovery_run.proofs.Aside.{both_are}
+use Rattle.law_recovery_request.specs.Requesting.{AreListening, IsUnanswered, cr_from, in_cr_wait}
+use Rattle.law_recovery_request.proofs.Coming.{Asking, IsHere, IsPending, IsWaiting}
+use Rattle.law_recovery_request.proofs.Keeping.{IsKeptApart}
+use Rattle.law_recovery_script.proofs.Asking.{at_place}
+use Rattle.law_recovery_script.proofs.Outlasting.{kept_is}
+use Rattle.law_recovery_asking.proofs.Beside.{Changes, IsNow, bare_on, changed_there, listens_on, now_at as now_there, replied_on, selects_on, still_pending, unanswered_on}
+use Rattle.law_recovery_asking.proofs.Replying.{Replies, tick_replies}
+use Rattle.law_recovery_asking.proofs.Rowing.{IsCalled, apart_posts, called_or, calls, changes, is_it, placed, row_bare, row_pending, row_replied, row_replies}
+use Rattle.law_recovery_asking.proofs.State.{AreApart, Asked, Early, IsBare, IsOn, IsReplied, Replied, Told, apart_as, pending_on}
+use Rattle.law_recovery_asking.proofs.Telling.{told_before, told_behind, told_in}
+
+-- ---- an end in CrWait
+
+module _ (now : ℕ) (b : EndRecord) (r : InCrWait) where
+  abbrev sends : Moved
+  sends = record { base = now_at now b; stage = stages.CrWait (record r { tries = again now r.tries }); events = []; tpdus = request b r.octets ∷ [] }
+
+  abbrev is_spent : Moved
+  is_spent = frozen (now_at now b) (gone (now_at now b) Exhausted []) []
+
+  -- it sends its CR again, or its sendings are over
+  tick_row : is_due now (Some (in_cr_wait b r)) ≡ true → (stepped whole now (in_cr_wait b r) Ticked ≡ sends) ⊎ (stepped whole now (in_cr_wait b r) Ticked ≡ is_spent)
+  unfolding cr_wait_tick
+  tick_row late = if_kept (λ (m : Moved). (m ≡ sends) ⊎ (m ≡ is_spent)) (nat_lt now (r.tries.last + b.timers.t1)) _ _
+      (λ early. absurd (omega (arith, leb-true (r.tries.last + b.timers.t1) now late, ltb-true now (r.tries.last + b.timers.t1) early)))
+      (λ _. if_kept (λ (m : Moved). (m ≡ sends) ⊎ (m ≡ is_spent)) (nat_lt r.tries.count b.timers.sendings) _ _ (λ _. inl refl) (λ _. inr refl))
+
+-- an end that stopped is frozen
+pub frozen_of : (stage : StateData) (when : ℕ) → stop_of stage ≡ Some when → stage ≡ stages.Frozen when
+frozen_of (stages.CrWait w) when is = absurd (none-some when is)
+frozen_of (stages.WaitBeforeClose w) when is = absurd (none-some when is)
+frozen_of (stages.UserWait since) when is = absurd (none-some when is)
+frozen_of (stages.AkWait w) when is = absurd (none-some when is)
+frozen_of (stages.Opened w) when is = absurd (none-some when is)
+frozen_of (stages.Closing c) when is = absurd (none-some when is)
+frozen_of (stages.Frozen at) when is = ap (λ (n : ℕ). stages.Frozen n) (same_Some at when is)
+
+-- ---- an end ticks
+
+module _ {C : Type 0} (link : C → Link (List ℕ)) (titles : List (List ℕ)) (timers : Timers) (w : Whole) (journal : List JournalEvent) (old : World C) (explains : Explains link titles timers w journal old)
+    (going : Going) (new : World C) (made : List JournalEvent) (s : ℕ) (entity : Entity) (there : entity_at old.entities s ≡ Some entity) (reference : ℕ) (o : End) (stands : end_at entity reference ≡ Some o)
+    (is_due_now : is_due (link old.carrier).clock (Some o) ≡ true)
+    (entities : new.entities ≡ with_entity old.entities s
+    (with_end (at (link old.carrier).clock entity) reference (kept_end (stepped whole (link old.carrier).clock o Ticked) (due (stepped whole (link old.carrier).clock o Ticked).base (stepped whole (link old.carrier).clock o Ticked).stage))))
+    (ends : new.ends ≡ ends_after old.ends s (stepped whole (link old.carrier).clock o Ticked).events) (clock : (link new.carrier).clock ≡ (link old.carrier).clock) (aside : List JournalEvent)
+    (made_is : made ≡ events_after old.ends s entity.own (stepped whole (link old.carrier).clock o Ticked).events ++ aside) where
+  abbrev now : ℕ
+  now = (link old.carrier).clock
+
+  abbrev m : Moved
+  m = stepped whole now o Ticked
+
+  abbrev place : Option End
+  place = kept_end m (due m.base m.stage)
+
+  place_is : (e : End) → place ≡ Some e → e ≡ end_of m
+  place_is e is = kept_is m (due m.base m.stage) e is
+
+  abbrev a : Changes link old new
+  a = changes link titles timers w journal old explains going new s entity there reference o stands Ticked place place_is entities ends clock
+
+  module _ (x system : ℕ) (from : List ℕ) (N : Type 0) (first : EndRecord) (asked : InCrWait) (late : List JournalEvent) (posts : List Post) where
+    abbrev On : Type 0
+    On = IsOn link x system from N first asked (late ++ made) new (posts ++ posted s m.tpdus)
+
+    module _ (b : EndRecord) (r : InCrWait) (h : IsHere system x from N b r old) where
+      abbrev sent_base : EndRecord
+      sent_base = now_at now b
+
+      abbrev sent_stage : InCrWait
+      sent_stage = record r { tries = again now r.tries }
+
+      -- ---- it is the end that asked
+
+      module _ (at_it : s ≡ system) (same : reference ≡ b.own) where
+        is : o ≡ in_cr_wait b r
+        is = is_it link titles timers w journal old explains going new s entity there reference o stands Ticked place place_is entities ends clock x system from N b r h at_it same
+
+        row : (m ≡ sends now b r) ⊎ (m ≡ is_spent now b r)
+        row = elim (tick_row now b r (subst (λ (z : End). is_due now (Some z) ≡ true) is is_due_now)) [
+          | inl again ↦ inl (ap (λ (z : End). stepped whole now z Ticked) is ∙ again)
+          | inr over ↦ inr (ap (λ (z : End). stepped whole now z Ticked) is ∙ over)
+        ]
+
+        -- its sendings are over
+        over : m ≡ is_spent now b r → On
+        over spent = Told (told_behind N late made x (told_in N old.ends s entity.own b.own x m.events [] aside made
+            (record { what = tells.Gone Exhausted []; rest = []; is = ap (λ (z : Moved). z.events) spent; named = tt })
+            (ap (λ (n : ℕ). latest old.ends n b.own) at_it ∙ h.number) made_is))
+
+        -- its CR waits again
+        module _ (sent : m ≡ sends now b r) where
+          here_now : IsHere system x from N sent_base sent_stage new
+          here_now = record {
+            entity = a.changed;
+            there = ap (entity_at new.entities) (sym at_it) ∙ changed_there link old new a;
+            own_is = ap (λ (z : Entity). z.own) (same_Some entity h.entity (sym there ∙ ap (entity_at old.entities) at_it ∙ h.there)) ∙ h.own_is;
+            stands = ap (end_at a.changed) (sym same) ∙ placed link titles timers w journal old explains going new s entity there reference o stands Ticked place place_is entities ends clock
+                ∙ ap (λ (z : Moved). kept_end z (due z.base z.stage)) sent;
+            number = a_number ∙ h.number;
+          }
+            where
+              a_number : latest new.ends system b.own ≡ latest old.ends system b.own
+              a_number = ap (λ (es : List EndAt). latest es system b.own) (ends ∙ ap (λ (z : Moved). ends_after old.ends s z.events) sent)
+
+          waits : Contains (posts ++ posted s m.tpdus) (cr_from system sent_base sent_stage)
+          waits = Contains-append_right posts (posted s m.tpdus) (cr_from system sent_base sent_stage)
+              (subst (λ (l : List Sent). Contains (posted s l) (cr_from system sent_base sent_stage)) (sym (ap (λ (z : Moved). z.tpdus) sent))
+              (subst (λ (n : ℕ). Contains (posted n (request b r.octets ∷ [])) (cr_from system sent_base sent_stage)) (sym at_it) (Contains-push [] (cr_from system sent_base sent_stage))))
+
+          -- what is in its name is its CR
+          own_apart : AreApart system from N sent_base sent_stage (posted s m.tpdus)
+          own_apart = subst (λ (l : List Sent). AreApart system from N sent_base sent_stage (posted s l)) (sym (ap (λ (z : Moved). z.tpdus) sent)) (
+            record {
+              refused = λ to_it. absurd (none-some b.own to_it.target);
+              named = λ here names. ap (λ (n : ℕ). record { system = n; sent = request b r.octets }) at_it;
+              sourced = λ kind. absurd (cc kind);
+            },
+            tt,
+          )
+
+          asks_again : IsBare link x system from N b r old posts → On
+          asks_again bare = Asked sent_base sent_stage
+              (record {
+                here = here_now;
+                unanswered = unanswered_on link old new a x system from N b r bare.unanswered (λ p at_p to called. absurd (not_called p at_p called));
+                listens = listens_on link old new a b.to bare.listens;
+                selects = selects_on link old new a N b.to b.called bare.selects;
+                apart = all_append (IsKeptApart system from N sent_base sent_stage) posts (posted s m.tpdus) (apart_as system from N b r now (again now r.tries) posts bare.apart) own_apart;
+              }) (Asking waits)
+            where
+              two : false ≡ true → ⊥
+              two f = cc f
+
+              not_called : (p : End) → end_at a.changed reference ≡ Some p → is_called_by p.base from b.own ≡ true → ⊥
+              not_called p at_p called =
+                  let p_is : p ≡ end_of m = place_is p (sym (placed link titles timers w journal old explains going new s entity there reference o stands Ticked place place_is entities ends clock) ∙ at_p) in
+                  let never : b.is_called ≡ false = calls link titles timers w journal old explains going new s entity there reference o stands Ticked place place_is entities ends clock x system from N b r h in
+                  two (sym never ∙ (both_are b.is_called _ (subst (λ (z : End). is_called_by z.base from b.own ≡ true) (p_is ∙ ap end_of sent) called)).0)
+
+          replied_again : IsReplied link x system from N b r old posts → On
+          replied_again k = let n : IsNow link old new a k.answer.system k.entity = now_there link old new a k.answer.system k.entity k.there in
+              Replied sent_base sent_stage (record {
+                here = here_now;
+                front = k.front;
+                answer = k.answer;
+                back = k.back ++ posted s m.tpdus;
+                posts_are = ap (λ (ps : List Post). ps ++ posted s m.tpdus) k.posts_are ∙ append_assoc k.front (k.answer ∷ k.back) (posted s m.tpdus);
+                entity = n.entity;
+                there = n.there;
+                own_is = n.own ∙ k.own_is;
+                apart = apart_as system from N b r now (again now r.tries) k.front k.apart;
+                reply = k.reply;
+              })
+
+      -- ---- it is another end
+
+      abbrev Calls : Type 0
+      Calls = IsCalled link titles timers w journal old explains going new s entity there reference o stands Ticked place place_is entities ends clock x system from N b r h
+
+      -- a frozen one does nothing
+      still_none : (when : ℕ) → o.stage ≡ stages.Frozen when → m.tpdus ≡ []
+      still_none when frozen = ap (λ (z : StateData). (on_tick (now_at now o.base) z).tpdus) frozen
+
+      none_apart : m.tpdus ≡ [] → AreApart system from N b r (posted s m.tpdus)
+      none_apart none = subst (λ (l : List Sent). AreApart system from N b r (posted s l)) (sym none) tt
+
+      aside_of : (s ≡ system → reference ≡ b.own → ⊥) → (Calls → ⊥) → AreApart system from N b r (posted s m.tpdus)
+      aside_of apart other = by (stop_of o.stage) refl
+        where
+          by : (stop : Option ℕ) → stop_of o.stage ≡ stop → AreApart system from N b r (posted s m.tpdus)
+          by None goes = apart_posts link titles timers w journal old explains going new s entity there reference o stands Ticked place place_is entities ends clock x system from N b r h apart other goes tt tt tt (λ named. named)
+          by (Some when) is = none_apart (still_none when (frozen_of o.stage when is))
+
+      -- an end that it called, which is frozen
+      frozen_bare : (apart : s ≡ system → reference ≡ b.own → ⊥) (when : ℕ) → o.stage ≡ stages.Frozen when → IsBare link x system from N b r old posts → IsBare link x system from N b r new (posts ++ posted s m.tpdus)
+      frozen_bare apart when is bare = bare_on link old new a x system from N b r posts (posted s m.tpdus) bare (λ at_it same. apart (sym at_it) (sym same)) (λ p at_p to called. frozen_still p at_p) (none_apart (still_none when is))
+        where
+          frozen_still : (p : End) → end_at a.changed reference ≡ Some p → IsUnanswered p.stage
+          frozen_still p at_p =
+              let p_is : p ≡ end_of m = place_is p (sym (placed link titles timers w journal old explains going new s entity there reference o stands Ticked place place_is entities ends clock) ∙ at_p) in
+              subst (λ (z : End). IsUnanswered z.stage) (sym p_is) (subst (λ (z : StateData). IsUnanswered (on_tick (now_at now o.base) z).stage) (sym is) tt)
+
+      not_frozen : (when : ℕ) → o.stage ≡ stages.Frozen when → (d : IsWaiting system x from N b r old) → d.at_system ≡ s → d.own ≡ reference → ⊥
+      not_frozen when is d at_it same =
+          let owner : d.entity ≡ entity = same_Some d.entity entity (sym d.there ∙ ap (entity_at old.entities) at_it ∙ there) in
+          let one : d.end ≡ o = same_Some d.end o (sym d.stands ∙ (λ i. end_at (owner i) (same i)) ∙ stands) in
+          none_some_stop (ap stop_of (sym d.stage) ∙ ap (λ (z : End). stop_of z.stage) one ∙ ap stop_of is)
+        where
+          none_some_stop : None ≡ Some when → ⊥
+          none_some_stop e = none-some when e
+
+      -- which of these
+      called_ticks : (apart : s ≡ system → reference ≡ b.own → ⊥) → IsBare link x system from N b r old posts → Calls → ((when : ℕ) → o.stage ≡ stages.Frozen when → On) → On
+      called_ticks apart bare called frozen = by o.stage refl (bare.unanswered s reference entity o there called.0 stands called.1)
+        where
+          by : (stage : StateData) → o.stage ≡ stage → IsUnanswered o.stage → On
+          by (stages.UserWait since) is un =
+              let same : o ≡ record { base = o.base; stage = stages.UserWait since } = ap (λ (z : StateData). record { base = o.base; stage = z }) is in
+              let says : Replies from N b.own m = subst (λ (z : End). Replies from N b.own (stepped whole now z Ticked)) (sym same)
+              (tick_replies now o.base since from N b.own called.1 (subst (λ (z : End). is_due now (Some z) ≡ true) same is_due_now)) in
+              Replied b r (row_replies link titles timers w journal old explains going new s entity there reference o stands Ticked place place_is entities ends clock x system from N b r h apart posts says.sent called says.is says.reply bare)
+          by (stages.Frozen when) is un = frozen when is
+          by other is un = absurd (subst IsUnanswered is un)
+
+      which : IsBare link x system from N b r old posts → ((s ≡ system → reference ≡ b.own → ⊥) → (Calls → ⊥) → On) → ((s ≡ system → reference ≡ b.own → ⊥) → (when : ℕ) → o.stage ≡ stages.Frozen when → On) → On
+      which bare still frozen = elim (at_place s reference system b.own) [
+        | inl here ↦ elim (row here.0 here.1) [
+          | inl sent ↦ asks_again here.0 here.1 sent bare
+          | inr spent ↦ over here.0 here.1 spent
+        ]
+        | inr apart ↦ elim (called_or link titles timers w journal old explains going new s entity there reference o stands Ticked place place_is entities ends clock x system from N b r h) [
+          | inl called ↦ called_ticks apart bare called (frozen apart)
+          | inr other ↦ still apart other
+        ]
+      ]
+
+      stays : (apart : s ≡ system → reference ≡ b.own → ⊥) → (Calls → ⊥) → IsBare link x system from N b r old posts → IsBare link x system from N b r new (posts ++ posted s m.tpdus)
+      stays apart other bare =
+          row_bare link titles timers w journal old explains going new s entity there reference o stands Ticked place place_is entities ends clock x system from N b r h apart other posts (aside_of apart other) bare
+
+    pub tick_on : IsOn link x system from N first asked late old posts → On
+    tick_on (Early k) = which first asked k.here k (λ apart other. Early (stays first asked k.here apart other k)) (λ apart when is. Early (frozen_bare first asked k.here apart when is k))
+    tick_on (Asked b r k p) = which b r k.here k
+        (λ apart other. Asked b r (stays b r k.here apart other k)
+        (row_pending link titles timers w journal old explains going new s entity there reference o stands Ticked place place_is entities ends clock x system from N b r k.here apart other posts p))
+        (λ apart when is. Asked b r (frozen_bare b r k.here apart when is k) (still_pending link old new a x system from N b r posts (posted s m.tpdus) p (not_frozen b r k.here when is)))
+    tick_on (Replied b r k) = elim (at_place s reference system b.own) [
+      | inl here ↦ elim (row b r k.here here.0 here.1) [
+        | inl sent ↦ replied_again b r k.here here.0 here.1 sent k
+        | inr spent ↦ over b r k.here here.0 here.1 spent
+      ]
+      | inr apart ↦ Replied b r (row_replied link titles timers w journal old explains going new s entity there reference o stands Ticked place place_is entities ends clock x system from N b r k.here apart posts k)
+    ]
+    tick_on (Told t) = Told (told_before N late made x t)
+
+-- ---- no end of an entity is due
+
+module _ {C : Type 0} (link : C → Link (List ℕ)) (old new : World C) (s : ℕ) (entity : Entity) (there : entity_at old.entities s ≡ Some entity)
+    (entities : new.entities ≡ with_entity old.entities s (at (link old.carrier).clock entity)) (ends : new.ends ≡ old.ends) (clock : (link new.carrier).clock ≡ (link old.carrier).clock) where
+  abbrev none : Changes link old new
+  none = record {
+    system = s;
+    entity = entity;
+    changed = at (link old.carrier).clock entity;
+    reference = 0;
+    there = there;
+    entities = entities;
+    own = refl;
+    silent = λ n. refl;
+    selectors = refl;
+    others = λ other apart. refl;
+    numbers = λ place other apart. ap (λ (es : List EndAt). latest es place other) ends;
+    clock = clock;
+  }
+
+  module _ (x system : ℕ) (from : List ℕ) (N : Type 0) (first : EndRecord) (asked : InCrWait) (late made : List JournalEvent) (posts : List Post) where
+    module _ (b : EndRecord) (r : InCrWait) where
+      some : IsHere system x from N b r old → system ≡ s → b.own ≡ 0 → ⊥
+      some h at_it zero = none-some (in_cr_wait b r) (ap (end_at h.entity) (sym zero) ∙ h.stands)
+
+      bare_none : IsBare link x system from N b r old posts → IsBare link x system from N b r new (posts ++ [])
+      bare_none k = bare_on link old new none x system from N b r posts [] k (some k.here) (λ p at_p to called. absurd (none-some p at_p)) tt
+
+      pending_none : IsPending system x from N b r old posts → IsPending system x from N b r new (posts ++ [])
+      pending_none p = still_pending link old new none x system from N b r posts [] p (λ d at_it zero. none-some d.end (ap (end_at d.entity) (sym zero) ∙ d.stands))
+
+    none_so : IsOn link x system from N first asked late old posts → IsOn link x system from N first asked (late ++ made) new (posts ++ [])
+    none_so (Early k) = Early (bare_none first asked k)
+    none_so (Asked b r k p) = Asked b r (bare_none b r k) (pending_none b r p)
+    none_so (Replied b r k) = Replied b r (replied_on link old new none x system from N b r posts [] k (some b r k.here))
+    none_so (Told t) = Told (told_before N late made x t)
+
+    pub none_on : IsOn link x system from N first asked late old posts → IsOn link x system from N first asked (late ++ made) new posts
+    none_on on = subst (IsOn link x system from N first asked (late ++ made) new) (append-nil posts) (none_so on)
+
+-- ---- the clock goes on, or nothing that an entity knows of
+
+module _ {C : Type 0} (link : C → Link (List ℕ)) (old new : World C) (entities : new.entities ≡ old.entities) (ends : new.ends ≡ old.ends)
+    (longer : (to : List ℕ) → AreListening (link old.carrier).clock old to → AreListening (link new.carrier).clock new to) where
+  module _ (x system : ℕ) (from : List ℕ) (N : Type 0) (first : EndRecord) (asked : InCrWait) (late made : List JournalEvent) (posts : List Post) where
+    module _ (b : EndRecord) (r : InCrWait) where
+      here_same : IsHere system x from N b r old → IsHere system x from N b r new
+      here_same h = record {
+        entity = h.entity;
+        there = ap (λ (ps : List Placed). entity_at ps system) entities ∙ h.there;
+        own_is = h.own_is;
+        stands = h.stands;
+        number = ap (λ (es : List EndAt). latest es system b.own) ends ∙ h.number;
+      }
+
+      waiting_same : IsWaiting system x from N b r old → IsWaiting system x from N b r new
+      waiting_same d = record {
+        at_system = d.at_system;
+        own = d.own;
+        entity = d.entity;
+        end = d.end;
+        since = d.since;
+        there = ap (λ (ps : List Placed). entity_at ps d.at_system) entities ∙ d.there;
+        own_is = d.own_is;
+        stands = d.stands;
+        stage = d.stage;
+        called = d.called;
+      }
+
+      bare_same : IsBare link x system from N b r old posts → IsBare link x system from N b r new posts
+      bare_same k = record {
+        here = here_same k.here;
+        unanswered = λ place own z f at_it. k.unanswered place own z f (ap (λ (ps : List Placed). entity_at ps place) (sym entities) ∙ at_it);
+        listens = longer b.to k.listens;
+        selects = λ place z at_it. k.selects place z (ap (λ (ps : List Placed). entity_at ps place) (sym entities) ∙ at_it);
+        apart = k.apart;
+      }
+
+      pending_same : IsPending system x from N b r old posts → IsPending system x from N b r new posts
+      pending_same p = subst (IsPending system x from N b r new) (append-nil posts)
+          (pending_on x system from N b r old new posts [] p (λ place e at_it own. (e, ap (λ (ps : List Placed). entity_at ps place) entities ∙ at_it, own)) waiting_same)
+
+      replied_same : IsReplied link x system from N b r old posts → IsReplied link x system from N b r new posts
+      replied_same k = record {
+        here = here_same k.here;
+        front = k.front;
+        answer = k.answer;
+        back = k.back;
+        posts_are = k.posts_are;
+        entity = k.entity;
+        there = ap (λ (ps : List Placed). entity_at ps k.answer.system) entities ∙ k.there;
+        own_is = k.own_is;
+        apart = k.apart;
+        reply = k.reply;
+      }
+
+    pub same_on : IsOn link x system from N first asked late old posts → IsOn link x system from N first asked (late ++ made) new posts
+    same_on (Early k) = Early (bare_same first asked k)
+    same_on (Asked b r k p) = Asked b r (bare_same b r k) (pending_same b r p)
+    same_on (Replied b r k) = Replied b r (replied_same b r k)
+    same_on (Told t) = Told (told_before N late made x t)

@@ -1,0 +1,4 @@
+pub mod Along
+pub mod Asked
+pub mod Laws
+pub mod Service
