@@ -1,0 +1,244 @@
+-- An end that stood half-open beside a partner that had left, after lines that are settled and lose nothing: where it is Opened still, its time of inactivity has not passed.
+use Rattle.std.proofs.Common.{◌≡◌, ◌⊎◌, inl, inr, ℕ, ◌+◌, ◌<◌, ◌≤◌, ◌==◌, min, nat_le, Bool, true, false, if◌then◌else◌, List, [], ◌++◌, Option, Some, None, refl, sym, ◌∙◌, ap, subst, arith}
+use Rattle.std.specs.Prelude.{option_and_then}
+use Rattle.std.proofs.lemmas.Bool.{eqb-true, leb-false}
+use Rattle.std.proofs.lemmas.Option.{none-some, same_Some}
+use Rattle.osi_base.specs.Calls.{Call, Keeps as CarrierKeeps}
+use Rattle.osi_base.specs.Link.{Link}
+use Rattle.osi_base.specs.declared.unit.Unit.{Unit as CarriedUnit}
+use Rattle.script_journal.specs.Lawful.{ArePartners}
+use Rattle.script_journal.specs.declared.event.Event.{Event}
+use Rattle.script_lines.specs.declared.line.Line.{Line}
+use Rattle.net_world.specs.Fifo.{IsFifo}
+use Rattle.net_world.specs.Prompt.{IsPrompt}
+use Rattle.tp4_number.specs.Number.{whole}
+use Rattle.tp4_sending.specs.FlowSender.{due_of}
+use Rattle.tp4_sending.specs.Pieces.{sooner}
+use Rattle.tp4_conn.specs.End.{End}
+use Rattle.tp4_conn.specs.Table.{due}
+use Rattle.tp4_conn.specs.declared.end_record.EndRecord.{EndRecord}
+use Rattle.tp4_conn.specs.declared.states.InAkWait.{InAkWait}
+use Rattle.tp4_conn.specs.declared.states.StateData.{StateData}
+use Rattle.tp4_conn.specs.declared.states.StateData.TheVariants as stages
+use Rattle.tp4_conn.specs.declared.timers.Timers.{Timers}
+use Rattle.tp4_entity.specs.Association.{is_frozen}
+use Rattle.tp4_entity.specs.Entity.{Entity, end_at}
+use Rattle.tp4_entity.specs.Step.{is_due, is_due_by}
+use Rattle.law_tp4_history.specs.Ends.{Times}
+use Rattle.law_tp4_history.specs.Journals.{Written}
+use Rattle.law_tp4_history.specs.Tracks.{IsNothing, Whole}
+use Rattle.law_tp4_proper.specs.Rest.{AreInTime, AreProper}
+use Rattle.law_tp4_pair.specs.steps.Standing.{HasLeft}
+use Rattle.tp4_world.specs.World.{World, entity_at, latest}
+use Rattle.law_tp4_associations.proofs.Dues.{none_due}
+use Rattle.law_tp4_lawful.specs.Called.{AreHonestCalls}
+use Rattle.law_tp4_lawful.proofs.ActsLines.{Flowing}
+use Rattle.law_tp4_lawful.proofs.CalledStarts.{followed_by}
+use Rattle.law_tp4_lawful.proofs.Known.{IsOffered, Known}
+use Rattle.law_tp4_lawful.proofs.MeetsOthers.{KnowsTaken}
+use Rattle.law_tp4_lawful.proofs.WorldCalls.{calls_hold}
+use Rattle.law_tp4_lawful.proofs.WorldKnown.{plain_kept}
+use Rattle.law_tp4_lawful.proofs.WorldOutcomes.{one_unit, outcomes}
+use Rattle.law_tp4_lawful.proofs.WorldStarts.{started}
+use Rattle.law_tp4_lawful.proofs.Worlds.{Rests}
+use Rattle.law_calm_run.specs.Service.{end_at_number, end_placed}
+use Rattle.law_calm_run.proofs.Hall.{Post}
+use Rattle.law_recovery_run.specs.Ordered.{InOrder, IsReady, ReachedFrom, RunsInOrder, hall_of}
+use Rattle.law_recovery_run.proofs.Aiming.{Going}
+use Rattle.law_recovery_run.proofs.Ordered.{HaveRun, is_fifo, keeps_order, runs_ordered, undropped}
+use Rattle.law_recovery_service.specs.Recovered.{IsOver}
+use Rattle.law_recovery_walk.specs.Following.{Stands}
+use Rattle.law_recovery_walk.proofs.Coming.{StandsSo}
+use Rattle.law_recovery_walk.proofs.Fitting.{calls_fit}
+use Rattle.law_recovery_script.specs.Over.{HasLeftEnd}
+use Rattle.law_recovery_script.proofs.Numbers.{stands_at}
+use Rattle.law_recovery_world.specs.Steady.{EndsAreSteady, StageMade}
+use Rattle.law_recovery_request.specs.Requesting.{AreListening}
+use Rattle.law_recovery_request.proofs.Coming.{none_there}
+use Rattle.law_recovery_halves.specs.Halves.{IsFrozenOrGone, KnowsPartner, IsNotAccepted}
+use Rattle.law_recovery_halves.proofs.Accepted.{Answers, Confirms, IsAnswerable, IsAwaited, IsNotParting, IsTriedBy, Keeps, answer_to, kept as kept_answerable}
+use Rattle.law_recovery_halves.proofs.Beside.{Holds, kept}
+use Rattle.law_recovery_halves.proofs.Deeds.{IsKept}
+use Rattle.law_recovery_halves.proofs.Partner.{IsHalf, IsStill, Parties, partner_number}
+use Rattle.law_recovery_halves.proofs.Starting.{half_here, parties}
+use Rattle.law_recovery_halves.proofs.Walking.{HasReached, lines_reach}
+
+-- ---- what is due
+
+not_yet : (now tick : ℕ) (other : Option ℕ) → is_due_by now (sooner (Some tick) other) ≡ false → now < tick
+not_yet now tick None not_due = leb-false tick now not_due
+not_yet now tick (Some more) not_due = let early = leb-false (min tick more) now not_due in omega (arith, early)
+
+sooner_first : (now tick : ℕ) (one other : Option ℕ) → is_due_by now (sooner (sooner (Some tick) one) other) ≡ false → now < tick
+sooner_first now tick None other not_due = not_yet now tick other not_due
+sooner_first now tick (Some more) None not_due = let early = leb-false (min tick more) now not_due in omega (arith, early)
+sooner_first now tick (Some more) (Some last) not_due = let early = leb-false (min (min tick more) last) now not_due in omega (arith, early)
+
+-- ---- an end that has left, by its number
+
+pub left_by_number : {C : Type 0} (last : World C) (x : ℕ) → HasLeftEnd last x → (e : End) → end_at_number last x ≡ Some e → HasLeft e.stage
+left_by_number {C} last x h e at = by_number (latest last.ends h.system h.reference == x) refl (sym (ap (end_placed last x) h.at.made) ∙ at)
+  where
+    by_entity : (place : Option Entity) → entity_at last.entities h.system ≡ place → latest last.ends h.system h.reference ≡ x → option_and_then (λ (z : Entity). end_at z h.reference) place ≡ Some e → HasLeft e.stage
+    by_entity None there number is = absurd (none-some e is)
+    by_entity (Some entity) there number is = h.at.left entity e there is number
+
+    by_number : (b : Bool) → (latest last.ends h.system h.reference == x) ≡ b
+        → (if b then option_and_then (λ (z : Entity). end_at z h.reference) (entity_at last.entities h.system) else None) ≡ Some e → HasLeft e.stage
+    by_number true same is = by_entity (entity_at last.entities h.system) refl (eqb-true (latest last.ends h.system h.reference) x same) is
+    by_number false same is = absurd (none-some e is)
+
+-- ---- an end in AkWait
+
+frozen_out : (stage : StateData) → is_frozen stage ≡ true → IsNotParting stage
+frozen_out (stages.Frozen when) is = tt
+frozen_out other is = absurd (cc is)
+
+tried_by_now : (now : ℕ) (p : Parties) (b : EndRecord) (stage : StateData) → KnowsPartner stage → StageMade now b stage → IsTriedBy now p [] stage
+tried_by_now now p b (stages.AkWait v) half made = inl made.0
+tried_by_now now p b (stages.Opened o) half made = tt
+tried_by_now now p b (stages.UserWait since) half made = tt
+tried_by_now now p b stage half made = absurd half
+
+none_awaited : (t0 : ℕ) (p : Parties) (v : InAkWait) → (v.tries.last ≤ t0) ⊎ IsAwaited p [] → v.tries.last ≤ t0
+none_awaited t0 p v (inl early) = early
+none_awaited t0 p v (inr (Confirms post among own)) = absurd (none_there post among)
+none_awaited t0 p v (inr (Answers among)) = absurd (none_there (answer_to p) among)
+
+-- ---- a network after calls
+
+-- a history explains it, with its timers, and no end is due
+module _ {C : Type 0} (link : C → Link (List ℕ)) (steps : C → Call (List ℕ) → C → Type 0) (law : (old : C) (call : Call (List ℕ)) (new : C) → steps old call new → CarrierKeeps (link old) call (link new))
+    (flowing : Flowing) (knows : KnowsTaken) (begins : (times : Times) (titles : List (List ℕ)) (w : Whole) → IsNothing w → Written times titles w []) where
+  pub calls_rest : (titles : List (List ℕ)) (timers : Timers) (journal : List Event) (last : World C) → AreHonestCalls link steps whole titles timers journal last → Rests link AreProper titles timers journal last
+  calls_rest titles timers journal last a =
+      let r = a.run in
+      let rests : Rests link AreProper titles timers r.begun r.first =
+      started titles timers a.timed a.timed.inactive_least a.distinct r.placed r.is_first.entities r.untouched begins link steps law (followed_by flowing knows titles timers) AreProper AreInTime outcomes r.made r.begun
+      r.first r.is_first r.starts in
+      let all = calls_hold titles timers (Known titles timers) IsOffered (plain_kept titles timers) a.timed link steps law (followed_by flowing knows titles timers) one_unit AreProper AreInTime outcomes r.calls r.first last r.begun r.later a.honest a.limits rests r.did in
+      subst (λ (xs : List Event). Rests link AreProper titles timers xs last) (sym r.journal_is) all
+
+-- ---- the lines
+
+module _ {C : Type 0} (link : C → Link (List ℕ)) (steps : C → Call (List ℕ) → C → Type 0)
+    (law : (old : C) (call : Call (List ℕ)) (new : C) → steps old call new → CarrierKeeps (link old) call (link new))
+    (titles : List (List ℕ)) (first : C) (Waits : C → List (CarriedUnit (List ℕ)) → Type 0) (prompt : IsPrompt link steps titles (ReachedFrom link steps titles first) Waits) (going : Going)
+    (flowing : Flowing) (knows : KnowsTaken) (begins : (times : Times) (titles : List (List ℕ)) (w : Whole) → IsNothing w → Written times titles w [])
+    (names : List (List ℕ)) (timers : Timers) (early late : List Event) (old last : World C) (script : List Line)
+    (calls : AreHonestCalls link steps whole names timers early old) (ready : IsReady link steps titles first old) (run : RunsInOrder link steps titles old script late last) where
+  abbrev ordered : C → Call (List ℕ) → C → Type 0
+  ordered = InOrder link steps
+
+  orders : (old : C) (call : Call (List ℕ)) (new : C) → ordered old call new → CarrierKeeps (link old) call (link new)
+  orders = keeps_order link steps law
+
+  fifo : IsFifo link ordered titles Waits
+  fifo = is_fifo link steps titles (ReachedFrom link steps titles first) Waits prompt
+
+  rests : Rests link AreProper names timers early old
+  rests = calls_rest link steps law flowing knows begins names timers early old calls
+
+  abbrev t0 : ℕ
+  t0 = (link old.carrier).clock
+
+  stands : StandsSo link ordered orders titles Waits fifo old (hall_of link old) []
+  stands = record {
+    shows = record { clock = refl; entities = refl; ends = refl; waits = prompt.begins old.carrier ready.reached ready.none_left; units = refl };
+    kept = ready.kept;
+    have = ready.have;
+    rest = ready.rest;
+  }
+
+  have_run : HaveRun link steps titles script old last late
+  have_run = runs_ordered link steps titles script old last late (inl ready.none_left) run.settled run.kept run.runs
+
+  -- what is kept holds after them
+  pub reaches : (P : List Event → World C → List Post → Type 0) → IsKept link names timers P → P early old [] → HasReached link names timers P (early ++ late) last
+  reaches P keeps holds =
+      lines_reach link ordered orders titles Waits fifo names timers going (followed_by flowing knows) calls.timed P keeps script old last early late (hall_of link old) [] stands rests
+      (calls_fit link steps law names timers early old calls) (inl refl) run.settled run.proper run.unrouted (undropped late run.kept) holds have_run.runs
+
+  module _ (x y : ℕ) (e : End) (partners : ArePartners early x y) (s : Stands old x e) (half : KnowsPartner e.stage) (left : HasLeftEnd old y) where
+    abbrev p : Parties
+    p = parties link names timers rests.w early old rests.explains x y e partners s half left
+
+    reached : HasReached link names timers (Holds t0 p) (early ++ late) last
+    reached = reaches (Holds t0 p) (kept link names timers going t0 p) (inr (half_here link names timers rests.w early old rests.explains x y e partners s half left))
+
+    module _ (h : IsHalf t0 p (early ++ late) last []) where
+      -- it is that of its number
+      it_is : end_at_number last x ≡ Some h.end
+      it_is = stands_at link names timers reached.w (early ++ late) last reached.explains x h.end
+          (record { system = p.system; reference = p.reference; entity = h.entity; is_end = record { there = h.placed; stands = h.stands; number = h.number } })
+
+      timers_are : h.end.base.timers ≡ timers
+      timers_are = (reached.explains.known.holds p.system h.entity h.placed).theirs p.reference h.end h.stands
+
+      not_due : is_due (link last.carrier).clock (Some h.end) ≡ false
+      not_due = none_due (link last.carrier).clock h.entity p.reference h.end (reached.waiting p.system h.entity h.placed) h.stands
+
+      over_half : t0 + timers.inactive ≤ (link last.carrier).clock → IsOver last x
+      over_half late e o at is =
+          let stage : h.end.stage ≡ stages.Opened o = ap (λ (z : End). z.stage) (same_Some h.end e (sym it_is ∙ at)) ∙ is in
+          let took : o.took ≤ t0 = subst (IsStill t0) stage h.still in
+          let early = sooner_first (link last.carrier).clock (o.took + timers.inactive) (Some (o.acked + timers.window)) (due_of o.halves.sending)
+          (subst (λ (t : Timers). is_due_by (link last.carrier).clock (sooner (sooner (Some (o.took + t.inactive)) (Some (o.acked + t.window))) (due_of o.halves.sending)) ≡ false) timers_are
+          (subst (λ (z : _). is_due_by (link last.carrier).clock (due h.end.base z) ≡ false) stage not_due)) in
+          omega (arith, early, took, late)
+
+    pub over_opened : t0 + timers.inactive ≤ (link last.carrier).clock → IsOver last x
+    over_opened late e o at is = elim reached.holds [
+      | inl gone ↦ subst HasLeft is (left_by_number last x gone e at)
+      | inr h ↦ over_half h late e o at is
+    ]
+
+    -- ---- in AkWait
+
+    module _ (far_gone : IsFrozenOrGone old y) (listens : AreListening (link old.carrier).clock old e.base.to) (steady : EndsAreSteady link timers old) where
+      abbrev here_now : IsHalf (link old.carrier).clock (parties link names timers rests.w early old rests.explains x y e partners s half left) early old []
+      here_now = half_here link names timers rests.w early old rests.explains x y e partners s half left
+
+      -- what stands at the place of the partner is that, and frozen
+      out : (v : End) → end_at here_now.far left.reference ≡ Some v → IsNotParting v.stage
+      out v at_place = frozen_out v.stage (far_gone v (stands_at link names timers rests.w early old rests.explains y v (record {
+        system = left.system;
+        reference = left.reference;
+        entity = here_now.far;
+        is_end = record { there = here_now.far_placed; stands = at_place; number = partner_number link names timers rests.w early old rests.explains t0 p [] here_now v at_place };
+      })))
+
+      end_here : here_now.end ≡ e
+      end_here =
+          let owner : here_now.entity ≡ s.entity = same_Some here_now.entity s.entity (sym here_now.placed ∙ s.is_end.there) in
+          same_Some here_now.end e (sym here_now.stands ∙ ap (λ (z : Entity). end_at z s.reference) owner ∙ s.is_end.stands)
+
+      begins_so : IsAnswerable link t0 p early old []
+      begins_so = record {
+        half = here_now;
+        awake = listens left.system here_now.far here_now.far_placed here_now.far_own;
+        out = out;
+        tried = subst (λ (z : End). IsTriedBy t0 p [] z.stage) (sym end_here) (tried_by_now t0 p e.base e.stage half (steady s.system s.entity s.is_end.there s.reference e s.is_end.stands).made);
+      }
+
+      answered : HasReached link names timers (Keeps link t0 p) (early ++ late) last
+      answered = reaches (Keeps link t0 p) (kept_answerable link names timers going t0 p) (inr begins_so)
+
+      over_answerable : t0 + timers.t1 ≤ (link last.carrier).clock → IsAnswerable link t0 p (early ++ late) last [] → IsNotAccepted last x
+      over_answerable passed k d v at is =
+          let h = k.half in
+          let it : end_at_number last x ≡ Some h.end = stands_at link names timers answered.w (early ++ late) last answered.explains x h.end
+          (record { system = p.system; reference = p.reference; entity = h.entity; is_end = record { there = h.placed; stands = h.stands; number = h.number } }) in
+          let stage : h.end.stage ≡ stages.AkWait v = ap (λ (z : End). z.stage) (same_Some h.end d (sym it ∙ at)) ∙ is in
+          let due_none = none_due (link last.carrier).clock h.entity p.reference h.end (answered.waiting p.system h.entity h.placed) h.stands in
+          let t_is : h.end.base.timers ≡ timers = (answered.explains.known.holds p.system h.entity h.placed).theirs p.reference h.end h.stands in
+          let early_still = leb-false (v.tries.last + timers.t1) (link last.carrier).clock
+          (subst (λ (t : Timers). nat_le (v.tries.last + t.t1) (link last.carrier).clock ≡ false) t_is (subst (λ (z : StateData). is_due_by (link last.carrier).clock (due h.end.base z) ≡ false) stage due_none)) in
+          let tried : v.tries.last ≤ t0 = none_awaited t0 p v (subst (IsTriedBy t0 p []) stage k.tried) in
+          omega (arith, early_still, tried, passed)
+
+      pub over_accepted : t0 + timers.t1 ≤ (link last.carrier).clock → IsNotAccepted last x
+      over_accepted passed d v at is = elim answered.holds [
+        | inl gone ↦ subst HasLeft is (left_by_number last x gone d at)
+        | inr k ↦ over_answerable passed k d v at is
+      ]

@@ -1,0 +1,11 @@
+pub mod Accepted
+pub mod Beside
+pub mod Deeds
+pub mod Ending
+pub mod Partner
+pub mod Quiet
+pub mod Rows
+pub mod Running
+pub mod Starting
+pub mod Walking
+pub mod Wired
