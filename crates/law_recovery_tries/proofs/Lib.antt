@@ -1,0 +1,4 @@
+pub mod Keeping
+pub mod NoErEntities
+pub mod NoErRows
+pub mod Trying

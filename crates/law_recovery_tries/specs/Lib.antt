@@ -1,0 +1,3 @@
+pub mod Ers
+pub mod Laws
+pub mod Since
