@@ -15,6 +15,7 @@ class Outage:
         self.lines = []
         self.program = Asked("a")
         self.frames, self.ends, self.calling, self.called = 0, 0, [], []
+        self.systems = []  # of each connection those of its two ends
 
     def add(self, line):
         """Adds a line."""
@@ -60,7 +61,9 @@ class Outage:
         some = self.random
         options = "%s %d %s %s -" % (some.choice(("normal", "extended")), some.choice(SIZES), some.choice(("exp", "exp", "noexp")),
                                      some.choice(("sum", "nosum")))
-        self.settled("connect %s %s" % (some.choice(("a aa b bb", "b bb a aa")), options))
+        here, there = some.choice(("ab", "ba"))
+        self.systems.append((here, there))
+        self.settled("connect %s %s %s %s %s" % (here, here * 2, there, there * 2, options))
         self.settled("accept %d %s" % (self.ends, options))
 
     def user_line(self):
@@ -79,6 +82,26 @@ class Outage:
         for _ in range(self.random.choice((0, 0, 1, 2, 5))):
             self.add("deliver %d %s" % (max(1, self.frames - self.random.randint(0, 6)), self.random.choice("ab")))
 
+    def reverse(self, lines, system):
+        """Adds the lines, and then delivers to the system the frames that they make, the latest first."""
+        first = self.frames
+        for line in lines:
+            self.add(line)
+        self.hear()
+        for frame in range(self.frames, first, -1):
+            self.add("deliver %d %s" % (frame, system))
+
+    def end_reversed(self, number):
+        """The last tick of an outage in which the called end of a connection lowered its credit, and was not heard: DTs outside of it come first, and the
+        AKs that say so last. So what is outstanding then goes again T1 later."""
+        units = ["data %d %02x" % (self.calling[number], unit) for unit in range(self.random.randint(2, 4))]
+        here, there = self.systems[number]
+        self.reverse(units, there)
+        first = self.frames
+        self.hear()
+        for frame in range(self.frames, first, -1):
+            self.add("deliver %d %s" % (frame, here))
+
     def make(self):
         """The lines of the script."""
         some = self.random
@@ -89,6 +112,9 @@ class Outage:
             self.settled(some.choice((self.user_line(), "tick")))
         bound = min((self.times["n"] - 1) * self.times["t1"] - 1, self.times["i"] - 2 * self.times["w"])
         is_deaf = some.random() < 0.5
+        reversed_at = some.randrange(len(self.called)) if is_deaf else None
+        if is_deaf:
+            self.add("window %d 1" % self.called[reversed_at])
         for tick in range(max(1, bound - some.choice((0, 0, 0, 1, 2))) + 1):
             if tick:
                 self.add("tick")
@@ -97,6 +123,9 @@ class Outage:
             if not is_deaf:
                 self.hear()
                 self.deliveries()
+        if is_deaf:
+            self.hear()
+            self.end_reversed(reversed_at)
         self.add("settle")
         for _ in range(max(2 * self.times["t1"], self.times["i"]) + 2):
             self.settled("tick")

@@ -28,7 +28,7 @@ class Script:
 
     def __init__(self, text):
         self.times = dict(NOT_SET)
-        self.titles, self.kinds, self.lans, self.routers = {}, {}, [], 0
+        self.titles, self.kinds, self.lans, self.ports, self.routes = {}, {}, [], set(), []
         self.steps = []
         for number, line in enumerate(text.split("\n"), 1):
             line = line.rstrip("\r")
@@ -49,6 +49,10 @@ class Script:
             self.titles[fields[1]] = fields[2].lower()
         elif fields[0] == "lan":
             self.lans.append(fields[1])
+        elif fields[0] == "port":
+            self.ports.add((fields[1], fields[2]))
+        elif fields[0] == "route":
+            self.routes.append((fields[1], "" if fields[2] == "-" else fields[2].lower(), fields[3], fields[4]))
 
     def user_of(self, nsap):
         """The system whose users of transport have the address, or None."""
@@ -56,7 +60,24 @@ class Script:
 
     def is_one_lan(self):
         """Whether it has two end systems on one LAN, and no intermediate system."""
-        return len(self.lans) == 1 and sorted(self.kinds.values()) == ["es", "es"]
+        return self.why_not_one_lan() is None
+
+    def hop(self, system, address):
+        """The next system and the LAN by the longest prefix that covers the address, or None."""
+        return max(((len(prefix), to, lan) for of, prefix, to, lan in self.routes if of == system and address.startswith(prefix)), default=(0, None, None))[1:]
+
+    def why_not_one_lan(self):
+        """Why it is none of two end systems on one LAN, each with the other as the next one for all its addresses; or None."""
+        if "is" in self.kinds.values():
+            return "it has an intermediate system"
+        if len(self.kinds) != 2 or len(self.lans) != 1:
+            return "it has %d end systems and %d LANs" % (len(self.kinds), len(self.lans))
+        for system, other in zip(self.kinds, reversed(self.kinds)):
+            if (system, self.lans[0]) not in self.ports:
+                return "%s has no port" % system
+            if any(self.hop(system, self.titles[other][:-2] + "%02x" % selector) != (other, self.lans[0]) for selector in range(256)):
+                return "%s has no route to all addresses of %s" % (system, other)
+        return None
 
 
 class Reader:

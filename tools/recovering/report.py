@@ -18,7 +18,13 @@ def of_parts(name, script, parts):
         return lines + ["outside the claim: " + where]
     step = script.steps[parts.recovering]
     above = "above it all comes too" if parts.out is None else "the last above it that takes the run out is %s: it %s" % (shown(parts.out), parts.reason)
-    return lines + ["t0 is tick %d: from the `settle` of line %d on all comes; %s" % (step.tick, step.number, above)]
+    return lines + ["t0 is tick %d: from the `settle` of line %d on all comes; %s" % (step.tick, step.number, above), of_network(script)]
+
+
+def of_network(script):
+    """Whether claim 5 of docs/claims.md, which is proved, speaks of the run too."""
+    reason = script.why_not_one_lan()
+    return "tried and not proved: " + reason if reason else "proved of ends that are both Opened at t0 or later: two end systems on one LAN"
 
 
 def units(pair, place):
