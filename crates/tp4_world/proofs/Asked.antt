@@ -1,5 +1,5 @@
 -- What users ask: a refusal alone, or what the entity does.
-use Rattle.std.proofs.Common.{◌≡◌, ℕ, ◌+◌, Bool, true, false, List, [], ◌∷◌, ◌++◌, length, slice_get, slice_set, Option, Some, None, refl, sym, ◌∙◌, ap, subst}
+use Rattle.std.proofs.Common.{◌≡◌, ℕ, ◌+◌, Bool, true, false, List, [], ◌∷◌, ◌++◌, length, slice_get, slice_set, Option, Some, None, sym, ◌∙◌, ap, subst}
 use Rattle.std.specs.Prelude.{◌≢◌}
 use Rattle.std.specs.List.{position}
 use Rattle.osi_base.specs.Link.{Link}
@@ -21,7 +21,7 @@ use Rattle.tp4_entity.specs.References.{least_free}
 use Rattle.tp4_entity.specs.Step.{DoesSo, calling, connect_refusal, connecting, restarted, user_refusal}
 use Rattle.tp4_world.proofs.Acting.{acts, nothing}
 use Rattle.tp4_world.proofs.Entities.{changed_there, entity_there}
-use Rattle.tp4_world.proofs.Places.{first_is_some, some_same}
+use Rattle.tp4_world.proofs.Places.{some_same}
 use Rattle.tp4_world.specs.Run.{Acts, BeginsAt, Calls, CallsAt, CallsBy, CallsEnd, Connects, ConnectsBy, IsRefused, clock_of, has_ended}
 use Rattle.tp4_world.specs.Telling.{call_events, connect_event, told_connect, told_refusal}
 use Rattle.tp4_world.specs.World.{World, end_numbered, entity_at, is_of, with_entity}
@@ -137,25 +137,18 @@ module _ {C : Type 0} (link : C → Link (List ℕ)) (steps : C → Call (List �
         subst (λ (e : Option EndAt). CallsAt link steps wrap old number call e made new) (sym is)
         (entity, there, subst (λ (b : Bool). CallsEnd link steps wrap old number end entity call b made new) (sym over) h)
 
-    pub ended_refused : (carrier : C) (placed : List Placed) (ends : List EndAt) (place now number : ℕ) (end : EndAt) (call : UserCall) (cause : Refused) (made : List Event) → end_numbered ends number ≡ Some end
-        → position (is_of end.system) placed ≡ Some place → (link carrier).clock ≡ now → ((one : Placed) → slice_get placed place ≡ Some one → true ≡ has_ended now ends number end one.entity)
-        → Some refusals.Ended ≡ Some cause → made ≡ events.No cause ∷ [] → Calls link steps wrap (world_of carrier placed ends) number call made (world_of carrier placed ends)
-    ended_refused carrier placed ends place now number end call cause made is found clock over same told =
-        let there = first_is_some (is_of end.system) placed place found in
-        let one = there.0 in
-        let ended : has_ended now ends number end one.entity ≡ true = sym (over one there.1) in
-        called_end (world_of carrier placed ends) (world_of carrier placed ends) number end call one.entity true made is (entity_there placed end.system place one found there.1)
+    pub ended_refused : (carrier : C) (placed changed : List Placed) (ends : List EndAt) (place now number : ℕ) (end : EndAt) (call : UserCall) (one : Placed) (cause : Refused) (made : List Event)
+        → end_numbered ends number ≡ Some end → position (is_of end.system) placed ≡ Some place → slice_get placed place ≡ Some one → (link carrier).clock ≡ now → has_ended now ends number end one.entity ≡ true
+        → changed ≡ placed → Some refusals.Ended ≡ Some cause → made ≡ events.No cause ∷ [] → Calls link steps wrap (world_of carrier placed ends) number call made (world_of carrier changed ends)
+    ended_refused carrier placed changed ends place now number end call one cause made is found at clock ended left same told =
+        called_end (world_of carrier placed ends) (world_of carrier changed ends) number end call one.entity true made is (entity_there placed end.system place one found at)
         (subst (λ (n : ℕ). has_ended n ends number end one.entity ≡ true) (sym clock) ended)
-        (told ∙ ap (λ (r : Refused). events.No r ∷ []) (sym (some_same refusals.Ended cause same)), refl)
+        (told ∙ ap (λ (r : Refused). events.No r ∷ []) (sym (some_same refusals.Ended cause same)), ap (λ (ps : List Placed). world_of carrier ps ends) left)
 
-    pub called_there : (carrier new : C) (placed changed : List Placed) (ends after : List EndAt) (place now number : ℕ) (end : EndAt) (call : UserCall) (made : List Event) → end_numbered ends number ≡ Some end
-        → position (is_of end.system) placed ≡ Some place → (link carrier).clock ≡ now → ((one : Placed) → slice_get placed place ≡ Some one → false ≡ has_ended now ends number end one.entity)
+    pub called_there : (carrier new : C) (placed changed : List Placed) (ends after : List EndAt) (place now number : ℕ) (end : EndAt) (call : UserCall) (one : Placed) (made : List Event)
+        → end_numbered ends number ≡ Some end → position (is_of end.system) placed ≡ Some place → slice_get placed place ≡ Some one → (link carrier).clock ≡ now → has_ended now ends number end one.entity ≡ false
         → CallsThere (world_of carrier placed ends) number end call made (world_of new changed after) → Calls link steps wrap (world_of carrier placed ends) number call made (world_of new changed after)
-    called_there carrier new placed changed ends after place now number end call made is found clock over h =
-        let there = first_is_some (is_of end.system) placed place found in
-        let one = there.0 in
-        let standing : Some one.entity ≡ Some h.0 = sym (entity_there placed end.system place one found there.1) ∙ h.1 in
-        let same : one.entity ≡ h.0 = some_same one.entity h.0 standing in
-        let going : has_ended now ends number end one.entity ≡ false = sym (over one there.1) in
+    called_there carrier new placed changed ends after place now number end call one made is found at clock going h =
+        let same : one.entity ≡ h.0 = some_same one.entity h.0 (sym (entity_there placed end.system place one found at) ∙ h.1) in
         called_end (world_of carrier placed ends) (world_of new changed after) number end call h.0 false made is h.1
         (subst (λ (n : ℕ). has_ended n ends number end h.0 ≡ false) (sym clock) (subst (λ (e : Entity). has_ended now ends number end e ≡ false) same going)) h.2

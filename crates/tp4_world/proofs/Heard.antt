@@ -101,12 +101,14 @@ module _ {C : Type 0} (link : C → Link (List ℕ)) (steps : C → Call (List �
   hears_other old arrival None fits = (refl, refl)
   hears_other old arrival (Some entity) fits = subst (λ (b : Bool). HearsIf link steps wrap old arrival (Some entity) b [] old) (sym fits) (refl, refl)
 
-  pub hears_unfit : (old : World C) (arrival : Arrival (List ℕ)) (place : ℕ) (own : List ℕ) (one : Placed) → position (is_of arrival.system) old.entities ≡ Some place → slice_get old.entities place ≡ Some one
-      → own ≡ one.entity.own → (selector_of arrival.unit.to == 1 && pointwise nat_eq own arrival.unit.to) ≡ false → Hears link steps wrap old arrival [] old
-  hears_unfit old arrival place own one found at is fits =
-      hears_other old arrival (entity_at old.entities arrival.system)
-      (ap (is_for link steps wrap arrival.unit.to) (entity_there old.entities arrival.system place one found at)
-      ∙ ap (λ (o : List ℕ). selector_of arrival.unit.to == 1 && pointwise nat_eq o arrival.unit.to) (sym is) ∙ fits)
+  pub hears_unfit : (carrier : C) (placed changed : List Placed) (ends : List EndAt) (arrival : Arrival (List ℕ)) (place : ℕ) (own : List ℕ) (one : Placed) → position (is_of arrival.system) placed ≡ Some place
+      → slice_get placed place ≡ Some one → own ≡ one.entity.own → (selector_of arrival.unit.to == 1 && pointwise nat_eq own arrival.unit.to) ≡ false → changed ≡ placed
+      → Hears link steps wrap (world_of carrier placed ends) arrival [] (world_of carrier changed ends)
+  hears_unfit carrier placed changed ends arrival place own one found at is fits same =
+      subst (λ (ps : List Placed). Hears link steps wrap (world_of carrier placed ends) arrival [] (world_of carrier ps ends)) (sym same)
+      (hears_other (world_of carrier placed ends) arrival (entity_at placed arrival.system)
+      (ap (is_for link steps wrap arrival.unit.to) (entity_there placed arrival.system place one found at)
+      ∙ ap (λ (o : List ℕ). selector_of arrival.unit.to == 1 && pointwise nat_eq o arrival.unit.to) (sym is) ∙ fits))
 
   hears_entity : (old new : World C) (arrival : Arrival (List ℕ)) (entity : Entity) (made : List Event) → entity_at old.entities arrival.system ≡ Some entity
       → (selector_of arrival.unit.to == 1 && pointwise nat_eq entity.own arrival.unit.to) ≡ true → HearsIf link steps wrap old arrival (Some entity) true made new → Hears link steps wrap old arrival made new

@@ -11,6 +11,7 @@ pub mod Later
 pub mod Lined
 pub mod Latest
 pub mod Leaving
+pub mod Lent
 pub mod Lowered
 pub mod OnWire
 pub mod OneRun

@@ -10,7 +10,7 @@ use Rattle.tp4_flow.specs.Told.{Told}
 use Rattle.tp4_entity.specs.Entity.{Entity}
 use Rattle.tp4_entity.specs.Step.{DoesSo, dues, first_due, ticking}
 use Rattle.tp4_world.proofs.Acting.{acts, nothing}
-use Rattle.tp4_world.proofs.Entities.{changed_there, entity_there, systems_stay, with_found}
+use Rattle.tp4_world.proofs.Entities.{changed_there, entity_there, with_found}
 use Rattle.tp4_world.proofs.Going.{Going, drop_got, going_last, going_next, going_over}
 use Rattle.tp4_world.specs.Run.{Acts, NoneDue, OneDue, TicksAll, TicksEntity}
 use Rattle.tp4_world.specs.World.{World, entity_at, is_of, with_entity}
@@ -25,9 +25,6 @@ none_of (Some x) e = absurd cc
 some_of : {A : Type 0} (o : Option A) → is_some o ≡ true → (x : A) × (o ≡ Some x)
 some_of None e = absurd cc
 some_of (Some x) e = (x, refl)
-
-pub changed_systems : (place : ℕ) (placed changed : List Placed) (Does : Entity → Entity → Type 0) → ChangesAt place placed changed Does → systems_of changed ≡ systems_of placed
-changed_systems place placed changed Does change = ap systems_of change.becomes ∙ systems_stay placed place change.one change.after change.at
 
 -- an entity of which one end fewer is due
 pub fewer_due : (now : ℕ) (placed changed : List Placed) (system place : ℕ) → position (is_of system) placed ≡ Some place

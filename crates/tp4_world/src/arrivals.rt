@@ -10,12 +10,13 @@ ghost use Rattle.tp4_world.specs.Run.{Hears};
 ghost use Rattle.tp4_world.specs.steps.Parts.{AreBehind, AreLaterAll, HearsEach, HearsWaiting, TakesUnits, Tells, then_for_transport, world_of};
 
 use crate::sending::follow;
-use crate::transport::{Transport, hear_at, own_at, place_of};
+use crate::transport::{Transport, entity_of};
 use net_world::tell;
 use nsap::{Nsap, TRANSPORT};
 use osi_base::{Arrival, Carrier, NoMemory, Tick, Up};
 use script_journal::Event;
 use std::collections::VecDeque;
+use tp4_conn::Uncounted;
 
 /// Tells what waits in the carrier, and then hands each unit for transport to its entity.
 pub fn hear_waiting<C: Carrier<Addr = Nsap>>(
@@ -67,14 +68,11 @@ fn sort(
     ensures told { OnOk result (events.new.items ≡ events.old.items ++ up_events up) }
 {
     match up {
-        Up::Unit(arrival) => {
-            if arrival.unit.to.selector() == TRANSPORT {
-                units.push_back(arrival)?;
-                return Ok(());
-            }
-            tell(Up::Unit(arrival), events)
+        Up::Unit(arrival) if arrival.unit.to.selector() == TRANSPORT => {
+            units.push_back(arrival)?;
+            Ok(())
         }
-        Up::Note(note) => tell(Up::Note(note), events),
+        other => tell(other, events),
     }
 }
 
@@ -121,31 +119,22 @@ fn hear<C: Carrier<Addr = Nsap>>(
     ensures behind { OnOk result (AreBehind now transport.new.entities.items) }
     ensures later { OnOk result (AreLaterAll now transport.new.entities.items) }
 {
-    let Some(place) = place_of(&transport.entities, arrival.system) else {
+    let Some(one) = entity_of(&mut transport.entities, arrival.system) else {
         return Ok(());
     };
-    let own = own_at(&transport.entities, place);
+    let own = one.entity.own();
     if !is_for(&own, &arrival.unit.to) {
         return Ok(());
     }
-    let alloc = transport.alloc;
     transport.out.clear();
-    hear_at(
-        &mut transport.entities,
-        place,
+    one.entity.on_unit(
         now,
-        &arrival.unit,
+        arrival.unit.from,
+        arrival.unit.octets.as_slice(),
         &mut transport.out,
+        &mut Uncounted,
     )?;
-    follow(
-        alloc,
-        carrier,
-        &mut transport.ends,
-        arrival.system,
-        &own,
-        &mut transport.out,
-        events,
-    )?;
+    follow(carrier, transport, arrival.system, &own, events)?;
     Ok(())
 }
 

@@ -5,14 +5,14 @@ ghost use Rattle.tpdu.specs.Writing.{IsWritten};
 ghost use Rattle.tp4_world.specs.Run.{SendsTpdu, SendsTpdus};
 ghost use Rattle.tp4_world.specs.steps.Parts.{Follows, Tells};
 
-use crate::ends::Ends;
 use crate::events::{tell_all, tell_drop};
+use crate::transport::Transport;
 use net_world::take_up;
 use nsap::Nsap;
 use osi_base::{Bytes, Carrier, NoMemory, Unit, Wish};
 use script_journal::Event;
 use std::alloc::Global;
-use tp4_flow::{Sent, Step};
+use tp4_flow::Sent;
 use tpdu::write_tpdu;
 
 /// A unit of transport may be cut, and asks for nothing else.
@@ -25,20 +25,21 @@ const WISH: Wish = Wish {
 
 /// Tells what an entity told, and then sends its TPDUs. What it told leaves the step.
 pub fn follow<C: Carrier<Addr = Nsap>>(
-    alloc: Global,
     carrier: &mut C,
-    ends: &mut Ends,
+    transport: &mut Transport,
     system: u8,
     own: &Nsap,
-    out: &mut Step,
     events: &mut Vec<Event>,
 ) -> Result<(), NoMemory>
-    ensures follows { OnOk result (Tells events.old.items events.new.items (λ made. Follows C.link C.steps carrier.old ends.old system own.now out.old made carrier.new ends.new)) }
+    ensures follows { OnOk result (Tells events.old.items events.new.items (λ made. Follows C.link C.steps carrier.old transport.old.ends system own.now transport.old.out made carrier.new transport.new.ends)) }
     ensures clock { OnOk result ((C.link carrier.new).clock ≡ (C.link carrier.old).clock) }
+    ensures entities { transport.new.entities.items ≡ transport.old.entities.items }
+    ensures units { transport.new.units.items ≡ transport.old.units.items }
 {
-    let told = out.take_events(alloc);
-    tell_all(alloc, ends, system, own, told, events)?;
-    send_all(alloc, carrier, system, own, out.tpdus(), events)
+    let alloc = transport.alloc;
+    let told = transport.out.take_events(alloc);
+    tell_all(alloc, &mut transport.ends, system, own, told, events)?;
+    send_all(alloc, carrier, system, own, transport.out.tpdus(), events)
 }
 
 /// Sends the TPDUs of a system, in order.

@@ -8,10 +8,11 @@ ghost use Rattle.tp4_world.specs.World.{entity_at, is_of};
 ghost use Rattle.tp4_world.specs.steps.Parts.{AreBehind, AreFromAll, AreLaterAll, AreLaterAt, Tells, TicksOnce, dues_at, systems_of, world_of};
 
 use crate::sending::follow;
-use crate::transport::{Transport, own_at, place_of, tick_at};
+use crate::transport::{Transport, place_of};
 use nsap::Nsap;
 use osi_base::{Carrier, NoMemory, Tick};
 use script_journal::Event;
+use tp4_conn::Uncounted;
 
 /// The due ends of each entity tick, in the order of the entities.
 pub fn tick_all<C: Carrier<Addr = Nsap>>(
@@ -103,21 +104,17 @@ fn tick_one<C: Carrier<Addr = Nsap>>(
     ensures rest { IfOk result (λ was_due. was_due ≡ false → AreLaterAt now transport.new.entities.items system) }
     ensures systems { OnOk result (systems_of transport.new.entities.items ≡ systems_of transport.old.entities.items) }
 {
-    let alloc = transport.alloc;
-    let own = own_at(&transport.entities, place);
+    let Some(one) = transport.entities.get_mut(place) else {
+        unreachable!();
+    };
+    let own = one.entity.own();
     transport.out.clear();
-    let was_due = tick_at(&mut transport.entities, place, now, &mut transport.out)?;
+    let was_due = one
+        .entity
+        .tick_next(now, &mut transport.out, &mut Uncounted)?;
     if !was_due {
         return Ok(false);
     }
-    follow(
-        alloc,
-        carrier,
-        &mut transport.ends,
-        system,
-        &own,
-        &mut transport.out,
-        events,
-    )?;
+    follow(carrier, transport, system, &own, events)?;
     Ok(true)
 }

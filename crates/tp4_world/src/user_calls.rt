@@ -6,22 +6,23 @@ ghost use Rattle.tp4_conn.specs.Calls.{IsCall};
 ghost use Rattle.tp4_conn.specs.End.{IsSized};
 ghost use Rattle.script_journal.specs.declared.event.Event.TheVariants.{No, Restart};
 ghost use Rattle.script_journal.specs.declared.cause.Refused.{Refused as Cause};
-ghost use Rattle.std.specs.List.{position};
 ghost use Rattle.tp4_entity.specs.Entity.{Entity};
-ghost use Rattle.tp4_entity.specs.Step.{restarted, user_refusal};
-ghost use Rattle.tp4_world.specs.Run.{Calls, CallsBy, Connects};
-ghost use Rattle.tp4_world.specs.World.{entity_at, is_of, with_entity};
+ghost use Rattle.tp4_entity.specs.Step.{restarted};
+ghost use Rattle.tp4_world.specs.Run.{Calls, Connects, has_ended};
+ghost use Rattle.tp4_world.specs.World.{entity_at, with_entity};
 ghost use Rattle.tp4_world.specs.steps.Parts.{AreBehind, AreHoused, AreLaterAll, world_of};
 
 use crate::EndAt;
+use crate::ends::Ends;
 use crate::events::{call_event, connect_line, tell_some};
 use crate::refusals::{told_connect, told_refusal};
 use crate::sending::follow;
-use crate::transport::{Transport, connect_at, has_ended, own_at, place_of, restart_at, user_at};
+use crate::transport::{Transport, entity_of};
 use nsap::Nsap;
 use osi_base::{Carrier, NoMemory, Tick};
 use script_journal::{Boxed, Event, Refused, Request};
-use tp4_conn::{ConnectRequest, UserCall};
+use tp4_conn::{ConnectRequest, Uncounted, UserCall};
+use tp4_entity::TpEntity;
 
 /// A user of a system asks for a connection.
 pub fn begin<C: Carrier<Addr = Nsap>>(
@@ -46,19 +47,16 @@ pub fn begin<C: Carrier<Addr = Nsap>>(
     ensures later { OnOk result (AreLaterAll now transport.new.entities.items) }
 {
     let alloc = transport.alloc;
-    let Some(place) = place_of(&transport.entities, system) else {
+    let Some(one) = entity_of(&mut transport.entities, system) else {
         unreachable!();
     };
-    let own = own_at(&transport.entities, place);
+    let own = one.entity.own();
     let line = connect_line(alloc, system, &own, &request)?;
     transport.out.clear();
-    match connect_at(
-        &mut transport.entities,
-        place,
-        now,
-        request,
-        &mut transport.out,
-    ) {
+    match one
+        .entity
+        .connect(now, request, &mut transport.out, &mut Uncounted)
+    {
         Ok(reference) => {
             let end = transport.ends.add(EndAt { system, reference })?;
             let line = Request {
@@ -67,15 +65,7 @@ pub fn begin<C: Carrier<Addr = Nsap>>(
                 ..line
             };
             events.push(Event::Connect(Boxed::new(alloc, line)?))?;
-            follow(
-                alloc,
-                carrier,
-                &mut transport.ends,
-                system,
-                &own,
-                &mut transport.out,
-                events,
-            )?;
+            follow(carrier, transport, system, &own, events)?;
             Ok(())
         }
         Err(why) => {
@@ -102,11 +92,11 @@ pub fn restart(
     ensures behind { OnOk result (AreBehind now transport.new.entities.items) }
     ensures later { OnOk result (AreLaterAll now transport.new.entities.items) }
 {
-    let Some(place) = place_of(&transport.entities, system) else {
+    let Some(one) = entity_of(&mut transport.entities, system) else {
         unreachable!();
     };
     events.push(Event::Restart { system })?;
-    restart_at(&mut transport.entities, place, now);
+    one.entity.restart(now);
     Ok(())
 }
 
@@ -136,79 +126,21 @@ pub fn ask<C: Carrier<Addr = Nsap>>(
         refuse(Some(Refused::NoSuchEnd), events)?;
         return Ok(());
     };
-    let Some(place) = place_of(&transport.entities, end.system) else {
+    let Some(one) = entity_of(&mut transport.entities, end.system) else {
         unreachable!();
     };
-    if has_ended(transport, place, now, number, end) {
+    if has_ended(&transport.ends, now, number, end, &one.entity) {
         refuse(Some(Refused::Ended), events)?;
         return Ok(());
     }
-    ask_at(
-        carrier,
-        transport,
-        place,
-        now,
-        NumberedEnd { number, end },
-        call,
-        events,
-    )?;
-    Ok(())
-}
-
-/// An end with its number.
-#[derive(Clone, Copy)]
-struct NumberedEnd {
-    number: u32,
-    end: EndAt,
-}
-
-/// A user calls an end of the entity at a place, whose reference has not been free since.
-fn ask_at<C: Carrier<Addr = Nsap>>(
-    carrier: &mut C,
-    transport: &mut Transport,
-    place: usize,
-    now: Tick,
-    named: NumberedEnd,
-    call: UserCall,
-    events: &mut Vec<Event>,
-) -> Result<(), NoMemory>
-    requires low { now ≤ 4000000000 }
-    requires clock { (C.link carrier.old).clock ≡ now }
-    requires behind { AreBehind now transport.old.entities.items }
-    requires later { AreLaterAll now transport.old.entities.items }
-    requires place { position (is_of named.end.system) transport.old.entities.items ≡ Some place }
-    requires call { IsCall call }
-    requires none { events.old.items ≡ [] }
-    ensures calls { OnOk result ((entity : Entity) × (entity_at transport.old.entities.items named.end.system ≡ Some entity)
-        × CallsBy C.link C.steps wire (world_of carrier.old transport.old.entities.items transport.old.ends) named.number named.end entity call
-        (user_refusal entity named.end.reference call) events.new.items (world_of carrier.new transport.new.entities.items transport.new.ends)) }
-    ensures clock { OnOk result ((C.link carrier.new).clock ≡ now) }
-    ensures behind { OnOk result (AreBehind now transport.new.entities.items) }
-    ensures later { OnOk result (AreLaterAll now transport.new.entities.items) }
-{
     let alloc = transport.alloc;
-    let own = own_at(&transport.entities, place);
-    let event = call_event(alloc, named.number, &call)?;
+    let own = one.entity.own();
+    let event = call_event(alloc, number, &call)?;
     transport.out.clear();
-    match user_at(
-        &mut transport.entities,
-        place,
-        now,
-        named.end.reference,
-        call,
-        &mut transport.out,
-    ) {
+    match one.entity.user(now, end.reference, call, &mut transport.out, &mut Uncounted) {
         Ok(()) => {
             tell_some(event, events)?;
-            follow(
-                alloc,
-                carrier,
-                &mut transport.ends,
-                named.end.system,
-                &own,
-                &mut transport.out,
-                events,
-            )?;
+            follow(carrier, transport, end.system, &own, events)?;
             Ok(())
         }
         Err(why) => {
@@ -216,6 +148,17 @@ fn ask_at<C: Carrier<Addr = Nsap>>(
             Ok(())
         }
     }
+}
+
+/// Whether the reference of an end has been free since the end was made, or its system began again since.
+#[tactic(auto, using(tp4_entity::proofs::Restarts::no_state))]
+fn has_ended(ends: &Ends, now: Tick, number: u32, end: EndAt, entity: &TpEntity<Uncounted>) -> bool
+    requires { entity.now.clock ≤ now }
+    ensures { result ≡ has_ended now ends.now number end entity.now }
+{
+    let is_latest = ends.latest(end.system, end.reference) == number;
+    let is_gone = entity.state_of(end.reference, &mut Uncounted).is_none();
+    !is_latest || is_gone || entity.is_free(now, end.reference, &mut Uncounted)
 }
 
 /// Tells a refusal; want of memory is none.
