@@ -7,7 +7,7 @@ use Rattle.std.proofs.lemmas.List.Elements.{All-from_recursion}
 use Rattle.nsap.specs.Address.{is_same_system}
 use Rattle.osi_base.specs.declared.unit.Up.{Up}
 use Rattle.osi_base.specs.declared.unit.Up.TheVariants.{Unit as Came, Note as Noted}
-use Rattle.osi_base.specs.Link.{IsGiven, IsNote}
+use Rattle.osi_base.specs.Link.{IsNote}
 use Rattle.osi_base.specs.Calls.{Call, Keeps}
 use Rattle.law_carrier_answers.specs.Answers.{OneStep}
 use Rattle.lan_bag.specs.Bag.{BagStep, link_of, new_bag}
@@ -19,7 +19,7 @@ use Rattle.clnp_system.specs.Setting.{Setting}
 use Rattle.clnp_system.specs.Tables.{rows_tables}
 use Rattle.law_clnp_step.specs.Network.{is_end_of}
 use Rattle.law_clnp_step.specs.Step.{Begins}
-use Rattle.law_clnp_step.proofs.Kept.{net_given as given_of, net_keeps}
+use Rattle.law_clnp_step.proofs.Kept.{net_keeps}
 use Rattle.law_clnp_step.proofs.Passed.{all_ticked}
 use Rattle.law_clnp_step.proofs.Seen.{belongs_same}
 use Rattle.law_clnp_answers.specs.Beginning.{BeginsAs, MayBegin}
@@ -45,10 +45,6 @@ use Rattle.law_setup.proofs.Sending.{no_datagrams}
 -- each call of the network keeps the contract of a carrier
 pub net_law : (old : Net) (call : Call (List ℕ)) (new : Net) → NetDoes old call new → Keeps (link_of_net old) call (link_of_net new)
 net_law = net_keeps link_of BagStep bag_keeps bag_given rows_tables
-
--- what can be taken has a pick that was given
-pub net_given : (net : Net) → IsGiven (link_of_net net)
-net_given = given_of link_of bag_given
 
 -- ---- the network as it starts
 

@@ -9,7 +9,7 @@ use Rattle.std.proofs.lemmas.List.Elements.{All-from_recursion}
 use Rattle.nsap.specs.Address.{is_same_system, system_part}
 use Rattle.nsap.proofs.AddressLemmas.{system_part-append}
 use Rattle.osi_base.specs.Calls.{Call, Keeps}
-use Rattle.osi_base.specs.Link.{IsGiven, IsNote}
+use Rattle.osi_base.specs.Link.{IsNote}
 use Rattle.lan_bag.specs.Bag.{Bag, BagStep, link_of, new_bag}
 use Rattle.lan_bag.specs.Rows.{bound_on}
 use Rattle.lan_bag.specs.steps.Keeping.{bag_given, bag_keeps}
@@ -19,7 +19,7 @@ use Rattle.inactive_step.specs.declared.row.InactiveRow.{InactiveRow}
 use Rattle.inactive_step.specs.Network.{Inactive, new_inactive}
 use Rattle.inactive_step.specs.Rows.{bound_in, is_system_in, row_at}
 use Rattle.inactive_step.proofs.Found.{equal_numbers, found_address}
-use Rattle.inactive_step.proofs.Kept.{inactive_given, inactive_keeps}
+use Rattle.inactive_step.proofs.Kept.{inactive_keeps}
 use Rattle.law_inactive_answers.specs.Standing.{FitsRow, Stands}
 use Rattle.law_inactive_answers.proofs.Always.{begins_serving, serves}
 use Rattle.law_inactive_answers.proofs.Once.{one_net_answer}
@@ -44,12 +44,9 @@ use Rattle.law_setup.proofs.Made.{comes}
 use Rattle.law_setup.proofs.Peopled.{title_there}
 use Rattle.law_setup.proofs.Sending.{no_datagrams}
 
--- each call of the network keeps the contract of a carrier, and what can be taken has a pick that was given
+-- each call of the network keeps the contract of a carrier
 pub subset_law : (old : Inactive Bag) (call : Call (List ℕ)) (new : Inactive Bag) → InactiveDoes old call new → Keeps (link_of_inactive old) call (link_of_inactive new)
 subset_law = inactive_keeps link_of BagStep bag_keeps bag_given
-
-pub subset_given : (net : Inactive Bag) → IsGiven (link_of_inactive net)
-subset_given = inactive_given link_of bag_given
 
 -- ---- the network as it starts
 

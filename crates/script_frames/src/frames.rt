@@ -123,7 +123,7 @@ fn lans(world: &NetWorld) -> Option<&LanBag>
 {
     match world {
         World::SettingUp(_) => None,
-        World::Running(running) => Some(running.ends().carrier().lans()),
+        World::Running(running) => Some(running.ends().carrier().link()),
     }
 }
 

@@ -5,16 +5,12 @@
 #![tactic(auto)]
 
 mod asking;
-mod inactive;
 mod network;
 mod placed;
 mod play;
-mod routed;
 mod transport;
 
-pub use inactive::SubsetNet;
-pub use network::Network;
+pub use network::{Lans, Network, RoutedNet, SubsetNet};
 pub use placed::entities;
 pub use play::{Play, World};
-pub use routed::RoutedNet;
 pub use transport::{TpPlay, run_line};
