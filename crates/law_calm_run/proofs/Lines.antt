@@ -76,18 +76,7 @@ module _ {C : Type 0} (link : C → Link (List ℕ)) (steps : C → Call (List �
   asked lines.Settle script old new hall queue made s none calm proper path all step other = absurd (other refl)
   asked (lines.Inject lan system octets) script old new hall queue made s none calm proper path all step other = absurd calm
   asked (lines.Restart system) script old new hall queue made s none calm proper path all step other = absurd calm
-  asked (lines.Send system selector to called octets) script old new hall queue made s none calm proper path all step other = absurd step
-  asked (lines.Version version) script old new hall queue made s none calm proper path all step other = absurd step
-  asked (lines.Set key value) script old new hall queue made s none calm proper path all step other = absurd step
-  asked (lines.Lan name bound room) script old new hall queue made s none calm proper path all step other = absurd step
-  asked (lines.Es name title) script old new hall queue made s none calm proper path all step other = absurd step
-  asked (lines.Is name title) script old new hall queue made s none calm proper path all step other = absurd step
-  asked (lines.Port system lan snpa) script old new hall queue made s none calm proper path all step other = absurd step
-  asked (lines.Route system prefix hop lan) script old new hall queue made s none calm proper path all step other = absurd step
-  asked (lines.Path name kind systems) script old new hall queue made s none calm proper path all step other = absurd step
-  asked (lines.Tsap system selector) script old new hall queue made s none calm proper path all step other = absurd step
-  asked (lines.Relay system selector to called) script old new hall queue made s none calm proper path all step other = absurd step
-  asked lines.Start script old new hall queue made s none calm proper path all step other = absurd step
+  asked another script old new hall queue made s none calm proper path all step other = absurd step
 
   -- a line, and whether the next one may go
   record Passed (old : Hall) (made : List Event) (new : World C) (script : List Line) : Type 0 where

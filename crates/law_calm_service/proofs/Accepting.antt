@@ -28,7 +28,7 @@ use Rattle.tp4_conn.specs.declared.call.UserCall.TheVariants.{Accept}
 use Rattle.tp4_conn.specs.declared.states.InAkWait.{InAkWait}
 use Rattle.tp4_conn.specs.declared.states.InCrWait.{InCrWait}
 use Rattle.tp4_conn.specs.declared.states.StateData.{StateData}
-use Rattle.tp4_conn.specs.declared.states.StateData.TheVariants.{CrWait, WaitBeforeClose, UserWait, AkWait, Opened, Closing, Frozen}
+use Rattle.tp4_conn.specs.declared.states.StateData.TheVariants.{CrWait, UserWait, AkWait}
 use Rattle.tp4_conn.specs.declared.timers.Timers.{Timers}
 use Rattle.tp4_entity.specs.Association.{met}
 use Rattle.tp4_entity.specs.Entity.{Acted, Entity, at, end_at, moved}
@@ -86,12 +86,7 @@ asked_at reference entity options octets allowed = by_place (end_at entity refer
 
     by_stage : (base : EndRecord) (stage : StateData) → refused_by (call_refusal base stage (Accept options octets)) ≡ None → (since : ℕ) × (stage ≡ UserWait since)
     by_stage base (UserWait since) may = (since, refl)
-    by_stage base (CrWait w) may = absurd (some_none _ may)
-    by_stage base (WaitBeforeClose w) may = absurd (some_none _ may)
-    by_stage base (AkWait w) may = absurd (some_none _ may)
-    by_stage base (Opened o) may = absurd (some_none _ may)
-    by_stage base (Closing c) may = absurd (some_none _ may)
-    by_stage base (Frozen when) may = absurd (some_none _ may)
+    by_stage base other may = absurd (some_none _ may)
 
     by_place : (place : Option End) → end_at entity reference ≡ place → end_refusal (Accept options octets) place ≡ None → IsAsked reference entity
     by_place None is may = absurd (some_none _ may)

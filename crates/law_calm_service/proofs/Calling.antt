@@ -35,11 +35,7 @@ pub data Answers (stage : StateData) : Type 0 where
 pub answers : (stage : StateData) → Answers stage
 answers (stages.CrWait w) = Partners w refl
 answers (stages.UserWait since) = Users since refl
-answers (stages.WaitBeforeClose w) = Nobodys (λ h. h)
-answers (stages.AkWait w) = Nobodys (λ h. h)
-answers (stages.Opened o) = Nobodys (λ h. h)
-answers (stages.Closing c) = Nobodys (λ h. h)
-answers (stages.Frozen when) = Nobodys (λ h. h)
+answers other = Nobodys (λ h. h)
 
 -- two ends of which one may accept
 abbrev pub MayBegin : ℕ → End → End → Options → Type 0

@@ -47,11 +47,6 @@ pub length_map : {A B : Type 0} (f : A → B) (xs : List A) → length (map f xs
 length_map f [] = refl
 length_map f (x ∷ xs) = ap suc (length_map f xs)
 
-pub get_front : {A : Type 0} (xs ys : List A) (k : ℕ) (x : A) → slice_get xs k ≡ Some x → slice_get (xs ++ ys) k ≡ Some x
-get_front [] ys k x is = absurd (none_some x is)
-get_front (z ∷ xs) ys zero x is = is
-get_front (z ∷ xs) ys (suc k) x is = get_front xs ys k x is
-
 pub get_behind : {A : Type 0} (xs : List A) (y : A) (k : ℕ) (x : A) → slice_get (xs ++ y ∷ []) k ≡ Some x → (slice_get xs k ≡ Some x) ⊎ ((k ≡ length xs) × (x ≡ y))
 get_behind [] y zero x is = inr (refl, sym (some_same y x is))
 get_behind [] y (suc k) x is = absurd (none_some x is)

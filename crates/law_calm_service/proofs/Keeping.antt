@@ -28,9 +28,6 @@ use Rattle.law_calm_service.proofs.Ticking.{clocks_keep}
 module _ (titles : List (List ℕ)) where
   -- ---- entities
 
-  have_as : (old new : Hall) → new.entities ≡ old.entities → HaveEntities titles old.entities → HaveEntities titles new.entities
-  have_as old new same have = subst (HaveEntities titles) (sym same) have
-
   have_tick : (old : Hall) (made : List Event) (new : Hall) → TickStep old made new → HaveEntities titles old.entities → HaveEntities titles new.entities
   have_tick old made new (Ticking c) have = subst (λ (h : Hall). HaveEntities titles h.entities) (sym c.does.becomes) (have_after titles old.entities c.system _ have)
   have_tick old made new (Over o) have = subst (λ (h : Hall). HaveEntities titles h.entities) (sym o.becomes) (have_after titles old.entities o.system _ have)

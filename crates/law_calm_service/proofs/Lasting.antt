@@ -14,7 +14,7 @@ use Rattle.tp4_conn.specs.Proper.{IsProper}
 use Rattle.tp4_conn.specs.Table.{Ticked, at as at_tick, due, stepped}
 use Rattle.tp4_conn.specs.declared.end_record.EndRecord.{EndRecord}
 use Rattle.tp4_conn.specs.declared.states.StateData.{StateData}
-use Rattle.tp4_conn.specs.declared.states.StateData.TheVariants.{CrWait, WaitBeforeClose, UserWait, AkWait, Opened, Closing, Frozen}
+use Rattle.tp4_conn.specs.declared.states.StateData.TheVariants.{CrWait, UserWait, Opened, Frozen}
 use Rattle.tp4_conn.specs.declared.timers.Timers.{Timers}
 use Rattle.tp4_entity.specs.Entity.{Entity, end_at, there}
 use Rattle.tp4_entity.specs.References.{was_frozen}
@@ -25,7 +25,7 @@ use Rattle.law_tp4_proper.proofs.Rows.{ticked_later}
 use Rattle.law_tp4_associations.specs.Association.{Association}
 use Rattle.law_tp4_associations.specs.Phase.{Answered, Asking, IsFrozen, IsInUse, IsOver, Late, Leaving, Over, Paired, Phase, Refused, Rejected, Waiting, WillFreeze}
 use Rattle.law_tp4_associations.proofs.Handing.{paired_held}
-use Rattle.law_tp4_associations.proofs.Keeping.{ticks_same}
+use Rattle.law_tp4_rows.proofs.Leaving.{ticks_same}
 use Rattle.law_calm_service.proofs.Story.{IsYoung}
 use Rattle.law_calm_service.proofs.Continuing.{none_some, some_same}
 
@@ -51,27 +51,19 @@ pub kept_is : (m : Moved) (next : Option ℕ) (end : End) → kept_end m next �
 kept_is m None end is = absurd (none_some end is)
 kept_is m (Some tick) end is = sym (some_same (end_of m) end is)
 
-sooner_some : (tick : ℕ) (other : Option ℕ) → sooner (Some tick) other ≡ None → ⊥
-sooner_some tick None is = cc is
-sooner_some tick (Some other) is = cc is
-
 open_due : (took acked : ℕ) (sends : Option ℕ) → sooner (sooner (Some took) (Some acked)) sends ≡ None → ⊥
 open_due took acked None is = cc is
 open_due took acked (Some tick) is = cc is
 
 -- an end without a due tick was frozen for long enough
 no_due : (b : EndRecord) (stage : StateData) → due b stage ≡ None → was_frozen b.clock (frozen_for b.timers) stage ≡ true
-no_due b (CrWait w) is = absurd (cc is)
-no_due b (WaitBeforeClose w) is = absurd (cc is)
-no_due b (UserWait since) is = absurd (cc is)
-no_due b (AkWait w) is = absurd (cc is)
 no_due b (Opened o) is = absurd (open_due (o.took + b.timers.inactive) (o.acked + b.timers.window) (due_of o.halves.sending) is)
-no_due b (Closing c) is = absurd (cc is)
 no_due b (Frozen when) is = by_late (nat_lt (when + frozen_for b.timers) b.clock) is
   where
     by_late : (late : Bool) → (if late then None else Some (when + frozen_for b.timers + 1)) ≡ None → late ≡ true
     by_late true e = refl
     by_late false e = absurd (cc e)
+no_due b other is = absurd (cc is)
 
 kept_none : (m : Moved) (next : Option ℕ) → kept_end m next ≡ None → next ≡ None
 kept_none m None is = refl

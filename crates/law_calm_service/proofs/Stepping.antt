@@ -39,10 +39,6 @@ other_side : (by : Bool) → is_same by (not by) ≡ false
 other_side true = refl
 other_side false = refl
 
-back_side : (by : Bool) → is_same (not by) by ≡ false
-back_side true = refl
-back_side false = refl
-
 own_place : (k : ℕ) → (k == k) ≡ true
 own_place k = eq-eqb k k refl
 
@@ -102,11 +98,7 @@ waits_still : (now : ℕ) (b : EndRecord) (stage : StateData) (tpdu : Tpdu) (sum
     → IsYoung (stepped whole now (record { base = b; stage = stage }) (Took tpdu sum)).stage
 waits_still now b (stages.CrWait w) tpdu sum answered young = absurd (answered w refl)
 waits_still now b (stages.UserWait since) tpdu sum answered young = if_kept (λ (m : Moved). IsYoung m.stage) (wants_sum b (stages.UserWait since) tpdu && not sum) _ _ (λ _. tt) (λ _. tt)
-waits_still now b (stages.WaitBeforeClose w) tpdu sum answered young = absurd young
-waits_still now b (stages.AkWait w) tpdu sum answered young = absurd young
-waits_still now b (stages.Opened o) tpdu sum answered young = absurd young
-waits_still now b (stages.Closing c) tpdu sum answered young = absurd young
-waits_still now b (stages.Frozen when) tpdu sum answered young = absurd young
+waits_still now b other tpdu sum answered young = absurd young
 
 pub two_sides : (ends : List EndAt) (all : List Association) (number : Numbers) (k c d : ℕ) → AreNumbered ends all number → k < length all → number k true ≡ Some c → number k false ≡ Some d → c ≢ d
 two_sides ends all number k c d numbered low c_is d_is same =

@@ -13,7 +13,7 @@ use Rattle.tp4_conn.specs.Matching.{is_called_by}
 use Rattle.tp4_conn.specs.End.{End}
 use Rattle.tp4_conn.specs.Wire.{end_on_wire, stage_on_wire}
 use Rattle.tp4_conn.specs.declared.states.StateData.{StateData}
-use Rattle.tp4_conn.specs.declared.states.StateData.TheVariants.{CrWait, WaitBeforeClose, UserWait, AkWait, Opened, Closing, Frozen}
+use Rattle.tp4_conn.specs.declared.states.StateData.TheVariants.{CrWait}
 use Rattle.tp4_entity.specs.Association.{is_called, is_frozen}
 use Rattle.tp4_entity.specs.Entity.{Entity}
 use Rattle.tp4_entity.specs.Wire.{entity_on_wire}
@@ -31,12 +31,7 @@ use Rattle.law_calm_run.specs.Service.{ConnectsAreIndicated, MayIndicate}
 
 frozen_on : (stage : StateData) → is_frozen (stage_on_wire stage) ≡ is_frozen stage
 frozen_on (CrWait w) = refl
-frozen_on (WaitBeforeClose w) = refl
-frozen_on (UserWait since) = refl
-frozen_on (AkWait w) = refl
-frozen_on (Opened o) = refl
-frozen_on (Closing c) = refl
-frozen_on (Frozen when) = refl
+frozen_on other = refl
 
 called_on : (frozen : Bool) (from : List ℕ) (reference : ℕ) (place : Option End) → is_called frozen from reference (option_map end_on_wire place) ≡ is_called frozen from reference place
 called_on frozen from reference None = refl

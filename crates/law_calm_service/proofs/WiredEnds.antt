@@ -13,7 +13,7 @@ use Rattle.tp4_number.specs.Number.{whole, wire}
 use Rattle.tp4_conn.specs.declared.states.InOpened.{InOpened}
 use Rattle.tp4_conn.specs.declared.states.InCrWait.{InCrWait}
 use Rattle.tp4_conn.specs.declared.states.StateData.{StateData}
-use Rattle.tp4_conn.specs.declared.states.StateData.TheVariants.{CrWait, WaitBeforeClose, UserWait, AkWait, Opened, Closing, Frozen}
+use Rattle.tp4_conn.specs.declared.states.StateData.TheVariants.{CrWait, Opened}
 use Rattle.tp4_conn.specs.End.{End}
 use Rattle.tp4_conn.specs.Wire.{end_on_wire, halves_on_wire, stage_on_wire}
 use Rattle.tp4_entity.specs.Entity.{Entity, end_at, there}
@@ -84,21 +84,11 @@ open_same one other is = cc is
 
 pub upper_open : (stage : StateData) (lower : InOpened) → stage_on_wire stage ≡ Opened lower → IsOpenUpper stage lower
 upper_open (Opened o) lower is = record { opened = o; stage_is = refl; is = sym (open_same (record o { halves = halves_on_wire o.halves }) lower is) }
-upper_open (CrWait w) lower is = absurd cc
-upper_open (WaitBeforeClose w) lower is = absurd cc
-upper_open (UserWait since) lower is = absurd cc
-upper_open (AkWait w) lower is = absurd cc
-upper_open (Closing c) lower is = absurd cc
-upper_open (Frozen when) lower is = absurd cc
+upper_open other lower is = absurd cc
 
 pub upper_waiting : (stage : StateData) (r : InCrWait) → stage_on_wire stage ≡ CrWait r → stage ≡ CrWait r
 upper_waiting (CrWait w) r is = is
-upper_waiting (WaitBeforeClose w) r is = absurd cc
-upper_waiting (UserWait since) r is = absurd cc
-upper_waiting (AkWait w) r is = absurd cc
-upper_waiting (Opened o) r is = absurd cc
-upper_waiting (Closing c) r is = absurd cc
-upper_waiting (Frozen when) r is = absurd cc
+upper_waiting other r is = absurd cc
 
 -- ---- what is shown
 

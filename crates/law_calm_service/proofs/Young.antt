@@ -5,7 +5,7 @@ use Rattle.tpdu.specs.declared.tpdu.Tpdu.{Tpdu}
 use Rattle.tpdu.specs.declared.tpdu.Tpdu.TheVariants as wires
 use Rattle.tp4_number.specs.Number.{whole}
 use Rattle.tp4_number.specs.declared.got.Got.{Got}
-use Rattle.tp4_number.specs.declared.got.Got.TheVariants.{Kept, Old, Outside, TooLarge}
+use Rattle.tp4_number.specs.declared.got.Got.TheVariants.{TooLarge}
 use Rattle.tp4_number.proofs.Past.{if_kept}
 use Rattle.tp4_flow.specs.Half.{Received, dt_arrival, half_granted}
 use Rattle.tp4_flow.specs.declared.rules.Life.{Life}
@@ -56,21 +56,13 @@ IsOld m = IsYoung m.stage → ⊥
 module _ (b : EndRecord) where
   dt_old : (got : Got) (o : InOpened) (r : Received) → IsOld (dt_as got b o r)
   dt_old TooLarge o r = λ h. h
-  dt_old Kept o r = λ h. h
-  dt_old Old o r = λ h. h
-  dt_old Outside o r = λ h. h
+  dt_old other o r = λ h. h
 
   opened_old : (o : InOpened) (tpdu : Tpdu) → IsOld (opened_tpdu whole b o tpdu)
   unfolding opened_tpdu
-  opened_old o (wires.Dr destination source reason info text) = λ h. h
-  opened_old o (wires.Er destination cause rejected) = λ h. h
   opened_old o (wires.Dt destination last number text) = dt_old (dt_arrival o.halves.receiving number (record { last = last; octets = text })).got o _
   opened_old o (wires.Ed destination last number text) = if_kept IsOld (is_expedited b.agreed) _ _ (λ _ h. h) (λ _ h. h)
-  opened_old o (wires.Ak destination number credit subsequence confirmation) = λ h. h
-  opened_old o (wires.Ea destination number) = λ h. h
-  opened_old o (wires.Cc credit destination source width calling called size preferred extra version classes ack_time text) = λ h. h
-  opened_old o (wires.Cr credit source width calling called size preferred extra version classes ack_time text) = λ h. h
-  opened_old o (wires.Dc destination source) = λ h. h
+  opened_old o other = λ h. h
 
   ak_old : (w : InAkWait) (tpdu : Tpdu) → IsOld (ak_wait_tpdu whole b w tpdu)
   unfolding ak_wait_tpdu
@@ -78,8 +70,6 @@ module _ (b : EndRecord) where
   ak_old w (wires.Dt destination last number text) = opened_old _ (wires.Dt destination last number text)
   ak_old w (wires.Ed destination last number text) = opened_old _ (wires.Ed destination last number text)
   ak_old w (wires.Ea destination number) = opened_old _ (wires.Ea destination number)
-  ak_old w (wires.Dr destination source reason info text) = λ h. h
-  ak_old w (wires.Er destination cause rejected) = λ h. h
   ak_old w other = λ h. h
 
   cr_follows : (w : InCrWait) (tpdu : Tpdu) → Follows (stages.CrWait w) (cr_wait_tpdu b w tpdu)
@@ -92,13 +82,11 @@ module _ (b : EndRecord) where
   parting_old : (w : InWaitBeforeClose) (tpdu : Tpdu) → IsOld (wait_before_close_tpdu b w tpdu)
   unfolding wait_before_close_tpdu
   parting_old w (wires.Cc credit destination source width calling called size preferred extra version classes ack_time text) = λ h. h
-  parting_old w (wires.Dr destination source reason info text) = λ h. h
   parting_old w other = λ h. h
 
   closing_old : (c : InClosing) (tpdu : Tpdu) → IsOld (closing_tpdu b c tpdu)
   unfolding closing_tpdu
   closing_old c (wires.Dc destination source) = λ h. h
-  closing_old c (wires.Dr destination source cause info text) = λ h. h
   closing_old c other = λ h. h
 
   tpdu_follows : (stage : StateData) (tpdu : Tpdu) → Follows stage (on_tpdu whole b stage tpdu)
@@ -174,24 +162,16 @@ module _ (b : EndRecord) where
   call_follows (stages.AkWait w) (calls.Normal unit) = λ h. h
   call_follows (stages.AkWait w) (calls.Urgent unit) = λ h. h
   call_follows (stages.AkWait w) (calls.Disconnect octets) = λ h. h
-  call_follows (stages.AkWait w) call = λ h. h
   call_follows (stages.Opened o) (calls.Normal unit) = λ h. h
   call_follows (stages.Opened o) (calls.Urgent unit) = λ h. h
   call_follows (stages.Opened o) (calls.Window credit) = window_old o credit
   call_follows (stages.Opened o) (calls.Disconnect octets) = λ h. h
-  call_follows (stages.Opened o) call = λ h. h
-  call_follows (stages.WaitBeforeClose w) call = λ h. h
-  call_follows (stages.Closing c) call = λ h. h
-  call_follows (stages.Frozen when) call = λ h. h
+  call_follows other call = λ h. h
 
 untaken_follows : (stage : StateData) (m : Moved) → m.stage ≡ stage → shown_in m.events ≡ [] → Follows stage m
 untaken_follows (stages.CrWait w) m same none = λ h. (subst IsCalling (sym same) tt, none)
 untaken_follows (stages.UserWait since) m same none = λ h. (same, none)
-untaken_follows (stages.WaitBeforeClose w) m same none = λ h. subst IsYoung same h
-untaken_follows (stages.AkWait w) m same none = λ h. subst IsYoung same h
-untaken_follows (stages.Opened o) m same none = λ h. subst IsYoung same h
-untaken_follows (stages.Closing c) m same none = λ h. subst IsYoung same h
-untaken_follows (stages.Frozen when) m same none = λ h. subst IsYoung same h
+untaken_follows other m same none = λ h. subst IsYoung same h
 
 follows : (now : ℕ) (e : End) (event : Event) → Follows e.stage (stepped whole now e event)
 follows now e (Called call) = call_follows (at_tick now e.base) e.stage call
@@ -207,11 +187,7 @@ IsAllowed e other = Prim.Unit {0}
 young_before : (stage : StateData) (m : Moved) → Follows stage m → IsYoung m.stage → IsYoung stage × (shown_in m.events ≡ [])
 young_before (stages.CrWait w) m f h = (tt, (f h).1)
 young_before (stages.UserWait since) m f h = (tt, (f h).1)
-young_before (stages.WaitBeforeClose w) m f h = absurd (f h)
-young_before (stages.AkWait w) m f h = absurd (f h)
-young_before (stages.Opened o) m f h = absurd (f h)
-young_before (stages.Closing c) m f h = absurd (f h)
-young_before (stages.Frozen when) m f h = absurd (f h)
+young_before other m f h = absurd (f h)
 
 -- such an end is given no unit
 none_given : (b : EndRecord) (stage : StateData) (call : UserCall) → IsYoung stage → call_refusal b stage call ≡ None → given (Called call) ≡ []
@@ -231,8 +207,7 @@ none_given b stage (calls.Disconnect octets) young allowed = refl
 
 gives_none : (e : End) (event : Event) → IsYoung e.stage → IsAllowed e event → given event ≡ []
 gives_none e (Called call) young allowed = none_given e.base e.stage call young allowed
-gives_none e (Took tpdu sum) young allowed = refl
-gives_none e Ticked young allowed = refl
+gives_none e other young allowed = refl
 
 -- an end that is still to be answered after a row was so before it, was given nothing and showed nothing
 pub row_young : (now : ℕ) (e : End) (event : Event) → IsYoung (stepped whole now e event).stage → IsAllowed e event
@@ -241,30 +216,11 @@ row_young now e event young allowed =
     let before = young_before e.stage (stepped whole now e event) (follows now e event) young in
     (before.0, gives_none e event before.0 allowed, before.1)
 
--- a called end that is still to be answered waits since the same tick
-waits_before : (stage : StateData) (m : Moved) (since : ℕ) → Follows stage m → m.stage ≡ stages.UserWait since → stage ≡ stages.UserWait since
-waits_before (stages.CrWait w) m since f is = absurd (subst IsCalling is (f (subst IsYoung (sym is) tt)).0)
-waits_before (stages.UserWait before) m since f is =
-    let same : m.stage ≡ stages.UserWait before = (f (subst IsYoung (sym is) tt)).0 in
-    sym same ∙ is
-waits_before (stages.WaitBeforeClose w) m since f is = absurd (f (subst IsYoung (sym is) tt))
-waits_before (stages.AkWait w) m since f is = absurd (f (subst IsYoung (sym is) tt))
-waits_before (stages.Opened o) m since f is = absurd (f (subst IsYoung (sym is) tt))
-waits_before (stages.Closing c) m since f is = absurd (f (subst IsYoung (sym is) tt))
-waits_before (stages.Frozen when) m since f is = absurd (f (subst IsYoung (sym is) tt))
-
-pub row_young_stays : (now : ℕ) (e : End) (event : Event) (since : ℕ) → (stepped whole now e event).stage ≡ stages.UserWait since → e.stage ≡ stages.UserWait since
-row_young_stays now e event since is = waits_before e.stage (stepped whole now e event) since (follows now e event) is
-
 -- an end that waits for the answer to its CR did so before
 calls_before : (stage : StateData) (m : Moved) (now_waits : InCrWait) → Follows stage m → m.stage ≡ stages.CrWait now_waits → (w : InCrWait) × (stage ≡ stages.CrWait w)
 calls_before (stages.CrWait w) m r f is = (w, refl)
 calls_before (stages.UserWait since) m r f is = absurd (subst IsCalling (sym is ∙ (f (subst IsYoung (sym is) tt)).0) tt)
-calls_before (stages.WaitBeforeClose w) m r f is = absurd (f (subst IsYoung (sym is) tt))
-calls_before (stages.AkWait w) m r f is = absurd (f (subst IsYoung (sym is) tt))
-calls_before (stages.Opened o) m r f is = absurd (f (subst IsYoung (sym is) tt))
-calls_before (stages.Closing c) m r f is = absurd (f (subst IsYoung (sym is) tt))
-calls_before (stages.Frozen when) m r f is = absurd (f (subst IsYoung (sym is) tt))
+calls_before other m r f is = absurd (f (subst IsYoung (sym is) tt))
 
 pub row_calls : (now : ℕ) (e : End) (event : Event) (r : InCrWait) → (stepped whole now e event).stage ≡ stages.CrWait r → (w : InCrWait) × (e.stage ≡ stages.CrWait w)
 row_calls now e event r is = calls_before e.stage (stepped whole now e event) r (follows now e event) is

@@ -1,11 +1,11 @@
 -- One system by the hellos that it heard: it finds the same hops, for what its rows know is what the hellos make known; so it does the
 -- same, and what it hears both know then.
 use Rattle.std.proofs.Common.{◌≡◌, ℕ, ◌+◌, ◌<◌, ◌≤◌, Bool, true, false, List, [], ◌∷◌, ◌++◌, Option, Some, None, Result, Ok, Err, refl, sym, ◌∙◌, ap, subst, arith}
-use Rattle.std.specs.Prelude.{nat_eq, nat_le, nat_lt, not, ◌&&◌, ◌||◌, if◌then◌else◌, length}
+use Rattle.std.specs.Prelude.{nat_eq, nat_le, nat_lt, not, ◌||◌, if◌then◌else◌, length}
 use Rattle.std.specs.Cmp.Lexicographic.{pointwise, same_text, nat_list_cmp_total, nat_list_eq_equiv, slice_cmp}
 use Rattle.std.specs.Ordering.{is_gt, nat_cmp, ordering_reverse}
 use Rattle.std.specs.declared.cmp.Ordering.{Ordering}
-use Rattle.std.specs.declared.cmp.Ordering.TheVariants.{Less, Equal, Greater}
+use Rattle.std.specs.declared.cmp.Ordering.TheVariants.{Greater}
 use Rattle.std.proofs.lemmas.Bool.{not-true, or_parts}
 use Rattle.std.proofs.lemmas.Bool.Decides.{nat_tests}
 use Rattle.std.proofs.lemmas.Cmp.{upto, tied_itself}
@@ -66,9 +66,8 @@ upto_upto first second third one two =
     (not-true (is_gt (slice_cmp nat_cmp second third)) two))
 
 turned : (o : Ordering) → not (is_gt o) ≡ false → not (is_gt (ordering_reverse o)) ≡ true
-turned Less is = absurd cc
-turned Equal is = absurd cc
 turned Greater is = refl
+turned other is = absurd cc
 
 other_upto : (first second : List ℕ) → is_upto first second ≡ false → is_upto second first ≡ true
 other_upto first second is = ap (λ (o : Ordering). not (is_gt o)) (nat_list_cmp_total.antisymm second first) ∙ turned (slice_cmp nat_cmp first second) is
@@ -297,8 +296,7 @@ module _ (node : Node Rows) (neighbours redirects : List Told) (now : ℕ) (by_n
         → JoinGives hello_tables other now frame pdu answer reaction
     gives_same frame pdu joined.Interference reaction h = discards_same (discarded_pdu frame pdu ReassemblyInterference 0) reaction h
     gives_same frame pdu joined.Full reaction h = discards_same (discarded_pdu frame pdu Congestion 0) reaction h
-    gives_same frame pdu (joined.Whole octets) reaction h = h
-    gives_same frame pdu joined.Held reaction h = h
+    gives_same frame pdu other reaction h = h
 
     onward_same : (frame : Frame) (pdu : Pdu) (hop : Hop) (discarded : Discarded) (reaction : Reaction) → GoesOnward rows_tables node now frame pdu hop discarded reaction
         → GoesOnward hello_tables other now frame pdu hop discarded reaction

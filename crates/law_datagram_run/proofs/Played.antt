@@ -115,17 +115,7 @@ module _ {N : Type 0} (link : N → Link (List ℕ)) (steps : N → Call (List �
   may_run names titles world (lines.Unit system to wish octets) listed of_it named runs = absurd of_it
   may_run names titles world (lines.Inject lan system octets) listed of_it named runs = absurd of_it
   may_run names titles world (lines.Restart system) listed of_it named runs = absurd of_it
-  may_run names titles world (lines.Version version) listed of_it named runs = absurd runs
-  may_run names titles world (lines.Set key value) listed of_it named runs = absurd runs
-  may_run names titles world (lines.Lan name bound room) listed of_it named runs = absurd runs
-  may_run names titles world (lines.Es name title) listed of_it named runs = absurd runs
-  may_run names titles world (lines.Is name title) listed of_it named runs = absurd runs
-  may_run names titles world (lines.Port system lan snpa) listed of_it named runs = absurd runs
-  may_run names titles world (lines.Route system prefix next lan) listed of_it named runs = absurd runs
-  may_run names titles world (lines.Path name kind systems) listed of_it named runs = absurd runs
-  may_run names titles world (lines.Tsap system selector) listed of_it named runs = absurd runs
-  may_run names titles world (lines.Relay system selector to called) listed of_it named runs = absurd runs
-  may_run names titles world lines.Start listed of_it named runs = absurd runs
+  may_run names titles world other listed of_it named runs = absurd runs
 
   -- ---- a line and the call that it is
 
@@ -140,27 +130,7 @@ module _ {N : Type 0} (link : N → Link (List ℕ)) (steps : N → Call (List �
   ran titles old lines.Tick made new h = Called Ticking h
   ran titles old lines.Settle made new h = Called Settling h
   ran titles old (lines.Deliver number system) made new h = Called (Delivering number system) h
-  ran titles old (lines.Connect system selector to called options octets) made new h = absurd h
-  ran titles old (lines.Accept end options octets) made new h = absurd h
-  ran titles old (lines.Refuse end octets) made new h = absurd h
-  ran titles old (lines.Disconnect end octets) made new h = absurd h
-  ran titles old (lines.Data end octets) made new h = absurd h
-  ran titles old (lines.Expedite end octets) made new h = absurd h
-  ran titles old (lines.Window end credit) made new h = absurd h
-  ran titles old (lines.Unit system to wish octets) made new h = absurd h
-  ran titles old (lines.Inject lan system octets) made new h = absurd h
-  ran titles old (lines.Restart system) made new h = absurd h
-  ran titles old (lines.Version version) made new h = absurd h
-  ran titles old (lines.Set key value) made new h = absurd h
-  ran titles old (lines.Lan name bound room) made new h = absurd h
-  ran titles old (lines.Es name title) made new h = absurd h
-  ran titles old (lines.Is name title) made new h = absurd h
-  ran titles old (lines.Port system lan snpa) made new h = absurd h
-  ran titles old (lines.Route system prefix next lan) made new h = absurd h
-  ran titles old (lines.Path name kind systems) made new h = absurd h
-  ran titles old (lines.Tsap system selector) made new h = absurd h
-  ran titles old (lines.Relay system selector to called) made new h = absurd h
-  ran titles old lines.Start made new h = absurd h
+  ran titles old other made new h = absurd h
 
   -- ---- a line that is no event line
 
@@ -170,27 +140,7 @@ module _ {N : Type 0} (link : N → Link (List ℕ)) (steps : N → Call (List �
   tells_nothing titles old lines.Tick made new placed h = absurd (false≢true placed)
   tells_nothing titles old lines.Settle made new placed h = absurd (false≢true placed)
   tells_nothing titles old (lines.Deliver number system) made new placed h = absurd (false≢true placed)
-  tells_nothing titles old (lines.Connect system selector to called options octets) made new placed h = absurd h
-  tells_nothing titles old (lines.Accept end options octets) made new placed h = absurd h
-  tells_nothing titles old (lines.Refuse end octets) made new placed h = absurd h
-  tells_nothing titles old (lines.Disconnect end octets) made new placed h = absurd h
-  tells_nothing titles old (lines.Data end octets) made new placed h = absurd h
-  tells_nothing titles old (lines.Expedite end octets) made new placed h = absurd h
-  tells_nothing titles old (lines.Window end credit) made new placed h = absurd h
-  tells_nothing titles old (lines.Unit system to wish octets) made new placed h = absurd h
-  tells_nothing titles old (lines.Inject lan system octets) made new placed h = absurd h
-  tells_nothing titles old (lines.Restart system) made new placed h = absurd h
-  tells_nothing titles old (lines.Version version) made new placed h = absurd h
-  tells_nothing titles old (lines.Set key value) made new placed h = absurd h
-  tells_nothing titles old (lines.Lan name bound room) made new placed h = absurd h
-  tells_nothing titles old (lines.Es name title) made new placed h = absurd h
-  tells_nothing titles old (lines.Is name title) made new placed h = absurd h
-  tells_nothing titles old (lines.Port system lan snpa) made new placed h = absurd h
-  tells_nothing titles old (lines.Route system prefix next lan) made new placed h = absurd h
-  tells_nothing titles old (lines.Path name kind systems) made new placed h = absurd h
-  tells_nothing titles old (lines.Tsap system selector) made new placed h = absurd h
-  tells_nothing titles old (lines.Relay system selector to called) made new placed h = absurd h
-  tells_nothing titles old lines.Start made new placed h = absurd h
+  tells_nothing titles old other made new placed h = absurd h
 
 abbrev first_run : {N : Type 0} → SetUp → World N → DatagramRun N
 first_run setup world = record { titles = titles_of setup; life = setup.life; world = world }
@@ -213,27 +163,7 @@ module _ {N : Type 0} (link : N → Link (List ℕ)) (steps : N → Call (List �
   one_line titles old lines.Tick made other new last a b = one_of old Ticking made other new last a b
   one_line titles old lines.Settle made other new last a b = one_of old Settling made other new last a b
   one_line titles old (lines.Deliver number system) made other new last a b = one_of old (Delivering number system) made other new last a b
-  one_line titles old (lines.Connect system selector to called options octets) made other new last a b = absurd a
-  one_line titles old (lines.Accept end options octets) made other new last a b = absurd a
-  one_line titles old (lines.Refuse end octets) made other new last a b = absurd a
-  one_line titles old (lines.Disconnect end octets) made other new last a b = absurd a
-  one_line titles old (lines.Data end octets) made other new last a b = absurd a
-  one_line titles old (lines.Expedite end octets) made other new last a b = absurd a
-  one_line titles old (lines.Window end credit) made other new last a b = absurd a
-  one_line titles old (lines.Unit system to wish octets) made other new last a b = absurd a
-  one_line titles old (lines.Inject lan system octets) made other new last a b = absurd a
-  one_line titles old (lines.Restart system) made other new last a b = absurd a
-  one_line titles old (lines.Version version) made other new last a b = absurd a
-  one_line titles old (lines.Set key value) made other new last a b = absurd a
-  one_line titles old (lines.Lan name bound room) made other new last a b = absurd a
-  one_line titles old (lines.Es name title) made other new last a b = absurd a
-  one_line titles old (lines.Is name title) made other new last a b = absurd a
-  one_line titles old (lines.Port system lan snpa) made other new last a b = absurd a
-  one_line titles old (lines.Route system prefix next lan) made other new last a b = absurd a
-  one_line titles old (lines.Path name kind systems) made other new last a b = absurd a
-  one_line titles old (lines.Tsap system selector) made other new last a b = absurd a
-  one_line titles old (lines.Relay system selector to called) made other new last a b = absurd a
-  one_line titles old lines.Start made other new last a b = absurd a
+  one_line titles old another made other new last a b = absurd a
 
   -- ---- some run
 
@@ -286,27 +216,7 @@ module _ {N : Type 0} (link : N → Link (List ℕ)) (steps : N → Call (List �
   goes_on names titles old (lines.Deliver number system) own listed named serves may are =
       let h = called old (Delivering number system) serves tt in
       record { made = h.made; new = h.new; runs = h.runs; serves = h.stands; same = h.same }
-  goes_on names titles old (lines.Connect system selector to called options octets) own listed named serves may are = absurd may
-  goes_on names titles old (lines.Accept end options octets) own listed named serves may are = absurd may
-  goes_on names titles old (lines.Refuse end octets) own listed named serves may are = absurd may
-  goes_on names titles old (lines.Disconnect end octets) own listed named serves may are = absurd may
-  goes_on names titles old (lines.Data end octets) own listed named serves may are = absurd may
-  goes_on names titles old (lines.Expedite end octets) own listed named serves may are = absurd may
-  goes_on names titles old (lines.Window end credit) own listed named serves may are = absurd may
-  goes_on names titles old (lines.Unit system to wish octets) own listed named serves may are = absurd may
-  goes_on names titles old (lines.Inject lan system octets) own listed named serves may are = absurd may
-  goes_on names titles old (lines.Restart system) own listed named serves may are = absurd may
-  goes_on names titles old (lines.Version version) own listed named serves may are = absurd may
-  goes_on names titles old (lines.Set key value) own listed named serves may are = absurd may
-  goes_on names titles old (lines.Lan name bound room) own listed named serves may are = absurd may
-  goes_on names titles old (lines.Es name title) own listed named serves may are = absurd may
-  goes_on names titles old (lines.Is name title) own listed named serves may are = absurd may
-  goes_on names titles old (lines.Port system lan snpa) own listed named serves may are = absurd may
-  goes_on names titles old (lines.Route system prefix next lan) own listed named serves may are = absurd may
-  goes_on names titles old (lines.Path name kind systems) own listed named serves may are = absurd may
-  goes_on names titles old (lines.Tsap system selector) own listed named serves may are = absurd may
-  goes_on names titles old (lines.Relay system selector to called) own listed named serves may are = absurd may
-  goes_on names titles old lines.Start own listed named serves may are = absurd may
+  goes_on names titles old other own listed named serves may are = absurd may
 
   -- ---- the start
 

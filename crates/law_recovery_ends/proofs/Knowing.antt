@@ -1,9 +1,9 @@
 -- Over each row of an end: what its sending half knows is what it began with, or what an AK said.
-use Rattle.std.proofs.Common.{◌≡◌, inl, inr, ℕ, ◌+◌, ◌==◌, ◌&&◌, not, nat_le, nat_lt, Bool, Some, refl, ◌∙◌, arith}
+use Rattle.std.proofs.Common.{◌≡◌, inl, inr, ℕ, ◌+◌, ◌==◌, ◌&&◌, not, nat_le, Bool, Some, refl, ◌∙◌, arith}
 use Rattle.tpdu.specs.declared.tpdu.Tpdu.{Tpdu}
-use Rattle.tpdu.specs.declared.tpdu.Tpdu.TheVariants.{Cr, Cc, Dr, Dc, Dt, Ed, Ak, Ea, Er}
+use Rattle.tpdu.specs.declared.tpdu.Tpdu.TheVariants.{Cc, Dr, Dt, Ed, Ak, Ea, Er}
 use Rattle.tp4_number.specs.declared.got.Got.{Got}
-use Rattle.tp4_number.specs.declared.got.Got.TheVariants.{Kept, Old, Outside, TooLarge}
+use Rattle.tp4_number.specs.declared.got.Got.TheVariants.{TooLarge}
 use Rattle.tp4_number.specs.declared.piece.Piece.{Piece}
 use Rattle.tp4_number.specs.Formats.{block_of}
 use Rattle.tp4_number.specs.Number.{near}
@@ -14,25 +14,20 @@ use Rattle.tp4_flow.specs.declared.rules.Life.{Life}
 use Rattle.tp4_flow.specs.declared.rules.Life.TheVariants.{Goes, Exhausted}
 use Rattle.tp4_sending.specs.FlowSender.{FlowSender, at, block_in, fresh, life_of, opened}
 use Rattle.tp4_conn.specs.declared.call.UserCall.{UserCall}
-use Rattle.tp4_conn.specs.declared.call.UserCall.TheVariants.{Accept, Refuse, Normal, Urgent, Window, Disconnect}
+use Rattle.tp4_conn.specs.declared.call.UserCall.TheVariants.{Normal, Urgent, Window, Disconnect}
 use Rattle.tp4_conn.specs.declared.end_record.EndRecord.{EndRecord}
 use Rattle.tp4_conn.specs.declared.states.InAkWait.{InAkWait}
-use Rattle.tp4_conn.specs.declared.states.InClosing.{InClosing}
 use Rattle.tp4_conn.specs.declared.states.InCrWait.{InCrWait}
 use Rattle.tp4_conn.specs.declared.states.InOpened.{InOpened}
-use Rattle.tp4_conn.specs.declared.states.InWaitBeforeClose.{InWaitBeforeClose}
 use Rattle.tp4_conn.specs.declared.states.StateData.{StateData}
-use Rattle.tp4_conn.specs.declared.states.StateData.TheVariants.{CrWait, WaitBeforeClose, UserWait, AkWait, Opened, Closing, Frozen}
-use Rattle.tp4_conn.specs.Agreeing.{flow_rules, is_within, options_in}
-use Rattle.tp4_conn.specs.AkWait.{ak_wait_tick, ak_wait_tpdu, opening}
-use Rattle.tp4_conn.specs.Closing.{closing_tick, closing_tpdu}
-use Rattle.tp4_conn.specs.CrWait.{cr_wait_tick, cr_wait_tpdu}
-use Rattle.tp4_conn.specs.End.{End, Moved, span}
+use Rattle.tp4_conn.specs.declared.states.StateData.TheVariants.{CrWait, UserWait, AkWait, Opened}
+use Rattle.tp4_conn.specs.Agreeing.{flow_rules, options_in}
+use Rattle.tp4_conn.specs.AkWait.{opening}
+use Rattle.tp4_conn.specs.End.{End, Moved}
 use Rattle.tp4_conn.specs.Matching.{wants_sum}
 use Rattle.tp4_conn.specs.Opened.{dt_as, hearing, is_expedited, opened_as, opened_tick, opened_tpdu}
 use Rattle.tp4_conn.specs.Table.{Called, Event, Ticked, Took, at as now_at, on_call, on_tick, on_tpdu, stepped}
-use Rattle.tp4_conn.specs.UserWait.{user_wait_accept, user_wait_refuse, user_wait_tick}
-use Rattle.tp4_conn.specs.WaitBeforeClose.{wait_before_close_tick, wait_before_close_tpdu}
+use Rattle.law_tp4_rows.proofs.RowsWithout.{HasNone, OpensBy, ak_wait_later, ak_wait_row, call_without, cr_wait_row, tick_without, tpdu_without, user_wait_call}
 use Rattle.law_tp4_credit.proofs.GivingRows.{knows_at}
 use Rattle.law_tp4_credit.specs.Giving.{EventGives, Gives, GivesCredit, KnowsCredit}
 use Rattle.law_recovery_pair.specs.Viewing.{IsWithin, KeepsView}
@@ -72,7 +67,6 @@ module _ (credit : ℕ) where
 
       opened_view : (tpdu : Tpdu) (sum : Bool) → View (Took tpdu sum) (opened_tpdu wrap b (hearing b o) tpdu)
       unfolding opened_tpdu
-      opened_view (Cc given destination source width calling called size preferred extra version classes ack_time text) sum = inl (same_view s e)
       opened_view (Dr destination source reason info text) sum = tt
       opened_view (Er destination cause rejected) sum = tt
       opened_view (Dt destination last number text) sum =
@@ -81,9 +75,7 @@ module _ (credit : ℕ) where
         where
           by : (got : Got) (r : Received) → View (Took (Dt destination last number text) sum) (dt_as got b (hearing b o) r)
           by TooLarge r = tt
-          by Kept r = inl (same_view s e)
-          by Old r = inl (same_view s e)
-          by Outside r = inl (same_view s e)
+          by other r = inl (same_view s e)
       opened_view (Ed destination last number text) sum = if_kept (View (Took (Ed destination last number text) sum)) (is_expedited b.agreed) _ _ (λ _. inl (same_view s e)) (λ _. tt)
       opened_view (Ak destination number given subsequence confirmation) sum = elim (ak_keep (at b.clock s) number given subsequence e) [
         | inl takes ↦ inr (record {
@@ -100,8 +92,7 @@ module _ (credit : ℕ) where
         | inr k ↦ inl (keeps _ k)
       ]
       opened_view (Ea destination number) sum = inl (keeps _ (done_keep (at b.clock s) number e))
-      opened_view (Cr given source width calling called size preferred extra version classes ack_time text) sum = inl (same_view s e)
-      opened_view (Dc destination source) sum = inl (same_view s e)
+      opened_view other sum = inl (same_view s e)
 
       opened_later : View Ticked (opened_tick b o)
       unfolding opened_tick
@@ -121,8 +112,7 @@ module _ (credit : ℕ) where
           let new : Half = half_granted o.halves.receiving granted in
           if_kept (View (Called (Window granted))) (new.receiver.inbox.credit == o.halves.receiving.receiver.inbox.credit) _ _ (λ _. inl (same_view s e)) (λ _. inl (same_view s e))
       opened_call (Disconnect octets) = tt
-      opened_call (Accept options octets) = inl (same_view s e)
-      opened_call (Refuse octets) = inl (same_view s e)
+      opened_call other = inl (same_view s e)
 
     -- ---- AkWait
 
@@ -148,7 +138,6 @@ module _ (credit : ℕ) where
 
       opening_view : (tpdu : Tpdu) (sum : Bool) → Views (Took tpdu sum) (opening wrap b w.halves tpdu)
       unfolding opened_tpdu
-      opening_view (Cc given destination source width calling called size preferred extra version classes ack_time text) sum = inl f1
       opening_view (Dr destination source reason info text) sum = tt
       opening_view (Er destination cause rejected) sum = tt
       opening_view (Dt destination last number text) sum =
@@ -160,9 +149,7 @@ module _ (credit : ℕ) where
 
           by : (got : Got) (r : Received) → Views (Took (Dt destination last number text) sum) (dt_as got b o r)
           by TooLarge r = tt
-          by Kept r = inl f1
-          by Old r = inl f1
-          by Outside r = inl f1
+          by other r = inl f1
       opening_view (Ed destination last number text) sum = if_kept (Views (Took (Ed destination last number text) sum)) (is_expedited b.agreed) _ _ (λ _. inl f1) (λ _. tt)
       opening_view (Ak destination number given subsequence confirmation) sum = elim (ak_keep (at b.clock s1) number given subsequence f1.edge) [
         | inl takes ↦ inr (record {
@@ -179,141 +166,61 @@ module _ (credit : ℕ) where
         | inr keep ↦ inl (fresh_on s1 _ (at_view b.clock s1 _ keep) f1)
       ]
       opening_view (Ea destination number) sum = inl (fresh_on s1 _ (at_view b.clock s1 _ (done_keep (at b.clock s1) number f1.edge)) f1)
-      opening_view (Cr given source width calling called size preferred extra version classes ack_time text) sum = inl f1
-      opening_view (Dc destination source) sum = inl f1
-
-      ak_wait_view : (tpdu : Tpdu) (sum : Bool) → Views (Took tpdu sum) (ak_wait_tpdu wrap b w tpdu)
-      unfolding ak_wait_tpdu
-      ak_wait_view (Ak destination number given subsequence confirmation) sum = opening_view (Ak destination number given subsequence confirmation) sum
-      ak_wait_view (Dt destination last number text) sum = opening_view (Dt destination last number text) sum
-      ak_wait_view (Ed destination last number text) sum = opening_view (Ed destination last number text) sum
-      ak_wait_view (Ea destination number) sum = opening_view (Ea destination number) sum
-      ak_wait_view (Dr destination source reason info text) sum = tt
-      ak_wait_view (Er destination cause rejected) sum = tt
-      ak_wait_view (Cr given source width calling called size preferred extra version classes ack_time text) sum = f
-      ak_wait_view (Cc given destination source width calling called size preferred extra version classes ack_time text) sum = f
-      ak_wait_view (Dc destination source) sum = f
-
-      ak_wait_later : Views Ticked (ak_wait_tick b w)
-      unfolding ak_wait_tick
-      ak_wait_later =
-          if_kept (Views Ticked) (nat_lt b.clock (w.tries.last + b.timers.t1)) _ _ (λ _. f)
-          (λ _. if_kept (Views Ticked) (nat_lt w.tries.count b.timers.sendings) _ _ (λ _. f) (λ _. tt))
+      opening_view other sum = inl f1
 
       ak_wait_call : (call : UserCall) → Views (Called call) (on_call b (AkWait w) call)
       ak_wait_call (Normal unit) = fresh_on (at b.clock k) _ (submit_keep (at b.clock k) unit f.edge) (at_fresh b.clock k f)
       ak_wait_call (Urgent unit) = fresh_on (at b.clock k) _ (urge_keep (at b.clock k) unit f.edge) (at_fresh b.clock k f)
-      ak_wait_call (Window granted) = f
       ak_wait_call (Disconnect octets) = tt
-      ak_wait_call (Accept options octets) = f
-      ak_wait_call (Refuse octets) = f
+      ak_wait_call other = f
 
     -- ---- the others
 
     abbrev Row : StateData → Event → Moved → Type 0
     Row old event m = RowKnows credit old event m.stage
 
-    cr_wait_view : (w : InCrWait) (tpdu : Tpdu) (sum : Bool) → GivesCredit credit tpdu → Row (CrWait w) (Took tpdu sum) (cr_wait_tpdu b w tpdu)
-    unfolding cr_wait_tpdu
-    cr_wait_view w (Cc given destination source width calling called size preferred extra version classes ack_time text) sum is =
-        if_kept (Row (CrWait w) (Took (Cc given destination source width calling called size preferred extra version classes ack_time text) sum)) (is_within b.proposed width size preferred extra) _ _
-        (λ _.
+    -- of a state without halves nothing is asked
+    none_view : (old : StateData) (event : Event) (m : Moved) → HasNone m.stage → Row old event m
+    none_view old event m none = by m.stage none
+      where
+        by : (stage : StateData) → HasNone stage → RowKnows credit old event stage
+        by (AkWait w) none = absurd none
+        by (Opened o) none = absurd none
+        by other none = tt
+
+    opens_view : (w : InCrWait) (tpdu : Tpdu) (sum : Bool) → GivesCredit credit tpdu → OpensBy b (Row (CrWait w) (Took tpdu sum)) tpdu
+    opens_view w (Cc given destination source width calling called size preferred extra version classes ack_time text) sum is =
         let c : EndRecord = record b { partner = source; credit = given; agreed = Some (options_in width size preferred extra) } in
         let s0 : FlowSender = fresh (flow_rules c (options_in width size preferred extra)) given in
-        fresh_on (at b.clock s0) _ (open_keep (at b.clock s0) (omega arith)) (at_fresh b.clock s0 (fresh_begins _ given is)))
-        (λ _. tt)
-    cr_wait_view w (Dr destination source reason info text) sum is = tt
-    cr_wait_view w other sum is = tt
-
-    cr_wait_later : (w : InCrWait) → Row (CrWait w) Ticked (cr_wait_tick b w)
-    unfolding cr_wait_tick
-    cr_wait_later w =
-        if_kept (Row (CrWait w) Ticked) (nat_lt b.clock (w.tries.last + b.timers.t1)) _ _ (λ _. tt)
-        (λ _. if_kept (Row (CrWait w) Ticked) (nat_lt w.tries.count b.timers.sendings) _ _ (λ _. tt) (λ _. tt))
-
-    parting_view : (w : InWaitBeforeClose) (tpdu : Tpdu) (event : Event) → Row (WaitBeforeClose w) event (wait_before_close_tpdu b w tpdu)
-    unfolding wait_before_close_tpdu
-    parting_view w (Cc given destination source width calling called size preferred extra version classes ack_time text) event = tt
-    parting_view w (Dr destination source reason info text) event = tt
-    parting_view w other event = tt
-
-    parting_later : (w : InWaitBeforeClose) → Row (WaitBeforeClose w) Ticked (wait_before_close_tick b w)
-    unfolding wait_before_close_tick
-    parting_later w =
-        if_kept (Row (WaitBeforeClose w) Ticked) (nat_lt b.clock (w.request.tries.last + b.timers.t1)) _ _ (λ _. tt)
-        (λ _. if_kept (Row (WaitBeforeClose w) Ticked) (nat_lt w.request.tries.count b.timers.sendings) _ _ (λ _. tt) (λ _. tt))
-
-    user_wait_later : (since : ℕ) → Row (UserWait since) Ticked (user_wait_tick b since)
-    unfolding user_wait_tick
-    user_wait_later since = if_kept (Row (UserWait since) Ticked) (nat_lt b.clock (since + b.timers.inactive)) _ _ (λ _. tt) (λ _. tt)
-
-    closing_view : (c : InClosing) (tpdu : Tpdu) (event : Event) → Row (Closing c) event (closing_tpdu b c tpdu)
-    unfolding closing_tpdu
-    closing_view c (Dc destination source) event = tt
-    closing_view c (Dr destination source reason info text) event = tt
-    closing_view c other event = tt
-
-    closing_later : (c : InClosing) → Row (Closing c) Ticked (closing_tick b c)
-    unfolding closing_tick
-    closing_later c =
-        if_kept (Row (Closing c) Ticked) (nat_le (c.from + span b.timers) b.clock) _ _ (λ _. tt)
-        (λ _. if_kept (Row (Closing c) Ticked) (nat_lt b.clock (c.last + b.timers.t1)) _ _ (λ _. tt) (λ _. tt))
-
-    user_wait_call : (since : ℕ) (call : UserCall) → b.credit ≡ credit → Row (UserWait since) (Called call) (on_call b (UserWait since) call)
-    unfolding user_wait_accept user_wait_refuse
-    user_wait_call since (Accept options octets) knows = fresh_begins _ b.credit knows
-    user_wait_call since (Refuse octets) knows = tt
-    user_wait_call since (Normal unit) knows = tt
-    user_wait_call since (Urgent unit) knows = tt
-    user_wait_call since (Window granted) knows = tt
-    user_wait_call since (Disconnect octets) knows = tt
-
-    cr_wait_call : (w : InCrWait) (call : UserCall) → Row (CrWait w) (Called call) (on_call b (CrWait w) call)
-    cr_wait_call w (Accept options octets) = tt
-    cr_wait_call w (Refuse octets) = tt
-    cr_wait_call w (Normal unit) = tt
-    cr_wait_call w (Urgent unit) = tt
-    cr_wait_call w (Window granted) = tt
-    cr_wait_call w (Disconnect octets) = tt
+        fresh_on (at b.clock s0) _ (open_keep (at b.clock s0) (omega arith)) (at_fresh b.clock s0 (fresh_begins _ given is))
+    opens_view w other sum is = tt
 
     -- ---- all rows
 
     tpdu_view : (stage : StateData) (tpdu : Tpdu) (sum : Bool) → StageKnows credit stage → GivesCredit credit tpdu → Row stage (Took tpdu sum) (on_tpdu wrap b stage tpdu)
-    tpdu_view (CrWait w) tpdu sum knows is = cr_wait_view w tpdu sum is
-    tpdu_view (WaitBeforeClose w) tpdu sum knows is = parting_view w tpdu (Took tpdu sum)
-    tpdu_view (UserWait since) tpdu sum knows is = tt
-    tpdu_view (AkWait w) tpdu sum knows is = ak_wait_view w knows tpdu sum
+    tpdu_view (AkWait w) tpdu sum knows is =
+        ak_wait_row wrap b (Row (AkWait w) (Took tpdu sum)) (none_view (AkWait w) (Took tpdu sum)) w knows tpdu (opening_view w knows tpdu sum)
     tpdu_view (Opened o) tpdu sum knows is = opened_view o knows tpdu sum
-    tpdu_view (Closing c) tpdu sum knows is = closing_view c tpdu (Took tpdu sum)
-    tpdu_view (Frozen when) tpdu sum knows is = tt
+    tpdu_view (CrWait w) tpdu sum knows is = cr_wait_row wrap b (Row (CrWait w) (Took tpdu sum)) (none_view (CrWait w) (Took tpdu sum)) w tpdu (opens_view w tpdu sum is)
+    tpdu_view other tpdu sum knows is = tpdu_without wrap b (Row other (Took tpdu sum)) (none_view other (Took tpdu sum)) other tt tpdu tt
 
     tick_view : (stage : StateData) → StageKnows credit stage → Row stage Ticked (on_tick b stage)
-    tick_view (CrWait w) knows = cr_wait_later w
-    tick_view (WaitBeforeClose w) knows = parting_later w
-    tick_view (UserWait since) knows = user_wait_later since
-    tick_view (AkWait w) knows = ak_wait_later w knows
+    tick_view (AkWait w) knows = ak_wait_later wrap b (Row (AkWait w) Ticked) (none_view (AkWait w) Ticked) w knows knows
     tick_view (Opened o) knows = opened_later o knows
-    tick_view (Closing c) knows = closing_later c
-    tick_view (Frozen when) knows = tt
+    tick_view other knows = tick_without wrap b (Row other Ticked) (none_view other Ticked) other tt
 
     call_view : (stage : StateData) (call : UserCall) → StageKnows credit stage → KnowsCredit credit b stage → Row stage (Called call) (on_call b stage call)
-    call_view (CrWait w) call knows known = cr_wait_call w call
-    call_view (WaitBeforeClose w) call knows known = tt
-    call_view (UserWait since) call knows known = user_wait_call since call known
     call_view (AkWait w) call knows known = ak_wait_call w knows call
     call_view (Opened o) call knows known = opened_call o knows call
-    call_view (Closing c) call knows known = tt
-    call_view (Frozen when) call knows known = tt
+    call_view (UserWait since) call knows known =
+        user_wait_call wrap b (Row (UserWait since) (Called call)) (none_view (UserWait since) (Called call)) since call (λ asked octets. fresh_begins _ b.credit known)
+    call_view other call knows known = call_without wrap b (Row other (Called call)) (none_view other (Called call)) other tt call tt
 
     -- a TPDU that lacks its checksum is not taken
     untaken_view : (stage : StateData) (event : Event) → StageKnows credit stage → RowKnows credit stage event stage
-    untaken_view (CrWait w) event knows = tt
-    untaken_view (WaitBeforeClose w) event knows = tt
-    untaken_view (UserWait since) event knows = tt
     untaken_view (AkWait w) event knows = knows
     untaken_view (Opened o) event knows = inl (same_view o.halves.sending knows)
-    untaken_view (Closing c) event knows = tt
-    untaken_view (Frozen when) event knows = tt
+    untaken_view other event knows = tt
 
   pub row_knows : (wrap : ℕ → ℕ → ℕ) (now : ℕ) (e : End) (event : Event) → Gives credit e.base e.stage → EventGives credit event → StageKnows credit e.stage
       → RowKnows credit e.stage event (stepped wrap now e event).stage

@@ -40,9 +40,6 @@ Laters = (terms : Terms) (b : EndRecord) (stage : StateData) (own theirs : Track
 abbrev InLines : Times → Terms → Pair → Type 0
 InLines times terms p = AreInLines times terms p.clock p.calling p.called p.forth p.back p.calling_gave p.called_gave
 
-same_open : (a b : InOpened) → Opened a ≡ Opened b → a ≡ b
-same_open a b e = cc e
-
 opened_stays : (o : InOpened) (stage : StateData) → stage ≡ Opened o → HasLeft stage → ⊥
 opened_stays o stage is left = subst HasLeft is left
 

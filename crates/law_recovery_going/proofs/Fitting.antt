@@ -90,9 +90,8 @@ pieces_fit size units block r n piece h cut reads = by (judged block r.inbox (ah
 
     by : (g : Got) → judged block r.inbox (ahead block (wire block r.expected) (wire block n)) ≡ g → (arrived_as g r.inbox (ahead block (wire block r.expected) (wire block n)) piece).got ≡ TooLarge → ⊥
     by Kept e f = small _ (inl (ap (λ (b : Bool). if b then TooLarge else Kept) (in_order_small e))) f
-    by Old e f = cc f
-    by Outside e f = cc f
     by TooLarge e f = never_large block r.inbox (ahead block (wire block r.expected) (wire block n)) e
+    by other e f = cc f
 
 -- a DT afloat that is kept is read for what it is
 pub dts_fit : (rules : Rules) (tick credit places room : ℕ) (events : List Event) (w : Traffic) → IsFit rules → credit < rules.block → room < rules.block → Leads rules (start tick credit places room) events w

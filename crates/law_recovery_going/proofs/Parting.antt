@@ -3,7 +3,7 @@ use Rattle.std.proofs.Common.{◌≡◌, ◌⊎◌, inl, inr, ℕ, ◌+◌, Bool
 use Rattle.tpdu.specs.declared.tpdu.Tpdu.{Tpdu}
 use Rattle.tpdu.specs.declared.tpdu.Tpdu.TheVariants.{Ak, Cc, Dr, Dt, Ea, Ed, Er}
 use Rattle.tp4_number.specs.declared.got.Got.{Got}
-use Rattle.tp4_number.specs.declared.got.Got.TheVariants.{Kept, Old, Outside, TooLarge}
+use Rattle.tp4_number.specs.declared.got.Got.TheVariants.{TooLarge}
 use Rattle.tp4_number.specs.declared.piece.Piece.{Piece}
 use Rattle.tp4_number.specs.Number.{whole}
 use Rattle.tp4_number.proofs.Past.{if_kept}
@@ -43,9 +43,7 @@ OpenRow b m = HasLeft m.stage ⊎ ((r : InOpened) × (m.stage ≡ Opened r) × (
 
 dt_row : (b : EndRecord) (q : InOpened) (w : ℕ) (piece : Piece) (got : Got) → OpenRow b (dt_as got b q (taken_dt whole q.halves.receiving w piece))
 dt_row b q w piece TooLarge = inl tt
-dt_row b q w piece Kept = inr (_, refl, refl)
-dt_row b q w piece Old = inr (_, refl, refl)
-dt_row b q w piece Outside = inr (_, refl, refl)
+dt_row b q w piece other = inr (_, refl, refl)
 
 tpdu_row : (b : EndRecord) (q : InOpened) (tpdu : Tpdu) → OpenRow b (opened_tpdu whole b q tpdu)
 unfolding opened_tpdu

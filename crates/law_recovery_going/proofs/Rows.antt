@@ -17,7 +17,7 @@ use Rattle.tp4_sending.specs.FlowSender.{Sendings, acknowledged, at, life_of, su
 use Rattle.tp4_sending.specs.Pieces.{again, once}
 use Rattle.tp4_sending.specs.declared.tries.Tries.{Tries}
 use Rattle.tp4_conn.specs.declared.call.UserCall.{UserCall}
-use Rattle.tp4_conn.specs.declared.call.UserCall.TheVariants.{Accept, Disconnect, Normal, Refuse, Urgent, Window}
+use Rattle.tp4_conn.specs.declared.call.UserCall.TheVariants.{Disconnect, Normal, Urgent, Window}
 use Rattle.tp4_conn.specs.declared.end_record.EndRecord.{EndRecord}
 use Rattle.tp4_conn.specs.declared.states.InOpened.{InOpened}
 use Rattle.tp4_conn.specs.declared.states.StateData.TheVariants.{Opened}
@@ -152,8 +152,7 @@ module _ (P : Tries → Type 0) (new : (tick : ℕ) → P (once tick)) (b : EndR
   call_does (Urgent unit) = sends q.took (urged (at b.clock q.halves.sending) unit) (λ h. urged_kept P new (at b.clock q.halves.sending) unit (record { window = h.window; out = h.out }))
   call_does (Window credit) = grant_does credit
   call_does (Disconnect octets) = record { holding = record { timers = refl; agreed = refl }; does = inl (record { left = tt; why = tt; release = inl refl }) }
-  call_does (Accept options octets) = same
-  call_does (Refuse octets) = same
+  call_does other = same
 
   -- ---- a tick
 

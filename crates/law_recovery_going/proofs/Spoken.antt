@@ -8,7 +8,7 @@ use Rattle.tp4_number.proofs.Steps.{all_sound}
 use Rattle.tp4_flow.specs.Half.{Half}
 use Rattle.tp4_sending.specs.FlowSender.{FlowSender}
 use Rattle.tp4_sending.specs.declared.tries.Tries.{Tries}
-use Rattle.law_tp4_recovery.specs.Recovering.{Ak_arrives, Dt_arrives, Grants, IsLevel, Late_ak, Late_dt, Move, Moves, Repeats, Resends, Road, Sends, Ticks, moved}
+use Rattle.law_tp4_recovery.specs.Recovering.{Dt_arrives, Grants, IsLevel, Late_dt, Move, Moves, Repeats, Resends, Road, Sends, Ticks, moved}
 use Rattle.law_tp4_recovery.proofs.Chains.{views_recover}
 use Rattle.law_recovery_pair.specs.Riding.{Aside, road_of, rules_by}
 use Rattle.law_recovery_ends.specs.Due.{AreTried, AreYoung}
@@ -44,9 +44,8 @@ module _ (rules : Rules) (u : ℕ) where
   answered_on old (Grants credit) h = speaks (after rules old.traffic (Grant credit)) old.dts _ h.from
   answered_on old Repeats h = speaks old.traffic old.dts _ h.from
   answered_on old (Dt_arrives before n tick rest piece) h = speaks (after rules old.traffic (Dt_comes n tick piece)) (before ++ rest) _ h.from
-  answered_on old (Ak_arrives a rest) h = record { from = h.from; is = h.is }
   answered_on old (Late_dt n tick piece) h = speaks (after rules old.traffic (Dt_comes n tick piece)) old.dts _ h.from
-  answered_on old (Late_ak a) h = record { from = h.from; is = h.is }
+  answered_on old other h = record { from = h.from; is = h.is }
 
   answered_after : (size : ℕ) (old new : Road) (moves : List Move) → IsAnswered u old → Moves rules size u old moves new → IsAnswered u new
   answered_after size old new [] h m = subst (IsAnswered u) (sym m) h

@@ -5,7 +5,7 @@ use Rattle.osi_base.specs.Link.{Link}
 use Rattle.tp4_conn.specs.declared.states.InOpened.{InOpened}
 use Rattle.tp4_conn.specs.declared.timers.Timers.{Timers}
 use Rattle.law_tp4_history.specs.Ends.{Terms, Times}
-use Rattle.law_tp4_pair.specs.Pair.{Asks_called, Asks_calling, Clock, Comes_back, Comes_forth, Happening, Pair}
+use Rattle.law_tp4_pair.specs.Pair.{Comes_back, Comes_forth, Happening, Pair}
 use Rattle.law_recovery_steps.specs.Beginning.{AreAgreed}
 use Rattle.law_recovery_steps.specs.Known.{AreKnown}
 use Rattle.law_recovery_going.specs.Going.{HasParted, IsWrongFirst, LeavesBy}
@@ -20,9 +20,7 @@ not_arrival : (t : Timers) (t0 : ℕ) (o q : InOpened) (mid : Pair) (happening :
     → LeavesBy t t0 o q mid happening → IsArrival happening → ⊥
 not_arrival t t0 o q mid Comes_forth fits why arrival = fits.0 why
 not_arrival t t0 o q mid Comes_back fits why arrival = fits.1 why
-not_arrival t t0 o q mid (Asks_calling call) fits why arrival = arrival
-not_arrival t t0 o q mid (Asks_called call) fits why arrival = arrival
-not_arrival t t0 o q mid (Clock calling called) fits why arrival = arrival
+not_arrival t t0 o q mid other fits why arrival = arrival
 
 pub partners_part : {C : Type 0} (link : C → Link (List ℕ)) (steps : C → Call (List ℕ) → C → Type 0) → PartnersAreKnown link steps → PartnersAreLined link steps → PairsPart → LinesFit → PartnersPart link steps
 partners_part {C} link steps known lined part fit titles timers journal first one low x y p last o q happenings pair ticked leads =

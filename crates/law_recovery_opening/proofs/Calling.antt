@@ -15,7 +15,7 @@ use Rattle.tp4_sending.specs.FlowSender.{FlowSender, Sendings, at, life_of, tick
 use Rattle.law_recovery_pair.specs.Viewing.{IsWithin, KeepsView}
 use Rattle.law_recovery_pair.proofs.Viewing.{submit_keep, tick_keep, urge_keep}
 use Rattle.tp4_conn.specs.declared.call.UserCall.{UserCall}
-use Rattle.tp4_conn.specs.declared.call.UserCall.TheVariants.{Accept, Refuse, Normal, Urgent, Window, Disconnect}
+use Rattle.tp4_conn.specs.declared.call.UserCall.TheVariants.{Normal, Urgent, Window, Disconnect}
 use Rattle.tp4_conn.specs.declared.end_record.EndRecord.{EndRecord}
 use Rattle.tp4_conn.specs.declared.states.InAkWait.{InAkWait}
 use Rattle.tp4_conn.specs.declared.states.InCrWait.{InCrWait}
@@ -135,8 +135,7 @@ calls_keep b o (Window credit) edge =
     if_kept (λ (m : Moved). KeepsOpen o m.stage) ((half_granted o.halves.receiving credit).receiver.inbox.credit == o.halves.receiving.receiver.inbox.credit) _ _
     (λ _. keeps o _ (same_keep o edge)) (λ _. keeps o _ (same_keep o edge))
 calls_keep b o (Disconnect octets) edge = λ after e. absurd (cc e)
-calls_keep b o (Accept options octets) edge = keeps o o (same_keep o edge)
-calls_keep b o (Refuse octets) edge = keeps o o (same_keep o edge)
+calls_keep b o other edge = keeps o o (same_keep o edge)
 
 pub ticks_keep : (b : EndRecord) (o : InOpened) → IsWithin o.halves.sending → KeepsOpen o (opened_tick b o).stage
 unfolding opened_tick

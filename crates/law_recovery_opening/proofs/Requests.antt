@@ -7,7 +7,7 @@ use Rattle.tp4_number.proofs.Past.{if_kept}
 use Rattle.tp4_flow.specs.declared.step.Sent.{Sent}
 use Rattle.tp4_conn.specs.declared.call.ConnectCall.{ConnectCall}
 use Rattle.tp4_conn.specs.declared.call.UserCall.{UserCall}
-use Rattle.tp4_conn.specs.declared.call.UserCall.TheVariants.{Accept, Refuse, Normal, Urgent, Window, Disconnect}
+use Rattle.tp4_conn.specs.declared.call.UserCall.TheVariants.{Accept, Refuse, Disconnect}
 use Rattle.tp4_conn.specs.declared.end_record.EndRecord.{EndRecord}
 use Rattle.tp4_conn.specs.declared.states.InCrWait.{InCrWait}
 use Rattle.tp4_conn.specs.declared.states.StateData.{StateData}
@@ -44,11 +44,7 @@ Asking m = HasLeft m.stage ⊎ StaysAsking m
 
 call_asks : (b : EndRecord) (r : InCrWait) (call : UserCall) → Asking (on_call b (CrWait r) call)
 call_asks b r (Disconnect octets) = inl tt
-call_asks b r (Accept asked octets) = inr (record { r = r; stage = refl; tpdus = tt })
-call_asks b r (Refuse octets) = inr (record { r = r; stage = refl; tpdus = tt })
-call_asks b r (Normal unit) = inr (record { r = r; stage = refl; tpdus = tt })
-call_asks b r (Urgent unit) = inr (record { r = r; stage = refl; tpdus = tt })
-call_asks b r (Window credit) = inr (record { r = r; stage = refl; tpdus = tt })
+call_asks b r other = inr (record { r = r; stage = refl; tpdus = tt })
 
 tick_asks : (b : EndRecord) (r : InCrWait) → Asking (cr_wait_tick b r)
 unfolding cr_wait_tick
@@ -72,10 +68,7 @@ call_waits : (b : EndRecord) (since : ℕ) (call : UserCall) → Waiting (on_cal
 unfolding user_wait_refuse
 call_waits b since (Accept asked octets) = inr tt
 call_waits b since (Refuse octets) = inl (inl tt)
-call_waits b since (Disconnect octets) = inl (inr (record { since = since; stage = refl; tpdus = refl }))
-call_waits b since (Normal unit) = inl (inr (record { since = since; stage = refl; tpdus = refl }))
-call_waits b since (Urgent unit) = inl (inr (record { since = since; stage = refl; tpdus = refl }))
-call_waits b since (Window credit) = inl (inr (record { since = since; stage = refl; tpdus = refl }))
+call_waits b since other = inl (inr (record { since = since; stage = refl; tpdus = refl }))
 
 tick_waits : (b : EndRecord) (since : ℕ) → Waiting (user_wait_tick b since)
 unfolding user_wait_tick

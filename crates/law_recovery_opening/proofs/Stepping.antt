@@ -103,9 +103,8 @@ module _ (life size u t1 : ℕ) (one other : Since) where
       behind_on : (happening : Happening) → May p happening → On (next p happening)
       behind_on Comes_forth may = forth_by p.forth refl
       behind_on Comes_back may = subst (λ (l : List Sent). On (comes_back p l)) (sym is) back_by
-      behind_on (Asks_calling call) may = absurd (busy may.0)
-      behind_on (Asks_called call) may = absurd (busy may.0)
       behind_on (Clock calling called) may = absurd (busy may)
+      behind_on other may = absurd (busy may.0)
 
     pub both_on : (happening : Happening) → May p happening → On (next p happening)
     both_on happening may = by x.back_is

@@ -10,7 +10,7 @@ use Rattle.tp4_sending.specs.FlowSender.{FlowSender, at, submitted, urged}
 use Rattle.tp4_sending.specs.Pieces.{again}
 use Rattle.law_recovery_pair.specs.Viewing.{KeepsView}
 use Rattle.tp4_conn.specs.declared.call.UserCall.{UserCall}
-use Rattle.tp4_conn.specs.declared.call.UserCall.TheVariants.{Accept, Refuse, Normal, Urgent, Window, Disconnect}
+use Rattle.tp4_conn.specs.declared.call.UserCall.TheVariants.{Normal, Urgent, Disconnect}
 use Rattle.tp4_conn.specs.declared.end_record.EndRecord.{EndRecord}
 use Rattle.tp4_conn.specs.declared.states.InAkWait.{InAkWait}
 use Rattle.tp4_conn.specs.declared.states.InCrWait.{InCrWait}
@@ -153,11 +153,7 @@ module _ (life size u t1 : ℕ) (one other : Since) where
 
         waits : (r : InCrWait) → e.stage ≡ CrWait r → x.first ≡ party (confirmed_by e.base c options) → x.o ≡ as_confirmed e.base c options → (asked : UserCall) → Goal (on_call (now_at now e.base) (CrWait r) asked)
         waits r is first o_is (Disconnect octets) = inl tt
-        waits r is first o_is (Accept asked octets) = inr (nothing_more _ crs forth (asks_on e crs forth crs x r now (x.quiet r is) first o_is x.crs_are))
-        waits r is first o_is (Refuse octets) = inr (nothing_more _ crs forth (asks_on e crs forth crs x r now (x.quiet r is) first o_is x.crs_are))
-        waits r is first o_is (Normal unit) = inr (nothing_more _ crs forth (asks_on e crs forth crs x r now (x.quiet r is) first o_is x.crs_are))
-        waits r is first o_is (Urgent unit) = inr (nothing_more _ crs forth (asks_on e crs forth crs x r now (x.quiet r is) first o_is x.crs_are))
-        waits r is first o_is (Window credit) = inr (nothing_more _ crs forth (asks_on e crs forth crs x r now (x.quiet r is) first o_is x.crs_are))
+        waits r is first o_is other = inr (nothing_more _ crs forth (asks_on e crs forth crs x r now (x.quiet r is) first o_is x.crs_are))
 
         by : Calls c options e x.first x.o → Goal (on_call (now_at now e.base) e.stage call)
         by (Asks r is first o_is) = subst (λ (stage : StateData). Goal (on_call (now_at now e.base) stage call)) (sym is) (waits r is first o_is call)
@@ -326,9 +322,7 @@ module _ (life size u t1 : ℕ) (one other : Since) where
     called_calls (Normal unit) = inr (subst (λ (s : FlowSender). StaysWaiting (queueing (now_at now c) w (submitted (at now s) unit))) (sym x.queued.is) (queues (w.halves.sending.queue.units ++ unit ∷ []) w.halves.sending.urgent.units))
     called_calls (Urgent unit) = inr (subst (λ (s : FlowSender). StaysWaiting (queueing (now_at now c) w (urged (at now s) unit))) (sym x.queued.is) (queues w.halves.sending.queue.units (w.halves.sending.urgent.units ++ unit ∷ [])))
     called_calls (Disconnect octets) = inl tt
-    called_calls (Accept asked octets) = inr stays_waiting
-    called_calls (Refuse octets) = inr stays_waiting
-    called_calls (Window credit) = inr stays_waiting
+    called_calls other = inr stays_waiting
 
     -- a tick, or none: it sends its CC again, or not
     pub record IsSilent (m : Moved) : Type 0 where

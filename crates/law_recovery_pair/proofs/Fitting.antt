@@ -7,7 +7,7 @@ use Rattle.tpdu.specs.declared.tpdu.Format.TheVariants as formats
 use Rattle.tp4_flow.specs.Half.{Half, allowed, block_in, dt_arrival, empty, half_granted, taken_dt}
 use Rattle.tp4_flow.specs.declared.rules.FlowRules.{FlowRules}
 use Rattle.tp4_number.specs.declared.got.Got.{Got}
-use Rattle.tp4_number.specs.declared.got.Got.TheVariants.{Kept, Old, Outside, TooLarge}
+use Rattle.tp4_number.specs.declared.got.Got.TheVariants.{Kept, TooLarge}
 use Rattle.tp4_number.specs.declared.piece.Piece.{Piece}
 use Rattle.tp4_number.specs.Formats.{most_of}
 use Rattle.tp4_number.specs.Number.{ahead, whole, wire}
@@ -71,6 +71,4 @@ dt_fits h n piece small f = by (judged (block_in h) h.receiver.inbox d) small
 
     by : (g : Got) → ((arrived_as g h.receiver.inbox d piece).got ≡ TooLarge → ⊥) → IsFitted (most_of h.rules.format) (after_dt (λ (k : ℕ). k) h.receiver (arrived_as g h.receiver.inbox d piece))
     by Kept small = kept_fits (most_of h.rules.format) h.receiver d piece small f
-    by Old small = record { places = f.places; room = f.room; free = f.free }
-    by Outside small = record { places = f.places; room = f.room; free = f.free }
-    by TooLarge small = record { places = f.places; room = f.room; free = f.free }
+    by other small = record { places = f.places; room = f.room; free = f.free }

@@ -19,7 +19,7 @@ use Rattle.tp4_conn.specs.Matching.{fits, is_match}
 use Rattle.tp4_conn.specs.Table.{Took, stepped}
 use Rattle.tp4_conn.specs.declared.end_record.EndRecord.{EndRecord}
 use Rattle.tp4_conn.specs.declared.states.StateData.{StateData}
-use Rattle.tp4_conn.specs.declared.states.StateData.TheVariants.{AkWait, Closing, CrWait, Frozen, Opened, UserWait, WaitBeforeClose}
+use Rattle.tp4_conn.specs.declared.states.StateData.TheVariants.{Frozen}
 use Rattle.tp4_conn.specs.declared.timers.Timers.{Timers}
 use Rattle.tp4_entity.specs.Association.{answer, is_called, is_registered, met, met_at, met_by, new_end, refusal, requested, unmatched}
 use Rattle.tp4_entity.specs.Entity.{Acted, Entity, at, end_at, moved}
@@ -36,30 +36,20 @@ use Rattle.tp4_world.specs.World.{World, latest}
 use Rattle.law_tp4_lawful.proofs.Known.{IsKnown, IsThere}
 use Rattle.law_tp4_lawful.proofs.Worlds.{Explains}
 use Rattle.law_tp4_lawful.proofs.MakesPlaces.{at_other}
-use Rattle.law_recovery_run.specs.Aside.{AreFacing, IsBeside, IsSentTo, LeavesAside, Names}
+use Rattle.law_recovery_run.specs.Aside.{AreFacing, IsBeside, LeavesAside, Names}
 use Rattle.law_recovery_run.specs.Rivals.{IsFor}
 use Rattle.law_recovery_run.proofs.Aiming.{Going, row_aims}
 use Rattle.law_recovery_run.proofs.Rivals.{far, here, partner_there, sound}
 
 -- an end that takes a TPDU is not frozen
 pub going_of : (b : EndRecord) (stage : StateData) (t : WireTpdu) → fits b stage t ≡ true → stop_of stage ≡ None
-going_of b (CrWait w) t fit = refl
-going_of b (WaitBeforeClose w) t fit = refl
-going_of b (UserWait since) t fit = refl
-going_of b (AkWait w) t fit = refl
-going_of b (Opened o) t fit = refl
-going_of b (Closing c) t fit = refl
 going_of b (Frozen when) t fit = absurd (cc fit)
+going_of b other t fit = refl
 
 -- the reference of an end that goes on is not free
 pub kept_place : (now ticks : ℕ) (stage : StateData) → stop_of stage ≡ None → was_frozen now ticks stage ≡ true → ⊥
-kept_place now ticks (CrWait w) goes free = cc free
-kept_place now ticks (WaitBeforeClose w) goes free = cc free
-kept_place now ticks (UserWait since) goes free = cc free
-kept_place now ticks (AkWait w) goes free = cc free
-kept_place now ticks (Opened o) goes free = cc free
-kept_place now ticks (Closing c) goes free = cc free
 kept_place now ticks (Frozen when) goes free = none-some when (sym goes)
+kept_place now ticks other goes free = cc free
 
 pub both_are : (a b : Bool) → (a && b) ≡ true → (a ≡ true) × (b ≡ true)
 both_are true true is = (refl, refl)
@@ -95,9 +85,6 @@ module _ {C : Type 0} (link : C → Link (List ℕ)) (titles : List (List ℕ)) 
 
   abbrev IsLeft : Acted → Type 0
   IsLeft acted = LeavesAside entity r to partner acted
-
-  abbrev NotTo : Sent → Type 0
-  NotTo sent = IsSentTo to partner sent → ⊥
 
   abbrev mine : IsFor last x to partner
   mine = record { going = f.own; to_is = f.to_is; partner_is = f.partner_is }

@@ -62,13 +62,8 @@ idle_of {C} link journal world x y p f = record { forth = f.forth.waits_are; bac
 
 -- an end that takes a call is not frozen
 call_goes : (b : EndRecord) (stage : StateData) (call : UserCall) → call_refusal b stage call ≡ None → stop_of stage ≡ None
-call_goes b (stages.CrWait w) call may = refl
-call_goes b (stages.WaitBeforeClose w) call may = refl
-call_goes b (stages.UserWait since) call may = refl
-call_goes b (stages.AkWait w) call may = refl
-call_goes b (stages.Opened o) call may = refl
-call_goes b (stages.Closing c) call may = refl
 call_goes b (stages.Frozen when) call may = absurd (cc may)
+call_goes b other call may = refl
 
 pub latest_is : (found number : ℕ) (gone : Bool) → (not (found == number) || gone) ≡ false → found ≡ number
 latest_is found number gone is = by (found == number) refl is

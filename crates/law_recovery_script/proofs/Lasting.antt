@@ -315,18 +315,7 @@ module _ {C : Type 0} (link : C → Link (List ℕ)) (steps : C → Call (List �
     asked lines.Settle script calm proper path step other = absurd (other refl)
     asked (lines.Inject lan system octets) script calm proper path step other = absurd calm
     asked (lines.Restart system) script calm proper path step other = absurd calm
-    asked (lines.Send system selector to called octets) script calm proper path step other = absurd step
-    asked (lines.Version version) script calm proper path step other = absurd step
-    asked (lines.Set key value) script calm proper path step other = absurd step
-    asked (lines.Lan name bound room) script calm proper path step other = absurd step
-    asked (lines.Es name title) script calm proper path step other = absurd step
-    asked (lines.Is name title) script calm proper path step other = absurd step
-    asked (lines.Port system lan snpa) script calm proper path step other = absurd step
-    asked (lines.Route system prefix hop lan) script calm proper path step other = absurd step
-    asked (lines.Path name kind systems) script calm proper path step other = absurd step
-    asked (lines.Tsap system selector) script calm proper path step other = absurd step
-    asked (lines.Relay system selector to called) script calm proper path step other = absurd step
-    asked lines.Start script calm proper path step other = absurd step
+    asked another script calm proper path step other = absurd step
 
   -- ---- the history goes on
 
@@ -357,18 +346,7 @@ module _ {C : Type 0} (link : C → Link (List ℕ)) (steps : C → Call (List �
   line_rests lines.Settle script old new journal made calm proper honest r step = did_rests requests.Settle old new journal made tt honest r step
   line_rests (lines.Inject lan system octets) script old new journal made calm proper honest r step = absurd calm
   line_rests (lines.Restart system) script old new journal made calm proper honest r step = absurd calm
-  line_rests (lines.Send system selector to called octets) script old new journal made calm proper honest r step = absurd step
-  line_rests (lines.Version version) script old new journal made calm proper honest r step = absurd step
-  line_rests (lines.Set key value) script old new journal made calm proper honest r step = absurd step
-  line_rests (lines.Lan name bound room) script old new journal made calm proper honest r step = absurd step
-  line_rests (lines.Es name title) script old new journal made calm proper honest r step = absurd step
-  line_rests (lines.Is name title) script old new journal made calm proper honest r step = absurd step
-  line_rests (lines.Port system lan snpa) script old new journal made calm proper honest r step = absurd step
-  line_rests (lines.Route system prefix hop lan) script old new journal made calm proper honest r step = absurd step
-  line_rests (lines.Path name kind systems) script old new journal made calm proper honest r step = absurd step
-  line_rests (lines.Tsap system selector) script old new journal made calm proper honest r step = absurd step
-  line_rests (lines.Relay system selector to called) script old new journal made calm proper honest r step = absurd step
-  line_rests lines.Start script old new journal made calm proper honest r step = absurd step
+  line_rests other script old new journal made calm proper honest r step = absurd step
 
   -- the carrier is honest still, as no line injects anything
   pub line_honest : (line : Line) (script : List Line) (old new : World C) (made : List Event) → IsSettledScript (line ∷ script) → (link old.carrier).honest ≡ true → RunsLine link steps whole titles old line made new

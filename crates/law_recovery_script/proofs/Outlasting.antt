@@ -11,12 +11,11 @@ use Rattle.tpdu.specs.Values.{destination_of}
 use Rattle.tpdu.specs.declared.tpdu.Tpdu.{Tpdu as WireTpdu}
 use Rattle.tpdu.specs.declared.tpdu.Tpdu.TheVariants as wires
 use Rattle.tp4_number.specs.Number.{whole}
-use Rattle.tp4_flow.specs.declared.step.EndEvent.{EndEvent}
 use Rattle.tp4_conn.specs.End.{End, Moved, end_of}
 use Rattle.tp4_conn.specs.Matching.{is_match}
 use Rattle.tp4_conn.specs.Table.{Event, Took, stepped}
 use Rattle.tp4_conn.specs.declared.timers.Timers.{Timers}
-use Rattle.tp4_entity.specs.Association.{answer, is_called, is_registered, met, met_at, met_by, new_end, requested, unmatched}
+use Rattle.tp4_entity.specs.Association.{is_called, is_registered, met, met_at, met_by, new_end, requested, unmatched}
 use Rattle.tp4_entity.specs.Entity.{Acted, Entity, at, end_at, moved, with_end}
 use Rattle.tp4_entity.specs.References.{least_free}
 use Rattle.tp4_entity.specs.Step.{kept_end}
@@ -153,13 +152,8 @@ module _ {C : Type 0} (link : C → Link (List ℕ)) (titles : List (List ℕ)) 
   abbrev IsKind : Acted → Type 0
   IsKind acted = Kind now last.ends (ends_after last.ends system acted.events) system entity acted.entity
 
-  by_source : (events : List EndEvent) (from : List ℕ) (destination source : ℕ) (b : Bool) → ends_after last.ends system events ≡ last.ends
-      → IsKind (record { entity = e; events = events; tpdus = if b then [] else answer from (wires.Dc source destination) ∷ [] })
-  by_source events from destination source b none = Same refl none
-
   aside_kind : (from : List ℕ) (u : WireTpdu) → IsKind (unmatched e from u)
   aside_kind from (wires.Cc credit destination source width calling called size preferred extra version classes ack_time text) = Same refl refl
-  aside_kind from (wires.Dr destination source reason info text) = Same refl refl
   aside_kind from other = Same refl refl
 
   module _ (from : List ℕ) (t : WireTpdu) (sum : Bool) where

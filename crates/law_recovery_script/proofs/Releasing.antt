@@ -2,10 +2,10 @@
 use Rattle.std.proofs.Common.{◌≡◌, ◌⊎◌, inl, inr, ℕ, ◌+◌, Bool, true, false, ◌&&◌, not, nat_le, nat_lt, ◌==◌, ◌||◌, List, [], ◌∷◌, ◌++◌, refl, sym, subst, arith}
 use Rattle.std.specs.List.{AllByRecursion}
 use Rattle.tpdu.specs.declared.tpdu.Tpdu.{Tpdu}
-use Rattle.tpdu.specs.declared.tpdu.Tpdu.TheVariants.{Ak, Cc, Cr, Dc, Dr, Dt, Ea, Ed, Er}
+use Rattle.tpdu.specs.declared.tpdu.Tpdu.TheVariants.{Ak, Cc, Dc, Dr, Dt, Ea, Ed, Er}
 use Rattle.tp4_number.specs.Number.{whole}
 use Rattle.tp4_number.specs.declared.got.Got.{Got}
-use Rattle.tp4_number.specs.declared.got.Got.TheVariants.{Kept, Old, Outside, TooLarge}
+use Rattle.tp4_number.specs.declared.got.Got.TheVariants.{TooLarge}
 use Rattle.tp4_number.specs.declared.piece.Piece.{Piece}
 use Rattle.tp4_flow.specs.Half.{Half, Received, dt_arrival, ea, half_after, half_granted, is_before, is_next, taken_dt, taken_ed}
 use Rattle.tp4_flow.specs.declared.rules.FlowRules.{FlowRules}
@@ -94,9 +94,7 @@ module _ (Why : Type 0) (b : EndRecord) (o : InOpened) where
 
   dt_row : (got : Got) (r : Received) → AreStaying r.tpdus → IsRow (dt_as got b o r)
   dt_row TooLarge r all = Leaves tt tt (λ out. absurd out)
-  dt_row Kept r all = Stays tt all
-  dt_row Old r all = Stays tt all
-  dt_row Outside r all = Stays tt all
+  dt_row other r all = Stays tt all
 
   ed_row : (w : ℕ) (octets : List ℕ) → IsRow (receiving b o (taken_ed whole o.halves.receiving w octets))
   ed_row w octets = Stays tt (either AreStaying (is_next o.halves.receiving w || is_before o.halves.receiving w) _ _ (said Q receiver_rules (say receiver_rules) receiver_rules (ea o.halves.receiving w) refl refl refl (λ own. tt) refl, tt) tt)
@@ -114,8 +112,7 @@ module _ (Why : Type 0) (b : EndRecord) (o : InOpened) where
   tpdu_row (Ak destination number credit subsequence confirmation) why =
       Stays tt (acknowledged_sent Q sender_rules (say sender_rules) (at b.clock o.halves.sending) number credit subsequence refl).tpdus
   tpdu_row (Ea destination number) why = Stays tt (urgent_done_sent Q sender_rules (say sender_rules) (at b.clock o.halves.sending) number refl).tpdus
-  tpdu_row (Cr credit source width calling called size preferred extra version classes ack_time text) why = Stays tt tt
-  tpdu_row (Dc destination source) why = Stays tt tt
+  tpdu_row other why = Stays tt tt
 
   grant_row : (new : Half) → new.rules ≡ receiver_rules → IsRow (granting b o new)
   grant_row new is = either IsRow (new.receiver.inbox.credit == o.halves.receiving.receiver.inbox.credit) _ _ (Stays tt tt) (Stays tt (ak_said Q receiver_rules (say receiver_rules) new is, tt))
@@ -125,8 +122,7 @@ module _ (Why : Type 0) (b : EndRecord) (o : InOpened) where
   call_row (calls.Urgent unit) = Stays tt (urged_sent Q sender_rules (say sender_rules) (at b.clock o.halves.sending) unit refl).tpdus
   call_row (calls.Window credit) = grant_row (half_granted o.halves.receiving credit) refl
   call_row (calls.Disconnect octets) = Leaves tt tt (λ out. absurd out)
-  call_row (calls.Accept options octets) = Stays tt tt
-  call_row (calls.Refuse octets) = Stays tt tt
+  call_row other = Stays tt tt
 
   goes_row : (s : Sendings) → Sends Q sender_rules (say sender_rules) s → IsRow (opened_goes b o s)
   goes_row s h =
@@ -293,18 +289,12 @@ next_guards p (Asks_called call) may both g =
 next_guards p (Clock calling called) may both g = clock_guards calling called p g (both may)
 
 head_ticked : (p : Pair) (happening : Happening) (more : List Happening) → AreTicked p (happening ∷ more) → AreTicked p (happening ∷ [])
-head_ticked p Comes_forth more ticked = tt
-head_ticked p Comes_back more ticked = tt
-head_ticked p (Asks_calling call) more ticked = tt
-head_ticked p (Asks_called call) more ticked = tt
 head_ticked p (Clock calling called) more ticked = (ticked.0, tt)
+head_ticked p other more ticked = tt
 
 rest_ticked : (p : Pair) (happening : Happening) (more : List Happening) → AreTicked p (happening ∷ more) → AreTicked (next_pair p happening) more
-rest_ticked p Comes_forth more ticked = ticked
-rest_ticked p Comes_back more ticked = ticked
-rest_ticked p (Asks_calling call) more ticked = ticked
-rest_ticked p (Asks_called call) more ticked = ticked
 rest_ticked p (Clock calling called) more ticked = ticked.1
+rest_ticked p other more ticked = ticked
 
 late_out : (stage : StateData) → IsLate stage → (IsLive stage → ⊥) → IsOut stage
 late_out (stages.Opened o) late ended = absurd (ended tt)

@@ -36,13 +36,8 @@ use Rattle.law_recovery_walk.proofs.Leaving.{Leaves}
 use Rattle.law_recovery_walk.proofs.Naming.{NamedBy, row_aims, row_named, row_sourced}
 
 frozen_of : (stage : StateData) (when : ℕ) → stop_of stage ≡ Some when → stage ≡ stages.Frozen when
-frozen_of (stages.CrWait w) when is = absurd (none-some when is)
-frozen_of (stages.WaitBeforeClose w) when is = absurd (none-some when is)
-frozen_of (stages.UserWait since) when is = absurd (none-some when is)
-frozen_of (stages.AkWait w) when is = absurd (none-some when is)
-frozen_of (stages.Opened o) when is = absurd (none-some when is)
-frozen_of (stages.Closing c) when is = absurd (none-some when is)
 frozen_of (stages.Frozen at) when is = ap (λ (n : ℕ). stages.Frozen n) (same_Some at when is)
+frozen_of other when is = absurd (none-some when is)
 
 module _ {C : Type 0} (link : C → Link (List ℕ)) (titles : List (List ℕ)) (timers : Timers) (w : Whole) (journal : List JournalEvent) (last : World C) (explains : Explains link titles timers w journal last)
     (going : Going) (x y : ℕ) (f : AreFacing last x y) (system : ℕ) (entity : Entity) (there : entity_at last.entities system ≡ Some entity) where

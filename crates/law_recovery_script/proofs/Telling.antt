@@ -24,7 +24,7 @@ use Rattle.tp4_flow.specs.declared.step.What.{What}
 use Rattle.tp4_flow.specs.declared.step.What.TheVariants as whats
 use Rattle.tp4_conn.specs.declared.call.UserCall.{UserCall}
 use Rattle.tp4_conn.specs.declared.call.UserCall.TheVariants as asks
-use Rattle.law_tp4_pair.specs.Pair.{Asks_called, Asks_calling, Clock, Comes_back, Comes_forth, Happening, Leads, Pair, next as next_pair}
+use Rattle.law_tp4_pair.specs.Pair.{Asks_called, Asks_calling, Clock, Happening, Leads, Pair, next as next_pair}
 use Rattle.tp4_world.specs.Run.{NoneDue, OneDue, SendsTpdus, Ticks, TicksAll, TicksEntity}
 use Rattle.tp4_world.specs.Telling.{call_events, drop_events, ends_with, event_for, events_after}
 use Rattle.tp4_world.specs.World.{World, latest}
@@ -66,8 +66,7 @@ module _ (x y : ℕ) where
     (λ ticks cause is. happens_on early late more (p.clock + 1) (events.End x (Gone cause [])) (both.0 ticks cause is)),
     λ ticks cause is. happens_on early late more (p.clock + 1) (events.End y (Gone cause [])) (both.1 ticks cause is),
   )
-  one_on early late more p Comes_forth is = tt
-  one_on early late more p Comes_back is = tt
+  one_on early late more p other is = tt
 
   one_behind : (early late more : List Event) (p : Pair) (happening : Happening) → IsTold (early ++ late) more x y p happening → IsTold early (late ++ more) x y p happening
   one_behind early late more p (Asks_calling call) all = contains_all more (late ++ more) (call_events x call) (λ e has. Contains-append_right late more e has) all
@@ -76,8 +75,7 @@ module _ (x y : ℕ) where
     (λ ticks cause is. happens_behind early late more (p.clock + 1) (events.End x (Gone cause [])) (both.0 ticks cause is)),
     λ ticks cause is. happens_behind early late more (p.clock + 1) (events.End y (Gone cause [])) (both.1 ticks cause is),
   )
-  one_behind early late more p Comes_forth is = tt
-  one_behind early late more p Comes_back is = tt
+  one_behind early late more p other is = tt
 
   pub told_on : (early late more : List Event) (p : Pair) (happenings : List Happening) → AreTold early late x y p happenings → AreTold early (late ++ more) x y p happenings
   told_on early late more p [] all = tt
@@ -108,12 +106,11 @@ in_front : (event : Event) (rest : List Event) → Contains (event ∷ rest) eve
 in_front event rest = (0, omega arith, refl)
 
 first_in : (number : ℕ) (call : UserCall) (rest : List Event) → AllByRecursion (Contains (call_events number call ++ rest)) (call_events number call)
-first_in number (asks.Accept options octets) rest = tt
 first_in number (asks.Refuse octets) rest = (in_front (events.Refuse number octets) rest, tt)
 first_in number (asks.Normal octets) rest = (in_front (events.Data number octets) rest, tt)
 first_in number (asks.Urgent octets) rest = (in_front (events.Expedite number octets) rest, tt)
-first_in number (asks.Window credit) rest = tt
 first_in number (asks.Disconnect octets) rest = (in_front (events.Disconnect number octets) rest, tt)
+first_in number other rest = tt
 
 pub call_told : (made : List Event) (number n : ℕ) (call : UserCall) (rest : List Event) → made ≡ call_events number call ++ rest → number ≡ n → AllByRecursion (Contains made) (call_events n call)
 call_told made number n call rest is same =
@@ -144,10 +141,7 @@ told_no (Came arrival ∷ ups) =
 
 what_no : (system : ℕ) (own : List ℕ) (number reference : ℕ) (what : What) → IsNoTick (event_for system own number reference what)
 what_no system own number reference (whats.Incoming from partner calling called options octets) = tt
-what_no system own number reference (whats.End what) = tt
-what_no system own number reference (whats.BadTpdu cause place) = tt
-what_no system own number reference (whats.Unknown kind) = tt
-what_no system own number reference whats.Silent = tt
+what_no system own number reference other = tt
 
 ends_no : (all : List EndEvent) (ends : List EndAt) (system : ℕ) (own : List ℕ) → AllByRecursion IsNoTick (events_after ends system own all)
 ends_no [] ends system own = tt

@@ -8,7 +8,7 @@ use Rattle.tp4_conn.specs.End.{IsTimed}
 use Rattle.tp4_conn.specs.Matching.{is_match}
 use Rattle.tp4_conn.specs.Table.{Called, Ticked, Took}
 use Rattle.tp4_conn.specs.declared.call.UserCall.{UserCall}
-use Rattle.tp4_conn.specs.declared.call.UserCall.TheVariants.{Accept, Disconnect, Normal, Refuse, Urgent, Window}
+use Rattle.tp4_conn.specs.declared.call.UserCall.TheVariants.{Disconnect}
 use Rattle.tp4_conn.specs.declared.timers.Timers.{Timers}
 use Rattle.tp4_entity.specs.Entity.{Acted, Entity, at}
 use Rattle.tp4_entity.specs.Step.{restarted}
@@ -52,11 +52,7 @@ fronts_alone two made more a = record { x = front_alone two.x two.x_system made 
 -- the line of a disconnect
 disconnect_told : (number : ℕ) (call : UserCall) → IsDisconnect call → (octets : List ℕ) × Contains (call_events number call) (events.Disconnect number octets)
 disconnect_told number (Disconnect octets) is = (octets, Contains-push [] (events.Disconnect number octets))
-disconnect_told number (Accept options octets) is = absurd is
-disconnect_told number (Refuse octets) is = absurd is
-disconnect_told number (Normal octets) is = absurd is
-disconnect_told number (Urgent octets) is = absurd is
-disconnect_told number (Window credit) is = absurd is
+disconnect_told number other is = absurd is
 
 -- an end that has not ended has its number
 live_number : (same gone : Bool) → (not same || gone) ≡ false → same ≡ true

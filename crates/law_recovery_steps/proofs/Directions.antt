@@ -3,7 +3,7 @@ use Rattle.std.proofs.Common.{◌≡◌, inl, inr, ℕ, ◌+◌, List, [], ◌�
 use Rattle.std.proofs.lemmas.List.Elements.{Contains-append_left, Contains-append_right, Contains-append_cases, Contains-push, Contains-push_cases}
 use Rattle.tpdu.specs.declared.tpdu.Format.{Format}
 use Rattle.tp4_number.specs.declared.got.Got.{Got}
-use Rattle.tp4_number.specs.declared.got.Got.TheVariants.{Kept, Old, Outside, TooLarge}
+use Rattle.tp4_number.specs.declared.got.Got.TheVariants.{TooLarge}
 use Rattle.tp4_number.specs.declared.piece.Piece.{Piece}
 use Rattle.tp4_number.specs.Formats.{block_of, most_of}
 use Rattle.tp4_number.specs.Number.{whole, wire}
@@ -52,10 +52,8 @@ says_on : (s : FlowSender) (h : Half) (now : ℕ) → h.rules.format ≡ s.rules
 says_on s h now e = ap (λ (f : Format). record { number = wire (block_of f) h.receiver.expected; credit = h.receiver.inbox.credit; subsequence = h.receiver.inbox.subsequence } ∷ []) e
 
 pub answered : (got : Got) (h : Half) → (got ≡ TooLarge → ⊥) → aks_for got h ≡ ak h ∷ []
-answered Kept h small = refl
-answered Old h small = refl
-answered Outside h small = refl
 answered TooLarge h small = absurd (small refl)
+answered other h small = refl
 
 -- a half with the same inbox
 fits_same : (a b : Half) → b.rules ≡ a.rules → b.receiver.inbox ≡ a.receiver.inbox → Fits a → Fits b

@@ -18,7 +18,7 @@ use Rattle.tp4_flow.specs.declared.step.Sent.{Sent}
 use Rattle.tpdu.specs.declared.service.EndTold.TheVariants.{Window as WindowTold}
 use Rattle.tp4_sending.specs.FlowSender.{Sendings, acknowledged, at, life_of, submitted, ticked, urged, urgent_done}
 use Rattle.tp4_conn.specs.declared.call.UserCall.{UserCall}
-use Rattle.tp4_conn.specs.declared.call.UserCall.TheVariants.{Accept, Refuse, Normal, Urgent, Window, Disconnect}
+use Rattle.tp4_conn.specs.declared.call.UserCall.TheVariants.{Normal, Urgent, Window, Disconnect}
 use Rattle.tp4_conn.specs.declared.end_record.EndRecord.{EndRecord}
 use Rattle.tp4_conn.specs.declared.states.InOpened.{InOpened}
 use Rattle.tp4_conn.specs.declared.states.StateData.TheVariants.{Opened}
@@ -255,8 +255,7 @@ module _ (life size u : ℕ) (one other : Since) (first : Party) (o : InOpened) 
         (calls_urge life u other.urgent q.halves.sending o.halves.receiving b.clock (eds_in back) (eas_in forth) unit 0 0 0 both.here_eds).1
     call_onward (Window credit) = grant_onward credit ((half_granted q.halves.receiving credit).receiver.inbox.credit == q.halves.receiving.receiver.inbox.credit) refl
     call_onward (Disconnect octets) = inl tt
-    call_onward (Accept options octets) = stays_onward
-    call_onward (Refuse octets) = stays_onward
+    call_onward other = stays_onward
 
     -- ---- a tick
 

@@ -4,9 +4,9 @@ use Rattle.std.proofs.Math.Nat.{mul-le-mul_right}
 use Rattle.std.proofs.lemmas.Bool.{and_parts, leb-true}
 use Rattle.std.specs.List.{list_any}
 use Rattle.tpdu.specs.declared.tpdu.Tpdu.{Tpdu}
-use Rattle.tpdu.specs.declared.tpdu.Tpdu.TheVariants.{Ak, Cc, Cr, Dc, Dr, Dt, Ea, Ed, Er}
+use Rattle.tpdu.specs.declared.tpdu.Tpdu.TheVariants.{Ak, Cc, Cr, Dc, Dr, Dt, Ea, Ed}
 use Rattle.tp4_number.specs.declared.got.Got.{Got}
-use Rattle.tp4_number.specs.declared.got.Got.TheVariants.{Kept, Old, Outside, TooLarge}
+use Rattle.tp4_number.specs.declared.got.Got.TheVariants.{TooLarge}
 use Rattle.tp4_number.specs.Number.{whole}
 use Rattle.tp4_number.proofs.Past.{if_kept}
 use Rattle.tp4_flow.specs.Half.{Received, dt_arrival, half_granted, taken_dt, taken_ed}
@@ -16,7 +16,7 @@ use Rattle.tp4_sending.specs.FlowSender.{Sendings, acknowledged, at, is_urgent_s
 use Rattle.tp4_sending.specs.Pieces.{again, is_due, is_spent}
 use Rattle.tp4_sending.specs.declared.tries.Tries.{Tries}
 use Rattle.tp4_conn.specs.declared.call.UserCall.{UserCall}
-use Rattle.tp4_conn.specs.declared.call.UserCall.TheVariants.{Accept, Disconnect, Normal, Refuse, Urgent, Window}
+use Rattle.tp4_conn.specs.declared.call.UserCall.TheVariants.{Disconnect, Normal, Urgent, Window}
 use Rattle.tp4_conn.specs.declared.end_record.EndRecord.{EndRecord}
 use Rattle.tp4_conn.specs.declared.states.InOpened.{InOpened}
 use Rattle.tp4_conn.specs.declared.states.StateData.{StateData}
@@ -87,9 +87,7 @@ module _ (t : Timers) (s : ℕ) (b : EndRecord) (o : InOpened) (timers : b.timer
     dt_up : (got : Got) (destination : ℕ) (last : Bool) (w : ℕ) (text : List ℕ) → (dt_arrival o.halves.receiving w (record { last = last; octets = text })).got ≡ got
         → Row (EndsIt b o (Dt destination last w text)) (dt_as got b (hearing b o) (taken_dt whole o.halves.receiving w (record { last = last; octets = text })))
     dt_up TooLarge destination last w text e = inl e
-    dt_up Kept destination last w text e = acks b.clock (taken_dt whole o.halves.receiving w (record { last = last; octets = text })) now_heard
-    dt_up Old destination last w text e = acks b.clock (taken_dt whole o.halves.receiving w (record { last = last; octets = text })) now_heard
-    dt_up Outside destination last w text e = acks b.clock (taken_dt whole o.halves.receiving w (record { last = last; octets = text })) now_heard
+    dt_up other destination last w text e = acks b.clock (taken_dt whole o.halves.receiving w (record { last = last; octets = text })) now_heard
 
     ed_up : (expedited : Bool) (destination : ℕ) (last : Bool) (w : ℕ) (text : List ℕ) → is_expedited b.agreed ≡ expedited
         → Row (EndsIt b o (Ed destination last w text)) (if expedited then receiving b (hearing b o) (taken_ed whole o.halves.receiving w text) else protocol_error b)
@@ -103,8 +101,6 @@ module _ (t : Timers) (s : ℕ) (b : EndRecord) (o : InOpened) (timers : b.timer
     unfolding opened_tpdu
     tpdu_up (Cc credit destination source width calling called size preferred extra version classes ack_time text) =
         inr (record { after = acking b (hearing b o); stage = refl; since = record { tried = up.tried; heard = now_heard } })
-    tpdu_up (Dr destination source reason info text) = inl tt
-    tpdu_up (Er destination cause rejected) = inl tt
     tpdu_up (Dt destination last w text) = dt_up (dt_arrival o.halves.receiving w (record { last = last; octets = text })).got destination last w text refl
     tpdu_up (Ed destination last w text) = ed_up (is_expedited b.agreed) destination last w text refl
     tpdu_up (Ak destination w credit subsequence confirmation) =
@@ -112,6 +108,7 @@ module _ (t : Timers) (s : ℕ) (b : EndRecord) (o : InOpened) (timers : b.timer
     tpdu_up (Ea destination w) = sends b.clock (urgent_done (at b.clock o.halves.sending) w) now_heard (done_tried P (at b.clock o.halves.sending) w trying)
     tpdu_up (Cr credit source width calling called size preferred extra version classes ack_time text) = still
     tpdu_up (Dc destination source) = still
+    tpdu_up other = inl tt
 
   -- ---- a call of its user
 
@@ -128,8 +125,7 @@ module _ (t : Timers) (s : ℕ) (b : EndRecord) (o : InOpened) (timers : b.timer
   call_up (Urgent unit) = sends o.took (urged (at b.clock o.halves.sending) unit) up.heard (urged_tried P (at b.clock o.halves.sending) unit trying)
   call_up (Window credit) = grant_up credit
   call_up (Disconnect octets) = inl tt
-  call_up (Accept options octets) = same
-  call_up (Refuse octets) = same
+  call_up other = same
 
   -- ---- a tick
 
@@ -193,9 +189,6 @@ module _ (t : Timers) (s : ℕ) (b : EndRecord) (o : InOpened) (timers : b.timer
 -- the clock does not count
 ends_at : (now : ℕ) (b : EndRecord) (o : InOpened) (tpdu : Tpdu) → EndsIt (now_at now b) o tpdu → EndsIt b o tpdu
 ends_at now b o (Dr destination source reason info text) ends = ends
-ends_at now b o (Er destination cause rejected) ends = ends
-ends_at now b o (Dt destination last number text) ends = ends
-ends_at now b o (Ed destination last number text) ends = ends
 ends_at now b o other ends = ends
 
 module _ (t : Timers) (s now : ℕ) (e : End) (o : InOpened) (stage : e.stage ≡ Opened o) (timers : e.base.timers ≡ t) (t1_is : o.halves.sending.rules.t1 ≡ t.t1)

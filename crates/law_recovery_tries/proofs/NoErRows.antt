@@ -6,7 +6,7 @@ use Rattle.std.proofs.lemmas.Option.{none-some}
 use Rattle.tpdu.specs.declared.tpdu.Tpdu.{Tpdu}
 use Rattle.tpdu.specs.declared.tpdu.Tpdu.TheVariants.{Cr, Cc, Dr, Dc, Dt, Ed, Ak, Ea, Er}
 use Rattle.tp4_number.specs.declared.got.Got.{Got}
-use Rattle.tp4_number.specs.declared.got.Got.TheVariants.{Kept, Old, Outside, TooLarge}
+use Rattle.tp4_number.specs.declared.got.Got.TheVariants.{TooLarge}
 use Rattle.tp4_number.specs.declared.piece.Piece.{Piece}
 use Rattle.tp4_number.proofs.Past.{if_kept}
 use Rattle.tp4_flow.specs.Half.{Received, ak, dt_arrival, half_granted, taken_dt, taken_ed}
@@ -72,9 +72,7 @@ dc_none b source = if_kept HasNoEr (source == 0) _ _ (λ _. tt) (λ _. (tt, tt))
 module _ (wrap : ℕ → ℕ → ℕ) (b : EndRecord) where
   dt_none : (o : InOpened) (got : Got) (r : Received) → HasNoEr r.tpdus → None_in (dt_as got b o r)
   dt_none o TooLarge r all = none_then r.tpdus _ all (tt, tt)
-  dt_none o Kept r all = all
-  dt_none o Old r all = all
-  dt_none o Outside r all = all
+  dt_none o other r all = all
 
   opened_none : (o : InOpened) (tpdu : Tpdu) → None_in (opened_tpdu wrap b o tpdu)
   unfolding opened_tpdu
@@ -170,7 +168,6 @@ module _ (wrap : ℕ → ℕ → ℕ) (b : EndRecord) where
   closing_none : (c : InClosing) (tpdu : Tpdu) → None_in (closing_tpdu b c tpdu)
   unfolding closing_tpdu
   closing_none c (Dc destination source) = tt
-  closing_none c (Dr destination source reason info text) = tt
   closing_none c other = tt
 
   closing_later : (c : InClosing) → None_in (closing_tick b c)
@@ -187,44 +184,33 @@ module _ (wrap : ℕ → ℕ → ℕ) (b : EndRecord) where
   opened_call o (Window granted) =
       if_kept None_in ((half_granted o.halves.receiving granted).receiver.inbox.credit == o.halves.receiving.receiver.inbox.credit) _ _ (λ _. tt) (λ _. (tt, tt))
   opened_call o (Disconnect octets) = (tt, tt)
-  opened_call o (Accept options octets) = tt
-  opened_call o (Refuse octets) = tt
+  opened_call o other = tt
 
   ak_wait_call : (w : InAkWait) (call : UserCall) → None_in (on_call b (AkWait w) call)
   ak_wait_call w (Normal unit) = let s : FlowSender = at b.clock w.halves.sending in flows_have_none s.rules _ (submitted_flows s.rules s.is_open s unit (ready s)).flows
   ak_wait_call w (Urgent unit) = let s : FlowSender = at b.clock w.halves.sending in flows_have_none s.rules _ (urged_flows s.rules s.is_open s unit (ready s)).flows
-  ak_wait_call w (Window granted) = tt
   ak_wait_call w (Disconnect octets) = (tt, tt)
-  ak_wait_call w (Accept options octets) = tt
-  ak_wait_call w (Refuse octets) = tt
+  ak_wait_call w other = tt
 
   user_wait_call : (since : ℕ) (call : UserCall) → None_in (on_call b (UserWait since) call)
   unfolding user_wait_accept user_wait_refuse
   user_wait_call since (Accept options octets) = (tt, tt)
   user_wait_call since (Refuse octets) = (tt, tt)
-  user_wait_call since (Normal unit) = tt
-  user_wait_call since (Urgent unit) = tt
-  user_wait_call since (Window granted) = tt
-  user_wait_call since (Disconnect octets) = tt
+  user_wait_call since other = tt
 
   cr_wait_call : (w : InCrWait) (call : UserCall) → None_in (on_call b (CrWait w) call)
   cr_wait_call w (Accept options octets) = tt
-  cr_wait_call w (Refuse octets) = tt
-  cr_wait_call w (Normal unit) = tt
-  cr_wait_call w (Urgent unit) = tt
-  cr_wait_call w (Window granted) = tt
-  cr_wait_call w (Disconnect octets) = tt
+  cr_wait_call w other = tt
 
   -- ---- all rows
 
   tpdu_none : (stage : StateData) (tpdu : Tpdu) → None_in (on_tpdu wrap b stage tpdu)
   tpdu_none (CrWait w) tpdu = cr_wait_none w tpdu
   tpdu_none (WaitBeforeClose w) tpdu = parting_none w tpdu
-  tpdu_none (UserWait since) tpdu = tt
   tpdu_none (AkWait w) tpdu = ak_wait_none w tpdu
   tpdu_none (Opened o) tpdu = opened_none (hearing b o) tpdu
   tpdu_none (Closing c) tpdu = closing_none c tpdu
-  tpdu_none (Frozen when) tpdu = tt
+  tpdu_none other tpdu = tt
 
   tick_none : (stage : StateData) → None_in (on_tick b stage)
   tick_none (CrWait w) = cr_wait_later w
@@ -237,12 +223,10 @@ module _ (wrap : ℕ → ℕ → ℕ) (b : EndRecord) where
 
   call_none : (stage : StateData) (call : UserCall) → None_in (on_call b stage call)
   call_none (CrWait w) call = cr_wait_call w call
-  call_none (WaitBeforeClose w) call = tt
   call_none (UserWait since) call = user_wait_call since call
   call_none (AkWait w) call = ak_wait_call w call
   call_none (Opened o) call = opened_call o call
-  call_none (Closing c) call = tt
-  call_none (Frozen when) call = tt
+  call_none other call = tt
 
 pub row_none : (wrap : ℕ → ℕ → ℕ) (now : ℕ) (e : End) (event : Event) → HasNoEr (stepped wrap now e event).tpdus
 row_none wrap now e (Called call) = call_none wrap (now_at now e.base) e.stage call

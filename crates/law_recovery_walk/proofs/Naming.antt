@@ -11,7 +11,7 @@ use Rattle.tp4_conn.specs.End.{End, Moved}
 use Rattle.tp4_conn.specs.Living.{IsFit}
 use Rattle.tp4_conn.specs.Matching.{wants_sum}
 use Rattle.tp4_conn.specs.Proper.{IsProper, IsProperEvent}
-use Rattle.tp4_conn.specs.Table.{Called, Event, Ticked, Took, stepped}
+use Rattle.tp4_conn.specs.Table.{Event, Took, stepped}
 use Rattle.tp4_conn.proofs.Propers.{step_row}
 use Rattle.law_tp4_history.specs.Ends.{Alone, Back, Cause, Cc, Cr, Dr, End as HistoryEnd, Goes, IsMove, IsOffered, Offer, Times, To_known, Took as TookIn, Tpdu}
 use Rattle.law_tp4_moves.specs.Moves.{HasSource, IsSourced, Moves, Sees, cause_of}
@@ -30,9 +30,8 @@ cause_took true one other is = absurd (cc is)
 cause_took false one other is = cc is
 
 named_by : (e : End) (event : Event) (tpdu : Tpdu) (r : ℕ) → cause_of e 0 event ≡ TookIn tpdu → ((t : WireTpdu) → seen 0 t ≡ tpdu → Names r t) → NamedBy event r
-named_by e (Called call) tpdu r is f = absurd (cc is)
 named_by e (Took t sum) tpdu r is f = f t (cause_took (wants_sum e.base e.stage t && not sum) (seen 0 t) tpdu is)
-named_by e Ticked tpdu r is f = absurd (cc is)
+named_by e other tpdu r is f = absurd (cc is)
 
 -- a CR, a CC or a DR of an end of that reference
 abbrev IsNaming : ℕ → Tpdu → Type 0
@@ -47,8 +46,6 @@ naming other n r is = absurd is
 -- the source and the kind of what is seen do not depend on its number
 source_same : (t : WireTpdu) (n : ℕ) → HasSource (seen n t) → HasSource (seen 0 t)
 source_same (wires.Cc credit destination source width calling called size preferred extra version classes ack_time text) n has = λ kind. has refl
-source_same (wires.Cr credit source width calling called size preferred extra version classes ack_time text) n has = λ kind. absurd (cc kind)
-source_same (wires.Dr destination source reason info text) n has = λ kind. absurd (cc kind)
 source_same other n has = λ kind. absurd (cc kind)
 
 first_there : {A : Type 0} (x : A) (xs : List A) → Contains (x ∷ xs) x

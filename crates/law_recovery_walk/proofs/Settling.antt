@@ -52,11 +52,7 @@ leads_then p mid last (happening ∷ first) more a b = (a.0, leads_then (next_pa
 pub live_or : (stage : StateData) → IsLive stage ⊎ (IsLive stage → ⊥)
 live_or (stages.Opened o) = inl tt
 live_or (stages.Closing c) = inl tt
-live_or (stages.CrWait w) = inr (λ live. live)
-live_or (stages.WaitBeforeClose w) = inr (λ live. live)
-live_or (stages.UserWait since) = inr (λ live. live)
-live_or (stages.AkWait w) = inr (λ live. live)
-live_or (stages.Frozen when) = inr (λ live. live)
+live_or other = inr (λ live. live)
 
 -- ---- where no entity acts
 

@@ -7,10 +7,10 @@ use Rattle.tpdu.specs.Values.{destination_of}
 use Rattle.tpdu.specs.declared.service.Options.{Options}
 use Rattle.tpdu.specs.declared.service.GoneCause.TheVariants.{Reason, Protocol, Inactive, Exhausted}
 use Rattle.tpdu.specs.declared.tpdu.Tpdu.{Tpdu}
-use Rattle.tpdu.specs.declared.tpdu.Tpdu.TheVariants.{Cr, Cc, Dr, Dc, Dt, Ed, Ak, Ea, Er}
+use Rattle.tpdu.specs.declared.tpdu.Tpdu.TheVariants.{Cc, Dr, Dc, Dt, Ed, Ak, Ea, Er}
 use Rattle.tp4_number.specs.Number.{near, whole}
 use Rattle.tp4_number.specs.declared.got.Got.{Got}
-use Rattle.tp4_number.specs.declared.got.Got.TheVariants.{Kept, Old, Outside, TooLarge}
+use Rattle.tp4_number.specs.declared.got.Got.TheVariants.{TooLarge}
 use Rattle.tp4_number.specs.declared.piece.Piece.{Piece}
 use Rattle.tp4_flow.specs.declared.rules.FlowRules.{FlowRules}
 use Rattle.tp4_flow.specs.declared.rules.Life.{Life}
@@ -127,10 +127,8 @@ module _ (Q : Sent → Type 0) (rules : FlowRules) (say : HalvesSay Q rules) whe
   ak_said h is = said h.rules (ak h) is refl refl (λ own. tt) refl
 
   pub aks_said : (got : Got) (h : Half) → h.rules ≡ rules → AllByRecursion Q (aks got h)
-  aks_said Kept h is = (ak_said h is, tt)
-  aks_said Old h is = (ak_said h is, tt)
-  aks_said Outside h is = (ak_said h is, tt)
   aks_said TooLarge h is = tt
+  aks_said other h is = (ak_said h is, tt)
 
 -- ---- an end
 
@@ -168,9 +166,7 @@ module _ (b : EndRecord) (terms : Options) (agreed : b.agreed ≡ Some terms) wh
 
   dt_as_said : (got : Got) (o : InOpened) (r : Received) → AllByRecursion Q r.tpdus → Speaks b (dt_as got b o r)
   dt_as_said TooLarge o r all = led_said r.events r.tpdus (protocol_error b) all (closing_said (gone b Protocol []) 133 [] b.clock)
-  dt_as_said Kept o r all = receiving_said (acking b o) r all
-  dt_as_said Old o r all = receiving_said (acking b o) r all
-  dt_as_said Outside o r all = receiving_said (acking b o) r all
+  dt_as_said other o r all = receiving_said (acking b o) r all
 
   module _ (o : InOpened) (halves : (o.halves.sending.rules ≡ rules) × (o.halves.receiving.rules ≡ rules)) where
     ed_said : (wrap : ℕ → ℕ → ℕ) (w : ℕ) (octets : List ℕ) → Speaks b (receiving b o (taken_ed wrap o.halves.receiving w octets))
@@ -193,8 +189,7 @@ module _ (b : EndRecord) (terms : Options) (agreed : b.agreed ≡ Some terms) wh
     opened_took wrap (Ak destination number credit subsequence confirmation) by =
         sending_said o _ (acknowledged_sent Q rules say (at b.clock o.halves.sending) number credit subsequence halves.0).tpdus
     opened_took wrap (Ea destination number) by = sending_said o _ (urgent_done_sent Q rules say (at b.clock o.halves.sending) number halves.0).tpdus
-    opened_took wrap (Cr credit source width calling called size preferred extra version classes ack_time text) by = record { keeps = same_party b; tpdus = tt }
-    opened_took wrap (Dc destination source) by = record { keeps = same_party b; tpdus = tt }
+    opened_took wrap other by = record { keeps = same_party b; tpdus = tt }
 
     granting_said : (new : Half) → new.rules ≡ rules → Speaks b (granting b o new)
     granting_said new is =
@@ -222,8 +217,7 @@ module _ (b : EndRecord) (terms : Options) (agreed : b.agreed ≡ Some terms) wh
     opened_called (calls.Urgent unit) = sending_said o _ (urged_sent Q rules say (at b.clock o.halves.sending) unit halves.0).tpdus
     opened_called (calls.Window credit) = granting_said (half_granted o.halves.receiving credit) halves.1
     opened_called (calls.Disconnect octets) = closing_said [] 128 octets b.clock
-    opened_called (calls.Accept options octets) = record { keeps = same_party b; tpdus = tt }
-    opened_called (calls.Refuse octets) = record { keeps = same_party b; tpdus = tt }
+    opened_called other = record { keeps = same_party b; tpdus = tt }
 
 -- ---- Closing
 
@@ -231,7 +225,6 @@ module _ (b : EndRecord) (c : InClosing) where
   closing_took : (tpdu : Tpdu) → Speaks b (closing_tpdu b c tpdu)
   unfolding closing_tpdu
   closing_took (Dc destination source) = record { keeps = same_party b; tpdus = tt }
-  closing_took (Dr destination source reason info text) = record { keeps = same_party b; tpdus = tt }
   closing_took other = record { keeps = same_party b; tpdus = tt }
 
   closing_ticked : Speaks b (closing_tick b c)

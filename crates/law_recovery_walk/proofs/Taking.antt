@@ -46,14 +46,7 @@ or_false false = refl
 -- it has a checksum exactly where it was sent with one
 pub sum_same : (t : WireTpdu) (r : ℕ) (sum : Bool) → destination_of t ≡ Some r → is_summed sum t ≡ sum
 sum_same (wires.Cr credit source width calling called size preferred extra version classes ack_time text) r sum is = absurd (none-some r is)
-sum_same (wires.Cc credit destination source width calling called size preferred extra version classes ack_time text) r sum is = or_false sum
-sum_same (wires.Dr destination source reason info text) r sum is = or_false sum
-sum_same (wires.Dc destination source) r sum is = or_false sum
-sum_same (wires.Er destination cause rejected) r sum is = or_false sum
-sum_same (wires.Dt destination last number text) r sum is = or_false sum
-sum_same (wires.Ed destination last number text) r sum is = or_false sum
-sum_same (wires.Ak destination number credit subsequence confirmation) r sum is = or_false sum
-sum_same (wires.Ea destination number) r sum is = or_false sum
+sum_same other r sum is = or_false sum
 
 met_is : (now : ℕ) (e : Entity) (from : List ℕ) (t : WireTpdu) (r : ℕ) (sum : Bool) → destination_of t ≡ Some r → met whole now e from (t, sum) ≡ met_by whole now e from (t, sum) r (end_at e r)
 met_is now e from (wires.Cr credit source width calling called size preferred extra version classes ack_time text) r sum is = absurd (none-some r is)

@@ -14,10 +14,6 @@ pub both_parts : (a b : Bool) → (a && b) ≡ true → (a ≡ true) × (b ≡ t
 both_parts true b is = (refl, is)
 both_parts false b is = absurd cc
 
-and_false : (b : Bool) → (b && false) ≡ false
-and_false true = refl
-and_false false = refl
-
 target_is : (reference : ℕ) (target : Option ℕ) → target ≡ Some reference → is_target reference target ≡ true
 target_is reference None is = absurd cc
 target_is reference (Some n) is = let same : n ≡ reference = cc is in eq-eqb n reference same

@@ -17,7 +17,7 @@ use Rattle.tp4_conn.specs.declared.call.CallRefusal.TheVariants.{WrongState}
 use Rattle.tp4_conn.specs.declared.call.UserCall.{UserCall}
 use Rattle.tp4_conn.specs.declared.call.UserCall.TheVariants.{Accept, Disconnect, Normal, Refuse, Urgent, Window}
 use Rattle.tp4_conn.specs.declared.states.StateData.{StateData}
-use Rattle.tp4_conn.specs.declared.states.StateData.TheVariants.{AkWait, Closing, CrWait, Frozen, Opened, UserWait, WaitBeforeClose}
+use Rattle.tp4_conn.specs.declared.states.StateData.TheVariants.{AkWait, Opened}
 use Rattle.tp4_conn.specs.End.{End, IsTimed}
 use Rattle.tp4_conn.specs.declared.timers.Timers.{Timers}
 use Rattle.law_tp4_credit.specs.Giving.{AllGive, GivesCredit}
@@ -93,11 +93,7 @@ refusal_short s octets =
 unit_short : (stage : StateData) (unit : List ℕ) → is_listed stage (Normal unit) ≡ true → normal_refusal (sending_of stage) (length unit) ≡ None → length unit ≤ 16384
 unit_short (AkWait w) unit listed e = refusal_short w.halves.sending (length unit) e
 unit_short (Opened o) unit listed e = refusal_short o.halves.sending (length unit) e
-unit_short (CrWait w) unit listed e = absurd (cc listed)
-unit_short (WaitBeforeClose w) unit listed e = absurd (cc listed)
-unit_short (UserWait since) unit listed e = absurd (cc listed)
-unit_short (Closing c) unit listed e = absurd (cc listed)
-unit_short (Frozen when) unit listed e = absurd (cc listed)
+unit_short other unit listed e = absurd (cc listed)
 
 listed_in : (stage : StateData) (call : UserCall) (is : Bool) (r : Option CallRefusal) → (if is then r else Some (WrongState (state_of stage))) ≡ None → (is ≡ true) × (r ≡ None)
 listed_in stage call true r e = (refl, e)

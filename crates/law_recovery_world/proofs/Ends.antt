@@ -18,7 +18,7 @@ use Rattle.tp4_conn.specs.Table.{Event, Called, Took, Ticked, due, stepped}
 use Rattle.tp4_conn.specs.declared.call.ConnectRequest.{ConnectRequest}
 use Rattle.tp4_conn.specs.declared.call.UserCall.{UserCall}
 use Rattle.tp4_conn.specs.declared.states.StateData.{StateData}
-use Rattle.tp4_conn.specs.declared.states.StateData.TheVariants.{CrWait, WaitBeforeClose, UserWait, AkWait, Opened, Closing, Frozen}
+use Rattle.tp4_conn.specs.declared.states.StateData.TheVariants.{CrWait, AkWait, Opened}
 use Rattle.tp4_conn.specs.declared.timers.Timers.{Timers}
 use Rattle.tp4_conn.proofs.Timely.{if_kept}
 use Rattle.law_tp4_credit.specs.Giving.{AllGive, EventGives, GivesCredit, GivesRow}
@@ -45,19 +45,12 @@ module _ (credit : ℕ) where
   within (Opened o) event t (inl keeps) = keeps.edge
   within (Opened o) event t (inr heard) = heard.edge
   within (CrWait w) event t fresh = fresh.edge
-  within (WaitBeforeClose w) event t fresh = fresh.edge
-  within (UserWait since) event t fresh = fresh.edge
-  within (Closing c) event t fresh = fresh.edge
-  within (Frozen when) event t fresh = fresh.edge
+  within other event t fresh = fresh.edge
 
   stage_knows : (old : StateData) (event : Event) (new : StateData) → RowKnows credit old event new → StageKnows credit new
   stage_knows old event (AkWait w) row = row
   stage_knows old event (Opened o) row = within old event o.halves.sending row
-  stage_knows old event (CrWait w) row = tt
-  stage_knows old event (WaitBeforeClose w) row = tt
-  stage_knows old event (UserWait since) row = tt
-  stage_knows old event (Closing c) row = tt
-  stage_knows old event (Frozen when) row = tt
+  stage_knows old event other row = tt
 
 module _ (credit now : ℕ) (low : credit ≤ 15) where
   abbrev Steady : End → Type 0
@@ -142,13 +135,7 @@ module _ (credit now : ℕ) (low : credit ≤ 15) where
   stateless_gives : (from : List ℕ) (tpdu : Tpdu) → AllGive credit (stateless from tpdu)
   stateless_gives from (Cc given destination source width calling called size preferred extra version classes ack_time text) = (tt, tt)
   stateless_gives from (Dr destination source reason info text) = if_kept (AllGive credit) (source == 0) _ _ (λ _. tt) (λ _. (tt, tt))
-  stateless_gives from (Cr given source width calling called size preferred extra version classes ack_time text) = tt
-  stateless_gives from (Dc destination source) = tt
-  stateless_gives from (Dt destination last number text) = tt
-  stateless_gives from (Ed destination last number text) = tt
-  stateless_gives from (Ak destination number given subsequence confirmation) = tt
-  stateless_gives from (Ea destination number) = tt
-  stateless_gives from (Er destination cause rejected) = tt
+  stateless_gives from other = tt
 
   unmatched_steps : (e : Entity) (from : List ℕ) (tpdu : Tpdu) → HasSteadyEnds credit now e → Steps (unmatched e from tpdu)
   unmatched_steps e from tpdu all = record { ends = all; gives = stateless_gives from tpdu }

@@ -1,7 +1,7 @@
 -- Each row of an end: it tries, acknowledges and takes nothing later than now, and its receiving half keeps its places.
 use Rattle.std.proofs.Common.{◌≡◌, ◌≤◌, ℕ, ◌+◌, ◌==◌, ◌&&◌, not, nat_le, List, [], ◌∷◌, Option, Some, None, refl, sym, ◌∙◌, arith}
 use Rattle.tpdu.specs.declared.tpdu.Tpdu.{Tpdu}
-use Rattle.tpdu.specs.declared.tpdu.Tpdu.TheVariants.{Cr, Cc, Dr, Dc, Dt, Ed, Ak, Ea, Er}
+use Rattle.tpdu.specs.declared.tpdu.Tpdu.TheVariants.{Cr, Cc, Dc, Dt, Ed, Ak, Ea}
 use Rattle.tp4_number.specs.declared.got.Got.{Got}
 use Rattle.tp4_number.specs.declared.got.Got.TheVariants.{Kept, Old, Outside, TooLarge}
 use Rattle.tp4_number.specs.declared.piece.Piece.{Piece}
@@ -20,13 +20,13 @@ use Rattle.tp4_sending.specs.declared.tries.Tries.{Tries}
 use Rattle.law_recovery_pair.specs.Fitting.{Fits}
 use Rattle.law_recovery_pair.proofs.Fitting.{dt_fits, empty_fits, grant_fits}
 use Rattle.tp4_conn.specs.declared.call.UserCall.{UserCall}
-use Rattle.tp4_conn.specs.declared.call.UserCall.TheVariants.{Accept, Refuse, Normal, Urgent, Window, Disconnect}
+use Rattle.tp4_conn.specs.declared.call.UserCall.TheVariants.{Normal, Urgent, Window, Disconnect}
 use Rattle.tp4_conn.specs.declared.end_record.EndRecord.{EndRecord}
 use Rattle.tp4_conn.specs.declared.halves.Halves.{Halves}
 use Rattle.tp4_conn.specs.declared.states.InAkWait.{InAkWait}
 use Rattle.tp4_conn.specs.declared.states.InOpened.{InOpened}
 use Rattle.tp4_conn.specs.declared.states.StateData.{StateData}
-use Rattle.tp4_conn.specs.declared.states.StateData.TheVariants.{CrWait, WaitBeforeClose, UserWait, AkWait, Opened, Closing, Frozen}
+use Rattle.tp4_conn.specs.declared.states.StateData.TheVariants.{AkWait, Opened}
 use Rattle.tp4_conn.specs.Agreeing.{agreed_by, flow_rules, halves_of}
 use Rattle.tp4_conn.specs.AkWait.{opening}
 use Rattle.tp4_conn.specs.CrWait.{confirmed}
@@ -37,7 +37,7 @@ use Rattle.tp4_conn.specs.Table.{Called, Event, Ticked, Took, at as now_at, on_c
 use Rattle.law_recovery_ends.specs.Due.{AreTriedBy, HasTried, IsTriedBy}
 use Rattle.law_recovery_world.specs.Steady.{AreLate, IsRoomy, StageLate, says_of}
 use Rattle.law_recovery_world.proofs.Late.{IsBy, acknowledged_by, done_by, opened_by, submitted_by, ticked_by, urged_by}
-use Rattle.law_recovery_world.proofs.RowsWithout.{HasNone, ak_wait_later, ak_wait_row, call_without, tick_without, tpdu_without}
+use Rattle.law_tp4_rows.proofs.RowsWithout.{HasNone, accepts_in, ak_wait_later, ak_wait_row, call_without, opens_in, tick_without, tpdu_without}
 
 -- ---- at a later tick
 
@@ -53,13 +53,9 @@ halves_later : (credit old now : ℕ) (h : Halves) → old ≤ now → AreLate c
 halves_later credit old now h low l = record { tried = record { window = window_later old now h.sending.window low l.tried.window; urgent = out_later old now h.sending.urgent.out low l.tried.urgent }; fits = l.fits; roomy = l.roomy }
 
 pub stage_later : (credit old now : ℕ) (stage : StateData) → old ≤ now → StageLate credit old stage → StageLate credit now stage
-stage_later credit old now (CrWait w) low l = tt
-stage_later credit old now (WaitBeforeClose w) low l = tt
-stage_later credit old now (UserWait since) low l = tt
 stage_later credit old now (AkWait w) low l = halves_later credit old now w.halves low l
 stage_later credit old now (Opened o) low l = (omega (arith, low, l.0), omega (arith, low, l.1), halves_later credit old now o.halves low l.2)
-stage_later credit old now (Closing c) low l = tt
-stage_later credit old now (Frozen when) low l = tt
+stage_later credit old now other low l = tt
 
 -- ---- rows
 
@@ -97,8 +93,6 @@ module _ (credit : ℕ) (b : EndRecord) (low : b.timers.credit ≤ 15) (gives_it
     opened_late : (tpdu : Tpdu) → Row (opened_tpdu whole b o tpdu)
     unfolding opened_tpdu
     opened_late (Cc given destination source width calling called size preferred extra version classes ack_time text) = (took, now_low, l)
-    opened_late (Dr destination source reason info text) = tt
-    opened_late (Er destination cause rejected) = tt
     opened_late (Dt destination last number text) =
         let piece : Piece = record { last = last; octets = text } in
         by number piece (dt_arrival o.halves.receiving number piece).got refl
@@ -118,6 +112,7 @@ module _ (credit : ℕ) (b : EndRecord) (low : b.timers.credit ≤ 15) (gives_it
     opened_late (Ea destination number) = (took, acked, with_sender o.halves _ l.fits l.roomy (done_by b.clock (at b.clock o.halves.sending) number (clocked o.halves.sending l.tried)))
     opened_late (Cr given source width calling called size preferred extra version classes ack_time text) = (took, acked, l)
     opened_late (Dc destination source) = (took, acked, l)
+    opened_late other = tt
 
     opened_later : Row (opened_tick b o)
     unfolding opened_tick
@@ -139,8 +134,7 @@ module _ (credit : ℕ) (b : EndRecord) (low : b.timers.credit ≤ 15) (gives_it
         let given : AreLate credit b.clock (record o.halves { receiving = new }) = record { tried = l.tried; fits = grant_fits o.halves.receiving granted l.fits; roomy = grant_roomy o.halves.receiving granted l.roomy } in
         if_kept Row (new.receiver.inbox.credit == o.halves.receiving.receiver.inbox.credit) _ _ (λ _. (took, acked, given)) (λ _. (took, now_low, given))
     opened_call (Disconnect octets) = tt
-    opened_call (Accept options octets) = (took, acked, l)
-    opened_call (Refuse octets) = (took, acked, l)
+    opened_call other = (took, acked, l)
 
   module _ (w : InAkWait) (l : AreLate credit b.clock w.halves) where
     opening_late : (tpdu : Tpdu) → Row (opening whole b w.halves tpdu)
@@ -152,10 +146,8 @@ module _ (credit : ℕ) (b : EndRecord) (low : b.timers.credit ≤ 15) (gives_it
     ak_wait_call : (call : UserCall) → Row (on_call b (AkWait w) call)
     ak_wait_call (Normal unit) = with_sender w.halves _ l.fits l.roomy (submitted_by b.clock (at b.clock w.halves.sending) unit (clocked w.halves.sending l.tried))
     ak_wait_call (Urgent unit) = with_sender w.halves _ l.fits l.roomy (urged_by b.clock (at b.clock w.halves.sending) unit (clocked w.halves.sending l.tried))
-    ak_wait_call (Window granted) = l
     ak_wait_call (Disconnect octets) = tt
-    ak_wait_call (Accept options octets) = l
-    ak_wait_call (Refuse octets) = l
+    ak_wait_call other = l
 
   -- of a state without halves nothing is asked
   none_late : (m : Moved) → HasNone m.stage → Row m
@@ -164,11 +156,7 @@ module _ (credit : ℕ) (b : EndRecord) (low : b.timers.credit ≤ 15) (gives_it
       by : (stage : StateData) → HasNone stage → StageLate credit b.clock stage
       by (AkWait w) none = absurd none
       by (Opened o) none = absurd none
-      by (CrWait w) none = tt
-      by (WaitBeforeClose w) none = tt
-      by (UserWait since) none = tt
-      by (Closing c) none = tt
-      by (Frozen when) none = tt
+      by other none = tt
 
   -- halves that begin
   begun_late : (c : EndRecord) (options : Options) → c.timers.credit ≤ 15 → c.timers.credit ≡ credit → AreLate credit b.clock (halves_of c options)
@@ -183,19 +171,21 @@ module _ (credit : ℕ) (b : EndRecord) (low : b.timers.credit ≤ 15) (gives_it
   -- ---- all rows
 
   tpdu_late : (stage : StateData) (tpdu : Tpdu) → StageLate credit b.clock stage → Row (on_tpdu whole b stage tpdu)
-  tpdu_late (AkWait w) tpdu l = ak_wait_row b Row none_late w l (opening_late w l) tpdu
+  tpdu_late (AkWait w) tpdu l = ak_wait_row whole b Row none_late w l tpdu (opening_late w l tpdu)
   tpdu_late (Opened o) tpdu l = opened_late (hearing b o) now_low l.1 l.2 tpdu
-  tpdu_late other tpdu l = tpdu_without b Row none_late opens_late other tt tpdu
+  tpdu_late other tpdu l = tpdu_without whole b Row none_late other tt tpdu (opens_in b Row opens_late other tpdu)
 
   tick_late : (stage : StateData) → StageLate credit b.clock stage → Row (on_tick b stage)
-  tick_late (AkWait w) l = ak_wait_later b Row none_late w l l
+  tick_late (AkWait w) l = ak_wait_later whole b Row none_late w l l
   tick_late (Opened o) l = opened_later o l.0 l.1 l.2
-  tick_late other l = tick_without b Row none_late other tt
+  tick_late other l = tick_without whole b Row none_late other tt
 
   call_late : (stage : StateData) (call : UserCall) → StageLate credit b.clock stage → Row (on_call b stage call)
   call_late (AkWait w) call l = ak_wait_call w l call
   call_late (Opened o) call l = opened_call o l.0 l.1 l.2 call
-  call_late other call l = call_without b Row none_late (λ asked octets. begun_late (record b { agreed = Some (agreed_by b.proposed asked) }) (agreed_by b.proposed asked) low gives_it) other tt call
+  call_late other call l =
+      call_without whole b Row none_late other tt call
+      (accepts_in b Row (λ asked octets. begun_late (record b { agreed = Some (agreed_by b.proposed asked) }) (agreed_by b.proposed asked) low gives_it) other)
 
 pub row_late : (credit now : ℕ) (e : End) (event : Event) → e.base.timers.credit ≤ 15 → e.base.timers.credit ≡ credit → StageLate credit now e.stage → StageLate credit now (stepped whole now e event).stage
 row_late credit now e (Called call) low same l = call_late credit (now_at now e.base) low same e.stage call l

@@ -8,7 +8,6 @@ pub mod Late
 pub mod LateRows
 pub mod Making
 pub mod Rising
-mod RowsWithout
 pub mod SeeRows
 pub mod SeeSteps
 pub mod Seeing

@@ -3,10 +3,10 @@ use Rattle.std.specs.Prelude.{not}
 use Rattle.std.proofs.Common.{◌≤◌, ◌+◌, ◌++◌, ◌==◌, ◌&&◌, ℕ, nat_le, List, [], ◌∷◌, Some, refl, sym, subst, arith}
 use Rattle.tpdu.specs.declared.service.Options.{Options}
 use Rattle.tpdu.specs.declared.tpdu.Tpdu.{Tpdu}
-use Rattle.tpdu.specs.declared.tpdu.Tpdu.TheVariants.{Cr, Cc, Dr, Dc, Dt, Ed, Ak, Ea, Er}
+use Rattle.tpdu.specs.declared.tpdu.Tpdu.TheVariants.{Dt, Ed}
 use Rattle.tp4_number.specs.Number.{whole}
 use Rattle.tp4_number.specs.declared.got.Got.{Got}
-use Rattle.tp4_number.specs.declared.got.Got.TheVariants.{Kept, Old, Outside, TooLarge}
+use Rattle.tp4_number.specs.declared.got.Got.TheVariants.{TooLarge}
 use Rattle.tp4_number.specs.declared.piece.Piece.{Piece}
 use Rattle.tp4_number.proofs.Past.{if_kept}
 use Rattle.tp4_flow.specs.Half.{dt_arrival, half_granted, taken_dt}
@@ -14,13 +14,13 @@ use Rattle.tp4_flow.specs.declared.rules.Life.{Life}
 use Rattle.tp4_flow.specs.declared.rules.Life.TheVariants.{Goes, Exhausted}
 use Rattle.tp4_sending.specs.FlowSender.{at, life_of, opened, submitted, urged}
 use Rattle.tp4_conn.specs.declared.call.UserCall.{UserCall}
-use Rattle.tp4_conn.specs.declared.call.UserCall.TheVariants.{Accept, Refuse, Normal, Urgent, Window, Disconnect}
+use Rattle.tp4_conn.specs.declared.call.UserCall.TheVariants.{Normal, Urgent, Window, Disconnect}
 use Rattle.tp4_conn.specs.declared.end_record.EndRecord.{EndRecord}
 use Rattle.tp4_conn.specs.declared.halves.Halves.{Halves}
 use Rattle.tp4_conn.specs.declared.states.InAkWait.{InAkWait}
 use Rattle.tp4_conn.specs.declared.states.InOpened.{InOpened}
 use Rattle.tp4_conn.specs.declared.states.StateData.{StateData}
-use Rattle.tp4_conn.specs.declared.states.StateData.TheVariants.{CrWait, WaitBeforeClose, UserWait, AkWait, Opened, Closing, Frozen}
+use Rattle.tp4_conn.specs.declared.states.StateData.TheVariants.{AkWait, Opened}
 use Rattle.tp4_conn.specs.Agreeing.{agreed_by}
 use Rattle.tp4_conn.specs.AkWait.{opening}
 use Rattle.tp4_conn.specs.End.{End, Moved}
@@ -29,7 +29,7 @@ use Rattle.tp4_conn.specs.Opened.{dt_as, hearing, is_expedited, opened_as, opene
 use Rattle.tp4_conn.specs.Table.{Called, Event, Ticked, Took, at as now_at, on_call, on_tick, on_tpdu, stepped}
 use Rattle.tp4_conn.specs.UserWait.{accepted}
 use Rattle.law_recovery_world.specs.Steady.{IsMade, StageMade}
-use Rattle.law_recovery_world.proofs.RowsWithout.{HasNone, ak_wait_later, ak_wait_row, call_without, tick_without, tpdu_without}
+use Rattle.law_tp4_rows.proofs.RowsWithout.{HasNone, accepts_in, ak_wait_later, ak_wait_row, call_without, opens_in, tick_without, tpdu_without}
 
 -- the clock of an end is no part of it
 made_at : (now : ℕ) (b : EndRecord) (h : Halves) → IsMade b h → IsMade (now_at now b) h
@@ -37,22 +37,12 @@ made_at now b h m = record { options = m.options; agreed = m.agreed; clock = m.c
 
 stage_at : (now : ℕ) (b : EndRecord) (stage : StateData) → StageMade now b stage → StageMade now (now_at now b) stage
 stage_at now b (AkWait w) m = (m.0, made_at now b w.halves m.1)
-stage_at now b (CrWait w) m = tt
-stage_at now b (WaitBeforeClose w) m = tt
-stage_at now b (UserWait since) m = tt
-stage_at now b (Opened o) m = tt
-stage_at now b (Closing c) m = tt
-stage_at now b (Frozen when) m = tt
+stage_at now b other m = tt
 
 -- nor is a later tick
 pub made_later : (now later : ℕ) (b : EndRecord) (stage : StateData) → now ≤ later → StageMade now b stage → StageMade later b stage
 made_later now later b (AkWait w) low m = (omega (arith, low, m.0), m.1)
-made_later now later b (CrWait w) low m = tt
-made_later now later b (WaitBeforeClose w) low m = tt
-made_later now later b (UserWait since) low m = tt
-made_later now later b (Opened o) low m = tt
-made_later now later b (Closing c) low m = tt
-made_later now later b (Frozen when) low m = tt
+made_later now later b other low m = tt
 
 module _ (b : EndRecord) where
   abbrev Row : Moved → Type 0
@@ -63,21 +53,13 @@ module _ (b : EndRecord) where
   module _ (o : InOpened) where
     dt_made : (got : Got) (w : ℕ) (piece : Piece) → Row (dt_as got b o (taken_dt whole o.halves.receiving w piece))
     dt_made TooLarge w piece = tt
-    dt_made Kept w piece = tt
-    dt_made Old w piece = tt
-    dt_made Outside w piece = tt
+    dt_made other w piece = tt
 
     opened_made : (tpdu : Tpdu) → Row (opened_tpdu whole b o tpdu)
     unfolding opened_tpdu
-    opened_made (Cc given destination source width calling called size preferred extra version classes ack_time text) = tt
-    opened_made (Dr destination source reason info text) = tt
-    opened_made (Er destination cause rejected) = tt
     opened_made (Dt destination last number text) = dt_made (dt_arrival o.halves.receiving number (record { last = last; octets = text })).got number (record { last = last; octets = text })
     opened_made (Ed destination last number text) = if_kept Row (is_expedited b.agreed) _ _ (λ _. tt) (λ _. tt)
-    opened_made (Ak destination number given subsequence confirmation) = tt
-    opened_made (Ea destination number) = tt
-    opened_made (Cr given source width calling called size preferred extra version classes ack_time text) = tt
-    opened_made (Dc destination source) = tt
+    opened_made other = tt
 
     opened_later : Row (opened_tick b o)
     unfolding opened_tick
@@ -88,13 +70,9 @@ module _ (b : EndRecord) where
         by Goes = if_kept Row (nat_le (o.acked + b.timers.window) b.clock) _ _ (λ _. tt) (λ _. tt)
 
     opened_call : (call : UserCall) → Row (on_call b (Opened o) call)
-    opened_call (Normal unit) = tt
-    opened_call (Urgent unit) = tt
     opened_call (Window granted) =
         if_kept Row ((half_granted o.halves.receiving granted).receiver.inbox.credit == o.halves.receiving.receiver.inbox.credit) _ _ (λ _. tt) (λ _. tt)
-    opened_call (Disconnect octets) = tt
-    opened_call (Accept options octets) = tt
-    opened_call (Refuse octets) = tt
+    opened_call other = tt
 
   -- ---- AkWait
 
@@ -113,10 +91,8 @@ module _ (b : EndRecord) where
     ak_wait_call : (call : UserCall) → Row (on_call b (AkWait w) call)
     ak_wait_call (Normal unit) = (f.0, normal_made unit)
     ak_wait_call (Urgent unit) = (f.0, urgent_made unit)
-    ak_wait_call (Window granted) = f
     ak_wait_call (Disconnect octets) = tt
-    ak_wait_call (Accept options octets) = f
-    ak_wait_call (Refuse octets) = f
+    ak_wait_call other = f
 
   -- of a state without halves nothing is asked
   none_made : (m : Moved) → HasNone m.stage → Row m
@@ -125,11 +101,7 @@ module _ (b : EndRecord) where
       by : (stage : StateData) → HasNone stage → StageMade b.clock m.base stage
       by (AkWait w) none = absurd none
       by (Opened o) none = absurd none
-      by (CrWait w) none = tt
-      by (WaitBeforeClose w) none = tt
-      by (UserWait since) none = tt
-      by (Closing c) none = tt
-      by (Frozen when) none = tt
+      by other none = tt
 
   accepts_made : (asked : Options) (octets : List ℕ) → Row (accepted (record b { agreed = Some (agreed_by b.proposed asked) }) (agreed_by b.proposed asked) octets)
   accepts_made asked octets = (omega arith, record { options = agreed_by b.proposed asked; agreed = refl; clock = 0; units = []; expedited = []; halves = refl })
@@ -137,19 +109,19 @@ module _ (b : EndRecord) where
   -- ---- all rows
 
   tpdu_made : (stage : StateData) (tpdu : Tpdu) → StageMade b.clock b stage → Row (on_tpdu whole b stage tpdu)
-  tpdu_made (AkWait w) tpdu f = ak_wait_row b Row none_made w f (opening_made w f) tpdu
+  tpdu_made (AkWait w) tpdu f = ak_wait_row whole b Row none_made w f tpdu (opening_made w f tpdu)
   tpdu_made (Opened o) tpdu f = opened_made (hearing b o) tpdu
-  tpdu_made other tpdu f = tpdu_without b Row none_made (λ source given options text. tt) other tt tpdu
+  tpdu_made other tpdu f = tpdu_without whole b Row none_made other tt tpdu (opens_in b Row (λ source given options text. tt) other tpdu)
 
   tick_made : (stage : StateData) → StageMade b.clock b stage → Row (on_tick b stage)
-  tick_made (AkWait w) f = ak_wait_later b Row none_made w f (omega arith, f.1)
+  tick_made (AkWait w) f = ak_wait_later whole b Row none_made w f (omega arith, f.1)
   tick_made (Opened o) f = opened_later o
-  tick_made other f = tick_without b Row none_made other tt
+  tick_made other f = tick_without whole b Row none_made other tt
 
   call_made : (stage : StateData) (call : UserCall) → StageMade b.clock b stage → Row (on_call b stage call)
   call_made (AkWait w) call f = ak_wait_call w f call
   call_made (Opened o) call f = opened_call o call
-  call_made other call f = call_without b Row none_made accepts_made other tt call
+  call_made other call f = call_without whole b Row none_made other tt call (accepts_in b Row accepts_made other)
 
 pub row_made : (now : ℕ) (e : End) (event : Event) → StageMade now e.base e.stage → StageMade now (stepped whole now e event).base (stepped whole now e event).stage
 row_made now e (Called call) f = call_made (now_at now e.base) e.stage call (stage_at now e.base e.stage f)

@@ -1,7 +1,7 @@
 -- What an Opened end knows only rises, from what its sending half began with on: an AK that is older than what it knows is not taken.
 use Rattle.std.proofs.Common.{◌≡◌, inl, inr, ℕ, ◌+◌, ◌≤◌, ◌==◌, ◌&&◌, ◌||◌, nat_lt, nat_le, not, Bool, true, false, List, Option, refl, sym, ◌∙◌, ap, subst, arith}
 use Rattle.std.proofs.lemmas.Bool.{and_parts, eqb-true, ltb-true}
-use Rattle.tpdu.specs.declared.tpdu.Tpdu.TheVariants.{Cr, Cc, Dr, Dc, Dt, Ed, Ak, Ea, Er}
+use Rattle.tpdu.specs.declared.tpdu.Tpdu.TheVariants.{Ak}
 use Rattle.tp4_number.specs.Number.{near, whole}
 use Rattle.tp4_number.specs.Sender.{Sender, is_newer}
 use Rattle.tp4_number.proofs.Past.{if_kept}
@@ -12,7 +12,7 @@ use Rattle.law_recovery_pair.specs.Viewing.{KeepsView}
 use Rattle.law_recovery_pair.proofs.Viewing.{new_keep, open_keep, told_is}
 use Rattle.tp4_conn.specs.declared.end_record.EndRecord.{EndRecord}
 use Rattle.tp4_conn.specs.declared.states.StateData.{StateData}
-use Rattle.tp4_conn.specs.declared.states.StateData.TheVariants.{CrWait, WaitBeforeClose, UserWait, AkWait, Opened, Closing, Frozen}
+use Rattle.tp4_conn.specs.declared.states.StateData.TheVariants.{CrWait, AkWait, Opened}
 use Rattle.tp4_conn.specs.AkWait.{ak_wait_tpdu}
 use Rattle.tp4_conn.specs.Closing.{closing_tpdu}
 use Rattle.tp4_conn.specs.CrWait.{cr_wait_tpdu}
@@ -83,11 +83,7 @@ module _ (credit : ℕ) where
       let k : FlowSender = at b.clock w.halves.sending in
       let t : FlowSender = (opened k).sender in
       older_then first (knows_of t) _ (kept_rises k t (open_keep k knows.edge) (fresh_rises w.halves.sending knows)) (ak_rises (at b.clock t) number given subsequence)
-  ak_row b (CrWait w) destination number given subsequence confirmation knows was = tt
-  ak_row b (WaitBeforeClose w) destination number given subsequence confirmation knows was = tt
-  ak_row b (UserWait since) destination number given subsequence confirmation knows was = tt
-  ak_row b (Closing c) destination number given subsequence confirmation knows was = tt
-  ak_row b (Frozen when) destination number given subsequence confirmation knows was = tt
+  ak_row b other destination number given subsequence confirmation knows was = tt
 
   -- ---- anything else
 
@@ -100,32 +96,17 @@ module _ (credit : ℕ) where
   other_view (Opened o) event t none was (inl keeps) = kept_rises o.halves.sending t keeps was
   other_view (Opened o) event t none was (inr heard) = absurd (none heard.w heard.credit heard.subsequence heard.says)
   other_view (CrWait w) event t none was fresh = fresh_rises t fresh
-  other_view (WaitBeforeClose w) event t none was fresh = fresh_rises t fresh
-  other_view (UserWait since) event t none was fresh = fresh_rises t fresh
-  other_view (Closing c) event t none was fresh = fresh_rises t fresh
-  other_view (Frozen when) event t none was fresh = fresh_rises t fresh
+  other_view other event t none was fresh = fresh_rises t fresh
 
   other_row : (old : StateData) (event : Event) (new : StateData) → IsNoAk event → StageRises credit old → RowKnows credit old event new → StageRises credit new
   other_row old event (Opened o) none was row = other_view old event o.halves.sending none was row
-  other_row old event (AkWait w) none was row = tt
-  other_row old event (CrWait w) none was row = tt
-  other_row old event (WaitBeforeClose w) none was row = tt
-  other_row old event (UserWait since) none was row = tt
-  other_row old event (Closing c) none was row = tt
-  other_row old event (Frozen when) none was row = tt
+  other_row old event other none was row = tt
 
   pub row_rises : (now : ℕ) (e : End) (event : Event) → StageKnows credit e.stage → StageRises credit e.stage → RowKnows credit e.stage event (stepped whole now e event).stage
       → StageRises credit (stepped whole now e event).stage
   row_rises now e (Took (Ak destination number given subsequence confirmation) sum) knows was row =
       if_kept (λ (m : Moved). StageRises credit m.stage) (wants_sum e.base e.stage (Ak destination number given subsequence confirmation) && not sum) _ _
       (λ _. was) (λ _. ak_row (now_at now e.base) e.stage destination number given subsequence confirmation knows was)
-  row_rises now e (Took (Cr given source width calling called size preferred extra version classes ack_time text) sum) knows was row = other_row e.stage _ _ (λ _ _ _ s. s) was row
-  row_rises now e (Took (Cc given destination source width calling called size preferred extra version classes ack_time text) sum) knows was row = other_row e.stage _ _ (λ _ _ _ s. s) was row
-  row_rises now e (Took (Dr destination source reason info text) sum) knows was row = other_row e.stage _ _ (λ _ _ _ s. s) was row
-  row_rises now e (Took (Dc destination source) sum) knows was row = other_row e.stage _ _ (λ _ _ _ s. s) was row
-  row_rises now e (Took (Dt destination last number text) sum) knows was row = other_row e.stage _ _ (λ _ _ _ s. s) was row
-  row_rises now e (Took (Ed destination last number text) sum) knows was row = other_row e.stage _ _ (λ _ _ _ s. s) was row
-  row_rises now e (Took (Ea destination number) sum) knows was row = other_row e.stage _ _ (λ _ _ _ s. s) was row
-  row_rises now e (Took (Er destination cause rejected) sum) knows was row = other_row e.stage _ _ (λ _ _ _ s. s) was row
+  row_rises now e (Took other sum) knows was row = other_row e.stage _ _ (λ _ _ _ s. s) was row
   row_rises now e (Called call) knows was row = other_row e.stage (Called call) _ (λ _ _ _ s. s) was row
   row_rises now e Ticked knows was row = other_row e.stage Ticked _ (λ _ _ _ s. s) was row

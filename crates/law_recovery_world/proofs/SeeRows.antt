@@ -5,7 +5,7 @@ use Rattle.law_recovery_pair.specs.Viewing.{KeepsView}
 use Rattle.tp4_conn.specs.Table.{Event}
 use Rattle.tp4_conn.specs.declared.halves.Halves.{Halves}
 use Rattle.tp4_conn.specs.declared.states.StateData.{StateData}
-use Rattle.tp4_conn.specs.declared.states.StateData.TheVariants.{CrWait, WaitBeforeClose, UserWait, AkWait, Opened, Closing, Frozen}
+use Rattle.tp4_conn.specs.declared.states.StateData.TheVariants.{CrWait, AkWait, Opened}
 use Rattle.law_recovery_ends.specs.Knowing.{HasHeard, IsFreshView, RowKnows, ViewIn}
 use Rattle.script_journal.specs.Lawful.{ArePartners}
 use Rattle.script_journal.specs.declared.event.Event.{Event as Told}
@@ -25,11 +25,7 @@ sees_on credit w new journal made y (Opened o) keeps (inl fresh) = inl fresh
 sees_on credit w new journal made y (Opened o) keeps (inr v) =
     inr (v.0, partners_on journal made (v.0 + 1) y v.1, record { offer = v.2.offer; offered = keeps v.2.offer v.2.offered; origin = v.2.origin; is = v.2.is })
 sees_on credit w new journal made y (AkWait a) keeps sees = tt
-sees_on credit w new journal made y (CrWait c) keeps sees = tt
-sees_on credit w new journal made y (WaitBeforeClose c) keeps sees = tt
-sees_on credit w new journal made y (UserWait since) keeps sees = tt
-sees_on credit w new journal made y (Closing c) keeps sees = tt
-sees_on credit w new journal made y (Frozen when) keeps sees = tt
+sees_on credit w new journal made y other keeps sees = tt
 
 pub has_on : (credit : ℕ) (w new : Whole) (journal made : List Told) (y : ℕ) (stage : StateData) → ((offer : Offer) → Contains w.base.offers offer → Contains new.base.offers offer)
     → StageHas credit w journal y stage → StageHas credit new (journal ++ made) y stage
@@ -61,16 +57,8 @@ module _ (credit : ℕ) (w : Whole) (journal : List Told) (y : ℕ) where
     sees_in (Opened o) t was hears (inl keeps) = view_kept o.halves.sending t keeps was
     sees_in (Opened o) t was hears (inr heard) = inr (hears o.halves refl t heard)
     sees_in (CrWait c) t was hears fresh = inl fresh
-    sees_in (WaitBeforeClose c) t was hears fresh = inl fresh
-    sees_in (UserWait since) t was hears fresh = inl fresh
-    sees_in (Closing c) t was hears fresh = inl fresh
-    sees_in (Frozen when) t was hears fresh = inl fresh
+    sees_in other t was hears fresh = inl fresh
 
     pub row_sees : (old new : StateData) → StageSees credit w journal y old → HearsIn old → RowKnows credit old event new → StageSees credit w journal y new
     row_sees old (Opened o) was hears row = sees_in old o.halves.sending was hears row
-    row_sees old (AkWait a) was hears row = tt
-    row_sees old (CrWait c) was hears row = tt
-    row_sees old (WaitBeforeClose c) was hears row = tt
-    row_sees old (UserWait since) was hears row = tt
-    row_sees old (Closing c) was hears row = tt
-    row_sees old (Frozen when) was hears row = tt
+    row_sees old other was hears row = tt

@@ -3,10 +3,10 @@ use Rattle.std.specs.Prelude.{not, is_some}
 use Rattle.std.proofs.Common.{◌≡◌, ◌-◌, ◌==◌, ◌||◌, ◌&&◌, ◌+◌, ◌++◌, ℕ, zero, suc, Bool, true, false, nat_le, List, [], ◌∷◌, length, Option, Some, None, refl, sym, ◌∙◌, ap, true≢false}
 use Rattle.tpdu.specs.declared.service.Options.{Options}
 use Rattle.tpdu.specs.declared.tpdu.Tpdu.{Tpdu}
-use Rattle.tpdu.specs.declared.tpdu.Tpdu.TheVariants.{Cr, Cc, Dr, Dc, Dt, Ed, Ak, Ea, Er}
+use Rattle.tpdu.specs.declared.tpdu.Tpdu.TheVariants.{Dr, Dt, Ed, Ak, Ea, Er}
 use Rattle.tp4_number.specs.Number.{near, whole, wire}
 use Rattle.tp4_number.specs.declared.got.Got.{Got}
-use Rattle.tp4_number.specs.declared.got.Got.TheVariants.{Kept, Old, Outside, TooLarge}
+use Rattle.tp4_number.specs.declared.got.Got.TheVariants.{TooLarge}
 use Rattle.tp4_number.specs.declared.piece.Piece.{Piece}
 use Rattle.tp4_number.proofs.Past.{if_kept}
 use Rattle.tp4_flow.specs.Half.{dt_arrival, half_granted, taken_dt}
@@ -18,12 +18,12 @@ use Rattle.tp4_sending.specs.FlowSender.{FlowSender, Sendings, UrgentSender, ack
 use Rattle.tp4_sending.specs.Pieces.{end_of}
 use Rattle.tp4_sending.specs.declared.tries.Tries.{Tries}
 use Rattle.tp4_conn.specs.declared.call.UserCall.{UserCall}
-use Rattle.tp4_conn.specs.declared.call.UserCall.TheVariants.{Accept, Refuse, Normal, Urgent, Window, Disconnect}
+use Rattle.tp4_conn.specs.declared.call.UserCall.TheVariants.{Normal, Urgent, Window, Disconnect}
 use Rattle.tp4_conn.specs.declared.end_record.EndRecord.{EndRecord}
 use Rattle.tp4_conn.specs.declared.states.InAkWait.{InAkWait}
 use Rattle.tp4_conn.specs.declared.states.InOpened.{InOpened}
 use Rattle.tp4_conn.specs.declared.states.StateData.{StateData}
-use Rattle.tp4_conn.specs.declared.states.StateData.TheVariants.{CrWait, WaitBeforeClose, UserWait, AkWait, Opened, Closing, Frozen}
+use Rattle.tp4_conn.specs.declared.states.StateData.TheVariants.{AkWait, Opened}
 use Rattle.tp4_conn.specs.Agreeing.{halves_of}
 use Rattle.tp4_conn.specs.AkWait.{opening}
 use Rattle.tp4_conn.specs.Calls.{call_refusal, urgent_unit_refusal}
@@ -33,7 +33,7 @@ use Rattle.tp4_conn.specs.Matching.{wants_sum}
 use Rattle.tp4_conn.specs.Opened.{dt_as, hearing, is_expedited, opened_as, opened_tick, opened_tpdu}
 use Rattle.tp4_conn.specs.Table.{Called, Event, Ticked, Took, at as now_at, on_call, on_tick, on_tpdu, stepped}
 use Rattle.law_recovery_world.specs.Steady.{IsWithoutUrgent, StageUrges}
-use Rattle.law_recovery_world.proofs.RowsWithout.{HasNone, ak_wait_later, ak_wait_row, call_without, tick_without, tpdu_without}
+use Rattle.law_tp4_rows.proofs.RowsWithout.{HasNone, accepts_in, ak_wait_later, ak_wait_row, call_without, opens_in, tick_without, tpdu_without}
 
 -- a call that is not refused
 abbrev pub IsUnrefused : End → Event → Type 0
@@ -106,21 +106,17 @@ module _ (b : EndRecord) where
   module _ (o : InOpened) (f : is_expedited b.agreed ≡ false → IsWithoutUrgent o.halves.sending) where
     dt_urges : (got : Got) (w : ℕ) (piece : Piece) → Row (dt_as got b o (taken_dt whole o.halves.receiving w piece))
     dt_urges TooLarge w piece = tt
-    dt_urges Kept w piece = f
-    dt_urges Old w piece = f
-    dt_urges Outside w piece = f
+    dt_urges other w piece = f
 
     opened_urges : (tpdu : Tpdu) → Row (opened_tpdu whole b o tpdu)
     unfolding opened_tpdu
-    opened_urges (Cc given destination source width calling called size preferred extra version classes ack_time text) = f
     opened_urges (Dr destination source reason info text) = tt
     opened_urges (Er destination cause rejected) = tt
     opened_urges (Dt destination last number text) = dt_urges (dt_arrival o.halves.receiving number (record { last = last; octets = text })).got number (record { last = last; octets = text })
     opened_urges (Ed destination last number text) = if_kept Row (is_expedited b.agreed) _ _ (λ _. f) (λ _. tt)
     opened_urges (Ak destination number given subsequence confirmation) = λ none. acknowledged_without (at b.clock o.halves.sending) number given subsequence (f none)
     opened_urges (Ea destination number) = λ none. done_without (at b.clock o.halves.sending) number (f none)
-    opened_urges (Cr given source width calling called size preferred extra version classes ack_time text) = f
-    opened_urges (Dc destination source) = f
+    opened_urges other = f
 
     opened_later : Row (opened_tick b o)
     unfolding opened_tick
@@ -139,8 +135,7 @@ module _ (b : EndRecord) where
     opened_call (Window granted) e =
         if_kept Row ((half_granted o.halves.receiving granted).receiver.inbox.credit == o.halves.receiving.receiver.inbox.credit) _ _ (λ _. f) (λ _. f)
     opened_call (Disconnect octets) e = tt
-    opened_call (Accept options octets) e = f
-    opened_call (Refuse octets) e = f
+    opened_call other e = f
 
   module _ (w : InAkWait) (f : is_expedited b.agreed ≡ false → IsWithoutUrgent w.halves.sending) where
     opening_urges : (tpdu : Tpdu) → Row (opening whole b w.halves tpdu)
@@ -152,10 +147,8 @@ module _ (b : EndRecord) where
     ak_wait_call : (call : UserCall) → call_refusal b (AkWait w) call ≡ None → Row (on_call b (AkWait w) call)
     ak_wait_call (Normal unit) e = λ none. submitted_without (at b.clock w.halves.sending) unit (f none)
     ak_wait_call (Urgent unit) e = λ none. absurd (urgent_allowed (is_expedited b.agreed) (urgent_refusal w.halves.sending (length unit)) e none)
-    ak_wait_call (Window granted) e = f
     ak_wait_call (Disconnect octets) e = tt
-    ak_wait_call (Accept options octets) e = f
-    ak_wait_call (Refuse octets) e = f
+    ak_wait_call other e = f
 
   -- of a state without halves nothing is asked
   none_urges : (m : Moved) → HasNone m.stage → Row m
@@ -164,11 +157,7 @@ module _ (b : EndRecord) where
       by : (stage : StateData) → HasNone stage → StageUrges m.base.agreed stage
       by (AkWait w) none = absurd none
       by (Opened o) none = absurd none
-      by (CrWait w) none = tt
-      by (WaitBeforeClose w) none = tt
-      by (UserWait since) none = tt
-      by (Closing c) none = tt
-      by (Frozen when) none = tt
+      by other none = tt
 
   opens_urges : (source given : ℕ) (options : Options) (text : List ℕ) → Row (confirmed (record b { partner = source; credit = given; agreed = Some options }) options text)
   opens_urges source given options text = λ none. opened_without (at b.clock (halves_of (record b { partner = source; credit = given; agreed = Some options }) options).sending) refl
@@ -176,19 +165,19 @@ module _ (b : EndRecord) where
   -- ---- all rows
 
   tpdu_urges : (stage : StateData) (tpdu : Tpdu) → StageUrges b.agreed stage → Row (on_tpdu whole b stage tpdu)
-  tpdu_urges (AkWait w) tpdu f = ak_wait_row b Row none_urges w f (opening_urges w f) tpdu
+  tpdu_urges (AkWait w) tpdu f = ak_wait_row whole b Row none_urges w f tpdu (opening_urges w f tpdu)
   tpdu_urges (Opened o) tpdu f = opened_urges (hearing b o) f tpdu
-  tpdu_urges other tpdu f = tpdu_without b Row none_urges opens_urges other tt tpdu
+  tpdu_urges other tpdu f = tpdu_without whole b Row none_urges other tt tpdu (opens_in b Row opens_urges other tpdu)
 
   tick_urges : (stage : StateData) → StageUrges b.agreed stage → Row (on_tick b stage)
-  tick_urges (AkWait w) f = ak_wait_later b Row none_urges w f f
+  tick_urges (AkWait w) f = ak_wait_later whole b Row none_urges w f f
   tick_urges (Opened o) f = opened_later o f
-  tick_urges other f = tick_without b Row none_urges other tt
+  tick_urges other f = tick_without whole b Row none_urges other tt
 
   call_urges : (stage : StateData) (call : UserCall) → call_refusal b stage call ≡ None → StageUrges b.agreed stage → Row (on_call b stage call)
   call_urges (AkWait w) call e f = ak_wait_call w f call e
   call_urges (Opened o) call e f = opened_call o f call e
-  call_urges other call e f = call_without b Row none_urges (λ asked octets. λ none. refl) other tt call
+  call_urges other call e f = call_without whole b Row none_urges other tt call (accepts_in b Row (λ asked octets. λ none. refl) other)
 
 pub row_urges : (now : ℕ) (e : End) (event : Event) → IsUnrefused e event → StageUrges e.base.agreed e.stage → StageUrges (stepped whole now e event).base.agreed (stepped whole now e event).stage
 row_urges now e (Called call) allowed f = call_urges (now_at now e.base) e.stage call (refused_at call allowed) f

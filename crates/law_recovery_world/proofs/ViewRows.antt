@@ -5,7 +5,7 @@ use Rattle.law_recovery_pair.specs.Viewing.{KeepsView}
 use Rattle.tp4_conn.specs.Table.{Event, stepped}
 use Rattle.tp4_conn.specs.declared.halves.Halves.{Halves}
 use Rattle.tp4_conn.specs.declared.states.StateData.{StateData}
-use Rattle.tp4_conn.specs.declared.states.StateData.TheVariants.{CrWait, WaitBeforeClose, UserWait, AkWait, Opened, Closing, Frozen}
+use Rattle.tp4_conn.specs.declared.states.StateData.TheVariants.{CrWait, AkWait, Opened}
 use Rattle.law_recovery_ends.specs.Knowing.{HasHeard, RowKnows, ViewIn}
 use Rattle.law_recovery_ends.proofs.Knowing.{row_knows}
 use Rattle.law_tp4_history.specs.Ends.{Ak}
@@ -31,19 +31,11 @@ module _ (credit z : ℕ) (w : Whole) where
     view_in (Opened o) t was hears (inl keeps) = view_kept o.halves.sending t keeps was
     view_in (Opened o) t was hears (inr heard) = inr (hears o.halves refl t heard)
     view_in (CrWait c) t was hears fresh = inl fresh
-    view_in (WaitBeforeClose c) t was hears fresh = inl fresh
-    view_in (UserWait since) t was hears fresh = inl fresh
-    view_in (Closing c) t was hears fresh = inl fresh
-    view_in (Frozen when) t was hears fresh = inl fresh
+    view_in other t was hears fresh = inl fresh
 
     row_view : (old new : StateData) → StageView credit w z old → Hears old → RowKnows credit old event new → StageView credit w z new
     row_view old (Opened o) was hears row = view_in old o.halves.sending was hears row
-    row_view old (AkWait a) was hears row = tt
-    row_view old (CrWait c) was hears row = tt
-    row_view old (WaitBeforeClose c) was hears row = tt
-    row_view old (UserWait since) was hears row = tt
-    row_view old (Closing c) was hears row = tt
-    row_view old (Frozen when) was hears row = tt
+    row_view old other was hears row = tt
 
 pub rows_keep_views : RowsKeepViews
 rows_keep_views credit z w wrap now e event gives is knows was hears =

@@ -1,5 +1,5 @@
 -- What a pump tells for an open pair may come in a journal in which a relay takes part: units that wait are submitted in order (X.214, model of the transport service).
-use Rattle.std.proofs.Common.{◌≡◌, ◌⊎◌, inl, inr, ℕ, Bool, true, false, nat_lt, List, [], ◌∷◌, ◌++◌, length, Option, Some, None, refl, sym, ◌∙◌, ap, subst}
+use Rattle.std.proofs.Common.{◌≡◌, inl, inr, ℕ, Bool, true, false, nat_lt, List, [], ◌∷◌, ◌++◌, length, Option, Some, None, refl, sym, ◌∙◌, ap, subst}
 use Rattle.std.specs.Prelude.{drop, slice_get}
 use Rattle.script_journal.specs.declared.event.Event.{Event}
 use Rattle.tp4_conn.specs.declared.call.ConnectRequest.{ConnectRequest}
@@ -10,7 +10,7 @@ use Rattle.tp4_relay.specs.declared.pair.Heading.{Heading}
 use Rattle.tp4_relay.specs.declared.pair.Heading.TheVariants.{On, Back}
 use Rattle.tp4_relay.specs.declared.pair.Pair.{Pair}
 use Rattle.tp4_relay.specs.declared.pair.Phase.{Phase}
-use Rattle.tp4_relay.specs.declared.pair.Phase.TheVariants.{Begun, Open, Closed}
+use Rattle.tp4_relay.specs.declared.pair.Phase.TheVariants.{Open}
 use Rattle.tp4_relay.specs.declared.unit.MarkedUnit.{MarkedUnit}
 use Rattle.tp4_relay.specs.Allowed.{AreAllowed}
 use Rattle.tp4_relay.specs.Kept.{Kept, kept_after}
@@ -39,9 +39,8 @@ gives_waiting On pair = refl
 gives_waiting Back pair = refl
 
 open_is : (phase : Phase) → is_open phase ≡ true → phase ≡ Open
-open_is Begun is = absurd (cc is)
 open_is Open is = refl
-open_is Closed is = absurd (cc is)
+open_is other is = absurd (cc is)
 
 module _ {S : Type 0} (has : S → ℕ → Type 0) (ends : S → ℕ) (honest : S → Bool) (connects : S → ℕ → ConnectRequest → Bool → List Event → S → Type 0)
     (calls : S → ℕ → UserCall → Bool → List Event → S → Type 0) (law : IsService has ends honest connects calls) where

@@ -1,6 +1,6 @@
 -- Each call of a pump has an answer where the network is ready: what is kept of a relay stands in octets, and its rows lead to systems that are there (X.214, service
 -- primitives).
-use Rattle.std.proofs.Common.{◌≡◌, ◌⊎◌, inl, inr, ℕ, zero, suc, ◌+◌, ◌<◌, ◌≤◌, ◌||◌, ◌&&◌, ◌==◌, Bool, true, false, if◌then◌else◌, nat_lt, drop, List, [], ◌∷◌, ◌++◌, map, length, Option, Some, None, refl, sym, ◌∙◌, ap, subst, arith}
+use Rattle.std.proofs.Common.{◌≡◌, inl, inr, ℕ, ◌+◌, ◌≤◌, ◌||◌, ◌==◌, Bool, true, false, if◌then◌else◌, nat_lt, drop, List, [], ◌∷◌, ◌++◌, map, length, Option, Some, None, refl, sym, ◌∙◌, ap, subst, arith}
 use Rattle.std.specs.Prelude.{IsSome, slice_get}
 use Rattle.std.specs.List.{AllByRecursion}
 use Rattle.osi_base.specs.Link.{Link}
@@ -11,13 +11,12 @@ use Rattle.script_journal.specs.declared.cause.Refused.TheVariants as refusals
 use Rattle.script_journal.specs.declared.event.Event.{Event}
 use Rattle.script_journal.specs.declared.event.Event.TheVariants as events
 use Rattle.script_journal.specs.declared.event.Indication.{Indication}
-use Rattle.script_lines.specs.Commands.{HasLine}
 use Rattle.script_lines.specs.declared.words.Dialect.TheVariants as dialects
 use Rattle.script_lines.specs.declared.line.Line.{Line}
 use Rattle.script_lines.specs.declared.line.Line.TheVariants as lines
 use Rattle.tpdu.specs.declared.service.Options.{Options}
 use Rattle.script_setup.proofs.Elements.{at, push}
-use Rattle.law_setup.proofs.Moving.{call_stays, connect_stays, line_near}
+use Rattle.law_setup.proofs.Moving.{call_stays, connect_stays}
 use Rattle.tp4_number.specs.Number.{wire}
 use Rattle.tp4_conn.specs.declared.call.ConnectRequest.{ConnectRequest}
 use Rattle.tp4_conn.specs.declared.call.UserCall.{UserCall}
@@ -30,17 +29,17 @@ use Rattle.tp4_relay.specs.declared.pair.Heading.{Heading}
 use Rattle.tp4_relay.specs.declared.pair.Heading.TheVariants.{On, Back}
 use Rattle.tp4_relay.specs.declared.pair.Pair.{Pair}
 use Rattle.tp4_relay.specs.declared.pair.Phase.{Phase}
-use Rattle.tp4_relay.specs.declared.pair.Phase.TheVariants.{Begun, Open, Closed}
+use Rattle.tp4_relay.specs.declared.pair.Phase.TheVariants.{Open}
 use Rattle.tp4_relay.specs.declared.reaction.Reaction.{Reaction}
 use Rattle.tp4_relay.specs.declared.reaction.Reaction.TheVariants.{Nothing, Begin, Ask}
 use Rattle.tp4_relay.specs.declared.row.RelayRow.{RelayRow}
 use Rattle.tp4_relay.specs.declared.unit.MarkedUnit.{MarkedUnit}
 use Rattle.tp4_relay.specs.declared.unit.MarkedUnit.TheVariants.{Normal, Expedited}
 use Rattle.tp4_relay.specs.Allowed.{AreLine, IsLine}
-use Rattle.tp4_relay.specs.Kept.{Kept, all_pairs_after, is_at, kept_after, noted, row_for}
-use Rattle.tp4_relay.specs.Pairs.{Accepts, AtEnd, Change, Closes, Gives, Opens, Turns, Waits, change_inbound, change_outbound, changed, inbound_changed, is_closed, is_open, kept as waits_kept, open_places, outbound_changed}
-use Rattle.tp4_relay.specs.Pump.{BalancesBy, BeginsBy, Does, Parts, PumpStep, Reacts, ServesAt, ServesEach, ServesIf, ServesOpen, ServesPair, SetsCredit, Submits, credit_now, far_end, near_end, unit_call, way_of}
-use Rattle.tp4_relay.specs.Reaction.{begins, confirms, ends_call, goes as goes_for, inbound_goes, inbound_pair, outbound_goes, outbound_pair, reaction, request_for}
+use Rattle.tp4_relay.specs.Kept.{Kept, is_at, kept_after, noted, row_for}
+use Rattle.tp4_relay.specs.Pairs.{Accepts, Change, Closes, Gives, Opens, Turns, Waits, changed, inbound_changed, is_closed, is_open, kept as waits_kept, open_places, outbound_changed}
+use Rattle.tp4_relay.specs.Pump.{BalancesBy, Does, Parts, PumpStep, Reacts, ServesEach, ServesIf, ServesOpen, ServesPair, SetsCredit, Submits, credit_now, far_end, near_end, unit_call, way_of}
+use Rattle.tp4_relay.specs.Reaction.{begins, confirms, goes as goes_for, inbound_goes, inbound_pair, outbound_goes, outbound_pair, reaction, request_for}
 use Rattle.tp4_relay.specs.Service.{ConnectedBy}
 use Rattle.tp4_relay.proofs.Telling.{rows_stay, rules_stay}
 use Rattle.tp4_relay.proofs.Tidy.{all_each}
@@ -91,17 +90,14 @@ ChangeInOctets (Waits heading unit) = UnitInOctets unit
 ChangeInOctets change = Prim.Unit {0}
 
 waits_in : (phase : Phase) (units : List MarkedUnit) (unit : MarkedUnit) → AllByRecursion UnitInOctets units → UnitInOctets unit → AllByRecursion UnitInOctets (waits_kept phase units unit)
-waits_in Begun units unit all is = all
 waits_in Open units unit all is = push UnitInOctets units unit all is
-waits_in Closed units unit all is = all
+waits_in other units unit all is = all
 
 drop_in : (units : List MarkedUnit) → AllByRecursion UnitInOctets units → AllByRecursion UnitInOctets (drop 1 units)
 drop_in [] all = tt
 drop_in (unit ∷ units) all = all.1
 
 changed_in : (change : Change) (pair : Pair) → ChangeInOctets change → PairInOctets pair → PairInOctets (changed pair change)
-changed_in Opens pair is p = record { on = p.on; back = p.back }
-changed_in Accepts pair is p = record { on = p.on; back = p.back }
 changed_in Closes pair is p = record { on = tt; back = tt }
 changed_in (Waits On unit) pair is p = record { on = waits_in pair.phase pair.on.waiting unit p.on is; back = p.back }
 changed_in (Waits Back unit) pair is p = record { on = p.on; back = waits_in pair.phase pair.back.waiting unit p.back is }
@@ -109,6 +105,7 @@ changed_in (Gives On) pair is p = record { on = drop_in pair.on.waiting p.on; ba
 changed_in (Gives Back) pair is p = record { on = p.on; back = drop_in pair.back.waiting p.back }
 changed_in (Turns On) pair is p = record { on = p.on; back = p.back }
 changed_in (Turns Back) pair is p = record { on = p.on; back = p.back }
+changed_in other pair is p = record { on = p.on; back = p.back }
 
 inbound_in : (end : ℕ) (change : Change) → ChangeInOctets change → (pair : Pair) → PairInOctets pair → PairInOctets (inbound_changed end change pair)
 inbound_in end change is pair p = by (pair.inbound == end)
@@ -147,7 +144,7 @@ noted_pairs kept (events.End end (tells.Gone cause octets)) is all = both_in end
 noted_pairs kept (events.Joined inbound outbound) is all = push PairInOctets kept.pairs _ all (record { on = tt; back = tt })
 noted_pairs kept event is all = all
 
-after_pairs : (kept : Kept) (made : List Event) → AllByRecursion TellsOctets made → ArePairs kept.pairs → ArePairs (kept_after kept made).pairs
+pub after_pairs : (kept : Kept) (made : List Event) → AllByRecursion TellsOctets made → ArePairs kept.pairs → ArePairs (kept_after kept made).pairs
 after_pairs kept [] is all = all
 after_pairs kept (event ∷ made) is all = after_pairs (noted kept event) made is.1 (noted_pairs kept event is.0 all)
 
@@ -171,7 +168,8 @@ pub line_readable : (count : ℕ) (kept : Kept) (line : List Event) → AreLine 
 line_readable count kept [] all is = tt
 line_readable count kept (event ∷ line) all is = ((is.0, line_sized kept event all.0), line_readable count (noted kept event) line all.2 is.1)
 
-abbrev MayCall : UserCall → Type 0
+-- a call in octets
+abbrev pub MayCall : UserCall → Type 0
 MayCall (asks.Accept options octets) = IsSized options × AreOctets octets
 MayCall (asks.Refuse octets) = AreOctets octets
 MayCall (asks.Normal octets) = AreOctets octets
@@ -196,7 +194,7 @@ module _ (titles : List (List ℕ)) where
   MayReact (Begin inbound system request) = IsRequest titles system request
   MayReact (Ask end call) = MayCall call
 
-  row_found : (P : RelayRow → Type 0) (rows : List RelayRow) (heard : Indication) → AllByRecursion P rows → (found : Option RelayRow) → row_for rows heard ≡ found → (row : RelayRow) → found ≡ Some row → P row
+  pub row_found : (P : RelayRow → Type 0) (rows : List RelayRow) (heard : Indication) → AllByRecursion P rows → (found : Option RelayRow) → row_for rows heard ≡ found → (row : RelayRow) → found ≡ Some row → P row
   row_found P [] heard all found is row some = absurd (let no_way : None ≡ Some row = is ∙ some in cc no_way)
   row_found P (first ∷ rows) heard all found is row some = by (is_at heard first) is (λ here. row_found P rows heard all.1 found here row some)
     where
@@ -252,15 +250,19 @@ module _ (titles : List (List ℕ)) where
   reaction_may kept (events.End end (tells.Gone cause octets)) is leads rows = goes_may kept.pairs end (inbound_pair kept.pairs end)
   reaction_may kept event is leads rows = tt
 
-unit_may : (unit : MarkedUnit) → UnitInOctets unit → MayCall (unit_call unit)
+pub unit_may : (unit : MarkedUnit) → UnitInOctets unit → MayCall (unit_call unit)
 unit_may (Normal octets) is = is
 unit_may (Expedited octets) is = is
 
-credit_low : (rules : Timers) (lowered : Bool) (left : List MarkedUnit) (credit : ℕ) → rules.credit ≤ 255 → credit_now rules.credit lowered left ≡ Some credit → credit ≤ 255
+pub credit_low : (rules : Timers) (lowered : Bool) (left : List MarkedUnit) (credit : ℕ) → rules.credit ≤ 255 → credit_now rules.credit lowered left ≡ Some credit → credit ≤ 255
 credit_low rules true [] credit low is = subst (λ (k : ℕ). k ≤ 255) (let same : rules.credit ≡ credit = cc is in same) low
 credit_low rules false [] credit low is = absurd (cc is)
 credit_low rules true (unit ∷ units) credit low is = absurd (cc is)
 credit_low rules false (unit ∷ units) credit low is = let same : 0 ≡ credit = cc is in omega (arith, same)
+
+pub way_octets : (heading : Heading) (pair : Pair) → PairInOctets pair → AllByRecursion UnitInOctets (way_of heading pair).waiting
+way_octets On pair p = p.on
+way_octets Back pair p = p.back
 
 module _ {C : Type 0} (link : C → Link (List ℕ)) (steps : C → Call (List ℕ) → C → Type 0) (keeps : (old : C) (call : Call (List ℕ)) (new : C) → steps old call new → Keeps (link old) call (link new))
     (titles : List (List ℕ)) (tick : ℕ) (Needs : ℕ → Type 0) where
@@ -315,19 +317,11 @@ module _ {C : Type 0} (link : C → Link (List ℕ)) (steps : C → Call (List �
 
   line_may : (old : World C) (end : ℕ) (call : UserCall) → MayCall call → CanRun is_nsap titles link old (call_line end call)
   line_may old end (asks.Accept options octets) may = may
-  line_may old end (asks.Refuse octets) may = may
-  line_may old end (asks.Normal octets) may = may
-  line_may old end (asks.Urgent octets) may = may
-  line_may old end (asks.Window credit) may = may
-  line_may old end (asks.Disconnect octets) may = may
+  line_may old end other may = may
 
   line_calls : (old : World C) (end : ℕ) (call : UserCall) (made : List Event) (new : World C) → RunsLine link steps wire titles old (call_line end call) made new → Calls link steps wire old end call made new
   line_calls old end (asks.Accept options octets) made new h = h
-  line_calls old end (asks.Refuse octets) made new h = h
-  line_calls old end (asks.Normal octets) made new h = h
-  line_calls old end (asks.Urgent octets) made new h = h
-  line_calls old end (asks.Window credit) made new h = h
-  line_calls old end (asks.Disconnect octets) made new h = h
+  line_calls old end other made new h = h
 
   some_call : (old : World C) (kept : Kept) (end : ℕ) (call : UserCall) → MayCall call → Able old kept → CallDone old kept end call
   some_call old kept end call may a =
@@ -573,9 +567,6 @@ module _ {C : Type 0} (link : C → Link (List ℕ)) (steps : C → Call (List �
     so : R done made new
     able : Able new (kept_after kept made)
 
-  nothing_done : (old : World C) (kept : Kept) → Able old kept → Done old kept (λ done made new. (done ≡ false) × (made ≡ []) × (new ≡ old))
-  nothing_done old kept a = record { done = false; made = []; new = old; so = (refl, refl, refl); able = a }
-
   some_parts : (old : World C) (kept : Kept) (pair : Pair) → Able old kept → Done old kept (Parts connects calls old pair)
   some_parts old kept pair a =
       let first = some_call old kept pair.inbound (asks.Disconnect []) tt a in
@@ -599,10 +590,6 @@ module _ {C : Type 0} (link : C → Link (List ℕ)) (steps : C → Call (List �
   some_balance false old kept rules heading pair left low a =
       let r = some_credit old kept (near_end heading pair) (credit_now rules.credit (way_of heading pair).lowered left) (λ k is. credit_low rules (way_of heading pair).lowered left k low is) a in
       record { done = r.done; made = r.made; new = r.new; so = r.so; able = r.able }
-
-  way_octets : (heading : Heading) (pair : Pair) → PairInOctets pair → AllByRecursion UnitInOctets (way_of heading pair).waiting
-  way_octets On pair p = p.on
-  way_octets Back pair p = p.back
 
   some_open : (opens : Bool) (old : World C) (kept : Kept) (rules : Timers) (heading : Heading) (pair : Pair) → rules.credit ≤ 255 → PairInOctets pair → Able old kept
       → Done old kept (ServesOpen connects calls opens old rules heading pair)

@@ -1,5 +1,5 @@
 -- What a line of a network does keeps that ends of a relay wait, and its events may come in a line of a relay (X.214, service primitives).
-use Rattle.std.proofs.Common.{◌≡◌, ◌⊎◌, inl, inr, ℕ, ◌+◌, ◌<◌, ◌≤◌, ◌==◌, ◌||◌, not, Bool, true, false, if◌then◌else◌, List, [], ◌∷◌, ◌++◌, length, Option, Some, None, refl, sym, ◌∙◌, ap, subst, arith, append_assoc}
+use Rattle.std.proofs.Common.{◌≡◌, ◌⊎◌, inl, inr, ℕ, ◌+◌, ◌≤◌, ◌==◌, ◌||◌, not, Bool, true, false, if◌then◌else◌, List, [], ◌∷◌, ◌++◌, length, Option, Some, None, refl, sym, ◌∙◌, ap, subst, arith, append_assoc}
 use Rattle.std.specs.Prelude.{is_none}
 use Rattle.std.specs.List.{AllByRecursion}
 use Rattle.std.proofs.lemmas.Bool.{cases_eq, eqb-true, false≢true}
@@ -53,6 +53,7 @@ use Rattle.law_tp4_lawful.proofs.ActsRows.{IsRowOf, row_of}
 use Rattle.law_tp4_lawful.specs.Own.{IsEndOf}
 use Rattle.law_tp4_lawful.proofs.ActsTold.{ends_stay}
 use Rattle.law_tp4_lawful.proofs.MakesPlaces.{at_other, latest_last, made_last}
+use Rattle.law_tp4_lawful.proofs.SilenceEntities.{only_end, placed_of, placed_or}
 use Rattle.tp4_relay.specs.declared.pair.Pair.{Pair}
 use Rattle.tp4_relay.specs.declared.pair.Phase.TheVariants.{Begun}
 use Rattle.tp4_relay.specs.Allowed.{AreLine, IsLine}
@@ -61,7 +62,7 @@ use Rattle.law_relay_run.specs.Asked.{is_relayed}
 use Rattle.law_relay_run.proofs.CallRows.{CallDoes, CallTells, IsNoAccept, call_does}
 use Rattle.law_relay_run.proofs.StageRows.{AllTold, IsCallingWait, TellsHeld, MayFollow}
 use Rattle.law_relay_run.proofs.Waits.{IsCommon, PairWaits, Waits, asking_waits, follows_waits, free_waits, has_inbound, noted_named, noted_tidy, noted_waits, tidy_more}
-use Rattle.law_relay_run.proofs.Walks.{Did, Goes, IsFine, Linked, Walked, after_append, did_take, did_tick, goes_then, held_walk, latest_low, latest_other, line_append, linked_by, placed_of, placed_or, walked_linked, walked_more, walked_none}
+use Rattle.law_relay_run.proofs.Walks.{Did, Goes, IsFine, Linked, Walked, after_append, did_take, did_tick, goes_then, held_walk, latest_low, latest_other, line_append, linked_by, walked_linked, walked_more, walked_none}
 use Rattle.tpdu.specs.declared.service.EndTold.TheVariants as tells
 
 -- ---- events of no end that is kept
@@ -130,10 +131,7 @@ sent_note system to octets (Dropped cause) = tt
 
 picked_note : (number system : ℕ) (answer : Picked) → IsNote (picked_event number system answer)
 picked_note number system picks.Taken = tt
-picked_note number system picks.NoSuch = tt
-picked_note number system picks.Late = tt
-picked_note number system picks.NotThere = tt
-picked_note number system picks.NotOurs = tt
+picked_note number system other = tt
 
 -- ---- a call on an end
 
@@ -226,21 +224,15 @@ pub data MayCall (kept : Kept) (number : ℕ) (call : UserCall) : Type 0 where
 calling_accepts_none : (stage : StateData) (call : UserCall) → (IsNoAccept call → ⊥) → is_listed stage call ≡ true → IsCallingWait stage → ⊥
 calling_accepts_none (stages.CrWait w) (asks.Disconnect octets) accept is waits = accept tt
 calling_accepts_none (stages.CrWait w) other accept is waits = false≢true is
-calling_accepts_none (stages.WaitBeforeClose w) call accept is waits = false≢true is
-calling_accepts_none (stages.Closing c) call accept is waits = false≢true is
-calling_accepts_none (stages.Frozen when) call accept is waits = false≢true is
 calling_accepts_none (stages.UserWait since) call accept is waits = waits
 calling_accepts_none (stages.AkWait w) call accept is waits = waits
 calling_accepts_none (stages.Opened o) call accept is waits = waits
+calling_accepts_none other call accept is waits = false≢true is
 
 -- or it is no accept
 accept_or : (call : UserCall) → IsNoAccept call ⊎ (IsNoAccept call → ⊥)
 accept_or (asks.Accept asked octets) = inr (λ is. is)
-accept_or (asks.Refuse octets) = inl tt
-accept_or (asks.Normal octets) = inl tt
-accept_or (asks.Urgent octets) = inl tt
-accept_or (asks.Window credit) = inl tt
-accept_or (asks.Disconnect octets) = inl tt
+accept_or other = inl tt
 
 opened_waits : (kept : Kept) (n : ℕ) (stage new : StateData) → IsOpened kept n → (IsCallingWait stage → ⊥) → Waits kept.claims kept.pairs n stage → Waits kept.claims kept.pairs n new
 opened_waits kept n stage new o calling w = record {
@@ -339,9 +331,6 @@ module _ {C : Type 0} (link : C → Link (List ℕ)) (steps : C → Call (List �
       subst (λ (es : List Event). Goes old.ends kept es new.entities new.ends) (sym (s.2 ∙ ap (λ (es : List Event). asked ∷ es) a.made_is))
       (goes_then old.ends more new.ends kept (asked ∷ []) a.sent mid.entities new.entities first later)
     where
-      only_end : (reference : ℕ) (one end : End) → IsEndOf reference one → Some one ≡ Some end → IsEndOf reference end
-      only_end reference one end is h = let same : one ≡ end = cc h in subst (IsEndOf reference) same is
-
       asked_linked : (entities : List Placed) (ends : List EndAt) → Linked entities ends kept → Linked entities ends (noted kept (connect_event (length old.ends + 1) system reference e.own request))
       asked_linked entities ends k = record {
         named = (let low = k.named in omega (arith, low));
@@ -538,14 +527,4 @@ module _ {C : Type 0} (link : C → Link (List ℕ)) (steps : C → Call (List �
     line_ran titles (lines.Inject lan system octets) old new made has s kept free l = absurd has
     line_ran titles (lines.Restart system) old new made has s kept free l = absurd has
     line_ran titles (lines.Send system selector to called octets) old new made has s kept free l = absurd has
-    line_ran titles (lines.Version version) old new made has s kept free l = absurd s
-    line_ran titles (lines.Set key value) old new made has s kept free l = absurd s
-    line_ran titles (lines.Lan name bound room) old new made has s kept free l = absurd s
-    line_ran titles (lines.Es name title) old new made has s kept free l = absurd s
-    line_ran titles (lines.Is name title) old new made has s kept free l = absurd s
-    line_ran titles (lines.Port system lan snpa) old new made has s kept free l = absurd s
-    line_ran titles (lines.Route system prefix hop lan) old new made has s kept free l = absurd s
-    line_ran titles (lines.Path name kind systems) old new made has s kept free l = absurd s
-    line_ran titles (lines.Tsap system selector) old new made has s kept free l = absurd s
-    line_ran titles (lines.Relay system selector to called) old new made has s kept free l = absurd s
-    line_ran titles lines.Start old new made has s kept free l = absurd s
+    line_ran titles other old new made has s kept free l = absurd s

@@ -7,7 +7,7 @@ use Rattle.osi_base.specs.declared.unit.Up.{Up}
 use Rattle.osi_base.specs.declared.unit.Up.TheVariants.{Unit as Came, Note as Noted}
 use Rattle.osi_base.specs.declared.unit.Wish.{Wish}
 use Rattle.osi_base.specs.Link.{Link}
-use Rattle.osi_base.specs.Calls.{Call, Chain, Choose, Inject, Keeps, NextUp, Offer, Tick}
+use Rattle.osi_base.specs.Calls.{Call, Chain, Inject, Keeps, NextUp, Tick}
 use Rattle.osi_base.specs.Gathering.{takings}
 use Rattle.law_carrier_answers.specs.Answers.{AreOctets}
 use Rattle.script_journal.specs.declared.cause.Refused.{Refused}
@@ -189,18 +189,7 @@ module _ {C : Type 0} (link : C → Link (List ℕ)) (steps others : C → Call 
     line_goes titles old lines.Settle made new s = settles_go 0 old made new s
     line_goes titles old (lines.Inject lan system octets) made new s = (s.0, arrives_go old _ _ made new s.1)
     line_goes titles old (lines.Restart system) made new s = s
-    line_goes titles old (lines.Send system selector to called octets) made new s = absurd s
-    line_goes titles old (lines.Version version) made new s = absurd s
-    line_goes titles old (lines.Set key value) made new s = absurd s
-    line_goes titles old (lines.Lan name bound room) made new s = absurd s
-    line_goes titles old (lines.Es name title) made new s = absurd s
-    line_goes titles old (lines.Is name title) made new s = absurd s
-    line_goes titles old (lines.Port system lan snpa) made new s = absurd s
-    line_goes titles old (lines.Route system prefix hop lan) made new s = absurd s
-    line_goes titles old (lines.Path name kind systems) made new s = absurd s
-    line_goes titles old (lines.Tsap system selector) made new s = absurd s
-    line_goes titles old (lines.Relay system selector to called) made new s = absurd s
-    line_goes titles old lines.Start made new s = absurd s
+    line_goes titles old other made new s = absurd s
 
 -- ---- octets
 
@@ -210,11 +199,7 @@ text_read (wires.Cr credit source width calling called size preferred extra vers
 text_read (wires.Cc credit destination source width calling called size preferred extra version classes ack_time text) h = h.5
 text_read (wires.Dt destination last number text) h = h.1
 text_read (wires.Ed destination last number text) h = h.1
-text_read (wires.Dr destination source reason info text) h = tt
-text_read (wires.Dc destination source) h = tt
-text_read (wires.Ak destination number credit subsequence confirmation) h = tt
-text_read (wires.Ea destination number) h = tt
-text_read (wires.Er destination cause rejected) h = tt
+text_read other h = tt
 
 pub octets_read : (extended octets rest : List ℕ) (tpdu : TpduAndSum) → BeginsWithTpdu extended octets tpdu rest → AreOctets octets → HasText AreOctets tt octets_both tpdu.0 × AreOctets rest
 octets_read extended octets rest tpdu begins p = let r = first_octets extended octets rest tpdu begins p in (text_read tpdu.0 r.0, r.1)
@@ -251,12 +236,9 @@ module _ {C : Type 0} (link : C → Link (List ℕ)) (steps : C → Call (List �
   first_up up waiting rest is all = up_octets up (subst (λ (ups : List (Up (List ℕ))). AllByRecursion (ComesInOctets is_address) ups) is all).0
 
   hands : (old : C) (call : Call (List ℕ)) (new : C) → Stands old → steps old call new → HandsOctets call
-  hands old (Offer unit wish answer) new stands s = tt
-  hands old (Choose pick system answer) new stands s = tt
-  hands old (Inject lan system octets answer) new stands s = tt
   hands old (NextUp None) new stands s = tt
   hands old (NextUp (Some up)) new stands s = first_up up (link old).waiting (link new).waiting (keeps old (NextUp (Some up)) new s).waiting (serves.in_octets old stands)
-  hands old Tick new stands s = tt
+  hands old other new stands s = tt
 
   octets_serve : Serves is_address link OctetSteps Stands
   octets_serve = record {

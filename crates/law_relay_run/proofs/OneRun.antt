@@ -43,11 +43,7 @@ module _ {C : Type 0} (link : C → Link (List ℕ)) (steps : C → Call (List �
   pub call_runs : (titles : List (List ℕ)) (old : World C) (end : ℕ) (call : UserCall) (made : List Event) (new : World C) → Calls link steps wire old end call made new
       → RunsLine link steps wire titles old (call_line end call) made new
   call_runs titles old end (asks.Accept options octets) made new h = h
-  call_runs titles old end (asks.Refuse octets) made new h = h
-  call_runs titles old end (asks.Normal octets) made new h = h
-  call_runs titles old end (asks.Urgent octets) made new h = h
-  call_runs titles old end (asks.Window credit) made new h = h
-  call_runs titles old end (asks.Disconnect octets) made new h = h
+  call_runs titles old end other made new h = h
 
 module _ {C : Type 0} (link : C → Link (List ℕ)) (steps : C → Call (List ℕ) → C → Type 0) (once : OneStep steps) where
   -- ---- a pump

@@ -35,12 +35,6 @@ none_waits number stage = record { unjoined = λ has out. absurd (false≢true h
 
 none_relayed : (line : Line) → is_relayed none_kept line ≡ false
 none_relayed (lines.Connect system selector to called options octets) = refl
-none_relayed (lines.Accept end options octets) = refl
-none_relayed (lines.Refuse end octets) = refl
-none_relayed (lines.Disconnect end octets) = refl
-none_relayed (lines.Data end octets) = refl
-none_relayed (lines.Expedite end octets) = refl
-none_relayed (lines.Window end credit) = refl
 none_relayed line = refl
 
 module _ {C : Type 0} (link : C → Link (List ℕ)) (steps : C → Call (List ℕ) → C → Type 0) where

@@ -68,20 +68,6 @@ module _ {N : Type 0} (link : N → Link (List ℕ)) (steps : N → Call (List �
   -- a line that is no event line tells nothing
   tells_nothing : (line : Line) (old : RelayRun N) (made : List Event) (new : RelayRun N) → IsPlaced false line → RunsRelays link steps old line made new → made ≡ []
   tells_nothing lines.Nothing old made new placed step = step.2.0
-  tells_nothing (lines.Connect system selector to called options octets) old made new placed step = absurd (false≢true placed)
-  tells_nothing (lines.Accept end options octets) old made new placed step = absurd (false≢true placed)
-  tells_nothing (lines.Refuse end octets) old made new placed step = absurd (false≢true placed)
-  tells_nothing (lines.Disconnect end octets) old made new placed step = absurd (false≢true placed)
-  tells_nothing (lines.Data end octets) old made new placed step = absurd (false≢true placed)
-  tells_nothing (lines.Expedite end octets) old made new placed step = absurd (false≢true placed)
-  tells_nothing (lines.Window end credit) old made new placed step = absurd (false≢true placed)
-  tells_nothing (lines.Unit system to wish octets) old made new placed step = absurd (false≢true placed)
-  tells_nothing lines.Tick old made new placed step = absurd (false≢true placed)
-  tells_nothing lines.Settle old made new placed step = absurd (false≢true placed)
-  tells_nothing (lines.Deliver number system) old made new placed step = absurd (false≢true placed)
-  tells_nothing (lines.Inject lan system octets) old made new placed step = absurd (false≢true placed)
-  tells_nothing (lines.Restart system) old made new placed step = absurd (false≢true placed)
-  tells_nothing (lines.Send system selector to called octets) old made new placed step = absurd (false≢true placed)
   tells_nothing (lines.Version version) old made new placed step = absurd step.2.2.happens
   tells_nothing (lines.Set key value) old made new placed step = absurd step.2.2.happens
   tells_nothing (lines.Lan name bound room) old made new placed step = absurd step.2.2.happens
@@ -93,6 +79,7 @@ module _ {N : Type 0} (link : N → Link (List ℕ)) (steps : N → Call (List �
   tells_nothing (lines.Tsap system selector) old made new placed step = absurd step.2.2.happens
   tells_nothing (lines.Relay system selector to called) old made new placed step = absurd step.2.2.happens
   tells_nothing lines.Start old made new placed step = absurd step.2.2.happens
+  tells_nothing other old made new placed step = absurd (false≢true placed)
 
 -- no script of relays sends datagrams
 none_sent : SendsNoDatagrams dialects.Relay

@@ -1,6 +1,6 @@
 -- What a pump leaves: ends of relays wait as they have to, and what is kept is what is kept of the journal, in which the events of the line come before those of
 -- the pump (X.214, model of the transport service).
-use Rattle.std.proofs.Common.{◌≡◌, ◌⊎◌, inl, inr, ℕ, ◌+◌, ◌<◌, ◌≤◌, ◌||◌, Bool, true, false, if◌then◌else◌, nat_lt, List, [], ◌∷◌, ◌++◌, length, Option, Some, None, refl, sym, ◌∙◌, ap, subst, arith, append_assoc}
+use Rattle.std.proofs.Common.{◌≡◌, inl, inr, ℕ, ◌+◌, ◌<◌, ◌≤◌, ◌||◌, Bool, true, false, if◌then◌else◌, nat_lt, List, [], ◌∷◌, ◌++◌, length, Option, Some, None, refl, sym, ◌∙◌, ap, subst, arith, append_assoc}
 use Rattle.std.specs.Prelude.{slice_get}
 use Rattle.std.specs.List.{AllByRecursion}
 use Rattle.std.proofs.lemmas.Bool.{ne_eqb}
@@ -60,11 +60,8 @@ asides_notable kept (event ∷ made) all = (aside_notable kept event all.0, asid
 
 own_notable : (kept : Kept) (end : ℕ) (call : UserCall) (own : Event) → IsOwn end call own → IsNotable kept own
 own_notable kept end (asks.Accept asked octets) own is = subst (IsNotable kept) (sym is.1) tt
-own_notable kept end (asks.Refuse octets) own is = subst (IsNotable kept) (sym is) tt
-own_notable kept end (asks.Normal octets) own is = subst (IsNotable kept) (sym is) tt
-own_notable kept end (asks.Urgent octets) own is = subst (IsNotable kept) (sym is) tt
 own_notable kept end (asks.Window credit) own is = subst (IsNotable kept) (sym is.1) tt
-own_notable kept end (asks.Disconnect octets) own is = subst (IsNotable kept) (sym is) tt
+own_notable kept end other own is = subst (IsNotable kept) (sym is) tt
 
 told_notable : (kept : Kept) (end : ℕ) (call : UserCall) (done : Bool) (made : List Event) → ToldBy end call done made → AreNotable kept made
 told_notable kept end call true made t = subst (AreNotable kept) (sym t.2) (own_notable kept end call t.0 t.3, asides_notable (noted kept t.0) t.1 t.4)
@@ -98,9 +95,8 @@ moved_kept ends kept made (event ∷ line) tidy all left =
 -- ---- what may be done
 
 abbrev MayFor : Kept → Reaction → Type 0
-MayFor kept Nothing = Prim.Unit {0}
-MayFor kept (Begin inbound system request) = Prim.Unit {0}
 MayFor kept (Ask end call) = MayCall kept end call
+MayFor kept other = Prim.Unit {0}
 
 module _ (current last : Kept) where
   begins_may : (row : Option RelayRow) (heard : Indication) → MayFor last (begins heard row)

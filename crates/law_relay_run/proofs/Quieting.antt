@@ -121,15 +121,4 @@ module _ {C : Type 0} (link : C → Link (List ℕ)) (steps : C → Call (List �
     line_quiet titles lines.Settle old new made s quiet = settled_quiet 0 old made new s quiet
     line_quiet titles (lines.Inject lan system octets) old new made s quiet = arrived old new made _ _ s.1
     line_quiet titles (lines.Restart system) old new made s quiet = ap (λ (w : World C). (link w.carrier).waiting) s.3 ∙ quiet
-    line_quiet titles (lines.Send system selector to called octets) old new made s quiet = absurd s
-    line_quiet titles (lines.Version version) old new made s quiet = absurd s
-    line_quiet titles (lines.Set key value) old new made s quiet = absurd s
-    line_quiet titles (lines.Lan name bound room) old new made s quiet = absurd s
-    line_quiet titles (lines.Es name title) old new made s quiet = absurd s
-    line_quiet titles (lines.Is name title) old new made s quiet = absurd s
-    line_quiet titles (lines.Port system lan snpa) old new made s quiet = absurd s
-    line_quiet titles (lines.Route system prefix hop lan) old new made s quiet = absurd s
-    line_quiet titles (lines.Path name kind systems) old new made s quiet = absurd s
-    line_quiet titles (lines.Tsap system selector) old new made s quiet = absurd s
-    line_quiet titles (lines.Relay system selector to called) old new made s quiet = absurd s
-    line_quiet titles lines.Start old new made s quiet = absurd s
+    line_quiet titles other old new made s quiet = absurd s

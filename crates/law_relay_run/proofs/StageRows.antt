@@ -9,7 +9,7 @@ use Rattle.tpdu.specs.declared.tpdu.Tpdu.{Tpdu}
 use Rattle.tpdu.specs.declared.tpdu.Tpdu.TheVariants as wires
 use Rattle.tp4_number.specs.Number.{near}
 use Rattle.tp4_number.specs.declared.got.Got.{Got}
-use Rattle.tp4_number.specs.declared.got.Got.TheVariants.{Kept, Old, Outside, TooLarge}
+use Rattle.tp4_number.specs.declared.got.Got.TheVariants.{TooLarge}
 use Rattle.tp4_number.specs.declared.piece.Piece.{Piece}
 use Rattle.tp4_number.proofs.Past.{if_kept}
 use Rattle.tp4_flow.specs.Half.{dt_arrival, is_next, taken_dt}
@@ -96,12 +96,11 @@ MayTell stage what = IsParting what
 -- the state that may follow, where nothing is confirmed
 abbrev pub MayFollow : StateData → StateData → Type 0
 MayFollow (stages.UserWait since) new = IsCalledWait new
-MayFollow (stages.CrWait w) new = IsCallingWait new
-MayFollow (stages.WaitBeforeClose w) new = IsCallingWait new
 MayFollow (stages.Closing c) new = IsCalledWait new × IsCallingWait new
 MayFollow (stages.Frozen when) new = IsCalledWait new × IsCallingWait new
 MayFollow (stages.AkWait w) new = Prim.Unit {0}
 MayFollow (stages.Opened o) new = Prim.Unit {0}
+MayFollow other new = IsCallingWait new
 
 pub record TellsSo (stage : StateData) (m : Moved) : Type 0 where
   pub told : AllTold (MayTell stage) m.events
@@ -186,9 +185,7 @@ Flows m = AllTold IsFlow m.events
 module _ (wrap : ℕ → ℕ → ℕ) (b : EndRecord) where
   dt_flow : (got : Got) (o : InOpened) (w : ℕ) (piece : Piece) → Flows (dt_as got b o (taken_dt wrap o.halves.receiving w piece))
   dt_flow TooLarge o w piece = all_appended IsFlow (taken_dt wrap o.halves.receiving w piece).events _ (gots_flow _ (dt_arrival o.halves.receiving w piece).units) (tt, tt)
-  dt_flow Kept o w piece = gots_flow _ _
-  dt_flow Old o w piece = gots_flow _ _
-  dt_flow Outside o w piece = gots_flow _ _
+  dt_flow other o w piece = gots_flow _ _
 
   opened_flow : (o : InOpened) (tpdu : Tpdu) → Flows (opened_tpdu wrap b o tpdu)
   unfolding opened_tpdu
@@ -201,9 +198,7 @@ module _ (wrap : ℕ → ℕ → ℕ) (b : EndRecord) where
   opened_flow o (wires.Ak destination number credit subsequence confirmation) =
       flows (acknowledged (at b.clock o.halves.sending) number credit subsequence).events (acknowledged_held (at b.clock o.halves.sending) number credit subsequence)
   opened_flow o (wires.Ea destination number) = flows (urgent_done (at b.clock o.halves.sending) number).events (done_held (at b.clock o.halves.sending) number)
-  opened_flow o (wires.Cc credit destination source width calling called size preferred extra version classes ack_time text) = tt
-  opened_flow o (wires.Cr credit source width calling called size preferred extra version classes ack_time text) = tt
-  opened_flow o (wires.Dc destination source) = tt
+  opened_flow o other = tt
 
   opens_flow : (h : Halves) (tpdu : Tpdu) → Flows (opening wrap b h tpdu)
   opens_flow h tpdu =
@@ -218,9 +213,7 @@ module _ (wrap : ℕ → ℕ → ℕ) (b : EndRecord) where
   ak_flow w (wires.Ea destination number) = opens_flow w.halves (wires.Ea destination number)
   ak_flow w (wires.Dr destination source reason info text) = (tt, tt)
   ak_flow w (wires.Er destination cause rejected) = (tt, tt)
-  ak_flow w (wires.Cc credit destination source width calling called size preferred extra version classes ack_time text) = tt
-  ak_flow w (wires.Cr credit source width calling called size preferred extra version classes ack_time text) = tt
-  ak_flow w (wires.Dc destination source) = tt
+  ak_flow w other = tt
 
   goes_flow : (o : InOpened) (x : Sendings) → OnlyHeld x → Flows (opened_goes b o x)
   goes_flow o x h =
@@ -264,24 +257,16 @@ module _ (wrap : ℕ → ℕ → ℕ) (b : EndRecord) where
       }))
       (λ _. so (stages.CrWait w) _ (tt, tt) tt)
   cr_tells w width (wires.Dr destination source reason info text) a = so (stages.CrWait w) _ (tt, tt) tt
-  cr_tells w width (wires.Cr credit source given calling called size preferred extra version classes ack_time text) a = so (stages.CrWait w) _ tt tt
-  cr_tells w width (wires.Dc destination source) a = so (stages.CrWait w) _ tt tt
-  cr_tells w width (wires.Dt destination last number text) a = so (stages.CrWait w) _ tt tt
-  cr_tells w width (wires.Ed destination last number text) a = so (stages.CrWait w) _ tt tt
-  cr_tells w width (wires.Ak destination number credit subsequence confirmation) a = so (stages.CrWait w) _ tt tt
-  cr_tells w width (wires.Ea destination number) a = so (stages.CrWait w) _ tt tt
-  cr_tells w width (wires.Er destination cause rejected) a = so (stages.CrWait w) _ tt tt
+  cr_tells w width other a = so (stages.CrWait w) _ tt tt
 
   wait_tells : (w : InWaitBeforeClose) (tpdu : Tpdu) → Tells (stages.WaitBeforeClose w) (wait_before_close_tpdu b w tpdu)
   unfolding wait_before_close_tpdu
   wait_tells w (wires.Cc credit destination source width calling called size preferred extra version classes ack_time text) = so (stages.WaitBeforeClose w) _ tt tt
-  wait_tells w (wires.Dr destination source reason info text) = so (stages.WaitBeforeClose w) _ tt tt
   wait_tells w other = so (stages.WaitBeforeClose w) _ tt tt
 
   closing_tells : (c : InClosing) (tpdu : Tpdu) → Tells (stages.Closing c) (closing_tpdu b c tpdu)
   unfolding closing_tpdu
   closing_tells c (wires.Dc destination source) = so (stages.Closing c) _ tt (tt, tt)
-  closing_tells c (wires.Dr destination source cause info text) = so (stages.Closing c) _ tt (tt, tt)
   closing_tells c other = so (stages.Closing c) _ tt (tt, tt)
 
   tpdu_tells : (stage : StateData) (width : Format) (tpdu : Tpdu) → IsAllowed width tpdu → Tells stage (on_tpdu wrap b stage tpdu)
@@ -334,13 +319,11 @@ parting_flow other h = absurd h
 
 -- an end tells of a fault alone what it may tell in every state, and stays as it is
 fault_tells : (stage : StateData) (event : EndEvent) → IsParting event.what → AllTold (MayTell stage) (event ∷ []) × MayFollow stage stage
-fault_tells (stages.CrWait w) event is = ((is, tt), tt)
-fault_tells (stages.WaitBeforeClose w) event is = ((is, tt), tt)
-fault_tells (stages.UserWait since) event is = ((is, tt), tt)
 fault_tells (stages.AkWait w) event is = ((parting_flow event.what is, tt), tt)
 fault_tells (stages.Opened o) event is = ((parting_flow event.what is, tt), tt)
 fault_tells (stages.Closing c) event is = ((is, tt), (tt, tt))
 fault_tells (stages.Frozen when) event is = ((is, tt), (tt, tt))
+fault_tells other event is = ((is, tt), tt)
 
 pub taking_tells : (wrap : ℕ → ℕ → ℕ) (now : ℕ) (e : End) (width : Format) (tpdu : Tpdu) (sum : Bool) → IsAllowed width tpdu → Tells e.stage (stepped wrap now e (Took tpdu sum))
 taking_tells wrap now e width tpdu sum a =

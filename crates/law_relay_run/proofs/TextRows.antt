@@ -9,7 +9,7 @@ use Rattle.tp4_number.specs.Receiver.{Arrived, Inbox, arrived_as, in_order, judg
 use Rattle.tp4_number.specs.Window.{Held, Joined, begun_by, is_larger, joined, joined_by, placed}
 use Rattle.tp4_number.specs.Formats.{most_of}
 use Rattle.tp4_number.specs.declared.got.Got.{Got}
-use Rattle.tp4_number.specs.declared.got.Got.TheVariants.{Kept, Old, Outside, TooLarge}
+use Rattle.tp4_number.specs.declared.got.Got.TheVariants.{Kept, TooLarge}
 use Rattle.tp4_number.specs.declared.piece.Piece.{Piece}
 use Rattle.tp4_number.proofs.Past.{if_kept}
 use Rattle.tp4_flow.specs.Half.{Half, Received, allowed, block_in, dt_arrival, empty, half_granted, is_next, taken_dt, taken_ed}
@@ -119,9 +119,7 @@ module _ (P : List ℕ → Type 0) (none : P []) (both : (xs ys : List ℕ) → 
   arrived_is Kept inbox d piece h p =
       let put : IsHeldOf (placed inbox.held d piece) = record { places = set_place inbox.held.places d piece h.places p; begun = h.begun } in
       kept_is inbox (placed inbox.held d piece) (in_order (placed inbox.held d piece) d) put (in_order_is (placed inbox.held d piece) d put)
-  arrived_is Old inbox d piece h p = record { units = tt; held = h }
-  arrived_is Outside inbox d piece h p = record { units = tt; held = h }
-  arrived_is TooLarge inbox d piece h p = record { units = tt; held = h }
+  arrived_is other inbox d piece h p = record { units = tt; held = h }
 
   -- ---- a receiving half
 
@@ -194,9 +192,7 @@ module _ (P : List ℕ → Type 0) (none : P []) (both : (xs ys : List ℕ) → 
 
     dt_row : (got : Got) (o : InOpened) (r : Received) → IsHalfOf r.half → AllTold IsTextOf r.events → IsRowOfTexts (dt_as got b o r)
     dt_row TooLarge o r h told = record { stage = tt; told = all_appended IsTextOf r.events _ told (tt, tt) }
-    dt_row Kept o r h told = receiving_is (acking b o) r h told
-    dt_row Old o r h told = receiving_is (acking b o) r h told
-    dt_row Outside o r h told = receiving_is (acking b o) r h told
+    dt_row other o r h told = receiving_is (acking b o) r h told
 
     ed_row : (o : InOpened) (w : ℕ) (octets : List ℕ) → IsHalfOf o.halves.receiving → P octets → IsRowOfTexts (receiving b o (taken_ed wrap o.halves.receiving w octets))
     ed_row o w octets h p =
@@ -217,9 +213,7 @@ module _ (P : List ℕ → Type 0) (none : P []) (both : (xs ys : List ℕ) → 
     opened_is o (wires.Ak destination number credit subsequence confirmation) h p =
         sending_is o (acknowledged (at b.clock o.halves.sending) number credit subsequence) h (acknowledged_held (at b.clock o.halves.sending) number credit subsequence)
     opened_is o (wires.Ea destination number) h p = sending_is o (urgent_done (at b.clock o.halves.sending) number) h (done_held (at b.clock o.halves.sending) number)
-    opened_is o (wires.Cc credit destination source width calling called size preferred extra version classes ack_time text) h p = record { stage = h; told = tt }
-    opened_is o (wires.Cr credit source width calling called size preferred extra version classes ack_time text) h p = record { stage = h; told = tt }
-    opened_is o (wires.Dc destination source) h p = record { stage = h; told = tt }
+    opened_is o other h p = record { stage = h; told = tt }
 
     opens_is : (h : Halves) (tpdu : Tpdu) → IsHalfOf h.receiving → HasText tpdu → IsRowOfTexts (opening wrap b h tpdu)
     opens_is h tpdu is p =
@@ -235,9 +229,7 @@ module _ (P : List ℕ → Type 0) (none : P []) (both : (xs ys : List ℕ) → 
     ak_is w (wires.Ea destination number) h p = opens_is w.halves (wires.Ea destination number) h p
     ak_is w (wires.Dr destination source reason info text) h p = record { stage = tt; told = (tt, tt) }
     ak_is w (wires.Er destination cause rejected) h p = record { stage = tt; told = (tt, tt) }
-    ak_is w (wires.Cc credit destination source width calling called size preferred extra version classes ack_time text) h p = record { stage = h; told = tt }
-    ak_is w (wires.Cr credit source width calling called size preferred extra version classes ack_time text) h p = record { stage = h; told = tt }
-    ak_is w (wires.Dc destination source) h p = record { stage = h; told = tt }
+    ak_is w other h p = record { stage = h; told = tt }
 
     goes_is : (o : InOpened) (x : Sendings) → IsHalfOf o.halves.receiving → OnlyHeld x → IsRowOfTexts (opened_goes b o x)
     goes_is o x h held =
@@ -271,34 +263,25 @@ module _ (P : List ℕ → Type 0) (none : P []) (both : (xs ys : List ℕ) → 
         (λ _. record { stage = empty_is (flow_rules c o) c.timers.credit; told = (p, helds (opened s).events (new_held (record s { is_open = true }))) })
         (λ _. record { stage = tt; told = (tt, tt) })
     cr_is w (wires.Dr destination source reason info text) p = record { stage = tt; told = (tt, tt) }
-    cr_is w (wires.Cr credit source given calling called size preferred extra version classes ack_time text) p = record { stage = tt; told = tt }
-    cr_is w (wires.Dc destination source) p = record { stage = tt; told = tt }
-    cr_is w (wires.Dt destination last number text) p = record { stage = tt; told = tt }
-    cr_is w (wires.Ed destination last number text) p = record { stage = tt; told = tt }
-    cr_is w (wires.Ak destination number credit subsequence confirmation) p = record { stage = tt; told = tt }
-    cr_is w (wires.Ea destination number) p = record { stage = tt; told = tt }
-    cr_is w (wires.Er destination cause rejected) p = record { stage = tt; told = tt }
+    cr_is w other p = record { stage = tt; told = tt }
 
     wait_is : (w : InWaitBeforeClose) (tpdu : Tpdu) → IsRowOfTexts (wait_before_close_tpdu b w tpdu)
     unfolding wait_before_close_tpdu
     wait_is w (wires.Cc credit destination source width calling called size preferred extra version classes ack_time text) = record { stage = tt; told = tt }
-    wait_is w (wires.Dr destination source reason info text) = record { stage = tt; told = tt }
     wait_is w other = record { stage = tt; told = tt }
 
     closing_is : (c : InClosing) (tpdu : Tpdu) → IsRowOfTexts (closing_tpdu b c tpdu)
     unfolding closing_tpdu
     closing_is c (wires.Dc destination source) = record { stage = tt; told = tt }
-    closing_is c (wires.Dr destination source cause info text) = record { stage = tt; told = tt }
     closing_is c other = record { stage = tt; told = tt }
 
     tpdu_is : (stage : StateData) (tpdu : Tpdu) → IsStageOf stage → HasText tpdu → IsRowOfTexts (on_tpdu wrap b stage tpdu)
     tpdu_is (stages.CrWait w) tpdu h p = cr_is w tpdu p
     tpdu_is (stages.WaitBeforeClose w) tpdu h p = wait_is w tpdu
-    tpdu_is (stages.UserWait since) tpdu h p = record { stage = tt; told = tt }
     tpdu_is (stages.AkWait w) tpdu h p = ak_is w tpdu h p
     tpdu_is (stages.Opened o) tpdu h p = opened_is (hearing b o) tpdu h p
     tpdu_is (stages.Closing c) tpdu h p = closing_is c tpdu
-    tpdu_is (stages.Frozen when) tpdu h p = record { stage = tt; told = tt }
+    tpdu_is other tpdu h p = record { stage = tt; told = tt }
 
     cr_tick_is : (w : InCrWait) → IsRowOfTexts (cr_wait_tick b w)
     unfolding cr_wait_tick
@@ -364,9 +347,8 @@ module _ (P : List ℕ → Type 0) (none : P []) (both : (xs ys : List ℕ) → 
   -- ---- a row
 
   abbrev pub IsEventOf : Event → Type 0
-  IsEventOf (Called call) = Prim.Unit {0}
   IsEventOf (Took tpdu sum) = HasText tpdu
-  IsEventOf Ticked = Prim.Unit {0}
+  IsEventOf other = Prim.Unit {0}
 
   pub row_is : (wrap : ℕ → ℕ → ℕ) (now : ℕ) (e : End) (event : Event) → IsStageOf e.stage → IsEventOf event → IsRowOfTexts (stepped wrap now e event)
   row_is wrap now e (Called call) h p = call_is wrap (at_tick now e.base) e.stage call h

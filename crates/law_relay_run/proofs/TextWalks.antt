@@ -1,5 +1,5 @@
 -- What a line of a network tells of its ends is made of the texts that come up, and no event of it is a note of a relay (X.214, service primitives).
-use Rattle.std.proofs.Common.{◌≡◌, ◌⊎◌, inl, inr, ℕ, ◌+◌, ◌≤◌, ◌==◌, not, Bool, true, false, if◌then◌else◌, List, [], ◌∷◌, ◌++◌, length, Option, Some, None, refl, sym, ◌∙◌, ap, subst}
+use Rattle.std.proofs.Common.{◌≡◌, inl, inr, ℕ, ◌+◌, ◌≤◌, ◌==◌, not, Bool, true, false, if◌then◌else◌, List, [], ◌∷◌, ◌++◌, length, Option, Some, None, refl, sym, ◌∙◌, ap, subst}
 use Rattle.std.specs.List.{AllByRecursion, list_any}
 use Rattle.nsap.specs.Address.{selector_of}
 use Rattle.osi_base.specs.declared.note.Note.{Note}
@@ -68,7 +68,7 @@ use Rattle.tp4_world.proofs.Having.{with_any}
 use Rattle.law_relay.specs.Notes.{is_note}
 use Rattle.law_relay_run.proofs.StageRows.{AllTold, all_appended}
 use Rattle.law_relay_run.proofs.TextRows.{HasText, IsRowOfTexts, IsStageOf, IsTextOf, row_is}
-use Rattle.law_relay_run.proofs.Walks.{placed_or}
+use Rattle.law_tp4_lawful.proofs.SilenceEntities.{placed_or}
 use Rattle.tpdu.specs.declared.service.EndTold.TheVariants as tells
 
 -- ---- refusals of a network
@@ -80,11 +80,7 @@ is_other (Some why) = not (is_note (events.No why))
 
 call_other : (why : CallRefusal) → is_other (told_call why) ≡ true
 call_other (call_refusals.WrongState state) = refl
-call_other call_refusals.EmptyUnit = refl
-call_other call_refusals.TooLong = refl
-call_other call_refusals.NoExpedited = refl
-call_other call_refusals.QueueFull = refl
-call_other call_refusals.NoMemory = refl
+call_other other = refl
 
 entity_other : (why : EntityRefusal) → is_other (told_refusal why) ≡ true
 entity_other entity_refusals.NoSuchEnd = refl
@@ -92,9 +88,7 @@ entity_other (entity_refusals.Call why) = call_other why
 
 connect_other : (why : ConnectRefusal) → is_other (told_connect why) ≡ true
 connect_other connect_refusals.Silent = refl
-connect_other connect_refusals.TooLong = refl
-connect_other connect_refusals.RefsSpent = refl
-connect_other connect_refusals.NoMemory = refl
+connect_other other = refl
 
 not_so : (b : Bool) → not b ≡ true → b ≡ false
 not_so true is = absurd (cc is)
@@ -260,9 +254,7 @@ module _ (P : List ℕ → Type 0) (none : P []) (both : (xs ys : List ℕ) → 
   event_fine system own number reference (whats.End (tells.Window credit)) is = (tt, refl)
   event_fine system own number reference (whats.End (tells.Held kind held_number)) is = (tt, refl)
   event_fine system own number reference (whats.End (tells.Gone cause octets)) is = (tt, refl)
-  event_fine system own number reference (whats.BadTpdu cause place) is = (tt, refl)
-  event_fine system own number reference (whats.Unknown kind) is = (tt, refl)
-  event_fine system own number reference whats.Silent is = (tt, refl)
+  event_fine system own number reference other is = (tt, refl)
 
   events_fine : (ends : List EndAt) (system : ℕ) (own : List ℕ) (all : List EndEvent) → AllTold WhatIs all → AreFine (events_after ends system own all)
   events_fine ends system own [] is = tt
@@ -294,10 +286,7 @@ module _ (P : List ℕ → Type 0) (none : P []) (both : (xs ys : List ℕ) → 
 
   picked_fine : (number system : ℕ) (answer : Picked) → IsFine (picked_event number system answer)
   picked_fine number system picks.Taken = (tt, refl)
-  picked_fine number system picks.NoSuch = (tt, refl)
-  picked_fine number system picks.Late = (tt, refl)
-  picked_fine number system picks.NotThere = (tt, refl)
-  picked_fine number system picks.NotOurs = (tt, refl)
+  picked_fine number system other = (tt, refl)
 
   injected_fine : (system : ℕ) (answer : Injected) → IsFine (inject_event system answer)
   injected_fine system injects.Taken = (tt, refl)
@@ -305,11 +294,8 @@ module _ (P : List ℕ → Type 0) (none : P []) (both : (xs ys : List ℕ) → 
 
   call_fine : (number : ℕ) (call : UserCall) → AreFine (call_events number call)
   call_fine number (asks.Accept options octets) = tt
-  call_fine number (asks.Refuse octets) = ((tt, refl), tt)
-  call_fine number (asks.Normal octets) = ((tt, refl), tt)
-  call_fine number (asks.Urgent octets) = ((tt, refl), tt)
   call_fine number (asks.Window credit) = tt
-  call_fine number (asks.Disconnect octets) = ((tt, refl), tt)
+  call_fine number other = ((tt, refl), tt)
 
   -- ---- a network
 
@@ -487,15 +473,4 @@ module _ (P : List ℕ → Type 0) (none : P []) (both : (xs ys : List ℕ) → 
       line_is titles lines.Settle old new made all s = settle_ran 0 old made new all s
       line_is titles (lines.Inject lan system octets) old new made all s = arrived old new made _ _ (injected_fine system s.0) all s.1
       line_is titles (lines.Restart system) old new made all s = restart_ran old new made system s.0 all s.2 s.3
-      line_is titles (lines.Send system selector to called octets) old new made all s = absurd s
-      line_is titles (lines.Version version) old new made all s = absurd s
-      line_is titles (lines.Set key value) old new made all s = absurd s
-      line_is titles (lines.Lan name bound room) old new made all s = absurd s
-      line_is titles (lines.Es name title) old new made all s = absurd s
-      line_is titles (lines.Is name title) old new made all s = absurd s
-      line_is titles (lines.Port system lan snpa) old new made all s = absurd s
-      line_is titles (lines.Route system prefix hop lan) old new made all s = absurd s
-      line_is titles (lines.Path name kind systems) old new made all s = absurd s
-      line_is titles (lines.Tsap system selector) old new made all s = absurd s
-      line_is titles (lines.Relay system selector to called) old new made all s = absurd s
-      line_is titles lines.Start old new made all s = absurd s
+      line_is titles other old new made all s = absurd s

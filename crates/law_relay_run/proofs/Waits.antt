@@ -99,31 +99,26 @@ mapped_pairs f k pairs = record {
 }
 
 changed_inbound : (change : Change) (pair : Pair) → (changed pair change).inbound ≡ pair.inbound
-changed_inbound Opens pair = refl
-changed_inbound Accepts pair = refl
-changed_inbound Closes pair = refl
 changed_inbound (WaitsFor On unit) pair = refl
 changed_inbound (WaitsFor Back unit) pair = refl
 changed_inbound (Gives On) pair = refl
 changed_inbound (Gives Back) pair = refl
 changed_inbound (Turns On) pair = refl
 changed_inbound (Turns Back) pair = refl
+changed_inbound other pair = refl
 
 changed_outbound : (change : Change) (pair : Pair) → (changed pair change).outbound ≡ pair.outbound
-changed_outbound Opens pair = refl
-changed_outbound Accepts pair = refl
-changed_outbound Closes pair = refl
 changed_outbound (WaitsFor On unit) pair = refl
 changed_outbound (WaitsFor Back unit) pair = refl
 changed_outbound (Gives On) pair = refl
 changed_outbound (Gives Back) pair = refl
 changed_outbound (Turns On) pair = refl
 changed_outbound (Turns Back) pair = refl
+changed_outbound other pair = refl
 
 pub opened_begun : (phase : Phase) → opened phase ≡ phases.Begun → ⊥
 opened_begun phases.Begun is = cc
-opened_begun phases.Open is = cc
-opened_begun phases.Closed is = cc
+opened_begun other is = cc
 
 changed_begun : (change : Change) (pair : Pair) → (changed pair change).phase ≡ phases.Begun → pair.phase ≡ phases.Begun
 changed_begun Opens pair is = absurd (opened_begun pair.phase is)
@@ -354,20 +349,12 @@ IsOpenStage stage = ⊥
 not_called : (stage : StateData) → IsOpenStage stage → IsCalledWait stage → ⊥
 not_called (stages.AkWait w) is waits = waits
 not_called (stages.Opened o) is waits = waits
-not_called (stages.CrWait w) is waits = is
-not_called (stages.WaitBeforeClose w) is waits = is
-not_called (stages.UserWait since) is waits = is
-not_called (stages.Closing c) is waits = is
-not_called (stages.Frozen when) is waits = is
+not_called other is waits = is
 
 not_calling : (stage : StateData) → IsOpenStage stage → IsCallingWait stage → ⊥
 not_calling (stages.AkWait w) is waits = waits
 not_calling (stages.Opened o) is waits = waits
-not_calling (stages.CrWait w) is waits = is
-not_calling (stages.WaitBeforeClose w) is waits = is
-not_calling (stages.UserWait since) is waits = is
-not_calling (stages.Closing c) is waits = is
-not_calling (stages.Frozen when) is waits = is
+not_calling other is waits = is
 
 -- it is no end that has to wait, so any state may follow
 pub open_waits : (claims : List Claim) (pairs : List Pair) (n : ℕ) (stage new : StateData) → IsOpenStage stage → Waits claims pairs n stage → Waits claims pairs n new

@@ -1,5 +1,5 @@
 -- What an entity does keeps that ends of a relay wait: what its ends tell may come in a line of a relay (X.224, class 4 procedures).
-use Rattle.std.proofs.Common.{◌≡◌, ◌≢◌, ◌⊎◌, inl, inr, ℕ, zero, suc, ◌+◌, ◌-◌, ◌<◌, ◌≤◌, ◌==◌, ◌||◌, Bool, true, false, if◌then◌else◌, not, List, [], ◌∷◌, ◌++◌, length, slice_get, slice_set, Option, Some, None, refl, sym, ◌∙◌, ap, subst, arith, append_assoc}
+use Rattle.std.proofs.Common.{◌≡◌, ◌≢◌, inl, inr, ℕ, ◌+◌, ◌-◌, ◌<◌, ◌≤◌, ◌==◌, Bool, true, false, if◌then◌else◌, not, List, [], ◌∷◌, ◌++◌, length, slice_get, Option, Some, None, refl, sym, ◌∙◌, ap, subst, arith, append_assoc}
 use Rattle.std.specs.List.{AllByRecursion, list_any}
 use Rattle.std.proofs.lemmas.Bool.{cases_eq, ne_eqb}
 use Rattle.script_journal.specs.declared.event.Event.{Event as Told}
@@ -32,7 +32,6 @@ use Rattle.tp4_entity.specs.Entity.{Acted, Entity, at, end_at, moved, there, wit
 use Rattle.tp4_entity.specs.References.{is_silent, least_free}
 use Rattle.tp4_entity.specs.Step.{first_due, kept_end, ticking, ticking_at, ticking_end}
 use Rattle.tp4_entity.specs.Unit.{EndsWith, Faulty, HearsUnit, Separates, TakesBy, TakesUnit, Whole, all_met, extended_of, ignored}
-use Rattle.tp4_entity.proofs.PlaceLaws.{end_at_of}
 use Rattle.tp4_entity.proofs.Standings.{free_least, within}
 use Rattle.tp4_world.specs.Telling.{ends_after, ends_with, event_for, events_after}
 use Rattle.tp4_world.specs.World.{entity_at, is_at, latest, latest_from, with_entity}
@@ -43,6 +42,7 @@ use Rattle.law_tp4_lawful.specs.Own.{IsEndOf}
 use Rattle.law_tp4_lawful.proofs.ActsTold.{ends_stay}
 use Rattle.law_tp4_lawful.proofs.Frames.{entity_other, entity_set}
 use Rattle.law_tp4_lawful.proofs.MakesPlaces.{at_other, at_same, latest_last, made_last}
+use Rattle.law_tp4_lawful.proofs.SilenceEntities.{AreOf, ends_append, events_append, only_end, placed_of, placed_or}
 use Rattle.law_tp4_lawful.proofs.WorldPlaces.{with_again}
 use Rattle.tp4_relay.specs.declared.claim.Claim.{Claim}
 use Rattle.tp4_relay.specs.declared.pair.Pair.{Pair}
@@ -65,16 +65,6 @@ line_append count kept (x ∷ xs) ys first rest = (first.0, first.1, line_append
 pub after_append : (kept : Kept) (xs ys : List Told) → kept_after kept (xs ++ ys) ≡ kept_after (kept_after kept xs) ys
 after_append kept [] ys = refl
 after_append kept (x ∷ xs) ys = after_append (noted kept x) xs ys
-
-events_append : (ends : List EndAt) (system : ℕ) (address : List ℕ) (xs ys : List EndEvent)
-    → events_after ends system address (xs ++ ys) ≡ events_after ends system address xs ++ events_after (ends_after ends system xs) system address ys
-events_append ends system address [] ys = refl
-events_append ends system address (x ∷ xs) ys =
-    ap (λ (told : List Told). event_for system address (latest (ends_with ends system x x.what) system x.reference) x.reference x.what ∷ told) (events_append (ends_with ends system x x.what) system address xs ys)
-
-ends_append : (ends : List EndAt) (system : ℕ) (xs ys : List EndEvent) → ends_after ends system (xs ++ ys) ≡ ends_after (ends_after ends system xs) system ys
-ends_append ends system [] ys = refl
-ends_append ends system (x ∷ xs) ys = ends_append (ends_with ends system x x.what) system xs ys
 
 -- ---- the latest end at a reference
 
@@ -103,43 +93,6 @@ not_there system reference at r apart = elim (cases_eq system at) [
 
 pub latest_other : (ends : List EndAt) (system reference at r : ℕ) → (at ≡ system → r ≡ reference → ⊥) → latest (ends ++ record { system = system; reference = reference } ∷ []) at r ≡ latest ends at r
 latest_other ends system reference at r apart = latest_from_other 1 0 ends (record { system = system; reference = reference }) at r (not_there system reference at r apart)
-
--- ---- one place of an entity
-
-set_or : (places : List (Option End)) (k j : ℕ) (place : Option End) (end : End) → there (slice_get (slice_set places k place) j) ≡ Some end
-    → ((j ≡ k) × (place ≡ Some end)) ⊎ (there (slice_get places j) ≡ Some end)
-set_or [] k j place end h = inr h
-set_or (one ∷ places) zero zero place end h = inl (refl, h)
-set_or (one ∷ places) zero (suc j) place end h = inr h
-set_or (one ∷ places) (suc k) zero place end h = inr h
-set_or (one ∷ places) (suc k) (suc j) place end h = elim (set_or places k j place end h) [
-  | inl here ↦ inl (ap suc here.0, here.1)
-  | inr before ↦ inr before
-]
-
--- an end that stands then was put there, or stood before
-pub placed_or : (e : Entity) (reference : ℕ) (place : Option End) (r : ℕ) (end : End) → 1 ≤ reference → end_at (with_end e reference place) r ≡ Some end
-    → ((r ≡ reference) × (place ≡ Some end)) ⊎ (end_at e r ≡ Some end)
-placed_or e zero place r end least h = absurd (omega (arith, least))
-placed_or e (suc k) place zero end least h = absurd (cc h)
-placed_or e (suc k) place (suc j) end least h =
-    let back : suc k - 1 ≡ k = omega arith in
-    let here : there (slice_get (slice_set e.ends k place) j) ≡ Some end =
-    ap (λ (n : ℕ). there (slice_get (slice_set e.ends n place) j)) (sym back) ∙ sym (end_at_of (with_end e (suc k) place) (suc j) j (omega arith)) ∙ h in
-    elim (set_or e.ends k j place end here) [
-      | inl now ↦ inl (ap suc now.0, now.1)
-      | inr before ↦ inr (end_at_of e (suc j) j (omega arith) ∙ before)
-    ]
-
--- each end is of the reference at which it stands
-abbrev pub AreOf : Entity → Type 0
-AreOf e = (r : ℕ) (end : End) → end_at e r ≡ Some end → IsEndOf r end
-
-pub placed_of : (e : Entity) (reference : ℕ) (place : Option End) → 1 ≤ reference → AreOf e → ((end : End) → place ≡ Some end → IsEndOf reference end) → AreOf (with_end e reference place)
-placed_of e reference place least all here r end h = elim (placed_or e reference place r end least h) [
-  | inl now ↦ subst (λ (n : ℕ). IsEndOf n end) (sym now.0) (here end now.1)
-  | inr before ↦ all r end before
-]
 
 -- ---- a network beside what is kept
 
@@ -209,29 +162,17 @@ walked_linked entities ends kept made w l = record {
 may_flow : (stage : StateData) (what : What) → MayTell stage what → IsFlow what
 may_flow (stages.AkWait w) what h = h
 may_flow (stages.Opened o) what h = h
-may_flow (stages.CrWait w) what h = parting_flow what h
-may_flow (stages.WaitBeforeClose w) what h = parting_flow what h
-may_flow (stages.UserWait since) what h = parting_flow what h
-may_flow (stages.Closing c) what h = parting_flow what h
-may_flow (stages.Frozen when) what h = parting_flow what h
+may_flow other what h = parting_flow what h
 
 got_open : (stage : StateData) (octets : List ℕ) → MayTell stage (whats.End (tells.Got octets)) → IsOpenStage stage
 got_open (stages.AkWait w) octets h = tt
 got_open (stages.Opened o) octets h = tt
-got_open (stages.CrWait w) octets h = h
-got_open (stages.WaitBeforeClose w) octets h = h
-got_open (stages.UserWait since) octets h = h
-got_open (stages.Closing c) octets h = h
-got_open (stages.Frozen when) octets h = h
+got_open other octets h = h
 
 urgent_open : (stage : StateData) (octets : List ℕ) → MayTell stage (whats.End (tells.Urgent octets)) → IsOpenStage stage
 urgent_open (stages.AkWait w) octets h = tt
 urgent_open (stages.Opened o) octets h = tt
-urgent_open (stages.CrWait w) octets h = h
-urgent_open (stages.WaitBeforeClose w) octets h = h
-urgent_open (stages.UserWait since) octets h = h
-urgent_open (stages.Closing c) octets h = h
-urgent_open (stages.Frozen when) octets h = h
+urgent_open other octets h = h
 
 module _ (system : ℕ) (address : List ℕ) where
   -- an end tells what it may in its state
@@ -453,9 +394,6 @@ module _ (system : ℕ) (address : List ℕ) where
             (λ other r x one apart there_is stands. elsewhere other r one.stage (λ same own. apart same) (l.waits other r x one there_is stands));
         grows = less;
       }
-    where
-      only_end : (reference : ℕ) (one end : End) → IsEndOf reference one → Some one ≡ Some end → IsEndOf reference end
-      only_end reference one end is h = let same : one ≡ end = cc h in subst (IsEndOf reference) same is
 
   abbrev pub Does : Entity → Acted → Type 0
   Does e acted = Did e acted.entity acted.events

@@ -105,34 +105,10 @@ through sized (Ok value) put more is fine = let same : put value ≡ more = cc i
 module _ (names : Declared) (sized : Bool) where
   field_fine : (form : FieldKind) (parts more : FieldValues) (field : List ℕ) → field_read names parts form field ≡ Ok more → AreFine sized parts → AreFine sized more
   field_fine (forms.Named named.System) parts more field is f = through sized _ _ more is (λ value read. record { size = f.size; credit = f.credit; octets = f.octets; selector = f.selector; called = f.called })
-  field_fine (forms.Named named.EndSystem) parts more field is f = through sized _ _ more is (λ value read. record { size = f.size; credit = f.credit; octets = f.octets; selector = f.selector; called = f.called })
-  field_fine (forms.Named named.To) parts more field is f = through sized _ _ more is (λ value read. record { size = f.size; credit = f.credit; octets = f.octets; selector = f.selector; called = f.called })
-  field_fine (forms.Named named.Other) parts more field is f = through sized _ _ more is (λ value read. record { size = f.size; credit = f.credit; octets = f.octets; selector = f.selector; called = f.called })
-  field_fine (forms.Named named.Next) parts more field is f = through sized _ _ more is (λ value read. record { size = f.size; credit = f.credit; octets = f.octets; selector = f.selector; called = f.called })
-  field_fine (forms.Named named.Lan) parts more field is f = through sized _ _ more is (λ value read. record { size = f.size; credit = f.credit; octets = f.octets; selector = f.selector; called = f.called })
-  field_fine (forms.Named named.PortLan) parts more field is f = through sized _ _ more is (λ value read. record { size = f.size; credit = f.credit; octets = f.octets; selector = f.selector; called = f.called })
-  field_fine (forms.Named named.RouteLan) parts more field is f = through sized _ _ more is (λ value read. record { size = f.size; credit = f.credit; octets = f.octets; selector = f.selector; called = f.called })
-  field_fine (forms.Named named.Path) parts more field is f = through sized _ _ more is (λ value read. record { size = f.size; credit = f.credit; octets = f.octets; selector = f.selector; called = f.called })
-  field_fine (forms.Plain plain.Key) parts more field is f = through sized _ _ more is (λ value read. record { size = f.size; credit = f.credit; octets = f.octets; selector = f.selector; called = f.called })
-  field_fine (forms.Plain plain.Value) parts more field is f = through sized _ _ more is (λ value read. record { size = f.size; credit = f.credit; octets = f.octets; selector = f.selector; called = f.called })
-  field_fine (forms.Plain plain.PathKind) parts more field is f = through sized _ _ more is (λ value read. record { size = f.size; credit = f.credit; octets = f.octets; selector = f.selector; called = f.called })
-  field_fine (forms.Plain plain.Format) parts more field is f = through sized _ _ more is (λ value read. record { size = f.size; credit = f.credit; octets = f.octets; selector = f.selector; called = f.called })
-  field_fine (forms.Plain plain.Expedited) parts more field is f = through sized _ _ more is (λ value read. record { size = f.size; credit = f.credit; octets = f.octets; selector = f.selector; called = f.called })
-  field_fine (forms.Plain plain.Sum) parts more field is f = through sized _ _ more is (λ value read. record { size = f.size; credit = f.credit; octets = f.octets; selector = f.selector; called = f.called })
-  field_fine (forms.Plain plain.Flags) parts more field is f = through sized _ _ more is (λ value read. record { size = f.size; credit = f.credit; octets = f.octets; selector = f.selector; called = f.called })
-  field_fine (forms.Plain (plain.Number least most)) parts more field is f = through sized _ _ more is (λ value read. record { size = f.size; credit = f.credit; octets = f.octets; selector = f.selector; called = f.called })
-  field_fine (forms.Plain (plain.Amount least most)) parts more field is f = through sized _ _ more is (λ value read. record { size = f.size; credit = f.credit; octets = f.octets; selector = f.selector; called = f.called })
   field_fine (forms.Plain plain.Credit) parts more field is f =
       through sized _ _ more is (λ value read. record { size = f.size; credit = (number_within 0 255 field value read).most_is; octets = f.octets; selector = f.selector; called = f.called })
   field_fine (forms.Plain plain.Size) parts more field is f =
       through sized _ _ more is (λ value read. record { size = λ asked. size_read names.second field value read; credit = f.credit; octets = f.octets; selector = f.selector; called = f.called })
-  field_fine forms.NewLan parts more field is f = through sized _ _ more is (λ value read. record { size = f.size; credit = f.credit; octets = f.octets; selector = f.selector; called = f.called })
-  field_fine forms.NewSystem parts more field is f = through sized _ _ more is (λ value read. record { size = f.size; credit = f.credit; octets = f.octets; selector = f.selector; called = f.called })
-  field_fine forms.NewPath parts more field is f = through sized _ _ more is (λ value read. record { size = f.size; credit = f.credit; octets = f.octets; selector = f.selector; called = f.called })
-  field_fine forms.Title parts more field is f = through sized _ _ more is (λ value read. record { size = f.size; credit = f.credit; octets = f.octets; selector = f.selector; called = f.called })
-  field_fine forms.Station parts more field is f = through sized _ _ more is (λ value read. record { size = f.size; credit = f.credit; octets = f.octets; selector = f.selector; called = f.called })
-  field_fine forms.Prefix parts more field is f = through sized _ _ more is (λ value read. record { size = f.size; credit = f.credit; octets = f.octets; selector = f.selector; called = f.called })
-  field_fine forms.Hops parts more field is f = through sized _ _ more is (λ value read. record { size = f.size; credit = f.credit; octets = f.octets; selector = f.selector; called = f.called })
   field_fine forms.NewSelector parts more field is f =
       through sized _ _ more is (λ value read. record { size = f.size; credit = f.credit; octets = f.octets; selector = new_selector_short names parts.system field value read; called = f.called })
   field_fine forms.Selector parts more field is f =
@@ -141,6 +117,7 @@ module _ (names : Declared) (sized : Bool) where
       through sized _ _ more is (λ value read. record { size = f.size; credit = f.credit; octets = f.octets; selector = f.selector; called = selector_short field value read })
   field_fine forms.Octets parts more field is f =
       through sized _ _ more is (λ value read. record { size = f.size; credit = f.credit; octets = unit_octets field value read; selector = f.selector; called = f.called })
+  field_fine other parts more field is f = through sized _ _ more is (λ value read. record { size = f.size; credit = f.credit; octets = f.octets; selector = f.selector; called = f.called })
 
   left_fine : (forms : List FieldKind) (fields : List (List ℕ)) (column : ℕ) (parts out : FieldValues) → fields_read names parts column forms fields ≡ Ok out → AreFine sized parts → AreFine sized out
   left_fine [] fields column parts out is f = subst (AreFine sized) (same_parts parts out is) f

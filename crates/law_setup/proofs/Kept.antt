@@ -338,14 +338,7 @@ relay_one names setup parts one known =
 
 time_one : (names : Declared) (setup : SetUp) (key : Key) (value : ℕ) → AreOne names setup → AreOne (record names { settings = with_setting names.settings key value }) (with_time setup key value)
 time_one names setup keys.Life value one = record { lans = one.lans; bounds = one.bounds; life = refl; systems = one.systems; ports = one.ports; selectors = one.selectors }
-time_one names setup keys.Ct value one = record { lans = one.lans; bounds = one.bounds; life = one.life; systems = one.systems; ports = one.ports; selectors = one.selectors }
-time_one names setup keys.Hold value one = record { lans = one.lans; bounds = one.bounds; life = one.life; systems = one.systems; ports = one.ports; selectors = one.selectors }
-time_one names setup keys.T1 value one = record { lans = one.lans; bounds = one.bounds; life = one.life; systems = one.systems; ports = one.ports; selectors = one.selectors }
-time_one names setup keys.W value one = record { lans = one.lans; bounds = one.bounds; life = one.life; systems = one.systems; ports = one.ports; selectors = one.selectors }
-time_one names setup keys.I value one = record { lans = one.lans; bounds = one.bounds; life = one.life; systems = one.systems; ports = one.ports; selectors = one.selectors }
-time_one names setup keys.N value one = record { lans = one.lans; bounds = one.bounds; life = one.life; systems = one.systems; ports = one.ports; selectors = one.selectors }
-time_one names setup keys.Refs value one = record { lans = one.lans; bounds = one.bounds; life = one.life; systems = one.systems; ports = one.ports; selectors = one.selectors }
-time_one names setup keys.Credit value one = record { lans = one.lans; bounds = one.bounds; life = one.life; systems = one.systems; ports = one.ports; selectors = one.selectors }
+time_one names setup other value one = record { lans = one.lans; bounds = one.bounds; life = one.life; systems = one.systems; ports = one.ports; selectors = one.selectors }
 
 -- ---- the start
 
@@ -400,9 +393,6 @@ module _ (names : Declared) (setup : SetUp) (past column : ℕ) (fields : List (
       record { fits = path_fits names setup parts.hops one (path_values names past column fields parts count filled) known.1; one = record { lans = one.lans; bounds = one.bounds; life = one.life; systems = one.systems; ports = one.ports; selectors = one.selectors } }
   word_kept words.Version placed count filled limit known = record { fits = tt; one = record { lans = one.lans; bounds = one.bounds; life = one.life; systems = one.systems; ports = one.ports; selectors = one.selectors } }
   word_kept words.Start placed count filled limit known = record { fits = start_fits names setup one limit; one = record { lans = one.lans; bounds = one.bounds; life = one.life; systems = one.systems; ports = one.ports; selectors = one.selectors } }
-  word_kept words.Unit placed count filled limit known = absurd (not_out names.started begun placed)
-  word_kept words.Tick placed count filled limit known = absurd (not_out names.started begun placed)
-  word_kept words.Deliver placed count filled limit known = absurd (not_out names.started begun placed)
   word_kept words.Tsap placed count filled limit known = record {
     fits = selector_fits names setup parts.system parts.selector one known.0 (selector_values names past column fields parts count filled);
     one = selector_one names setup parts one known.0;
@@ -412,17 +402,7 @@ module _ (names : Declared) (setup : SetUp) (past column : ℕ) (fields : List (
         (relay_values names past column fields parts count filled);
     one = relay_one names setup parts one known.0.0;
   }
-  word_kept words.Connect placed count filled limit known = absurd (not_out names.started begun placed)
-  word_kept words.Accept placed count filled limit known = absurd (not_out names.started begun placed)
-  word_kept words.Refuse placed count filled limit known = absurd (not_out names.started begun placed)
-  word_kept words.Disconnect placed count filled limit known = absurd (not_out names.started begun placed)
-  word_kept words.Data placed count filled limit known = absurd (not_out names.started begun placed)
-  word_kept words.Expedite placed count filled limit known = absurd (not_out names.started begun placed)
-  word_kept words.Window placed count filled limit known = absurd (not_out names.started begun placed)
-  word_kept words.Settle placed count filled limit known = absurd (not_out names.started begun placed)
-  word_kept words.Inject placed count filled limit known = absurd (not_out names.started begun placed)
-  word_kept words.Restart placed count filled limit known = absurd (not_out names.started begun placed)
-  word_kept words.Send placed count filled limit known = absurd (not_out names.started begun placed)
+  word_kept other placed count filled limit known = absurd (not_out names.started begun placed)
 
 came_kept : (names : Declared) (setup : SetUp) (reading : Reading) → AreOne names setup → IsWell setup → names.started ≡ false → NamesDeclared names reading.line
     → Came names reading → Kept setup reading.line reading.names
@@ -466,17 +446,8 @@ module _ (names : Declared) (clock : ℕ) (past column : ℕ) (fields : List (Li
   word_runs words.Send placed count filled known =
       let sent = send_values names past column fields parts count filled in
       (known.0.0, known.1.0, sent.selector_is, sent.called_is)
-  word_runs words.Set placed count filled known = absurd (cc)
-  word_runs words.Lan placed count filled known = absurd (cc)
-  word_runs words.Es placed count filled known = absurd (cc)
-  word_runs words.Is placed count filled known = absurd (cc)
-  word_runs words.Port placed count filled known = absurd (cc)
-  word_runs words.Route placed count filled known = absurd (cc)
-  word_runs words.Path placed count filled known = absurd (cc)
-  word_runs words.Tsap placed count filled known = absurd (cc)
-  word_runs words.Relay placed count filled known = absurd (cc)
   word_runs words.Version placed count filled known = absurd (none_behind _ names.started placed begun)
-  word_runs words.Start placed count filled known = absurd (cc)
+  word_runs other placed count filled known = absurd (cc)
 
 came_runs : (names : Declared) (clock : ℕ) (reading : Reading) → names.started ≡ true → clock < 4000000000 → NamesDeclared names reading.line → Came names reading
     → RunsAt (length names.systems) clock reading.line

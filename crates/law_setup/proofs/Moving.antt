@@ -229,18 +229,7 @@ module _ {N : Type 0} (link : N → Link (List ℕ)) (steps : N → Call (List �
   line_near titles old (lines.Inject lan system octets) made new h =
       near old new (arrival_stays old (Inject lan system octets h.0) _ made new (λ ups below p. injection_still old.carrier lan system octets h.0 ups below p) h.1)
   line_near titles old (lines.Restart system) made new h = near old new (restart_stays old system made new h)
-  line_near titles old (lines.Send system selector to called octets) made new h = absurd h
-  line_near titles old (lines.Relay system selector to called) made new h = absurd h
-  line_near titles old (lines.Version version) made new h = absurd h
-  line_near titles old (lines.Set key value) made new h = absurd h
-  line_near titles old (lines.Lan name bound room) made new h = absurd h
-  line_near titles old (lines.Es name title) made new h = absurd h
-  line_near titles old (lines.Is name title) made new h = absurd h
-  line_near titles old (lines.Port system lan snpa) made new h = absurd h
-  line_near titles old (lines.Route system prefix next lan) made new h = absurd h
-  line_near titles old (lines.Path name kind systems) made new h = absurd h
-  line_near titles old (lines.Tsap system selector) made new h = absurd h
-  line_near titles old lines.Start made new h = absurd h
+  line_near titles old other made new h = absurd h
 
   -- what waited at the start was told, and else nothing changed
   pub record StartsNear (net : N) (placed : List Placed) (first : World N) : Type 0 where

@@ -57,20 +57,10 @@ word_octets names past column number fields parts words.Data count filled = (all
 word_octets names past column number fields parts words.Expedite count filled = (all_fine names (row_of words.Expedite).fields fields column parts filled).octets
 word_octets names past column number fields parts words.Unit count filled = (all_fine names (row_of words.Unit).fields fields column parts filled).octets
 word_octets names past column number fields parts words.Inject count filled = (all_fine names (row_of words.Inject).fields fields column parts filled).octets
-word_octets names past column number fields parts words.Set count filled = tt
-word_octets names past column number fields parts words.Lan count filled = tt
-word_octets names past column number fields parts words.Route count filled = tt
-word_octets names past column number fields parts words.Path count filled = tt
-word_octets names past column number fields parts words.Version count filled = tt
-word_octets names past column number fields parts words.Start count filled = tt
-word_octets names past column number fields parts words.Window count filled = tt
-word_octets names past column number fields parts words.Tick count filled = tt
-word_octets names past column number fields parts words.Settle count filled = tt
-word_octets names past column number fields parts words.Deliver count filled = tt
-word_octets names past column number fields parts words.Restart count filled = tt
 word_octets names past column number fields parts words.Send count filled =
     let fine = all_fine names (row_of words.Send).fields fields column parts filled in
     (fine.selector, fine.called, fine.octets)
+word_octets names past column number fields parts other count filled = tt
 
 came_octets : (names : Declared) (reading : Reading) → Came names reading → LineInOctets reading.line
 came_octets names reading (Idle is) = subst (λ (r : Reading). LineInOctets r.line) (sym is) tt
@@ -168,14 +158,7 @@ same_in setup new o systems ports paths relays = record {
 
 time_in : (setup : SetUp) (key : Key) (value : ℕ) → IsInOctets setup → IsInOctets (with_time setup key value)
 time_in setup keys.Life value o = same_in setup _ o refl refl refl refl
-time_in setup keys.Ct value o = same_in setup _ o refl refl refl refl
-time_in setup keys.Hold value o = same_in setup _ o refl refl refl refl
-time_in setup keys.T1 value o = same_in setup _ o refl refl refl refl
-time_in setup keys.W value o = same_in setup _ o refl refl refl refl
-time_in setup keys.I value o = same_in setup _ o refl refl refl refl
-time_in setup keys.N value o = same_in setup _ o refl refl refl refl
-time_in setup keys.Refs value o = same_in setup _ o refl refl refl refl
-time_in setup keys.Credit value o = same_in setup _ o refl refl refl refl
+time_in setup other value o = same_in setup _ o refl refl refl refl
 
 pub octets_after : (setup : SetUp) (line : Line) → IsInOctets setup → Fits setup line → LineInOctets line → IsInOctets (set_up setup line)
 octets_after setup lines.Nothing o f is = o
@@ -210,20 +193,7 @@ octets_after setup (lines.Relay system selector to called) o f is =
       paths = with_one.paths;
       relays = push RelayInOctets setup.relays (record { system = system; selector = selector; to = to; called = called }) o.relays (record { selector = is.0.octets; called = is.1.octets });
     }
-octets_after setup (lines.Connect system selector to called options octets) o f is = absurd f
-octets_after setup (lines.Accept end options octets) o f is = absurd f
-octets_after setup (lines.Refuse end octets) o f is = absurd f
-octets_after setup (lines.Disconnect end octets) o f is = absurd f
-octets_after setup (lines.Data end octets) o f is = absurd f
-octets_after setup (lines.Expedite end octets) o f is = absurd f
-octets_after setup (lines.Window end credit) o f is = absurd f
-octets_after setup (lines.Unit system to wish octets) o f is = absurd f
-octets_after setup lines.Tick o f is = absurd f
-octets_after setup lines.Settle o f is = absurd f
-octets_after setup (lines.Deliver number system) o f is = absurd f
-octets_after setup (lines.Inject lan system octets) o f is = absurd f
-octets_after setup (lines.Restart system) o f is = absurd f
-octets_after setup (lines.Send system selector to called octets) o f is = absurd f
+octets_after setup other o f is = absurd f
 
 -- ---- the network begins
 

@@ -58,36 +58,11 @@ put_short (Ok value) put more is short = let same : put value ≡ more = cc in s
 
 short_field : (names : Declared) (form : FieldKind) (parts more : FieldValues) (field : List ℕ) → field_read names parts form field ≡ Ok more → AreShort parts → AreShort more
 short_field names (forms.Named named.System) parts more field is s = put_short _ _ more is (λ value read. s)
-short_field names (forms.Named named.EndSystem) parts more field is s = put_short _ _ more is (λ value read. s)
-short_field names (forms.Named named.To) parts more field is s = put_short _ _ more is (λ value read. s)
-short_field names (forms.Named named.Other) parts more field is s = put_short _ _ more is (λ value read. s)
-short_field names (forms.Named named.Next) parts more field is s = put_short _ _ more is (λ value read. s)
-short_field names (forms.Named named.Lan) parts more field is s = put_short _ _ more is (λ value read. s)
-short_field names (forms.Named named.PortLan) parts more field is s = put_short _ _ more is (λ value read. s)
-short_field names (forms.Named named.RouteLan) parts more field is s = put_short _ _ more is (λ value read. s)
-short_field names (forms.Named named.Path) parts more field is s = put_short _ _ more is (λ value read. s)
 short_field names (forms.Plain plain.Key) parts more field is s = put_short _ _ more is (λ value read. s)
-short_field names (forms.Plain plain.Value) parts more field is s = put_short _ _ more is (λ value read. s)
-short_field names (forms.Plain plain.Credit) parts more field is s = put_short _ _ more is (λ value read. s)
-short_field names (forms.Plain plain.PathKind) parts more field is s = put_short _ _ more is (λ value read. s)
-short_field names (forms.Plain plain.Format) parts more field is s = put_short _ _ more is (λ value read. s)
-short_field names (forms.Plain plain.Size) parts more field is s = put_short _ _ more is (λ value read. s)
-short_field names (forms.Plain plain.Expedited) parts more field is s = put_short _ _ more is (λ value read. s)
-short_field names (forms.Plain plain.Sum) parts more field is s = put_short _ _ more is (λ value read. s)
-short_field names (forms.Plain plain.Flags) parts more field is s = put_short _ _ more is (λ value read. s)
-short_field names (forms.Plain (plain.Number least most)) parts more field is s = put_short _ _ more is (λ value read. s)
-short_field names (forms.Plain (plain.Amount least most)) parts more field is s = put_short _ _ more is (λ value read. s)
-short_field names forms.NewLan parts more field is s = put_short _ _ more is (λ value read. s)
-short_field names forms.NewSystem parts more field is s = put_short _ _ more is (λ value read. s)
-short_field names forms.NewPath parts more field is s = put_short _ _ more is (λ value read. s)
-short_field names forms.Title parts more field is s = put_short _ _ more is (λ value read. s)
-short_field names forms.Station parts more field is s = put_short _ _ more is (λ value read. s)
-short_field names forms.Prefix parts more field is s = put_short _ _ more is (λ value read. s)
-short_field names forms.Hops parts more field is s = put_short _ _ more is (λ value read. s)
-short_field names forms.Octets parts more field is s = put_short _ _ more is (λ value read. s)
 short_field names forms.NewSelector parts more field is s = put_short _ _ more is (λ value read. (new_selector_short names parts.system field value read, s.1))
 short_field names forms.Selector parts more field is s = put_short _ _ more is (λ value read. (selector_short field value read, s.1))
 short_field names forms.Called parts more field is s = put_short _ _ more is (λ value read. (s.0, selector_short field value read))
+short_field names other parts more field is s = put_short _ _ more is (λ value read. s)
 
 short_fields : (names : Declared) (forms : List FieldKind) (fields : List (List ℕ)) (column : ℕ) (parts out : FieldValues) → fields_read names parts column forms fields ≡ Ok out → AreShort parts → AreShort out
 short_fields names [] fields column parts out is s = subst AreShort (same_parts parts out is) s
@@ -108,31 +83,8 @@ HasShort (lines.Connect system selector to called options octets) = (length sele
 HasShort line = Unit {0}
 
 word_short : (number : ℕ) (word : Word) (parts : FieldValues) → AreShort parts → HasShort (line_for number word parts)
-word_short number words.Set parts s = tt
-word_short number words.Lan parts s = tt
-word_short number words.Es parts s = tt
-word_short number words.Is parts s = tt
-word_short number words.Port parts s = tt
-word_short number words.Route parts s = tt
-word_short number words.Path parts s = tt
-word_short number words.Tsap parts s = tt
-word_short number words.Relay parts s = tt
-word_short number words.Version parts s = tt
-word_short number words.Start parts s = tt
 word_short number words.Connect parts s = s
-word_short number words.Accept parts s = tt
-word_short number words.Refuse parts s = tt
-word_short number words.Disconnect parts s = tt
-word_short number words.Data parts s = tt
-word_short number words.Expedite parts s = tt
-word_short number words.Window parts s = tt
-word_short number words.Unit parts s = tt
-word_short number words.Tick parts s = tt
-word_short number words.Settle parts s = tt
-word_short number words.Deliver parts s = tt
-word_short number words.Inject parts s = tt
-word_short number words.Restart parts s = tt
-word_short number words.Send parts s = tt
+word_short number other parts s = tt
 
 came_short : (names : Declared) (reading : Reading) → Came names reading → HasShort reading.line
 came_short names reading (Idle is) = subst (λ (r : Reading). HasShort r.line) (sym is) tt
@@ -141,32 +93,10 @@ came_short names reading (Worded word h) =
     (word_short (next_number names (row_of word).effect) word h.parts (short_fields names (row_of word).fields h.fields h.column no_parts h.parts h.filled (omega arith, omega arith)))
 
 line_proper : (count clock : ℕ) (line : Line) → RunsAt count clock line → HasShort line → IsProperLine line
-line_proper count clock lines.Nothing runs s = tt
-line_proper count clock (lines.Version version) runs s = tt
-line_proper count clock (lines.Set key value) runs s = tt
-line_proper count clock (lines.Lan name bound room) runs s = tt
-line_proper count clock (lines.Es name title) runs s = tt
-line_proper count clock (lines.Is name title) runs s = tt
-line_proper count clock (lines.Port system lan snpa) runs s = tt
-line_proper count clock (lines.Route system prefix next lan) runs s = tt
-line_proper count clock (lines.Path name kind systems) runs s = tt
-line_proper count clock (lines.Tsap system selector) runs s = tt
-line_proper count clock (lines.Relay system selector to called) runs s = tt
-line_proper count clock lines.Start runs s = tt
 line_proper count clock (lines.Connect system selector to called options octets) runs s = (runs.2, s.0, s.1)
 line_proper count clock (lines.Accept end options octets) runs s = runs
-line_proper count clock (lines.Refuse end octets) runs s = tt
-line_proper count clock (lines.Disconnect end octets) runs s = tt
-line_proper count clock (lines.Data end octets) runs s = tt
-line_proper count clock (lines.Expedite end octets) runs s = tt
 line_proper count clock (lines.Window end credit) runs s = runs
-line_proper count clock (lines.Unit system to wish octets) runs s = tt
-line_proper count clock lines.Tick runs s = tt
-line_proper count clock lines.Settle runs s = tt
-line_proper count clock (lines.Deliver number system) runs s = tt
-line_proper count clock (lines.Inject lan system octets) runs s = tt
-line_proper count clock (lines.Restart system) runs s = tt
-line_proper count clock (lines.Send system selector to called octets) runs s = tt
+line_proper count clock other runs s = tt
 
 -- ---- the lines after the set-up
 

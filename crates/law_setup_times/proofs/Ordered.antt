@@ -75,30 +75,7 @@ module _ (names : Declared) (setup : SetUp) (o : AreOrdered names setup) where
 
     word_orders : (word : Word) → count_fault past column (row_of word).fields fields ≡ None → fields_read names no_parts column (row_of word).fields fields ≡ Ok parts → After word
     word_orders words.Set count filled = time_orders parts.key parts.number (set_orders names past column fields parts count filled)
-    word_orders words.Version count filled = same _ _ refl refl
-    word_orders words.Lan count filled = same _ _ refl refl
-    word_orders words.Es count filled = same _ _ refl refl
-    word_orders words.Is count filled = same _ _ refl refl
-    word_orders words.Port count filled = same _ _ refl refl
-    word_orders words.Route count filled = same _ _ refl refl
-    word_orders words.Path count filled = same _ _ refl refl
-    word_orders words.Tsap count filled = same _ _ refl refl
-    word_orders words.Relay count filled = same _ _ refl refl
-    word_orders words.Start count filled = same _ _ refl refl
-    word_orders words.Connect count filled = same _ _ refl refl
-    word_orders words.Accept count filled = same _ _ refl refl
-    word_orders words.Refuse count filled = same _ _ refl refl
-    word_orders words.Disconnect count filled = same _ _ refl refl
-    word_orders words.Data count filled = same _ _ refl refl
-    word_orders words.Expedite count filled = same _ _ refl refl
-    word_orders words.Window count filled = same _ _ refl refl
-    word_orders words.Unit count filled = same _ _ refl refl
-    word_orders words.Tick count filled = same _ _ refl refl
-    word_orders words.Settle count filled = same _ _ refl refl
-    word_orders words.Deliver count filled = same _ _ refl refl
-    word_orders words.Inject count filled = same _ _ refl refl
-    word_orders words.Restart count filled = same _ _ refl refl
-    word_orders words.Send count filled = same _ _ refl refl
+    word_orders other count filled = same _ _ refl refl
 
   came_orders : (reading : Reading) → Came names reading → AreOrdered reading.names (set_up setup reading.line)
   came_orders reading (Idle is) = subst (λ (r : Reading). AreOrdered r.names (set_up setup r.line)) (sym is) o

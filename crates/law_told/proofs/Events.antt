@@ -60,40 +60,19 @@ EachFrom tags n (event ∷ events) = (n < 4294967296 → IsToldEvent tags event)
 
 state_plain : (state : State) → plain (state_text state) ≡ true
 state_plain states.CrWait = refl
-state_plain states.WaitBeforeClose = refl
-state_plain states.UserWait = refl
-state_plain states.AkWait = refl
-state_plain states.Opened = refl
-state_plain states.Closing = refl
-state_plain states.Frozen = refl
+state_plain other = refl
 
 drop_plain : (cause : DropCause) → plain (drop_text cause) ≡ true
 drop_plain drops.TooLong = refl
-drop_plain drops.NoRoute = refl
-drop_plain drops.Full = refl
-drop_plain drops.IdsSpent = refl
+drop_plain other = refl
 
 fault_plain : (cause : TpduCause) → plain (tpdu_cause_text cause) ≡ true
 fault_plain causes.Short = refl
-fault_plain causes.Length = refl
-fault_plain causes.Code = refl
-fault_plain causes.Fixed = refl
-fault_plain causes.Class = refl
-fault_plain causes.Param = refl
-fault_plain causes.Unknown = refl
-fault_plain causes.Checksum = refl
-fault_plain causes.Body = refl
+fault_plain other = refl
 
 kind_plain : (kind : Kind) → plain (tpdu_text kind) ≡ true
 kind_plain kinds.Cr = refl
-kind_plain kinds.Cc = refl
-kind_plain kinds.Dr = refl
-kind_plain kinds.Dc = refl
-kind_plain kinds.Dt = refl
-kind_plain kinds.Ed = refl
-kind_plain kinds.Ak = refl
-kind_plain kinds.Ea = refl
-kind_plain kinds.Er = refl
+kind_plain other = refl
 
 -- an end that was made last at a reference has one of the numbers that were given
 latest_low : (next found : ℕ) (ends : List EndAt) (system reference : ℕ) → found < next → latest_from next found ends system reference < next + length ends
@@ -114,26 +93,13 @@ octets_bytes octets h = λ i. octet_at octets i h
 module _ (tags : Tags) where
   -- nothing but a refusal
   pub refusal_told : (why : Refused) → IsToldEvent tags (events.No why)
-  refusal_told refusals.NoSuchEnd = (refl, (refl, tt))
   refusal_told (refusals.WrongState state) = (refl, (refl, (state_plain state, tt)))
   refusal_told refusals.Ended = (refl, (refl, (refl, tt)))
-  refusal_told refusals.EmptyUnit = (refl, (refl, tt))
-  refusal_told refusals.TooLong = (refl, (refl, tt))
-  refusal_told refusals.NoExpedited = (refl, (refl, tt))
-  refusal_told refusals.QueueFull = (refl, (refl, tt))
-  refusal_told refusals.RefsSpent = (refl, (refl, tt))
-  refusal_told refusals.Silent = (refl, (refl, tt))
-  refusal_told refusals.NoRoute = (refl, (refl, tt))
-  refusal_told refusals.Full = (refl, (refl, tt))
-  refusal_told refusals.IdsSpent = (refl, (refl, tt))
-  refusal_told refusals.Relayed = (refl, (refl, tt))
+  refusal_told other = (refl, (refl, tt))
 
   gone_told : (cause : GoneCause) → IsCause cause → IsTold tags (gone_cell cause)
   gone_told (gone.Reason reason) h = omega (arith, h)
-  gone_told gone.Protocol h = refl
-  gone_told gone.Exhausted h = refl
-  gone_told gone.Inactive h = refl
-  gone_told gone.AnswerTime h = refl
+  gone_told other h = refl
 
   -- ---- options
 
@@ -204,10 +170,7 @@ module _ (tags : Tags) where
     -- the ends that were made, and those after the events of a system
     with_more : (ends : List EndAt) (telling : EndEvent) (what : What) → length (ends_with ends system telling what) ≤ length ends + 1
     with_more ends telling (whats.Incoming from partner calling called options octets) = let long = length-append ends (record { system = system; reference = telling.reference } ∷ []) in omega (arith, long)
-    with_more ends telling (whats.End what) = omega arith
-    with_more ends telling (whats.BadTpdu cause place) = omega arith
-    with_more ends telling (whats.Unknown kind) = omega arith
-    with_more ends telling whats.Silent = omega arith
+    with_more ends telling other = omega arith
 
     pub record EndsTold (n : ℕ) (ends : List EndAt) (all : List EndEvent) : Type 0 where
       pub told_is : EachFrom tags n (events_after ends system own all)

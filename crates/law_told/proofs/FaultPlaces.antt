@@ -36,7 +36,7 @@ low_trouble : (place : ℕ) (why : Option TpduCause) → place < 1024 → Low (o
 low_trouble place None h = tt
 low_trouble place (Some cause) h = h
 
-spelled_more : (p : Parameter) (ps : List Parameter) → length (spelled (p ∷ ps)) ≡ 2 + length p.value + length (spelled ps)
+pub spelled_more : (p : Parameter) (ps : List Parameter) → length (spelled (p ∷ ps)) ≡ 2 + length p.value + length (spelled ps)
 spelled_more p ps = let both = length-append p.value (spelled ps) in omega (arith, both)
 
 low_parameters : (kind : Kind) (place : ℕ) (ps : List Parameter) (left : List ℕ) → place + length (spelled ps) < 1024 → AllByRecursion Low (parameter_steps kind place ps left)
@@ -55,22 +55,19 @@ if_low : (test : Bool) (place : ℕ) → place < 1024 → IfSome (if test then S
 if_low true place h = h
 if_low false place h = tt
 
-low_sum : (place : ℕ) (ps : List Parameter) → place + length (spelled ps) < 1024 → IfSome (sum_place place ps) (λ place. place < 1024)
+pub low_sum : (place : ℕ) (ps : List Parameter) → place + length (spelled ps) < 1024 → IfSome (sum_place place ps) (λ place. place < 1024)
 low_sum place [] h = tt
 low_sum place (p ∷ ps) h =
     let more = spelled_more p ps in
     either_low (sum_place (place + (2 + length p.value)) ps) (if p.code == 0xC3 then Some (place + 2) else None)
     (low_sum (place + (2 + length p.value)) ps (omega (arith, h, more))) (if_low (p.code == 0xC3) (place + 2) (omega (arith, h, more)))
 
-or_nought : (found : Option ℕ) → IfSome found (λ place. place < 1024) → unwrap_or found 0 < 1024
+pub or_nought : (found : Option ℕ) → IfSome found (λ place. place < 1024) → unwrap_or found 0 < 1024
 or_nought None h = omega arith
 or_nought (Some place) h = h
 
 few_fixed : (kind : Kind) (width : Format) → fixed_count kind width ≤ 8
 few_fixed kinds.Cr width = omega arith
-few_fixed kinds.Cc width = omega arith
-few_fixed kinds.Dr width = omega arith
-few_fixed kinds.Dc width = omega arith
 few_fixed kinds.Dt formats.Normal = omega arith
 few_fixed kinds.Dt formats.Extended = omega arith
 few_fixed kinds.Ed formats.Normal = omega arith
@@ -79,7 +76,7 @@ few_fixed kinds.Ak formats.Normal = omega arith
 few_fixed kinds.Ak formats.Extended = omega arith
 few_fixed kinds.Ea formats.Normal = omega arith
 few_fixed kinds.Ea formats.Extended = omega arith
-few_fixed kinds.Er width = omega arith
+few_fixed other width = omega arith
 
 low_kind : (kind : Kind) (octets fields : List ℕ) (count : ℕ) → indicator octets < 256 → length fields < 256 → count ≤ 8 → AllByRecursion Low (kind_steps kind octets fields count)
 low_kind kind octets fields count low short few =

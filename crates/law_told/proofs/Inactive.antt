@@ -7,7 +7,7 @@ use Rattle.osi_base.specs.declared.note.Note.TheVariants.{Alien}
 use Rattle.osi_base.specs.declared.unit.Offered.{Offered}
 use Rattle.osi_base.specs.declared.unit.Offered.TheVariants.{Taken as WasTaken}
 use Rattle.osi_base.specs.declared.unit.Picked.{Picked}
-use Rattle.osi_base.specs.declared.unit.Picked.TheVariants.{Taken as WasPicked, NoSuch, Late, NotThere, NotOurs}
+use Rattle.osi_base.specs.declared.unit.Picked.TheVariants.{Taken as WasPicked}
 use Rattle.osi_base.specs.declared.unit.Unit.{Unit as CarriedUnit}
 use Rattle.osi_base.specs.declared.unit.Up.{Up}
 use Rattle.osi_base.specs.declared.unit.Up.TheVariants.{Unit as Came, Note as Noted}
@@ -15,7 +15,6 @@ use Rattle.osi_base.specs.Calls.{Call, Choose, Inject, NextUp, Offer, Tick, afte
 use Rattle.law_carrier_answers.specs.Answers.{CanBeAsked, asked_of}
 use Rattle.lan_bag.specs.Bag.{Bag, BagStep, link_of, new_bag, picked_in}
 use Rattle.lan_bag.specs.Frames.{is_taken as is_answer_taken}
-use Rattle.lan_bag.specs.declared.setup.PortRow.{PortRow}
 use Rattle.inactive_step.specs.declared.row.InactiveRow.{InactiveRow}
 use Rattle.inactive_step.specs.declared.row.Way.{Way}
 use Rattle.inactive_step.specs.Frames.{frame_on, read_up, read_ups, unit_between, unit_in, way_from}
@@ -24,22 +23,19 @@ use Rattle.inactive_step.specs.Rows.{row_on}
 use Rattle.inactive_step.specs.Step.{Brings, InactiveArrives, InactiveOffers, InactiveTakesUp, InactiveTicks, Long, NoWay, Sent, plain_wish}
 use Rattle.inactive_step.proofs.Found.{found_of}
 use Rattle.inactive_step.proofs.Seen.{ends_of}
-use Rattle.law_clnp_answers.specs.Standing.{IsNsap, IsSnpa, is_nsap}
-use Rattle.law_clnp_answers.proofs.written.Octets.{all_both}
+use Rattle.law_clnp_answers.specs.Standing.{is_nsap}
+use Rattle.law_clnp_step.proofs.Lists.{all_both}
 use Rattle.law_inactive_answers.specs.Standing.{FitsRow, Stands}
 use Rattle.law_inactive_answers.proofs.Always.{begins_serving, serves}
 use Rattle.script_lines.specs.Tags.{Tags}
-use Rattle.script_setup.specs.Fitting.{IsTitle, IsWell}
+use Rattle.script_setup.specs.Fitting.{IsWell}
 use Rattle.script_setup.specs.Inactive.{inactive_rows}
-use Rattle.script_setup.specs.SetUp.{SetUp, titles_of}
-use Rattle.script_setup.proofs.Elements.{at, find_all}
-use Rattle.script_setup.proofs.Served.{are_served, of_rows}
+use Rattle.script_setup.specs.SetUp.{SetUp}
+use Rattle.script_setup.proofs.Served.{are_served}
 use Rattle.law_setup.specs.Lines.{IsInOctets}
-use Rattle.law_setup.proofs.InOctets.{address_octets}
 use Rattle.law_setup.specs.InactiveNets.{InactiveDoes, MakesInactive, link_of_inactive}
 use Rattle.law_setup.proofs.Made.{comes}
-use Rattle.law_setup.proofs.MadeInactive.{subset_law}
-use Rattle.law_setup.proofs.Peopled.{title_there}
+use Rattle.law_setup.proofs.MadeInactive.{all_fit, subset_law}
 use Rattle.law_told.proofs.Carriers.{IsToldUp, Tells}
 use Rattle.law_told.proofs.Notes.{BagTold, GoesTo, UpTold, bag_told, gathered_told, pick_of}
 use Rattle.law_told.proofs.Routed.{nsap_octets}
@@ -133,10 +129,7 @@ module _ (tags : Tags) where
   -- what can be taken
   takes_of : (answer : Picked) → is_answer_taken answer ≡ true → answer ≡ WasPicked
   takes_of WasPicked h = refl
-  takes_of NoSuch h = absurd cc
-  takes_of Late h = absurd cc
-  takes_of NotThere h = absurd cc
-  takes_of NotOurs h = absurd cc
+  takes_of other h = absurd cc
 
   picks_told : (net : Inactive Bag) → SubsetTold net → (pick system : ℕ) → IsTrue ((link_of_inactive net).takes pick system) → (pick < 2 ^ 64) × (system < length tags.systems)
   picks_told net t pick system is =
@@ -161,17 +154,6 @@ module _ (tags : Tags) where
   }
 
 -- ---- as it is made
-
-all_fit : (setup : SetUp) → IsWell setup → IsInOctets setup → AllByRecursion FitsRow (inactive_rows setup)
-all_fit setup w o =
-    of_rows FitsRow setup.lans setup.ports 0 setup.systems
-    (λ place system row is found.
-    let named = title_there setup.systems place system is in
-    let title = at IsTitle (titles_of setup) place system.title w.titles named in
-    record {
-      address = address_octets system.title 1 (omega arith) title.some (at IsNsap (titles_of setup) place system.title o.titles named);
-      snpa = find_all (λ (r : PortRow). IsSnpa r.port.snpa) (λ (r : PortRow). r.system == (0 + place)) setup.ports row o.ports found;
-    })
 
 subset_begins : (tags : Tags) (setup : SetUp) (net : Inactive Bag) → length tags.systems ≡ length setup.systems → length tags.lans ≡ length setup.lans → IsWell setup → IsInOctets setup → MakesInactive setup net → SubsetTold tags net
 subset_begins tags setup net systems lans w o made = subst (SubsetTold tags) (sym made) (record {

@@ -2,7 +2,7 @@ pub mod Benches
 pub mod Carriers
 pub mod EndSteps
 pub mod Events
-mod FaultPlaces
+pub mod FaultPlaces
 pub mod Inactive
 pub mod Lines
 pub mod Network

@@ -9,7 +9,7 @@ use Rattle.osi_base.specs.declared.unit.DropCause.{DropCause}
 use Rattle.osi_base.specs.declared.unit.Offered.{Offered}
 use Rattle.osi_base.specs.declared.unit.Offered.TheVariants.{Taken as WasTaken, Dropped}
 use Rattle.osi_base.specs.declared.unit.Picked.{Picked}
-use Rattle.osi_base.specs.declared.unit.Picked.TheVariants.{Taken as WasPicked, NoSuch, Late, NotThere, NotOurs}
+use Rattle.osi_base.specs.declared.unit.Picked.TheVariants.{Taken as WasPicked}
 use Rattle.osi_base.specs.declared.unit.Unit.{Unit as CarriedUnit}
 use Rattle.osi_base.specs.declared.unit.Up.{Up}
 use Rattle.osi_base.specs.declared.unit.Up.TheVariants.{Unit as Came, Note as Noted}
@@ -30,7 +30,7 @@ use Rattle.law_clnp_answers.specs.Serving.{StandsInOctets}
 use Rattle.law_clnp_answers.specs.Standing.{FitsBag, FitsKept, FitsUp, IsFrame, is_nsap, is_port}
 use Rattle.law_clnp_answers.proofs.Always.{serves}
 use Rattle.law_clnp_answers.proofs.answered.Carrying.{bag_answers}
-use Rattle.law_clnp_answers.proofs.written.Octets.{all_back, all_both, all_front}
+use Rattle.law_clnp_step.proofs.Lists.{all_back, all_both, all_front}
 use Rattle.law_told.proofs.Carriers.{IsToldUp}
 use Rattle.law_told.proofs.Notes.{BagTold, GoesTo, bag_told, gathered_told, pick_of, same_frames}
 use Rattle.law_told.proofs.Reactions.{receives_told, ticks_told}
@@ -269,10 +269,7 @@ module _ (tags : Tags) where
   -- what can be taken
   takes_of : (answer : Picked) → is_answer_taken answer ≡ true → answer ≡ WasPicked
   takes_of WasPicked h = refl
-  takes_of NoSuch h = absurd cc
-  takes_of Late h = absurd cc
-  takes_of NotThere h = absurd cc
-  takes_of NotOurs h = absurd cc
+  takes_of other h = absurd cc
 
   pub picks_told : (net : Network Bag Rows) → StandsTold net → (pick system : ℕ) → IsTrue ((net_link link_of net).takes pick system) → (pick < 2 ^ 64) × IsDeclaredSystem system
   picks_told net t pick system is =

@@ -13,7 +13,7 @@ use Rattle.osi_base.specs.declared.unit.Injected.TheVariants.{Taken as WasInject
 use Rattle.osi_base.specs.declared.unit.Offered.{Offered}
 use Rattle.osi_base.specs.declared.unit.Offered.TheVariants.{Taken as WasTaken, Dropped}
 use Rattle.osi_base.specs.declared.unit.Picked.{Picked}
-use Rattle.osi_base.specs.declared.unit.Picked.TheVariants.{Taken as WasPicked, NoSuch, Late, NotThere, NotOurs}
+use Rattle.osi_base.specs.declared.unit.Picked.TheVariants.{Taken as WasPicked, NoSuch, Late, NotThere}
 use Rattle.osi_base.specs.declared.unit.Unit.{Unit as CarriedUnit}
 use Rattle.osi_base.specs.declared.unit.Up.{Up}
 use Rattle.osi_base.specs.declared.unit.Up.TheVariants.{Unit as Came}
@@ -28,7 +28,7 @@ use Rattle.lan_bag.specs.declared.setup.PortRow.{PortRow}
 use Rattle.law_carrier_answers.specs.Answers.{AreOctets}
 use Rattle.script_lines.specs.Tags.{Tags}
 use Rattle.law_clnp_answers.specs.Standing.{IsSnpa}
-use Rattle.law_clnp_answers.proofs.written.Octets.{all_both}
+use Rattle.law_clnp_step.proofs.Lists.{all_both}
 use Rattle.law_tp4_proper.proofs.Octets.{octet_at}
 use Rattle.law_told.proofs.Carriers.{IsToldUp}
 
@@ -204,10 +204,7 @@ module _ (tags : Tags) where
 
   choose_told : (bag : Bag) (pick system : ℕ) (answer : Picked) → BagTold bag → answer ≡ picked_in bag pick system → BagTold (after_choose bag pick system answer)
   choose_told bag pick system WasPicked t e = pick_told bag pick system (frame_of bag.frames pick) t (pick_of bag pick system t (sym e)).declared
-  choose_told bag pick system NoSuch t e = t
-  choose_told bag pick system Late t e = t
-  choose_told bag pick system NotThere t e = t
-  choose_told bag pick system NotOurs t e = t
+  choose_told bag pick system other t e = t
 
   -- ---- an injection
 
@@ -248,10 +245,7 @@ module _ (tags : Tags) where
   -- what is asked of an offer
   abbrev pub GoesTo : Call Port → Type 0
   GoesTo (Offer unit wish answer) = answer ≡ WasTaken → IsSnpa unit.to.snpa
-  GoesTo (Choose pick system answer) = Prim.Unit {0}
-  GoesTo (Inject lan system octets answer) = Prim.Unit {0}
-  GoesTo (NextUp answer) = Prim.Unit {0}
-  GoesTo Tick = Prim.Unit {0}
+  GoesTo other = Prim.Unit {0}
 
   pub bag_told : (old : Bag) (call : Call Port) (new : Bag) → BagTold old → GoesTo call → BagStep old call new → BagTold new
   bag_told old (Offer unit wish answer) new t snpa s = subst BagTold (sym s.1) (offer_told old unit answer t s.0 snpa)

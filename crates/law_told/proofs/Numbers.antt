@@ -35,30 +35,7 @@ deliver_number names past column (first ∷ second ∷ []) out count is =
 word_number : (names : Declared) (past column number : ℕ) (fields : List (List ℕ)) (parts : FieldValues) (word : Word) → count_fault past column (row_of word).fields fields ≡ None
     → fields_read names no_parts column (row_of word).fields fields ≡ Ok parts → HasNumber (line_for number word parts)
 word_number names past column number fields parts words.Deliver count filled = deliver_number names past column fields parts count filled
-word_number names past column number fields parts words.Es count filled = tt
-word_number names past column number fields parts words.Is count filled = tt
-word_number names past column number fields parts words.Port count filled = tt
-word_number names past column number fields parts words.Tsap count filled = tt
-word_number names past column number fields parts words.Relay count filled = tt
-word_number names past column number fields parts words.Connect count filled = tt
-word_number names past column number fields parts words.Accept count filled = tt
-word_number names past column number fields parts words.Refuse count filled = tt
-word_number names past column number fields parts words.Disconnect count filled = tt
-word_number names past column number fields parts words.Data count filled = tt
-word_number names past column number fields parts words.Expedite count filled = tt
-word_number names past column number fields parts words.Unit count filled = tt
-word_number names past column number fields parts words.Inject count filled = tt
-word_number names past column number fields parts words.Set count filled = tt
-word_number names past column number fields parts words.Lan count filled = tt
-word_number names past column number fields parts words.Route count filled = tt
-word_number names past column number fields parts words.Path count filled = tt
-word_number names past column number fields parts words.Version count filled = tt
-word_number names past column number fields parts words.Start count filled = tt
-word_number names past column number fields parts words.Window count filled = tt
-word_number names past column number fields parts words.Tick count filled = tt
-word_number names past column number fields parts words.Settle count filled = tt
-word_number names past column number fields parts words.Restart count filled = tt
-word_number names past column number fields parts words.Send count filled = tt
+word_number names past column number fields parts other count filled = tt
 
 came_number : (names : Declared) (reading : Reading) → Came names reading → HasNumber reading.line
 came_number names reading (Idle is) = subst (λ (r : Reading). HasNumber r.line) (sym is) tt

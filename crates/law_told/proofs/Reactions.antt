@@ -18,7 +18,6 @@ use Rattle.clnp_options.specs.Reasons.{code_of}
 use Rattle.clnp_options.specs.SourceRoute.{SourceRoute}
 use Rattle.clnp_options.specs.declared.reason.PduKind.{PduKind}
 use Rattle.clnp_options.specs.declared.reason.PduKind.TheVariants.{Dt, Er}
-use Rattle.clnp_options.specs.declared.reason.Reason.{Reason}
 use Rattle.clnp_options.specs.declared.reason.Reason.TheVariants as reasons
 use Rattle.clnp_header.specs.declared.pdu.OwnOpt.{OwnOpt}
 use Rattle.clnp_header.specs.declared.pdu.Pdu.{Pdu}
@@ -52,6 +51,7 @@ use Rattle.script_lines.specs.Tags.{Tags}
 use Rattle.script_journal.specs.Injective.{plain}
 use Rattle.script_journal.specs.Told.{hello_cause_text, hello_text}
 use Rattle.law_clnp_answers.specs.Standing.{IsFrame, IsSnpa}
+use Rattle.law_clnp_answers.proofs.written.Discarding.{code_fits}
 use Rattle.law_clnp_answers.proofs.written.Fitting.{FitsOption}
 use Rattle.law_clnp_answers.proofs.written.Reading.{front_fits, front_hello_fits}
 use Rattle.law_clnp_answers.proofs.written.Writes.{FitsHello}
@@ -64,42 +64,11 @@ use Rattle.law_told.proofs.Notes.{bytes_of, snpa_told}
 
 cause_plain : (cause : HelloCause) → plain (hello_cause_text cause) ≡ true
 cause_plain hello_causes.Short = refl
-cause_plain hello_causes.Length = refl
-cause_plain hello_causes.Version = refl
-cause_plain hello_causes.Checksum = refl
-cause_plain hello_causes.Kind = refl
-cause_plain hello_causes.Address = refl
-cause_plain hello_causes.Option = refl
+cause_plain other = refl
 
 kind_plain : (kind : HelloKind) → plain (hello_text kind) ≡ true
 kind_plain hellos.Esh = refl
-kind_plain hellos.Ish = refl
-kind_plain hellos.Rd = refl
-
-code_low : (reason : Reason) → code_of reason < 256
-code_low reasons.NotSpecified = omega arith
-code_low reasons.ProtocolProcedure = omega arith
-code_low reasons.IncorrectChecksum = omega arith
-code_low reasons.Congestion = omega arith
-code_low reasons.HeaderSyntax = omega arith
-code_low reasons.SegmentationNeeded = omega arith
-code_low reasons.IncompletePdu = omega arith
-code_low reasons.DuplicateOption = omega arith
-code_low reasons.DestinationUnreachable = omega arith
-code_low reasons.DestinationUnknown = omega arith
-code_low reasons.SourceRouting = omega arith
-code_low reasons.SourceRoutingSyntax = omega arith
-code_low reasons.SourceRoutingUnknownAddress = omega arith
-code_low reasons.PathNotAcceptable = omega arith
-code_low reasons.LifetimeExpiredInTransit = omega arith
-code_low reasons.LifetimeExpiredInReassembly = omega arith
-code_low reasons.UnsupportedOption = omega arith
-code_low reasons.UnsupportedVersion = omega arith
-code_low reasons.UnsupportedSecurity = omega arith
-code_low reasons.UnsupportedSourceRouting = omega arith
-code_low reasons.UnsupportedRecording = omega arith
-code_low reasons.UnsupportedQuality = omega arith
-code_low reasons.ReassemblyInterference = omega arith
+kind_plain other = refl
 
 one_octet : (octet : ℕ) → octet < 256 → IsBytes (octet ∷ []) × (0 < length (octet ∷ []))
 one_octet octet low = (bytes_of (octet ∷ []) (low, tt), omega arith)
@@ -207,7 +176,7 @@ module _ (tags : Tags) where
   discards : (node new : Node Rows) (now : ℕ) (discarded : Discarded) (reaction : Reaction) → IsSystem node.setup.system → discarded.place < 2048 → new.setup ≡ node.setup
       → Discards rows_tables node now discarded reaction → NodeTold node reaction new
   discards node new now discarded reaction is low same h = record {
-    ups = subst AreToldUps (sym h.told) ((refl, (is, (one_octet (code_of discarded.reason) (code_low discarded.reason), (omega (arith, low), tt)))), tt);
+    ups = subst AreToldUps (sym h.told) ((refl, (is, (one_octet (code_of discarded.reason) (code_fits discarded.reason), (omega (arith, low), tt)))), tt);
     setup = same;
   }
 

@@ -8,7 +8,7 @@ use Rattle.tpdu.specs.declared.tpdu.Tpdu.{Tpdu}
 use Rattle.tpdu.specs.declared.tpdu.Tpdu.TheVariants.{Cr, Cc, Dr, Dc, Dt, Ed, Ak, Ea, Er}
 use Rattle.tpdu.specs.Writing.{IsAllowed}
 use Rattle.tp4_number.specs.declared.got.Got.{Got}
-use Rattle.tp4_number.specs.declared.got.Got.TheVariants.{Kept, Old, Outside, TooLarge}
+use Rattle.tp4_number.specs.declared.got.Got.TheVariants.{TooLarge}
 use Rattle.tp4_number.specs.declared.piece.Piece.{Piece}
 use Rattle.tp4_number.specs.Formats.{most_of}
 use Rattle.tp4_flow.specs.Half.{Half, Received, dt_arrival, half_granted, taken_dt, taken_ed}
@@ -57,13 +57,9 @@ pub record HalvesFew (n : ℕ) (h : Halves) : Type 0 where
   pub receiving : KeepsOctets h.receiving
 
 abbrev pub StageFew : ℕ → StateData → Type 0
-StageFew n (CrWait w) = Unit {0}
-StageFew n (WaitBeforeClose w) = Unit {0}
-StageFew n (UserWait since) = Unit {0}
 StageFew n (AkWait w) = HalvesFew n w.halves
 StageFew n (Opened o) = HalvesFew n o.halves
-StageFew n (Closing c) = Unit {0}
-StageFew n (Frozen when) = Unit {0}
+StageFew n other = Unit {0}
 
 pub record RowTold (n : ℕ) (m : Moved) : Type 0 where
   pub stage : StageFew n m.stage
@@ -73,13 +69,9 @@ halves_later : (n : ℕ) (h : Halves) → HalvesFew n h → HalvesFew (n + 1) h
 halves_later n h k = record { sending = few_later n h.sending k.sending; receiving = k.receiving }
 
 pub stage_later : (n : ℕ) (stage : StateData) → StageFew n stage → StageFew (n + 1) stage
-stage_later n (CrWait w) k = tt
-stage_later n (WaitBeforeClose w) k = tt
-stage_later n (UserWait since) k = tt
 stage_later n (AkWait w) k = halves_later n w.halves k
 stage_later n (Opened o) k = halves_later n o.halves k
-stage_later n (Closing c) k = tt
-stage_later n (Frozen when) k = tt
+stage_later n other k = tt
 
 module _ (n : ℕ) where
   row : (b : EndRecord) (stage : StateData) (events : List EndEvent) (tpdus : List Sent) → StageFew n stage → AreToldBy n events → RowTold n (record { base = b; stage = stage; events = events; tpdus = tpdus })
@@ -104,9 +96,7 @@ module _ (n : ℕ) where
 
   dt_row : (got : Got) (b : EndRecord) (o : InOpened) (r : Received) → HalvesFew n (record o.halves { receiving = r.half }) → AreToldBy n r.events → RowTold n (dt_as got b o r)
   dt_row TooLarge b o r k told = led r.events r.tpdus _ told (row b _ _ _ tt ((tt, tt), tt))
-  dt_row Kept b o r k told = row b _ _ _ k told
-  dt_row Old b o r k told = row b _ _ _ k told
-  dt_row Outside b o r k told = row b _ _ _ k told
+  dt_row other b o r k told = row b _ _ _ k told
 
   on_dt_row : (wrap : ℕ → ℕ → ℕ) (b : EndRecord) (o : InOpened) (w : ℕ) (piece : Piece) → HalvesFew n o.halves → AreOctets piece.octets → RowTold n (on_dt wrap b o w piece)
   on_dt_row wrap b o w piece k fits =
@@ -118,10 +108,7 @@ module _ (n : ℕ) where
 
   opened_tpdu_row : (wrap : ℕ → ℕ → ℕ) (b : EndRecord) (o : InOpened) (tpdu : Tpdu) → HalvesFew n o.halves → HasOctets tpdu → RowTold n (opened_tpdu wrap b o tpdu)
   unfolding opened_tpdu
-  opened_tpdu_row wrap b o (Cr credit source width calling called size preferred extra version classes ack_time text) k t = row b _ _ _ k tt
-  opened_tpdu_row wrap b o (Cc credit destination source width calling called size preferred extra version classes ack_time text) k t = row b _ _ _ k tt
   opened_tpdu_row wrap b o (Dr destination source reason info text) k t = row b _ _ _ tt ((t.2, t.3), tt)
-  opened_tpdu_row wrap b o (Dc destination source) k t = row b _ _ _ k tt
   opened_tpdu_row wrap b o (Er destination cause rejected) k t = row b _ _ _ tt ((tt, tt), tt)
   opened_tpdu_row wrap b o (Dt destination last number text) k t = on_dt_row wrap b o number (record { last = last; octets = text }) k t.1
   opened_tpdu_row wrap b o (Ed destination last number text) k t =
@@ -129,6 +116,7 @@ module _ (n : ℕ) where
   opened_tpdu_row wrap b o (Ak destination number credit subsequence confirmation) k t =
       sending_row b o _ k (acknowledged_told n (at b.clock o.halves.sending) number credit subsequence (clock_few n b.clock o.halves.sending k.sending))
   opened_tpdu_row wrap b o (Ea destination number) k t = sending_row b o _ k (done_told n (at b.clock o.halves.sending) number (clock_few n b.clock o.halves.sending k.sending))
+  opened_tpdu_row wrap b o other k t = row b _ _ _ k tt
 
   goes_row : (b : EndRecord) (o : InOpened) (x : Sendings) → HalvesFew n o.halves → SendsTold n x → RowTold n (opened_goes b o x)
   goes_row b o x k s =
@@ -169,7 +157,6 @@ module _ (n : ℕ) where
   wait_row : (b : EndRecord) (w : InWaitBeforeClose) (tpdu : Tpdu) → RowTold n (wait_before_close_tpdu b w tpdu)
   unfolding wait_before_close_tpdu
   wait_row b w (Cc credit destination source width calling called size preferred extra version classes ack_time text) = row _ _ _ _ tt tt
-  wait_row b w (Dr destination source reason info text) = row b _ _ _ tt tt
   wait_row b w other = row b _ _ _ tt tt
 
   opening_row : (wrap : ℕ → ℕ → ℕ) (b : EndRecord) (h : Halves) (tpdu : Tpdu) → HalvesFew n h → HasOctets tpdu → RowTold n (opening wrap b h tpdu)
@@ -191,17 +178,15 @@ module _ (n : ℕ) where
   closing_tpdu_row : (b : EndRecord) (c : InClosing) (tpdu : Tpdu) → RowTold n (closing_tpdu b c tpdu)
   unfolding closing_tpdu
   closing_tpdu_row b c (Dc destination source) = row b _ _ _ tt tt
-  closing_tpdu_row b c (Dr destination source cause info text) = row b _ _ _ tt tt
   closing_tpdu_row b c other = row b _ _ _ tt tt
 
   tpdu_row : (wrap : ℕ → ℕ → ℕ) (width : Format) (b : EndRecord) (stage : StateData) (tpdu : Tpdu) → StageFew n stage → HasOctets tpdu → IsAllowed width tpdu → RowTold n (on_tpdu wrap b stage tpdu)
   tpdu_row wrap width b (CrWait w) tpdu k t a = cr_wait_row width b w tpdu t a
   tpdu_row wrap width b (WaitBeforeClose w) tpdu k t a = wait_row b w tpdu
-  tpdu_row wrap width b (UserWait since) tpdu k t a = row b _ _ _ tt tt
   tpdu_row wrap width b (AkWait w) tpdu k t a = ak_wait_row wrap b w tpdu k t
   tpdu_row wrap width b (Opened o) tpdu k t a = opened_tpdu_row wrap b (hearing b o) tpdu k t
   tpdu_row wrap width b (Closing c) tpdu k t a = closing_tpdu_row b c tpdu
-  tpdu_row wrap width b (Frozen when) tpdu k t a = row b _ _ _ tt tt
+  tpdu_row wrap width b other tpdu k t a = row b _ _ _ tt tt
 
   -- ---- a tick
 
@@ -246,39 +231,25 @@ listed true one why h = (refl, h)
 listed false one why h = absurd cc
 
 is_short : (b : EndRecord) (stage : StateData) (unit : List ℕ) → is_listed stage (Normal unit) ≡ true → normal_refusal (sending_of stage) (length unit) ≡ None → length unit ≤ 16384
-is_short b (CrWait w) unit h none = absurd cc
-is_short b (WaitBeforeClose w) unit h none = absurd cc
-is_short b (UserWait since) unit h none = absurd cc
 is_short b (AkWait w) unit h none = no_longer w.halves.sending (length unit) none
 is_short b (Opened o) unit h none = no_longer o.halves.sending (length unit) none
-is_short b (Closing c) unit h none = absurd cc
-is_short b (Frozen when) unit h none = absurd cc
+is_short b other unit h none = absurd cc
 
 pub call_short : (b : EndRecord) (stage : StateData) (call : UserCall) → call_refusal b stage call ≡ None → IsShort call
 call_short b stage (Normal unit) h =
     let parts = listed (is_listed stage (Normal unit)) (listed_refusal b stage (Normal unit)) (refused.WrongState (state_of stage)) h in is_short b stage unit parts.0 parts.1
-call_short b stage (Accept options octets) h = tt
-call_short b stage (Refuse octets) h = tt
-call_short b stage (Urgent unit) h = tt
-call_short b stage (Window credit) h = tt
-call_short b stage (Disconnect octets) h = tt
+call_short b stage other h = tt
 
 -- the events of a call come first, and count
 abbrev pub after_call : ℕ → UserCall → ℕ
 after_call n (Accept options octets) = n
-after_call n (Refuse octets) = n + 1
-after_call n (Normal unit) = n + 1
-after_call n (Urgent unit) = n + 1
 after_call n (Window credit) = n
-after_call n (Disconnect octets) = n + 1
+after_call n other = n + 1
 
 pub stage_after : (n : ℕ) (call : UserCall) (stage : StateData) → StageFew n stage → StageFew (after_call n call) stage
 stage_after n (Accept options octets) stage k = k
-stage_after n (Refuse octets) stage k = stage_later n stage k
-stage_after n (Normal unit) stage k = stage_later n stage k
-stage_after n (Urgent unit) stage k = stage_later n stage k
 stage_after n (Window credit) stage k = k
-stage_after n (Disconnect octets) stage k = stage_later n stage k
+stage_after n other stage k = stage_later n stage k
 
 module _ (is_address : List ℕ → Bool) (n : ℕ) where
   granting_row : (b : EndRecord) (o : InOpened) (credit : ℕ) → HalvesInOctets is_address o.halves → HalvesFew n o.halves → RowTold n (granting b o (half_granted o.halves.receiving credit))
@@ -308,7 +279,6 @@ module _ (is_address : List ℕ → Bool) (n : ℕ) where
       → RowTold (after_call n call) (on_call b stage call)
   call_row b (CrWait w) (Disconnect octets) i p k c is short = row (n + 1) b _ _ _ tt tt
   call_row b (CrWait w) other i p k c is short = row (after_call n other) b _ _ _ tt tt
-  call_row b (WaitBeforeClose w) call i p k c is short = row (after_call n call) b _ _ _ tt tt
   call_row b (UserWait since) (Accept asked octets) i p k c is short = accepted_row b asked octets p is c
   call_row b (UserWait since) (Refuse octets) i p k c is short = refused_row b octets
   call_row b (UserWait since) other i p k c is short = row (after_call n other) b _ _ _ tt tt
@@ -325,8 +295,7 @@ module _ (is_address : List ℕ → Bool) (n : ℕ) where
   call_row b (Opened o) (Window credit) i p k c is short = granting_row b o credit i k
   call_row b (Opened o) (Disconnect octets) i p k c is short = row (n + 1) b _ _ _ tt tt
   call_row b (Opened o) other i p k c is short = row (after_call n other) b _ _ _ (stage_after n other (Opened o) k) tt
-  call_row b (Closing x) call i p k c is short = row (after_call n call) b _ _ _ tt tt
-  call_row b (Frozen when) call i p k c is short = row (after_call n call) b _ _ _ tt tt
+  call_row b other call i p k c is short = row (after_call n call) b _ _ _ tt tt
 
   -- ---- one end
 

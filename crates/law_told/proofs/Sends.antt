@@ -7,7 +7,7 @@ use Rattle.std.proofs.lemmas.List.Sums.{sum_by-append, sum_by-cons}
 use Rattle.std.proofs.lemmas.Bool.{eqb-false, ltb-true}
 use Rattle.law_carrier_answers.specs.Answers.{AreOctets}
 use Rattle.tp4_number.specs.declared.got.Got.{Got}
-use Rattle.tp4_number.specs.declared.got.Got.TheVariants.{Kept, Old, Outside, TooLarge}
+use Rattle.tp4_number.specs.declared.got.Got.TheVariants.{Kept}
 use Rattle.tp4_number.specs.declared.piece.Piece.{Piece}
 use Rattle.tp4_number.specs.Number.{ahead, near, wire}
 use Rattle.tp4_number.specs.Receiver.{Arrived, Inbox, arrived_as, granted, in_order, judged}
@@ -53,8 +53,7 @@ IsToldWhat n reference (whats.End (tells.Window credit)) = credit < 65536
 IsToldWhat n reference (whats.End (tells.Held kind number)) = number < most n
 IsToldWhat n reference (whats.End (tells.Gone cause octets)) = IsCause cause × AreOctets octets
 IsToldWhat n reference (whats.BadTpdu cause place) = place < 65536
-IsToldWhat n reference (whats.Unknown kind) = Unit {0}
-IsToldWhat n reference whats.Silent = Unit {0}
+IsToldWhat n reference other = Unit {0}
 
 abbrev pub IsToldBy : ℕ → EndEvent → Type 0
 IsToldBy n telling = IsToldWhat n telling.reference telling.what
@@ -304,9 +303,7 @@ arrived_in Kept inbox d piece h fits =
         begun = is.begun;
       };
     }
-arrived_in Old inbox d piece h fits = record { units = tt; held = h }
-arrived_in Outside inbox d piece h fits = record { units = tt; held = h }
-arrived_in TooLarge inbox d piece h fits = record { units = tt; held = h }
+arrived_in other inbox d piece h fits = record { units = tt; held = h }
 
 gots_told : (n own : ℕ) (units : List (List ℕ)) → AllByRecursion AreOctets units → AreToldBy n (gots own units)
 gots_told n own [] h = tt

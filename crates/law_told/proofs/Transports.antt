@@ -59,32 +59,10 @@ module _ {N : Type 0} (link : N → Link (List ℕ)) (steps : N → Call (List �
       (λ system e is. let low = first_low setup system e is in (omega (arith, low, systems), first_few setup system e is)) starts
 
   pub names_systems : (names : Declared) (line : Line) → NamesDeclared names line → HasNumber line → NamesSystems (tags_of names) is_nsap link steps keeps (Stands (tags_of names)) (net.tells (tags_of names)) wire line
-  names_systems names lines.Nothing named number = tt
-  names_systems names (lines.Connect system selector to called options octets) named number = tt
-  names_systems names (lines.Accept end options octets) named number = tt
-  names_systems names (lines.Refuse end octets) named number = tt
-  names_systems names (lines.Disconnect end octets) named number = tt
-  names_systems names (lines.Data end octets) named number = tt
-  names_systems names (lines.Expedite end octets) named number = tt
-  names_systems names (lines.Window end credit) named number = tt
   names_systems names (lines.Unit system to wish octets) named number = let low = named.0.0 in let count = as_many_systems names in omega (arith, low, count)
-  names_systems names lines.Tick named number = tt
-  names_systems names lines.Settle named number = tt
   names_systems names (lines.Deliver frame system) named number = let count = as_many_systems names in (omega (arith, number), omega (arith, named, count))
   names_systems names (lines.Inject lan system octets) named number = let low = named.1 in let count = as_many_systems names in omega (arith, low, count)
-  names_systems names (lines.Restart system) named number = tt
-  names_systems names (lines.Send system selector to called octets) named number = tt
-  names_systems names (lines.Version version) named number = tt
-  names_systems names (lines.Set key value) named number = tt
-  names_systems names (lines.Lan name bound room) named number = tt
-  names_systems names (lines.Es name title) named number = tt
-  names_systems names (lines.Is name title) named number = tt
-  names_systems names (lines.Port system lan snpa) named number = tt
-  names_systems names (lines.Route system prefix next lan) named number = tt
-  names_systems names (lines.Path name kind systems) named number = tt
-  names_systems names (lines.Tsap system selector) named number = tt
-  names_systems names (lines.Relay system selector to called) named number = tt
-  names_systems names lines.Start named number = tt
+  names_systems names other named number = tt
 
   abbrev Plays : Playing (TransportRun N)
   Plays = tp_play link steps makes dialect

@@ -280,10 +280,7 @@ module _ {C : Type 0} (tags : Tags) (is_address : List ℕ → Bool) (link : C �
 
   pub picked_told : (number system : ℕ) (answer : Picked) → number < 2 ^ 64 → IsDeclared system → IsToldEvent tags (picked_event number system answer)
   picked_told number system picks.Taken low declared = (refl, (low, (declared, tt)))
-  picked_told number system picks.NoSuch low declared = (refl, (low, (declared, tt)))
-  picked_told number system picks.Late low declared = (refl, (low, (declared, tt)))
-  picked_told number system picks.NotThere low declared = (refl, (low, (declared, tt)))
-  picked_told number system picks.NotOurs low declared = (refl, (low, (declared, tt)))
+  picked_told number system other low declared = (refl, (low, (declared, tt)))
 
   delivers_so : (n : ℕ) (old new : World C) (number system : ℕ) (answer : Picked) (made : List Event) → WorldSo n old → number < 2 ^ 64 → IsDeclared system
       → Delivers link steps wrap old number system answer made new → StepSo n made new
@@ -551,20 +548,16 @@ module _ {C : Type 0} (tags : Tags) (is_address : List ℕ → Bool) (link : C �
   -- ---- a call on an end
 
   call_event_told : (n number : ℕ) (call : UserCall) → number ≤ n → CallInOctets is_address call → EachFrom tags n (call_events number call)
-  call_event_told n number (asks.Accept options octets) low c = tt
   call_event_told n number (asks.Refuse octets) low c = (λ few. (refl, (omega (arith, low, few), (octets_bytes octets c, tt))), tt)
   call_event_told n number (asks.Normal octets) low c = (λ few. (refl, (omega (arith, low, few), (octets_bytes octets c, tt))), tt)
   call_event_told n number (asks.Urgent octets) low c = (λ few. (refl, (omega (arith, low, few), (octets_bytes octets c, tt))), tt)
-  call_event_told n number (asks.Window credit) low c = tt
   call_event_told n number (asks.Disconnect octets) low c = (λ few. (refl, (omega (arith, low, few), (octets_bytes octets c, tt))), tt)
+  call_event_told n number other low c = tt
 
   call_count : (n number : ℕ) (call : UserCall) → after_call n call ≡ n + length (call_events number call)
   call_count n number (asks.Accept options octets) = omega arith
-  call_count n number (asks.Refuse octets) = refl
-  call_count n number (asks.Normal octets) = refl
-  call_count n number (asks.Urgent octets) = refl
   call_count n number (asks.Window credit) = omega arith
-  call_count n number (asks.Disconnect octets) = refl
+  call_count n number other = refl
 
   calls_by : (n : ℕ) (old new : World C) (number : ℕ) (end : EndAt) (e : Entity) (call : UserCall) (why : Option EntityRefusal) (made : List Event) → user_refusal e end.reference call ≡ why → WorldSo n old
       → entity_at old.entities end.system ≡ Some e → number ≤ n → IsCall call → CallInOctets is_address call → CallsBy link steps wrap old number end e call why made new → StepSo n made new
@@ -683,18 +676,7 @@ module _ {C : Type 0} (tags : Tags) (is_address : List ℕ → Bool) (link : C �
   line_so n titles old new lines.Settle made h may names idle r = settles_so n 0 old new made h (omega arith) r
   line_so n titles old new (lines.Inject lan system octets) made h may names idle r = injects_so n old new lan system octets r.0 made h may names r.1
   line_so n titles old new (lines.Restart system) made h may names idle r = restarts_so n old new system made h r
-  line_so n titles old new (lines.Send system selector to called octets) made h may names idle r = absurd r
-  line_so n titles old new (lines.Version version) made h may names idle r = absurd r
-  line_so n titles old new (lines.Set key value) made h may names idle r = absurd r
-  line_so n titles old new (lines.Lan name bound room) made h may names idle r = absurd r
-  line_so n titles old new (lines.Es name title) made h may names idle r = absurd r
-  line_so n titles old new (lines.Is name title) made h may names idle r = absurd r
-  line_so n titles old new (lines.Port system lan snpa) made h may names idle r = absurd r
-  line_so n titles old new (lines.Route system prefix next lan) made h may names idle r = absurd r
-  line_so n titles old new (lines.Path name kind systems) made h may names idle r = absurd r
-  line_so n titles old new (lines.Tsap system selector) made h may names idle r = absurd r
-  line_so n titles old new (lines.Relay system selector to called) made h may names idle r = absurd r
-  line_so n titles old new lines.Start made h may names idle r = absurd r
+  line_so n titles old new other made h may names idle r = absurd r
 
   -- ---- the start
 

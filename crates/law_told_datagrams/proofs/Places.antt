@@ -1,8 +1,7 @@
 -- The place of a fault of a UD lies in its header.
-use Rattle.std.proofs.Common.{◌≡◌, ◌≤◌, ◌<◌, ℕ, ◌+◌, Bool, true, false, List, [], ◌∷◌, ◌++◌, length, drop, Option, Some, None, ap, arith, subst, if◌then◌else◌, length-append}
+use Rattle.std.proofs.Common.{◌≡◌, ◌≤◌, ◌<◌, ℕ, ◌+◌, Bool, true, false, List, [], ◌∷◌, ◌++◌, length, drop, Option, Some, None, ap, arith, subst, length-append}
 use Rattle.std.specs.Prelude.{◌==◌, IfSome, unwrap_or, option_map}
 use Rattle.std.specs.List.{AllByRecursion}
-use Rattle.std.specs.Option.{option_or}
 use Rattle.std.proofs.lemmas.List.{length-drop, length-take}
 use Rattle.pdu_parts.specs.FirstFault.{first_failing, must}
 use Rattle.pdu_parts.specs.Parameter.{Parameter, left_in, parameters_in, spelled}
@@ -16,6 +15,7 @@ use Rattle.cltp.specs.declared.fault.UdFault.{UdFault}
 use Rattle.cltp.specs.Faults.{IsUdFault, fault_at, first_fault, parameter_steps, parameters_steps, steps}
 use Rattle.cltp.specs.Parameters.{trouble}
 use Rattle.law_tp4_proper.proofs.Octets.{octet_at}
+use Rattle.law_told.proofs.FaultPlaces.{low_sum, or_nought, spelled_more}
 
 abbrev Low : Option UdFault → Type 0
 Low step = IfSome step (λ found. found.place < 1024)
@@ -33,9 +33,6 @@ low_trouble : (place : ℕ) (why : Option UdCause) → place < 1024 → Low (opt
 low_trouble place None h = tt
 low_trouble place (Some cause) h = h
 
-spelled_more : (p : Parameter) (ps : List Parameter) → length (spelled (p ∷ ps)) ≡ 2 + length p.value + length (spelled ps)
-spelled_more p ps = let both = length-append p.value (spelled ps) in omega (arith, both)
-
 low_parameters : (place : ℕ) (ps : List Parameter) (left : List ℕ) → place + length (spelled ps) < 1024 → AllByRecursion Low (parameter_steps place ps left)
 low_parameters place [] left h = (low_must (length left == 0) (fault_at causes.Param place) (omega (arith, h)), tt)
 low_parameters place (p ∷ ps) left h =
@@ -43,25 +40,6 @@ low_parameters place (p ∷ ps) left h =
       low_trouble place (trouble p) (omega (arith, h)),
       low_parameters (place + (2 + length p.value)) ps left (omega (arith, h, more)),
     )
-
-either_low : (one other : Option ℕ) → IfSome one (λ place. place < 1024) → IfSome other (λ place. place < 1024) → IfSome (option_or one other) (λ place. place < 1024)
-either_low None other h k = k
-either_low (Some place) other h k = h
-
-if_low : (test : Bool) (place : ℕ) → place < 1024 → IfSome (if test then Some place else None) (λ place. place < 1024)
-if_low true place h = h
-if_low false place h = tt
-
-low_sum : (place : ℕ) (ps : List Parameter) → place + length (spelled ps) < 1024 → IfSome (sum_place place ps) (λ place. place < 1024)
-low_sum place [] h = tt
-low_sum place (p ∷ ps) h =
-    let more = spelled_more p ps in
-    either_low (sum_place (place + (2 + length p.value)) ps) (if p.code == 0xC3 then Some (place + 2) else None)
-    (low_sum (place + (2 + length p.value)) ps (omega (arith, h, more))) (if_low (p.code == 0xC3) (place + 2) (omega (arith, h, more)))
-
-or_nought : (found : Option ℕ) → IfSome found (λ place. place < 1024) → unwrap_or found 0 < 1024
-or_nought None h = omega arith
-or_nought (Some place) h = h
 
 low_parts : (octets fields : List ℕ) → length fields < 256 → AllByRecursion Low (parameters_steps octets (parameters_in fields) (left_in fields))
 low_parts octets fields short =

@@ -1,5 +1,5 @@
 -- A script of datagrams, over every network that a set-up makes and that tells: each line that is read is told.
-use Rattle.std.proofs.Common.{◌≡◌, ◌<◌, ◌≤◌, ℕ, ◌+◌, Bool, true, false, List, [], ◌∷◌, ◌++◌, length, Ok, refl, sym, subst, arith, if◌then◌else◌}
+use Rattle.std.proofs.Common.{◌≡◌, ◌<◌, ◌≤◌, ℕ, ◌+◌, Bool, true, false, List, [], ◌∷◌, length, Ok, refl, sym, subst, arith, if◌then◌else◌}
 use Rattle.std.specs.Prelude.{slice_get, Some}
 use Rattle.std.specs.List.{AllByRecursion}
 use Rattle.osi_base.specs.Link.{Link}
@@ -110,27 +110,7 @@ module _ {N : Type 0} (link : N → Link (List ℕ)) (steps : N → Call (List �
   line_so names titles old new (lines.Deliver frame system) made own listed named number may are h r =
       let count = as_many_systems names in
       call_told (tags_of names) is_nsap link steps keeps (Stands (tags_of names)) (net.tells (tags_of names)) old new (Delivering frame system) made h tt (omega (arith, number), omega (arith, named, count)) r
-  line_so names titles old new (lines.Connect system selector to called options octets) made own listed named number may are h r = absurd r
-  line_so names titles old new (lines.Accept end options octets) made own listed named number may are h r = absurd r
-  line_so names titles old new (lines.Refuse end octets) made own listed named number may are h r = absurd r
-  line_so names titles old new (lines.Disconnect end octets) made own listed named number may are h r = absurd r
-  line_so names titles old new (lines.Data end octets) made own listed named number may are h r = absurd r
-  line_so names titles old new (lines.Expedite end octets) made own listed named number may are h r = absurd r
-  line_so names titles old new (lines.Window end credit) made own listed named number may are h r = absurd r
-  line_so names titles old new (lines.Unit system to wish octets) made own listed named number may are h r = absurd r
-  line_so names titles old new (lines.Inject lan system octets) made own listed named number may are h r = absurd r
-  line_so names titles old new (lines.Restart system) made own listed named number may are h r = absurd r
-  line_so names titles old new (lines.Version version) made own listed named number may are h r = absurd r
-  line_so names titles old new (lines.Set key value) made own listed named number may are h r = absurd r
-  line_so names titles old new (lines.Lan name bound room) made own listed named number may are h r = absurd r
-  line_so names titles old new (lines.Es name title) made own listed named number may are h r = absurd r
-  line_so names titles old new (lines.Is name title) made own listed named number may are h r = absurd r
-  line_so names titles old new (lines.Port system lan snpa) made own listed named number may are h r = absurd r
-  line_so names titles old new (lines.Route system prefix next lan) made own listed named number may are h r = absurd r
-  line_so names titles old new (lines.Path name kind systems) made own listed named number may are h r = absurd r
-  line_so names titles old new (lines.Tsap system selector) made own listed named number may are h r = absurd r
-  line_so names titles old new (lines.Relay system selector to called) made own listed named number may are h r = absurd r
-  line_so names titles old new lines.Start made own listed named number may are h r = absurd r
+  line_so names titles old new other made own listed named number may are h r = absurd r
 
   steps_so : (names declared : Declared) (old : DatagramRun N) (count n : ℕ) (octets : List ℕ) (line : Line) (made : List Event) (new : DatagramRun N) → names.started ≡ true → FitsRun link steps names old count
       → Running (tags_of names) n old → count < most_lines → line_read names octets ≡ Ok (record { line = line; names = declared }) → RunsDatagrams link steps old line made new → PartTold Plays Goes Running (tags_of names) n made new

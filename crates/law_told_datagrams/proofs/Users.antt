@@ -1,6 +1,6 @@
 -- Each call of a network of users has events that their text tells: between two calls the carrier stands, and its users are at declared systems; so each call
 -- of the carrier may be asked, what comes up is told, and what users are shown of it is in octets.
-use Rattle.std.proofs.Common.{◌≡◌, inl, inr, ◌≤◌, ◌<◌, ◌∙◌, ◌^◌, ℕ, zero, suc, ◌+◌, Bool, true, false, List, [], ◌∷◌, ◌++◌, length, Option, Some, None, refl, sym, ap, subst, arith}
+use Rattle.std.proofs.Common.{◌≡◌, inl, inr, ◌≤◌, ◌<◌, ◌∙◌, ◌^◌, ℕ, zero, suc, ◌+◌, Bool, true, false, List, [], ◌∷◌, length, Option, Some, None, refl, sym, ap, subst, arith}
 use Rattle.std.specs.Prelude.{nat_lt, not}
 use Rattle.std.specs.List.{AllByRecursion}
 use Rattle.std.proofs.lemmas.Bool.{and_parts}
@@ -46,12 +46,7 @@ use Rattle.law_told_datagrams.proofs.Read.{read_octets, written_octets}
 
 ud_plain : (cause : UdCause) → plain (ud_cause_text cause) ≡ true
 ud_plain causes.Short = refl
-ud_plain causes.Length = refl
-ud_plain causes.Code = refl
-ud_plain causes.Param = refl
-ud_plain causes.Unknown = refl
-ud_plain causes.Missing = refl
-ud_plain causes.Checksum = refl
+ud_plain other = refl
 
 module _ {C : Type 0} (tags : Tags) (is_address : List ℕ → Bool) (link : C → Link (List ℕ)) (steps : C → Call (List ℕ) → C → Type 0)
     (keeps : (old : C) (call : Call (List ℕ)) (new : C) → steps old call new → Keeps (link old) call (link new)) (StandsSo : C → Type 0) (tells : Tells tags is_address link steps StandsSo) where
@@ -181,8 +176,7 @@ module _ {C : Type 0} (tags : Tags) (is_address : List ℕ → Bool) (link : C �
   abbrev pub NamesSystems : ClCall → Type 0
   NamesSystems (Sending system request) = IsDeclared system
   NamesSystems (Delivering number system) = (number < 2 ^ 64) × IsDeclared system
-  NamesSystems Ticking = Prim.Unit {0}
-  NamesSystems Settling = Prim.Unit {0}
+  NamesSystems other = Prim.Unit {0}
 
   pub call_told : (old new : World C) (call : ClCall) (made : List Event) → WorldSo old → CanRun is_address link old call → NamesSystems call → RunsCall link steps old call made new → StepSo made new
   call_told old new (Sending system request) made h may names r = sends_if old new system request (nat_lt 16000 (length request.octets)) r.2.0 made h names may r.2.1

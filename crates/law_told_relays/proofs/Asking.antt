@@ -1,5 +1,5 @@
 -- What a relay asks about an event: a request of one of its rows, or a call in octets.
-use Rattle.std.proofs.Common.{◌≡◌, ℕ, ◌≤◌, Bool, true, false, if◌then◌else◌, List, [], ◌∷◌, Option, Some, None, refl, sym, ◌∙◌, subst, arith}
+use Rattle.std.proofs.Common.{◌≡◌, ℕ, ◌≤◌, Bool, true, false, if◌then◌else◌, List, [], ◌∷◌, Option, Some, None, refl, arith}
 use Rattle.std.specs.List.{AllByRecursion}
 use Rattle.law_carrier_answers.specs.Answers.{AreOctets}
 use Rattle.script_journal.specs.declared.event.Event.{Event}
@@ -8,34 +8,18 @@ use Rattle.script_journal.specs.declared.event.Indication.{Indication}
 use Rattle.tpdu.specs.declared.service.EndTold.TheVariants as tells
 use Rattle.tpdu.specs.declared.service.Options.{Options}
 use Rattle.tp4_conn.specs.declared.call.ConnectRequest.{ConnectRequest}
-use Rattle.tp4_conn.specs.declared.call.UserCall.{UserCall}
 use Rattle.tp4_conn.specs.declared.call.UserCall.TheVariants as asks
-use Rattle.tp4_conn.specs.declared.timers.Timers.{Timers}
 use Rattle.tp4_conn.specs.End.{IsSized}
-use Rattle.tp4_relay.specs.declared.pair.Heading.{Heading}
-use Rattle.tp4_relay.specs.declared.pair.Heading.TheVariants.{On, Back}
 use Rattle.tp4_relay.specs.declared.pair.Pair.{Pair}
 use Rattle.tp4_relay.specs.declared.reaction.Reaction.{Reaction}
 use Rattle.tp4_relay.specs.declared.reaction.Reaction.TheVariants.{Nothing, Begin, Ask}
 use Rattle.tp4_relay.specs.declared.row.RelayRow.{RelayRow}
-use Rattle.tp4_relay.specs.declared.unit.MarkedUnit.{MarkedUnit}
-use Rattle.tp4_relay.specs.declared.unit.MarkedUnit.TheVariants.{Normal, Expedited}
 use Rattle.tp4_relay.specs.Allowed.{AreLine}
-use Rattle.tp4_relay.specs.Kept.{Kept, is_at, named_by, noted, row_for}
+use Rattle.tp4_relay.specs.Kept.{Kept, named_by, noted, row_for}
 use Rattle.tp4_relay.specs.Pairs.{is_closed}
-use Rattle.tp4_relay.specs.Pump.{credit_now, unit_call, way_of}
 use Rattle.tp4_relay.specs.Reaction.{begins, confirms, goes, inbound_goes, inbound_pair, outbound_goes, outbound_pair, reaction, request_for}
-use Rattle.law_relay_run.proofs.Answering.{IsReadable, PairInOctets, RowInOctets, RowLeads, UnitInOctets, line_readable}
+use Rattle.law_relay_run.proofs.Answering.{IsReadable, MayCall, RowInOctets, RowLeads, line_readable, row_found}
 use Rattle.law_relay_run.proofs.OctetSteps.{TellsOctets}
-
--- a call in octets
-abbrev pub MayCall : UserCall → Type 0
-MayCall (asks.Accept options octets) = IsSized options × AreOctets octets
-MayCall (asks.Refuse octets) = AreOctets octets
-MayCall (asks.Normal octets) = AreOctets octets
-MayCall (asks.Urgent octets) = AreOctets octets
-MayCall (asks.Window credit) = credit ≤ 255
-MayCall (asks.Disconnect octets) = AreOctets octets
 
 -- an event of a line: in octets, and of an end that was made
 pub record IsHeard (n : ℕ) (event : Event) : Type 0 where
@@ -71,14 +55,6 @@ module _ (titles : List (List ℕ)) (n : ℕ) where
   MayReact (Begin inbound system request) = IsRequest titles n inbound system request
   MayReact (Ask end call) = MayCall call
 
-  row_found : (P : RelayRow → Type 0) (rows : List RelayRow) (heard : Indication) → AllByRecursion P rows → (found : Option RelayRow) → row_for rows heard ≡ found → (row : RelayRow) → found ≡ Some row → P row
-  row_found P [] heard all found is row some = absurd (let no_way : None ≡ Some row = is ∙ some in cc no_way)
-  row_found P (first ∷ rows) heard all found is row some = by (is_at heard first) is (λ here. row_found P rows heard all.1 found here row some)
-    where
-      by : (b : Bool) → (if b then Some first else row_for rows heard) ≡ found → (row_for rows heard ≡ found → P row) → P row
-      by true here rest = let whole : Some first ≡ Some row = here ∙ some in let same : first ≡ row = cc whole in subst P same all.0
-      by false here rest = rest here
-
   begins_may : (kept : Kept) (heard : Indication) (found : Option RelayRow) → row_for kept.rows heard ≡ found → IsSized heard.options → AreOctets heard.octets → heard.end ≤ n → AllByRecursion (RowLeads titles) kept.rows
       → AllByRecursion RowInOctets kept.rows → MayReact (begins heard found)
   begins_may kept heard None is sized octets low leads rows = tt
@@ -89,8 +65,8 @@ module _ (titles : List (List ℕ)) (n : ℕ) where
     request_is = refl;
     sized = sized;
     octets = octets;
-    leads = row_found (RowLeads titles) kept.rows heard leads (Some row) is row refl;
-    row_octets = row_found RowInOctets kept.rows heard rows (Some row) is row refl;
+    leads = row_found titles (RowLeads titles) kept.rows heard leads (Some row) is row refl;
+    row_octets = row_found titles RowInOctets kept.rows heard rows (Some row) is row refl;
     low = low;
   }
 
@@ -127,17 +103,3 @@ module _ (titles : List (List ℕ)) (n : ℕ) where
   reaction_may kept (events.End end (tells.Confirm options octets)) is leads rows = confirms_may options octets (outbound_pair kept.pairs end) is.readable.1 is.readable.0
   reaction_may kept (events.End end (tells.Gone cause octets)) is leads rows = goes_may kept.pairs end (inbound_pair kept.pairs end)
   reaction_may kept event is leads rows = tt
-
-pub unit_may : (unit : MarkedUnit) → UnitInOctets unit → MayCall (unit_call unit)
-unit_may (Normal octets) is = is
-unit_may (Expedited octets) is = is
-
-pub credit_low : (rules : Timers) (lowered : Bool) (left : List MarkedUnit) (credit : ℕ) → rules.credit ≤ 255 → credit_now rules.credit lowered left ≡ Some credit → credit ≤ 255
-credit_low rules true [] credit low is = subst (λ (k : ℕ). k ≤ 255) (let same : rules.credit ≡ credit = cc is in same) low
-credit_low rules false [] credit low is = absurd (cc is)
-credit_low rules true (unit ∷ units) credit low is = absurd (cc is)
-credit_low rules false (unit ∷ units) credit low is = let same : 0 ≡ credit = cc is in omega (arith, same)
-
-pub way_octets : (heading : Heading) (pair : Pair) → PairInOctets pair → AllByRecursion UnitInOctets (way_of heading pair).waiting
-way_octets On pair p = p.on
-way_octets Back pair p = p.back

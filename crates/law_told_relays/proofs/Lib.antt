@@ -1,5 +1,4 @@
 mod Asking
-mod Kept
 mod Lines
 mod Played
 mod Pumps

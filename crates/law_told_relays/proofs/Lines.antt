@@ -1,5 +1,5 @@
 -- One line of a network with relays, and one call of a pump, are told: each is a line that the network may be asked.
-use Rattle.std.proofs.Common.{◌≡◌, ◌<◌, ◌≤◌, ◌^◌, ◌∙◌, ℕ, ◌+◌, Bool, true, false, List, [], ◌∷◌, ◌++◌, length, Option, Some, None, refl, sym, ap, subst, arith, length-append}
+use Rattle.std.proofs.Common.{◌≡◌, ◌≤◌, ◌∙◌, ℕ, ◌+◌, Bool, true, false, List, [], ◌++◌, length, Option, Some, None, refl, sym, ap, subst, arith, length-append}
 use Rattle.std.specs.Prelude.{slice_get}
 use Rattle.std.specs.List.{AllByRecursion}
 use Rattle.osi_base.specs.Link.{Link}
@@ -25,7 +25,7 @@ use Rattle.tp4_world.specs.Run.{Connects, RunsLine}
 use Rattle.tp4_world.specs.Total.{CanConnect, CanRun}
 use Rattle.tp4_world.specs.World.{World}
 use Rattle.law_relay_run.specs.Services.{AsksEnd, AsksFor}
-use Rattle.law_relay_run.proofs.Answering.{ArePairs, RowInOctets, RowLeads}
+use Rattle.law_relay_run.proofs.Answering.{ArePairs, MayCall, RowInOctets, RowLeads, after_pairs}
 use Rattle.law_relay_run.proofs.OctetSteps.{HoldsOctets, TellsOctets, goes}
 use Rattle.law_relay_run.proofs.OneRun.{call_line, call_runs}
 use Rattle.law_relay_run.proofs.Walks.{after_append}
@@ -33,8 +33,7 @@ use Rattle.law_told.proofs.Carriers.{Tells}
 use Rattle.law_told.proofs.Events.{EachFrom, each_both}
 use Rattle.law_told.proofs.Lines.{RunSo, line_told, ready}
 use Rattle.law_told.proofs.Worlds.{NamesSystems}
-use Rattle.law_told_relays.proofs.Asking.{IsRequest, MayCall}
-use Rattle.law_told_relays.proofs.Kept.{after_pairs}
+use Rattle.law_told_relays.proofs.Asking.{IsRequest}
 
 module _ {C : Type 0} (tags : Tags) (link : C → Link (List ℕ)) (steps : C → Call (List ℕ) → C → Type 0) (keeps : (old : C) (call : Call (List ℕ)) (new : C) → steps old call new → Keeps (link old) call (link new))
     (StandsSo : C → Type 0) (tells : Tells tags is_nsap link steps StandsSo) (once : OneStep steps) (titles : List (List ℕ)) where
@@ -111,19 +110,11 @@ module _ {C : Type 0} (tags : Tags) (link : C → Link (List ℕ)) (steps : C �
 
   line_may : (old : World C) (end : ℕ) (call : UserCall) → MayCall call → CanRun is_nsap titles link old (call_line end call)
   line_may old end (asks.Accept options octets) may = may
-  line_may old end (asks.Refuse octets) may = may
-  line_may old end (asks.Normal octets) may = may
-  line_may old end (asks.Urgent octets) may = may
-  line_may old end (asks.Window credit) may = may
-  line_may old end (asks.Disconnect octets) may = may
+  line_may old end other may = may
 
   line_names : (end : ℕ) (call : UserCall) → NamesSystems tags is_nsap link steps keeps StandsSo tells wire (call_line end call)
   line_names end (asks.Accept options octets) = tt
-  line_names end (asks.Refuse octets) = tt
-  line_names end (asks.Normal octets) = tt
-  line_names end (asks.Urgent octets) = tt
-  line_names end (asks.Window credit) = tt
-  line_names end (asks.Disconnect octets) = tt
+  line_names end other = tt
 
   pub call_done : (n : ℕ) (kept : Kept) (old new : World C) (end : ℕ) (call : UserCall) (done : Bool) (made : List Event) → So n old kept → MayCall call → AsksEnd link steps old end call done made new → Done n kept made new
   call_done n kept old new end call done made h may c =

@@ -38,15 +38,14 @@ use Rattle.tp4_world.specs.World.{World}
 use Rattle.law_relay_run.specs.Asked.{is_relayed}
 use Rattle.law_relay_run.specs.Relays.{Answers, Asking, Idle, LastTurn, OneTurn, Part, PumpsAfter, RelayRun, RunsPart, Settling, Turns}
 use Rattle.law_relay_run.specs.Services.{AsksEnd, AsksFor}
-use Rattle.law_relay_run.proofs.Answering.{PairInOctets, UnitInOctets}
+use Rattle.law_relay_run.proofs.Answering.{MayCall, PairInOctets, UnitInOctets, after_pairs, credit_low, unit_may, way_octets}
 use Rattle.law_relay_run.proofs.OctetSteps.{TellsOctets}
 use Rattle.law_relay_run.proofs.Playing.{Plays}
 use Rattle.law_relay_run.proofs.Running.{Leaves, answer_leaves, pumped, settles}
 use Rattle.law_told.proofs.Carriers.{Tells}
 use Rattle.law_told.proofs.Events.{EachFrom, IsToldEvent, each_both, refusal_told}
 use Rattle.law_told.proofs.Worlds.{NamesSystems, later}
-use Rattle.law_told_relays.proofs.Asking.{IsHeard, IsRequest, MayCall, MayReact, credit_low, heard_later, line_heard, reaction_may, unit_may, way_octets}
-use Rattle.law_told_relays.proofs.Kept.{after_pairs}
+use Rattle.law_told_relays.proofs.Asking.{IsHeard, IsRequest, MayReact, heard_later, line_heard, reaction_may}
 use Rattle.law_told_relays.proofs.Lines.{Done, IsRunning, LineDone, So, both_done, call_done, line_done, nothing_done, request_done, told_so}
 
 module _ {C : Type 0} (tags : Tags) (link : C → Link (List ℕ)) (steps : C → Call (List ℕ) → C → Type 0) (keeps : (old : C) (call : Call (List ℕ)) (new : C) → steps old call new → Keeps (link old) call (link new))

@@ -32,9 +32,6 @@ use Rattle.law_tp4_associations.proofs.Phases.{frozen_called, late_held}
 use Rattle.law_tp4_associations.proofs.Places.{same_some}
 use Rattle.law_tp4_associations.proofs.Waiting.{may_accept}
 
-some_first : {A : Type 0} (x : Sent) (l : List Sent) → [] ≡ x ∷ l → A
-some_first x l e = absurd (cc e)
-
 -- a frozen end refuses each call
 frozen_refuses : {A : Type 0} (b : EndRecord) (stage : StateData) (call : UserCall) → IsFrozen stage → call_refusal b stage call ≡ None → A
 frozen_refuses b (Frozen when) call f e = absurd (cc e)
@@ -191,10 +188,7 @@ module _ (timers : Timers) (own : ℕ → List ℕ) (now : ℕ) (a : Association
         by : (c : UserCall) → call ≡ c → call_refusal y.base (UserWait since) c ≡ None → IsCall c → Answer
         by (Accept asked octets) same ok fit = Accepts_it asked octets same fit (accept_row since asked octets stage same)
         by (Refuse octets) same ok fit = Refuses_it octets (refuse_row since octets stage same)
-        by (Normal unit) same ok fit = absurd (cc ok)
-        by (Urgent unit) same ok fit = absurd (cc ok)
-        by (Window credit) same ok fit = absurd (cc ok)
-        by (Disconnect octets) same ok fit = absurd (cc ok)
+        by other same ok fit = absurd (cc ok)
 
     -- the user accepts
     pair_begun : (x : End) (r : InCrWait) (since : ℕ) (asked : Options) (octets : List ℕ) → a.calling ≡ Some x → x.stage ≡ CrWait r → y.stage ≡ UserWait since → y.base.proposed ≡ x.base.proposed → IsSized asked

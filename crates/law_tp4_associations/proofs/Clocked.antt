@@ -35,7 +35,7 @@ use Rattle.law_tp4_associations.specs.Phase.{AreAll, AreParting, Asks, IsRefusal
 use Rattle.law_tp4_associations.specs.Standing.{IsAssociation, IsCalled, IsCaller}
 use Rattle.law_tp4_associations.specs.Ticking.{ticked_end, ticked_tpdus}
 use Rattle.law_tp4_associations.proofs.Holding.{not_late}
-use Rattle.law_tp4_associations.proofs.Keeping.{ticks_same}
+use Rattle.law_tp4_rows.proofs.Leaving.{ticks_same}
 use Rattle.law_tp4_associations.proofs.Pairing.{left_or_not, left_parts}
 use Rattle.law_tp4_associations.proofs.Places.{none_not, same_some}
 use Rattle.law_tp4_associations.proofs.Writing.{AreBy, Closes, Open_on, Stays, either, ticks}
@@ -47,13 +47,9 @@ some_sooner tick None = (tick, refl)
 some_sooner tick (Some other) = (min tick other, refl)
 
 has_due : (b : EndRecord) (stage : StateData) → (IsFrozen stage → ⊥) → (tick : ℕ) × (due b stage ≡ Some tick)
-has_due b (CrWait w) live = (_, refl)
-has_due b (WaitBeforeClose w) live = (_, refl)
-has_due b (UserWait since) live = (_, refl)
-has_due b (AkWait w) live = (_, refl)
 has_due b (Opened o) live = some_sooner _ (due_of o.halves.sending)
-has_due b (Closing c) live = (_, refl)
 has_due b (Frozen when) live = absurd (live tt)
+has_due b other live = (_, refl)
 
 kept_live : (m : Moved) → (IsFrozen m.stage → ⊥) → kept_end m (due m.base m.stage) ≡ Some (end_of m)
 kept_live m live = ap (kept_end m) (has_due m.base m.stage live).1
@@ -203,15 +199,12 @@ both_over one other (Frozen s) (Closing c) f g = absurd (elim g [ inl h ↦ h | 
 both_over one other (Frozen s) v f g = absurd g
 both_over one other (Opened o) (Closing c) f g = absurd f
 both_over one other (Opened o) (Frozen t) f g = absurd f
-both_over one other (Opened o) v f g = absurd f
 both_over one other (AkWait a) (Closing c) f g = absurd f
 both_over one other (AkWait a) (Frozen t) f g = absurd (elim f [ inl h ↦ h | inr h ↦ elim h [ inl k ↦ k | inr k ↦ k ] ])
-both_over one other (AkWait a) v f g = absurd f
 both_over one other (Closing c) (Closing d) f g = absurd f
 both_over one other (Closing c) (Frozen t) f g = absurd (elim f [ inl h ↦ h | inr h ↦ elim h [ inl k ↦ k | inr k ↦ k ] ])
 both_over one other (Closing c) (Opened o) f g = absurd g
 both_over one other (Closing c) (AkWait a) f g = absurd g
-both_over one other (Closing c) v f g = absurd f
 both_over one other u v f g = absurd f
 
 -- ---- a pair

@@ -35,14 +35,6 @@ come_then end other address (sent ∷ a) b p q = (p.0, come_then end other addre
 
 -- ---- kinds
 
-pub no_release : (n : ℕ) (own : ℕ) (tpdu : Tpdu) → IsDataFor own tpdu → IsReleaseOf n tpdu → ⊥
-no_release n own (Dr destination source reason info text) d r = d
-no_release n own other d r = r
-
-pub no_done : (own : ℕ) (tpdu : Tpdu) → IsDataFor own tpdu → IsDone tpdu → ⊥
-no_done own (Dc destination source) d r = d
-no_done own other d r = r
-
 pub other_release : (n m : ℕ) (tpdu : Tpdu) → 0 < n → IsReleaseOf 0 tpdu → IsReleaseOf n tpdu → ⊥
 other_release n m (Dr destination source reason info text) low zero_is is = absurd (omega arith)
 other_release n m other low zero_is is = zero_is
@@ -54,11 +46,8 @@ may_come_on end next other (Dr destination source reason info text) own partner 
 may_come_on end next other (Dc destination source) own partner called hears frozen m = (m.0 ∙ sym own, m.1)
 may_come_on end next other (Cc credit destination source width calling called_one size preferred extra version classes ack_time text) own partner called hears frozen m = (m.0 ∙ sym own, m.1, frozen m.2)
 may_come_on end next other (Cr credit source width calling called_one size preferred extra version classes ack_time text) own partner called hears frozen m = (m.0, partner ∙ m.1, called ∙ m.2, frozen m.3)
-may_come_on end next other (Dt destination last number text) own partner called hears frozen m = (m.0 ∙ sym own, hears m.1)
-may_come_on end next other (Ed destination last number text) own partner called hears frozen m = (m.0 ∙ sym own, hears m.1)
-may_come_on end next other (Ak destination number credit subsequence confirmation) own partner called hears frozen m = (m.0 ∙ sym own, hears m.1)
-may_come_on end next other (Ea destination number) own partner called hears frozen m = (m.0 ∙ sym own, hears m.1)
 may_come_on end next other (Er destination cause rejected) own partner called hears frozen m = m
+may_come_on end next other another own partner called hears frozen m = (m.0 ∙ sym own, hears m.1)
 
 module _ (b : EndRecord) (other : ℕ) (address : List ℕ) where
   -- the end at another tick, in another state

@@ -19,7 +19,7 @@ use Rattle.tp4_conn.specs.declared.states.StateData.{StateData}
 use Rattle.tp4_conn.specs.declared.states.StateData.TheVariants.{CrWait, WaitBeforeClose, UserWait, AkWait, Frozen}
 use Rattle.tp4_conn.specs.declared.timers.Timers.{Timers}
 use Rattle.tp4_conn.specs.Agreeing.{confirm, extra_of, proposed_by, request}
-use Rattle.tp4_conn.specs.End.{End, IsSized, Moved, agreed_sum, closing, confirms, end_of, send}
+use Rattle.tp4_conn.specs.End.{End, IsSame, IsSized, Moved, agreed_sum, closing, confirms, end_of, send}
 use Rattle.tp4_conn.specs.CrWait.{cr_wait_tpdu}
 use Rattle.tp4_conn.specs.WaitBeforeClose.{wait_before_close_tpdu}
 use Rattle.tp4_conn.specs.Matching.{fits, sum_agreed, wants_sum}
@@ -39,7 +39,7 @@ use Rattle.law_tp4_associations.specs.Phase.{AllCome, AreAll, AreParting, Asking
 use Rattle.law_tp4_associations.specs.Standing.{IsAssociation, IsCalled, IsCaller}
 use Rattle.law_tp4_associations.proofs.Freezing.{release_comes}
 use Rattle.law_tp4_associations.proofs.Holding.{held_on, held_so}
-use Rattle.law_tp4_associations.proofs.Keeping.{IsSame, row_keeps, row_partner}
+use Rattle.law_tp4_associations.proofs.Keeping.{row_keeps, row_partner}
 use Rattle.law_tp4_associations.proofs.Pairing.{GoesOn, Pairs, Parts, back_goes, forth_goes, paired_no_asking}
 use Rattle.law_tp4_associations.proofs.Parting.{parting_has_left, parts_no_asking}
 use Rattle.law_tp4_associations.proofs.Meeting.{Answered_so, Answers, Asked, IsHeard, Makes, Takes_it, Unmatched, IsFor, copy_ignored, copy_refused, first_asked, heard, taken_by}

@@ -46,13 +46,7 @@ IsFor own (Er destination cause rejected) = destination ≡ own
 pub for_end : (z : End) (other : ℕ) (tpdu : Tpdu) → MayCome z other tpdu → IsNoRequest tpdu → IsFor z.base.own tpdu
 for_end z other (Cr credit source width calling called size preferred extra version classes ack_time text) m never = absurd never
 for_end z other (Er destination cause rejected) m never = absurd m
-for_end z other (Dr destination source reason info text) m never = m.0
-for_end z other (Dc destination source) m never = m.0
-for_end z other (Cc credit destination source width calling called size preferred extra version classes ack_time text) m never = m.0
-for_end z other (Dt destination last number text) m never = m.0
-for_end z other (Ed destination last number text) m never = m.0
-for_end z other (Ak destination number credit subsequence confirmation) m never = m.0
-for_end z other (Ea destination number) m never = m.0
+for_end z other another m never = m.0
 
 module _ (now : ℕ) (e : Entity) (from : List ℕ) (sum : Bool) where
   at_reference : (tpdu : Tpdu) (n m : ℕ) → n ≡ m → met_at whole now e from (tpdu, sum) (Some n) ≡ met_at whole now e from (tpdu, sum) (Some m)

@@ -1,5 +1,5 @@
 -- A pair of which no end has left: each row leaves it so, or one end leaves, with its DR behind what it sent. Before both are Opened none leaves.
-use Rattle.std.proofs.Common.{◌≡◌, ◌⊎◌, ℕ, ◌+◌, Bool, true, false, None, not, ◌&&◌, if◌then◌else◌, List, [], ◌∷◌, ◌++◌, refl, sym, ◌∙◌, ap, subst, inl, inr, append-nil}
+use Rattle.std.proofs.Common.{◌≡◌, ◌⊎◌, ℕ, ◌+◌, Bool, false, None, not, ◌&&◌, if◌then◌else◌, List, [], ◌∷◌, ◌++◌, refl, sym, ◌∙◌, ap, subst, inl, inr, append-nil}
 use Rattle.tp4_flow.specs.Half.{ak}
 use Rattle.tp4_flow.specs.declared.rules.FlowRules.{FlowRules}
 use Rattle.tp4_flow.specs.declared.step.Sent.{Sent}
@@ -11,15 +11,15 @@ use Rattle.tp4_conn.specs.declared.states.InAkWait.{InAkWait}
 use Rattle.tp4_conn.specs.declared.states.InOpened.{InOpened}
 use Rattle.tp4_conn.specs.declared.states.InCrWait.{InCrWait}
 use Rattle.tp4_conn.specs.declared.states.StateData.{StateData}
-use Rattle.tp4_conn.specs.declared.states.StateData.TheVariants.{CrWait, WaitBeforeClose, UserWait, AkWait, Opened, Closing, Frozen}
+use Rattle.tp4_conn.specs.declared.states.StateData.TheVariants.{CrWait, WaitBeforeClose, AkWait, Opened, Closing, Frozen}
 use Rattle.tp4_conn.specs.Agreeing.{confirm}
 use Rattle.tp4_conn.specs.AkWait.{ak_wait_tpdu}
 use Rattle.tp4_conn.specs.Opened.{hearing, opened_tpdu}
 use Rattle.tp4_conn.specs.End.{End, Moved, end_of, stays}
 use Rattle.tp4_conn.specs.Calls.{call_refusal}
 use Rattle.tp4_conn.specs.Matching.{sum_agreed}
-use Rattle.tp4_conn.specs.Table.{Called, Took, at, on_call, on_tick, on_tpdu, stepped, takes, untaken}
-use Rattle.law_tp4_pair.specs.Pair.{Account, Asks_called, Asks_calling, Clock, Comes_back, Comes_forth, IsIdle, Pair, asks_called, asks_calling, back_units, comes_back, comes_forth, forth_units, next, tick_of}
+use Rattle.tp4_conn.specs.Table.{Called, Took, at, on_call, on_tpdu, stepped, takes, untaken}
+use Rattle.law_tp4_pair.specs.Pair.{Account, Asks_called, Asks_calling, Comes_back, Comes_forth, IsIdle, Pair, asks_called, asks_calling, back_units, comes_back, comes_forth, forth_units}
 use Rattle.law_tp4_pair.specs.steps.Standing.{AreBoth, Both, Confirming, First, HasLeft, Left, Stands, party}
 use Rattle.law_tp4_pair.specs.steps.Waiting.{AreData}
 use Rattle.law_tp4_pair.proofs.Confirming.{confirms}
@@ -27,17 +27,14 @@ use Rattle.law_tp4_pair.proofs.Handing.{has_sum}
 use Rattle.law_tp4_pair.proofs.Pairs.{stands_on}
 use Rattle.law_tp4_associations.specs.Phase.{AreParting, IsAsking, IsPaired}
 use Rattle.law_tp4_associations.proofs.Leaving.{joined, parted, side}
-use Rattle.law_tp4_associations.proofs.Writing.{AreBy, Closes, Open_on, Stays, asks, hears_data, ticks}
+use Rattle.law_tp4_associations.proofs.Writing.{AreBy, Closes, Open_on, Stays, asks, hears_data}
 
 -- whether an end has left
 pub left_or_not : (stage : StateData) → HasLeft stage ⊎ (HasLeft stage → ⊥)
 left_or_not (WaitBeforeClose w) = inl tt
 left_or_not (Closing c) = inl tt
 left_or_not (Frozen when) = inl tt
-left_or_not (CrWait w) = inr (λ f. f)
-left_or_not (UserWait since) = inr (λ f. f)
-left_or_not (AkWait w) = inr (λ f. f)
-left_or_not (Opened o) = inr (λ f. f)
+left_or_not other = inr (λ f. f)
 
 -- the called end of such a pair accepted
 pub paired_no_asking : (p : Pair) → Stands p → (HasLeft p.calling.stage ⊎ HasLeft p.called.stage → ⊥) → IsAsking p.called.stage → ⊥
@@ -77,12 +74,6 @@ module _ (b c : EndRecord) (h k : Halves) (forth back : List Sent) (u v : Accoun
       (subst (λ (d : EndRecord). AreParting (record { base = b; stage = m.stage }) (record { base = d; stage = n.stage }) here there (back_left ++ n.tpdus) (forth_left ++ m.tpdus)) (sym (stays_base both.other_rules c n y))
       (parted b c m.stage n.stage here there both.one_rules both.other_rules (forth_left ++ m.tpdus) (back_left ++ n.tpdus) (joined b c here there h k forth back u v both to to_back) left
       (side both.one_rules b m forth_left forth_are x) (side both.other_rules c n back_left back_are y)))
-
-  calling_by : AreBy both.one_rules h
-  calling_by = record { sending_by = both.one.sending; receiving_by = both.one.receiving }
-
-  called_by : AreBy both.other_rules k
-  called_by = record { sending_by = both.other.sending; receiving_by = both.other.receiving }
 
 -- nothing happens to an end
 none_stays : (rules : FlowRules) (b : EndRecord) (stage : StateData) (o : InOpened) → stage ≡ Opened o → AreBy rules o.halves → Stays rules b (stays b stage)
@@ -309,59 +300,3 @@ module _ (p : Pair) (here there : List ℕ) (to : p.calling.base.to ≡ there) (
           Parts (left_parts b (at p.clock c) open_pair.o.halves open_pair.q.halves p.forth p.back (forth_units p) (back_units p) both here there to to_back
           (stays b p.calling.stage) (stepped whole p.clock p.called (Called call)) [] [] tt tt (none_stays both.one_rules b p.calling.stage open_pair.o open_pair.mine mine_by) (called_row call)
           (inr (subst HasLeft (sym stage) tt)))
-
-  -- ---- a tick
-
-  abbrev base_at : Bool → EndRecord → EndRecord
-  base_at true d = at (p.clock + 1) d
-  base_at false d = d
-
-  calling_tick : (ticked : Bool) → Stays both.one_rules (base_at ticked b) (tick_of ticked (p.clock + 1) p.calling)
-  calling_tick true = subst (λ (stage : StateData). Stays both.one_rules (at (p.clock + 1) b) (on_tick (at (p.clock + 1) b) stage)) (sym open_pair.mine) (ticks both.one_rules (at (p.clock + 1) b) open_pair.o mine_by)
-  calling_tick false = none_stays both.one_rules b p.calling.stage open_pair.o open_pair.mine mine_by
-
-  called_tick : (ticked : Bool) → Stays both.other_rules (base_at ticked c) (tick_of ticked (p.clock + 1) p.called)
-  called_tick true = subst (λ (stage : StateData). Stays both.other_rules (at (p.clock + 1) c) (on_tick (at (p.clock + 1) c) stage)) (sym open_pair.theirs) (ticks both.other_rules (at (p.clock + 1) c) open_pair.q theirs_by)
-  called_tick false = none_stays both.other_rules c p.called.stage open_pair.q open_pair.theirs theirs_by
-
-  tick_parts : (one other : Bool) → HasLeft (tick_of one (p.clock + 1) p.calling).stage ⊎ HasLeft (tick_of other (p.clock + 1) p.called).stage
-      → AreParting (end_of (tick_of one (p.clock + 1) p.calling)) (end_of (tick_of other (p.clock + 1) p.called)) here there (tick_of other (p.clock + 1) p.called).tpdus (tick_of one (p.clock + 1) p.calling).tpdus
-  tick_parts true true left =
-      left_parts (at (p.clock + 1) b) (at (p.clock + 1) c) open_pair.o.halves open_pair.q.halves p.forth p.back (forth_units p) (back_units p) both here there to to_back
-      (tick_of true (p.clock + 1) p.calling) (tick_of true (p.clock + 1) p.called) [] [] tt tt (calling_tick true) (called_tick true) left
-  tick_parts true false left =
-      left_parts (at (p.clock + 1) b) c open_pair.o.halves open_pair.q.halves p.forth p.back (forth_units p) (back_units p) both here there to to_back
-      (tick_of true (p.clock + 1) p.calling) (tick_of false (p.clock + 1) p.called) [] [] tt tt (calling_tick true) (called_tick false) left
-  tick_parts false true left =
-      left_parts b (at (p.clock + 1) c) open_pair.o.halves open_pair.q.halves p.forth p.back (forth_units p) (back_units p) both here there to to_back
-      (tick_of false (p.clock + 1) p.calling) (tick_of true (p.clock + 1) p.called) [] [] tt tt (calling_tick false) (called_tick true) left
-  tick_parts false false left =
-      left_parts b c open_pair.o.halves open_pair.q.halves p.forth p.back (forth_units p) (back_units p) both here there to to_back
-      (tick_of false (p.clock + 1) p.calling) (tick_of false (p.clock + 1) p.called) [] [] tt tt (calling_tick false) (called_tick false) left
-
-  pub clock_goes : (one other : Bool) → GoesOn (p.clock + 1) (end_of (tick_of one (p.clock + 1) p.calling)) (end_of (tick_of other (p.clock + 1) p.called)) here there
-      (tick_of one (p.clock + 1) p.calling).tpdus (tick_of other (p.clock + 1) p.called).tpdus
-  clock_goes one other = by (calling_tick one) (called_tick other)
-    where
-      m : Moved
-      m = tick_of one (p.clock + 1) p.calling
-
-      n : Moved
-      n = tick_of other (p.clock + 1) p.called
-
-      by : Stays both.one_rules (base_at one b) (tick_of one (p.clock + 1) p.calling) → Stays both.other_rules (base_at other c) (tick_of other (p.clock + 1) p.called)
-          → GoesOn (p.clock + 1) (end_of (tick_of one (p.clock + 1) p.calling)) (end_of (tick_of other (p.clock + 1) p.called)) here there
-          (tick_of one (p.clock + 1) p.calling).tpdus (tick_of other (p.clock + 1) p.called).tpdus
-      by (Closes a before reason octets base stage d tpdus) any = Parts (tick_parts one other (inl (subst HasLeft (sym stage) tt)))
-      by (Open_on o base stage s r d) (Closes a before reason octets base_there stage_there e tpdus) = Parts (tick_parts one other (inr (subst HasLeft (sym stage_there) tt)))
-      by (Open_on o base stage s r d) (Open_on q base_there stage_there t u e) = Pairs (next p (Clock one other)) refl refl (record {
-        clock = refl;
-        forth_is = ap (λ (l : List Sent). l ++ (tick_of one (p.clock + 1) p.calling).tpdus) i.forth_is;
-        back_is = ap (λ (l : List Sent). l ++ (tick_of other (p.clock + 1) p.called).tpdus) i.back_is;
-        stands = stands_on p (Clock one other) i.stands idle;
-        within = λ r options was agreed. absurd (not_both_stages o r (tick_of one (p.clock + 1) p.calling).stage stage was);
-        stays = λ any. elim any [
-          | inl left ↦ opened_stays o (tick_of one (p.clock + 1) p.calling).stage stage left
-          | inr left ↦ opened_stays q (tick_of other (p.clock + 1) p.called).stage stage_there left
-        ];
-      })

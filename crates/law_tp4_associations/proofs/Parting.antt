@@ -12,7 +12,7 @@ use Rattle.tp4_conn.specs.declared.states.InOpened.{InOpened}
 use Rattle.tp4_conn.specs.declared.states.InAkWait.{InAkWait}
 use Rattle.tp4_conn.specs.declared.states.InClosing.{InClosing}
 use Rattle.tp4_conn.specs.declared.states.StateData.{StateData}
-use Rattle.tp4_conn.specs.declared.states.StateData.TheVariants.{CrWait, WaitBeforeClose, UserWait, AkWait, Opened, Closing, Frozen}
+use Rattle.tp4_conn.specs.declared.states.StateData.TheVariants.{CrWait, WaitBeforeClose, AkWait, Opened, Closing, Frozen}
 use Rattle.tp4_conn.specs.End.{End, Moved, confirms, end_of, frozen, gone, release, send}
 use Rattle.tp4_conn.specs.Closing.{closing_tpdu}
 use Rattle.tp4_conn.specs.AkWait.{ak_wait_tpdu}
@@ -30,10 +30,6 @@ use Rattle.law_tp4_associations.proofs.Writing.{Closes, Open_on, Stays, hears_da
 pub taken_sum : (agreed sum : Bool) → (agreed ≡ true → sum ≡ true) → (agreed && not sum) ≡ false
 taken_sum false sum h = refl
 taken_sum true sum h = ap not (h refl)
-
-or_cases : (a b : Bool) → (a || b) ≡ true → (a ≡ true) ⊎ (b ≡ true)
-or_cases true b e = inl refl
-or_cases false b e = inr e
 
 or_false : (a b : Bool) → (a || b) ≡ false → (a ≡ false) × (b ≡ false)
 or_false true b e = absurd (cc e)
@@ -162,13 +158,10 @@ module _ (b : EndRecord) (a : InAkWait) (w : End) (here there : List ℕ) (now :
       rebuild b (AkWait a) w here there now sent rest out low mine p now (AkWait a) [] (λ h. h) (λ f. f) tt tt
       (waiting_waits b.own w.base.own low a a w.stage sent out rest (λ r. subst (IsReleaseOf w.base.own) e r) (λ r. subst (IsReleaseOf 0) e r) p.one.freezes)
       (waiting_waits_back b.own w.base.own low a a w.stage (sent ∷ rest) out rest p.next.freezes)
-  waiting_row (Dt destination last number text) e m = absurd m.1
-  waiting_row (Ed destination last number text) e m = absurd m.1
-  waiting_row (Ak destination number credit subsequence confirmation) e m = absurd m.1
-  waiting_row (Ea destination number) e m = absurd m.1
   waiting_row (Cc credit destination source width calling called size preferred extra version classes ack_time text) e m = absurd m.2
   waiting_row (Cr credit source width calling called size preferred extra version classes ack_time text) e m = absurd m.3
   waiting_row (Er destination cause rejected) e m = absurd m
+  waiting_row other e m = absurd m.1
 
 -- ---- Closing
 
@@ -186,13 +179,10 @@ module _ (b : EndRecord) (c : InClosing) (w : End) (here there : List ℕ) (now 
   unfolding closing_tpdu
   closing_row (Dr destination source reason info text) e m = closing_ends
   closing_row (Dc destination source) e m = closing_ends
-  closing_row (Dt destination last number text) e m = closing_stays now (λ r. subst (IsReleaseOf w.base.own) e r) (λ r. subst IsDone e r)
-  closing_row (Ed destination last number text) e m = closing_stays now (λ r. subst (IsReleaseOf w.base.own) e r) (λ r. subst IsDone e r)
-  closing_row (Ak destination number credit subsequence confirmation) e m = closing_stays now (λ r. subst (IsReleaseOf w.base.own) e r) (λ r. subst IsDone e r)
-  closing_row (Ea destination number) e m = closing_stays now (λ r. subst (IsReleaseOf w.base.own) e r) (λ r. subst IsDone e r)
   closing_row (Cc credit destination source width calling called size preferred extra version classes ack_time text) e m = absurd m.2
   closing_row (Cr credit source width calling called size preferred extra version classes ack_time text) e m = absurd m.3
   closing_row (Er destination cause rejected) e m = absurd m
+  closing_row other e m = closing_stays now (λ r. subst (IsReleaseOf w.base.own) e r) (λ r. subst IsDone e r)
 
 -- ---- a TPDU that the end takes
 
@@ -216,9 +206,7 @@ module _ (b : EndRecord) (w : End) (here there : List ℕ) (now : ℕ) (sent : S
       subst (λ (m : Moved). AreParting (end_of m) w here there rest (out ++ m.tpdus)) (sym (summed (Closing c) (closing_tpdu (at now b) c sent.tpdu) refl p.one.into_are.0))
       (closing_row b c w here there now sent rest out low mine p sent.tpdu refl p.one.into_are.0.kind)
   takes_it (Frozen t) p fit = absurd (cc fit)
-  takes_it (CrWait r) p fit = absurd p.one.freezes
-  takes_it (WaitBeforeClose r) p fit = absurd p.one.freezes
-  takes_it (UserWait since) p fit = absurd p.one.freezes
+  takes_it other p fit = absurd p.one.freezes
 
   -- ---- a TPDU that it leaves
 
@@ -288,13 +276,8 @@ module _ (b : EndRecord) (w : End) (here there : List ℕ) (now : ℕ) (sent : S
   ]
   left_frozen t (Cc credit destination source width calling called size preferred extra version classes ack_time text) e p m =
       stays_frozen t (refusal there source 132 ∷ []) p (refused_comes w b.own there source 132 m.1, tt) (λ r. absurd (subst (IsReleaseOf w.base.own) e r)) (λ c. inl refl)
-  left_frozen t (Cr credit source width calling called size preferred extra version classes ack_time text) e p m = stays_frozen t [] p tt (λ r. absurd (subst (IsReleaseOf w.base.own) e r)) (λ c. absurd (subst IsConfirm e c))
-  left_frozen t (Dc destination source) e p m = stays_frozen t [] p tt (λ r. absurd (subst (IsReleaseOf w.base.own) e r)) (λ c. absurd (subst IsConfirm e c))
-  left_frozen t (Dt destination last number text) e p m = stays_frozen t [] p tt (λ r. absurd (subst (IsReleaseOf w.base.own) e r)) (λ c. absurd (subst IsConfirm e c))
-  left_frozen t (Ed destination last number text) e p m = stays_frozen t [] p tt (λ r. absurd (subst (IsReleaseOf w.base.own) e r)) (λ c. absurd (subst IsConfirm e c))
-  left_frozen t (Ak destination number credit subsequence confirmation) e p m = stays_frozen t [] p tt (λ r. absurd (subst (IsReleaseOf w.base.own) e r)) (λ c. absurd (subst IsConfirm e c))
-  left_frozen t (Ea destination number) e p m = stays_frozen t [] p tt (λ r. absurd (subst (IsReleaseOf w.base.own) e r)) (λ c. absurd (subst IsConfirm e c))
   left_frozen t (Er destination cause rejected) e p m = absurd m
+  left_frozen t other e p m = stays_frozen t [] p tt (λ r. absurd (subst (IsReleaseOf w.base.own) e r)) (λ c. absurd (subst IsConfirm e c))
 
   pub leaves_it : (stage : StateData) → AreParting (record { base = b; stage = stage }) w here there (sent ∷ rest) out → fits b stage sent.tpdu ≡ false
       → AreParting (record { base = b; stage = stage }) w here there rest (out ++ stateless there sent.tpdu)
@@ -302,9 +285,7 @@ module _ (b : EndRecord) (w : End) (here there : List ℕ) (now : ℕ) (sent : S
   leaves_it (Closing c) p unfit = left_closing c sent.tpdu refl p p.one.into_are.0.kind unfit
   leaves_it (AkWait a) p unfit = absurd (left_waiting a sent.tpdu p p.one.into_are.0.kind unfit)
   leaves_it (Frozen t) p unfit = left_frozen t sent.tpdu refl p p.one.into_are.0.kind
-  leaves_it (CrWait r) p unfit = absurd p.one.freezes
-  leaves_it (WaitBeforeClose r) p unfit = absurd p.one.freezes
-  leaves_it (UserWait since) p unfit = absurd p.one.freezes
+  leaves_it other p unfit = absurd p.one.freezes
 
   -- a copy of the CR meets a frozen end: DR 131, or nothing
   pub ignores_it : (t : ℕ) → AreParting (record { base = b; stage = Frozen t }) w here there (sent ∷ rest) out → (source : ℕ) → source ≡ w.base.own → (IsReleaseOf w.base.own sent.tpdu → ⊥) → (IsConfirm sent.tpdu → ⊥) → (answered : Bool)

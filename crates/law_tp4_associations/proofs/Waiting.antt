@@ -56,15 +56,12 @@ data_for n m (Ea destination number) same is = ap Some (is ∙ same)
 data_for n m other same is = absurd is
 
 numbered_for : (z : End) (other : ℕ) (tpdu : Tpdu) → MayCome z other tpdu → has_number (kind_for tpdu) ≡ true → destination_of tpdu ≡ Some z.base.own
-numbered_for z other (Dt destination last number text) m e = ap Some m.0
-numbered_for z other (Ed destination last number text) m e = ap Some m.0
-numbered_for z other (Ak destination number credit subsequence confirmation) m e = ap Some m.0
-numbered_for z other (Ea destination number) m e = ap Some m.0
 numbered_for z other (Er destination cause rejected) m e = absurd m
 numbered_for z other (Cr credit source width calling called size preferred extra version classes ack_time text) m e = absurd (cc e)
 numbered_for z other (Cc credit destination source width calling called size preferred extra version classes ack_time text) m e = absurd (cc e)
 numbered_for z other (Dr destination source reason info text) m e = absurd (cc e)
 numbered_for z other (Dc destination source) m e = absurd (cc e)
+numbered_for z other another m e = ap Some m.0
 
 -- ---- what waits for the called end, for the calling end
 

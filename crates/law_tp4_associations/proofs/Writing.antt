@@ -10,7 +10,7 @@ use Rattle.tp4_flow.specs.declared.rules.Life.TheVariants.{Goes, Exhausted}
 use Rattle.tp4_flow.specs.declared.step.EndEvent.{EndEvent}
 use Rattle.tp4_flow.specs.declared.step.Sent.{Sent}
 use Rattle.tp4_number.specs.declared.got.Got.{Got}
-use Rattle.tp4_number.specs.declared.got.Got.TheVariants.{Kept, Old, Outside, TooLarge}
+use Rattle.tp4_number.specs.declared.got.Got.TheVariants.{TooLarge}
 use Rattle.tp4_number.specs.declared.piece.Piece.{Piece}
 use Rattle.tp4_number.specs.Number.{near, whole}
 use Rattle.tp4_sending.specs.FlowSender.{FlowSender, Sendings, acknowledged, acknowledged_to, all_dts, at, block_in, dts, dts_of, due_numbers, eds, has_next, is_noted, is_outstanding, is_taken, is_urgent, life_of, new_sends, normals, normals_where, nothing, one_urgent, resends, resends_urgent, resends_urgent_as, rule_allows, sent_normal, submitted, then_sends, ticked, ticked_as, urged, urgent_done}
@@ -18,7 +18,7 @@ use Rattle.tp4_sending.specs.Pieces.{cut_at, is_due}
 use Rattle.tp4_sending.specs.declared.tries.Tries.{Tries}
 use Rattle.tp4_conn.specs.declared.end_record.EndRecord.{EndRecord}
 use Rattle.tp4_conn.specs.declared.call.UserCall.{UserCall}
-use Rattle.tp4_conn.specs.declared.call.UserCall.TheVariants.{Accept, Refuse, Normal, Urgent, Window, Disconnect}
+use Rattle.tp4_conn.specs.declared.call.UserCall.TheVariants.{Normal, Urgent, Window, Disconnect}
 use Rattle.tp4_conn.specs.declared.halves.Halves.{Halves}
 use Rattle.tp4_conn.specs.declared.states.InOpened.{InOpened}
 use Rattle.tp4_conn.specs.declared.states.InClosing.{InClosing}
@@ -136,16 +136,12 @@ module _ (rules : FlowRules) where
   ak_by h is = by_rules h.rules (ak h ∷ []) is (record { to = refl; format = refl; sum = refl; kind = refl }, tt)
 
   aks_by : (got : Got) (h : Half) → h.rules ≡ rules → AreData rules (aks got h)
-  aks_by Kept h is = ak_by h is
-  aks_by Old h is = ak_by h is
-  aks_by Outside h is = ak_by h is
   aks_by TooLarge h is = tt
+  aks_by other h is = ak_by h is
 
   dt_as_by : (got : Got) (b : EndRecord) (o : InOpened) (r : Received) → AreBy o.halves → r.half.rules ≡ rules → AreData rules r.tpdus → Stays b (dt_as got b o r)
   dt_as_by TooLarge b o r h is d = Closes (record { reason = 133; octets = []; from = b.clock; last = b.clock }) r.tpdus 133 [] refl refl d refl
-  dt_as_by Kept b o r h is d = receives_by b (acking b o) r h is d
-  dt_as_by Old b o r h is d = receives_by b (acking b o) r h is d
-  dt_as_by Outside b o r h is d = receives_by b (acking b o) r h is d
+  dt_as_by other b o r h is d = receives_by b (acking b o) r h is d
 
   ed_by : (b : EndRecord) (o : InOpened) (w : ℕ) (octets : List ℕ) → AreBy o.halves → Stays b (receiving b o (taken_ed whole o.halves.receiving w octets))
   ed_by b o w octets h =
@@ -175,8 +171,7 @@ module _ (rules : FlowRules) where
   asks b o (Urgent unit) h = sends_by b o _ h (urged_by (at b.clock o.halves.sending) unit h.sending_by)
   asks b o (Window credit) h = grants_by b o (half_granted o.halves.receiving credit) h h.receiving_by
   asks b o (Disconnect octets) h = closes_by b [] 128 octets b.clock
-  asks b o (Accept asked octets) h = Open_on o refl refl h.sending_by h.receiving_by tt
-  asks b o (Refuse octets) h = Open_on o refl refl h.sending_by h.receiving_by tt
+  asks b o other h = Open_on o refl refl h.sending_by h.receiving_by tt
 
   goes_by : (b : EndRecord) (o : InOpened) (s : Sendings) → AreBy o.halves → SendsBy s → Stays b (opened_goes b o s)
   goes_by b o s h x =

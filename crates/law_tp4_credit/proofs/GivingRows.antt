@@ -5,7 +5,7 @@ use Rattle.std.proofs.lemmas.Option.{none-some}
 use Rattle.tpdu.specs.declared.tpdu.Tpdu.{Tpdu}
 use Rattle.tpdu.specs.declared.tpdu.Tpdu.TheVariants.{Cr, Cc, Dr, Dc, Dt, Ed, Ak, Ea, Er}
 use Rattle.tp4_number.specs.declared.got.Got.{Got}
-use Rattle.tp4_number.specs.declared.got.Got.TheVariants.{Kept, Old, Outside, TooLarge}
+use Rattle.tp4_number.specs.declared.got.Got.TheVariants.{TooLarge}
 use Rattle.tp4_number.specs.declared.piece.Piece.{Piece}
 use Rattle.tp4_number.proofs.Past.{if_kept}
 use Rattle.tp4_flow.specs.Half.{Half, Received, ak, aks, dt_arrival, half_granted, is_next, is_before, taken_dt}
@@ -52,19 +52,15 @@ module _ (credit : ℕ) where
   dc_gives b source = if_kept (AllGive credit) (source == 0) _ _ (λ _. tt) (λ _. (tt, tt))
 
   aks_give : (got : Got) (h : Half) → AllGive credit (aks got h)
-  aks_give Kept h = (tt, tt)
-  aks_give Old h = (tt, tt)
-  aks_give Outside h = (tt, tt)
   aks_give TooLarge h = tt
+  aks_give other h = (tt, tt)
 
   -- ---- Opened
 
   module _ (wrap : ℕ → ℕ → ℕ) (b : EndRecord) (timers : b.timers.credit ≡ credit) where
     dt_gives : (o : InOpened) (got : Got) (r : Received) → b.credit ≡ credit → AllGive credit r.tpdus → Row (dt_as got b o r)
     dt_gives o TooLarge r knows all = still _ timers tt (all_then credit r.tpdus _ all (tt, tt))
-    dt_gives o Kept r knows all = still _ timers knows all
-    dt_gives o Old r knows all = still _ timers knows all
-    dt_gives o Outside r knows all = still _ timers knows all
+    dt_gives o other r knows all = still _ timers knows all
 
     opened_gives : (o : InOpened) (tpdu : Tpdu) → b.credit ≡ credit → Row (opened_tpdu wrap b o tpdu)
     unfolding opened_tpdu
@@ -164,7 +160,6 @@ module _ (credit : ℕ) where
     closing_gives : (c : InClosing) (tpdu : Tpdu) → Row (closing_tpdu b c tpdu)
     unfolding closing_tpdu
     closing_gives c (Dc destination source) = still _ timers tt tt
-    closing_gives c (Dr destination source reason info text) = still _ timers tt tt
     closing_gives c other = still _ timers tt tt
 
     closing_later : (c : InClosing) → Row (closing_tick b c)
@@ -183,33 +178,23 @@ module _ (credit : ℕ) where
     opened_call o (Urgent unit) knows = still _ timers knows (urged_give credit (at b.clock o.halves.sending) unit)
     opened_call o (Window granted) knows = window_gives o (half_granted o.halves.receiving granted) knows
     opened_call o (Disconnect octets) knows = still _ timers tt (tt, tt)
-    opened_call o (Accept options octets) knows = still _ timers knows tt
-    opened_call o (Refuse octets) knows = still _ timers knows tt
+    opened_call o other knows = still _ timers knows tt
 
     ak_wait_call : (w : InAkWait) (call : UserCall) → b.credit ≡ credit → Row (on_call b (AkWait w) call)
     ak_wait_call w (Normal unit) knows = still _ timers knows (submitted_give credit (at b.clock w.halves.sending) unit)
     ak_wait_call w (Urgent unit) knows = still _ timers knows (urged_give credit (at b.clock w.halves.sending) unit)
-    ak_wait_call w (Window granted) knows = still _ timers knows tt
     ak_wait_call w (Disconnect octets) knows = still _ timers tt (tt, tt)
-    ak_wait_call w (Accept options octets) knows = still _ timers knows tt
-    ak_wait_call w (Refuse octets) knows = still _ timers knows tt
+    ak_wait_call w other knows = still _ timers knows tt
 
     user_wait_call : (since : ℕ) (call : UserCall) → b.credit ≡ credit → Row (on_call b (UserWait since) call)
     unfolding user_wait_accept user_wait_refuse
     user_wait_call since (Accept options octets) knows = still _ timers knows (timers, tt)
     user_wait_call since (Refuse octets) knows = still _ timers tt (tt, tt)
-    user_wait_call since (Normal unit) knows = still _ timers knows tt
-    user_wait_call since (Urgent unit) knows = still _ timers knows tt
-    user_wait_call since (Window granted) knows = still _ timers knows tt
-    user_wait_call since (Disconnect octets) knows = still _ timers knows tt
+    user_wait_call since other knows = still _ timers knows tt
 
     cr_wait_call : (w : InCrWait) (call : UserCall) → Row (on_call b (CrWait w) call)
     cr_wait_call w (Accept options octets) = still _ timers tt tt
-    cr_wait_call w (Refuse octets) = still _ timers tt tt
-    cr_wait_call w (Normal unit) = still _ timers tt tt
-    cr_wait_call w (Urgent unit) = still _ timers tt tt
-    cr_wait_call w (Window granted) = still _ timers tt tt
-    cr_wait_call w (Disconnect octets) = still _ timers tt tt
+    cr_wait_call w other = still _ timers tt tt
 
     -- ---- all rows
 
@@ -233,22 +218,17 @@ module _ (credit : ℕ) where
 
     call_gives : (stage : StateData) (call : UserCall) → KnowsCredit credit b stage → Row (on_call b stage call)
     call_gives (CrWait w) call knows = cr_wait_call w call
-    call_gives (WaitBeforeClose w) call knows = still _ timers tt tt
     call_gives (UserWait since) call knows = user_wait_call since call knows
     call_gives (AkWait w) call knows = ak_wait_call w call knows
     call_gives (Opened o) call knows = opened_call o call knows
-    call_gives (Closing c) call knows = still _ timers tt tt
-    call_gives (Frozen when) call knows = still _ timers tt tt
+    call_gives other call knows = still _ timers tt tt
 
   -- the tick does not count
   pub knows_at : (now : ℕ) (b : EndRecord) (stage : StateData) → KnowsCredit credit b stage → KnowsCredit credit (now_at now b) stage
-  knows_at now b (CrWait w) knows = tt
-  knows_at now b (WaitBeforeClose w) knows = tt
   knows_at now b (UserWait since) knows = knows
   knows_at now b (AkWait w) knows = knows
   knows_at now b (Opened o) knows = knows
-  knows_at now b (Closing c) knows = tt
-  knows_at now b (Frozen when) knows = tt
+  knows_at now b other knows = tt
 
   pub row_gives : (wrap : ℕ → ℕ → ℕ) (now : ℕ) (e : End) (event : Event) → Gives credit e.base e.stage → EventGives credit event → Row (stepped wrap now e event)
   row_gives wrap now e (Called call) g is = call_gives wrap (now_at now e.base) g.timers e.stage call (knows_at now e.base e.stage g.knows)
@@ -266,11 +246,4 @@ module _ (credit : ℕ) where
     where
       some_same : (a b : Moved) → Some a ≡ Some b → a ≡ b
       some_same a b e = ap (λ (x : Option Moved). unwrap_or x a) e
-  indicated_gives made own from rules (Cc given destination source width calling called size preferred extra version classes ack_time text) m is gives e = absurd (none-some _ e)
-  indicated_gives made own from rules (Dr destination source reason info text) m is gives e = absurd (none-some _ e)
-  indicated_gives made own from rules (Dc destination source) m is gives e = absurd (none-some _ e)
-  indicated_gives made own from rules (Er destination cause rejected) m is gives e = absurd (none-some _ e)
-  indicated_gives made own from rules (Dt destination last number text) m is gives e = absurd (none-some _ e)
-  indicated_gives made own from rules (Ed destination last number text) m is gives e = absurd (none-some _ e)
-  indicated_gives made own from rules (Ak destination number granted subsequence confirmation) m is gives e = absurd (none-some _ e)
-  indicated_gives made own from rules (Ea destination number) m is gives e = absurd (none-some _ e)
+  indicated_gives made own from rules other m is gives e = absurd (none-some _ e)

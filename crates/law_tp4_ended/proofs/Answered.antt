@@ -66,10 +66,7 @@ drop_none system (Dropped cause) = (tt, tt)
 
 event_none : (system : ℕ) (own : List ℕ) (number reference : ℕ) (what : What) → IsNoRefusal (event_for system own number reference what)
 event_none system own number reference (whats.Incoming from partner calling called options octets) = tt
-event_none system own number reference (whats.End what) = tt
-event_none system own number reference (whats.BadTpdu cause place) = tt
-event_none system own number reference (whats.Unknown kind) = tt
-event_none system own number reference whats.Silent = tt
+event_none system own number reference other = tt
 
 events_none : (made : List EndEvent) (ends : List EndAt) (system : ℕ) (own : List ℕ) → AreNoRefusals (events_after ends system own made)
 events_none [] ends system own = tt
@@ -79,11 +76,8 @@ events_none (one ∷ others) ends system own =
 
 call_none : (number : ℕ) (call : UserCall) → AreNoRefusals (call_events number call)
 call_none number (asks.Accept options octets) = tt
-call_none number (asks.Refuse octets) = (tt, tt)
-call_none number (asks.Normal octets) = (tt, tt)
-call_none number (asks.Urgent octets) = (tt, tt)
 call_none number (asks.Window credit) = tt
-call_none number (asks.Disconnect octets) = (tt, tt)
+call_none number other = (tt, tt)
 
 -- ---- refusals
 

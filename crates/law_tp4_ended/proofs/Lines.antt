@@ -178,15 +178,4 @@ module _ {C : Type 0} (link : C → Link (List ℕ)) (steps : C → Call (List �
     line_went lines.Settle old new made fit s = line_passed lines.Settle old new (settled link steps law wrap 0 old made new fit s)
     line_went (lines.Inject lan system octets) old new made fit s = line_passed (lines.Inject lan system octets) old new (injected link steps law wrap old new made lan system octets s.0 fit s.1)
     line_went (lines.Restart system) old new made fit s = restart_went link steps lines.Restart system old new (began_again link steps law old new made system fit s)
-    line_went (lines.Send system selector to called octets) old new made fit s = absurd s
-    line_went (lines.Version version) old new made fit s = absurd s
-    line_went (lines.Set key value) old new made fit s = absurd s
-    line_went (lines.Lan name bound room) old new made fit s = absurd s
-    line_went (lines.Es name title) old new made fit s = absurd s
-    line_went (lines.Is name title) old new made fit s = absurd s
-    line_went (lines.Port system lan snpa) old new made fit s = absurd s
-    line_went (lines.Route system prefix hop lan) old new made fit s = absurd s
-    line_went (lines.Path name kind systems) old new made fit s = absurd s
-    line_went (lines.Tsap system selector) old new made fit s = absurd s
-    line_went (lines.Relay system selector to called) old new made fit s = absurd s
-    line_went lines.Start old new made fit s = absurd s
+    line_went other old new made fit s = absurd s

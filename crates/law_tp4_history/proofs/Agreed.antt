@@ -308,17 +308,15 @@ module _ (times : Times) (fit : IsFit times) (h : History) (s : Sound times h) (
 
 -- what was agreed stays
 pub step_stay : (times : Times) (fit : IsFit times) (h : History) (s : Sound times h) (a : Agreed h) (step : Step) → May times h step → Stay h (next times h step)
-step_stay times fit h s a Tick may k terms low is = is
 step_stay times fit h s a (Connect e offered) may k terms low is = ap (λ (x : End). x.agreed) (there times h s e may.0.new (h.offers ++ offered) (h.events ++ event_of e ∷ []) k (λ same. omega (arith, low, same))) ∙ is
 step_stay times fit h s a (Indicate o e) may k terms low is = ap (λ (x : End). x.agreed) (there times h s e may.new h.offers (h.events ++ event_of e ∷ []) k (λ same. omega (arith, low, same))) ∙ is
-step_stay times fit h s a (Reply o answer) may k terms low is = is
 step_stay times fit h s a (Take y o tpdu e offered) may k terms low is =
     stay times h (next times h (Take y o tpdu e offered)) s (sound_step times fit h (Take y o tpdu e offered) may s) (step_later times fit h (Take y o tpdu e offered) may s) a y may.0.y_low (Took tpdu) e offered may.1 refl refl refl k terms low is
 step_stay times fit h s a (Act y e offered) may k terms low is =
     stay times h (next times h (Act y e offered)) s (sound_step times fit h (Act y e offered) may s) (step_later times fit h (Act y e offered) may s) a y may.0 Alone e offered may.2 refl refl refl k terms low is
 step_stay times fit h s a (Release y) may k terms low is = at_end (λ (j : ℕ) (to : End). to.agreed ≡ (h.end j).agreed) h.end y (record (h.end y) { is_out = true }) k refl (λ _. refl) ∙ is
 step_stay times fit h s a (Restart address) may k terms low is = if_kept (λ (to : End). to.agreed ≡ (h.end k).agreed) (pointwise nat_eq (h.end k).birth.address address) _ _ (λ _. refl) (λ _. refl) ∙ is
-step_stay times fit h s a Note may k terms low is = is
+step_stay times fit h s a other may k terms low is = is
 
 pub agreed_start : (end : ℕ → End) → Agreed (nothing end)
 agreed_start end = record {

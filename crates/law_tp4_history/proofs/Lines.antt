@@ -7,7 +7,7 @@ use Rattle.std.proofs.lemmas.List.{get_or-append_right, get_or-drop, take-append
 use Rattle.std.proofs.lemmas.Bool.{cases_lt, eqb-true}
 use Rattle.tp4_number.specs.declared.piece.Piece.{Piece}
 use Rattle.tp4_number.specs.declared.got.Got.{Got}
-use Rattle.tp4_number.specs.declared.got.Got.TheVariants.{Kept, Old, Outside, TooLarge}
+use Rattle.tp4_number.specs.declared.got.Got.TheVariants.{Kept}
 use Rattle.tp4_number.specs.Number.{whole, wire, ahead, near}
 use Rattle.tp4_number.specs.Sender.{Sender, sent_next, told}
 use Rattle.tp4_number.specs.declared.blocks.Blocks.{Blocks}
@@ -116,9 +116,7 @@ module _ (rules : Rules) (fit : IsFit rules) (size : ℕ) (some : 0 < size) (uni
 
       by : (g : Got) → judged rules.block w.receiver.inbox d ≡ g → Shows size units shown (arrived_as g w.receiver.inbox d piece).units (after_dt (whole rules.block) w.receiver (arrived_as g w.receiver.inbox d piece))
       by Kept e = shows_kept n d piece (in_room n tick piece may (kept_low rules.block w.receiver.inbox d e)) cut
-      by Old e = shows_none
-      by Outside e = shows_none
-      by TooLarge e = shows_none
+      by other e = shows_none
 
 -- one unit more
 filled_normal : (size : ℕ) (units : List (List ℕ)) (high : ℕ) (r : Receiver) (shown : List (List ℕ)) (unit : List ℕ) → 0 < length unit → Filled size units high r shown → Filled size (units ++ unit ∷ []) high r shown

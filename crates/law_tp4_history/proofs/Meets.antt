@@ -2,7 +2,7 @@
 -- it. So what is afloat and goes to an end is of its partner or answers it: nothing old meets a new end.
 use Rattle.std.proofs.Common.{◌≡◌, ◌≢◌, ◌⊎◌, inl, inr, ℕ, ◌+◌, ◌<◌, ◌≤◌, false, Some, refl, sym, ◌∙◌, ap, subst, arith, Contains}
 use Rattle.std.proofs.lemmas.Bool.{cases_order}
-use Rattle.law_tp4_history.specs.Ends.{Times, IsFit, frozen, Kind, Cr, Cc, Dr, Dc, Er, Flow, Origin, Sent, Answer, Offer}
+use Rattle.law_tp4_history.specs.Ends.{Times, IsFit, frozen, Kind, Cr, Origin, Sent, Answer, Offer}
 use Rattle.law_tp4_history.specs.History.{History, IsCaller, IsPartner, IsFresh}
 use Rattle.law_tp4_history.specs.Reached.{IsFor, MeetsOwn, OneRequest, EachRequest, IsQuiet, FreeIsQuiet, EachEnd, From_partner, Answering}
 use Rattle.law_tp4_history.proofs.Sound.{Until, AimedFacts, SentFacts, AnswerFacts, OfferFacts, Sound, partner_low, one_partner}
@@ -62,11 +62,7 @@ module _ (times : Times) (h : History) (s : Sound times h) where
 
   is_request : (k : Kind) → (k ≡ Cr) ⊎ (k ≢ Cr)
   is_request Cr = inl refl
-  is_request Cc = inr (λ e. cc e)
-  is_request Dr = inr (λ e. cc e)
-  is_request Dc = inr (λ e. cc e)
-  is_request Er = inr (λ e. cc e)
-  is_request Flow = inr (λ e. cc e)
+  is_request other = inr (λ e. cc e)
 
   -- how long a CR is afloat
   module _ (fit : IsFit times) (a : ℕ) (o : Offer) (c : Contains h.offers o) (is : o.tpdu.kind ≡ Cr) (by : o.origin ≡ Sent a) (fresh : IsFresh times h o) where

@@ -42,9 +42,7 @@ outs_shown taken t l new (happening ∷ happenings) r = outs_shown taken t (next
 
 in_given : (taken : Option Offer) (t : Track) (l : Line) (happening : Happening) → CanIn taken t l happening → (next_line t.rules l happening).submitted ≡ l.submitted
 in_given taken t l (Submit unit) can = absurd can
-in_given taken t l Clock can = refl
-in_given taken t l (Flows event) can = refl
-in_given taken t l (Expedites event) can = refl
+in_given taken t l other can = refl
 
 ins_given : (taken : Option Offer) (t : Track) (l new : Line) (happenings : List Happening) → RunsBy (CanIn taken) t l happenings new → new.submitted ≡ l.submitted
 ins_given taken t l new [] r = ap (λ (x : Line). x.submitted) r

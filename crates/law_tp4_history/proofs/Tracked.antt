@@ -129,8 +129,6 @@ module _ (taken : Option Offer) (clock : ℕ) (t : Track) where
       (((subst (λ (k : ℕ). Contains l.urgent.answers (n, k)) can.4 there, omega (arith, fresh, can.4, at.1)), record {}), (at.0, (ea_grows t.rules.block l.urgent n).2 ∙ at.1))
 
   can_in : (l : Line) (happening : Happening) → IsAt clock l → HearsIn taken t.rules.life t.size clock l → CanIn taken t l happening → Can t.rules t.size l happening × IsAt clock (next_line t.rules l happening)
-  can_in l (Submit unit) at hears can = absurd can
-  can_in l Clock at hears can = absurd can
   can_in l (Flows Ticks_on) at hears can = absurd can
   can_in l (Flows (Open credit)) at hears can = absurd can
   can_in l (Flows Send) at hears can = absurd can
@@ -150,6 +148,7 @@ module _ (taken : Option Offer) (clock : ℕ) (t : Track) where
       let fresh = hears.fresh can.0 can.1 in
       (((subst (λ (k : ℕ). Contains l.urgent.sends (n, k)) can.4 there, omega (arith, fresh, can.4, at.1)), record {}), (at.0, (ed_grows t.rules.block l.urgent n).2 ∙ at.1))
   can_in l (Expedites (Ea_comes n tick)) at hears can = absurd can
+  can_in l other at hears can = absurd can
 
   hears_on : (l new : Line) → Grows t.size l new → Hears taken t.rules.life t.size clock l → Hears taken t.rules.life t.size clock new
   hears_on l new g f = record { fresh = f.fresh; ak = λ o n c q is flow body. g.answers _ (f.ak o n c q is flow body); ea = λ o n is flow body. g.eas _ (f.ea o n is flow body) }

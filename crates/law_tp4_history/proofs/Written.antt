@@ -10,7 +10,7 @@ use Rattle.script_journal.specs.declared.event.Indication.{Indication}
 use Rattle.script_journal.specs.declared.event.Request.{Request}
 use Rattle.law_tp4_history.specs.Ends.{Times, IsFit, End}
 use Rattle.law_tp4_history.specs.History.{History, IsPartner, Step, Tick, Connect, Indicate, Reply, Take, Act, Release, Restart, Note, May, next}
-use Rattle.law_tp4_history.specs.Tracks.{Whole, Doing, Nothing, Start, Go, Moment, onward, LeadsAll, ReachedAll, IsNothing}
+use Rattle.law_tp4_history.specs.Tracks.{Whole, Doing, Go, Moment, onward, LeadsAll, ReachedAll, IsNothing}
 use Rattle.law_tp4_history.specs.Units.{TellsNone, MayTell, MayTellAll, Saying}
 use Rattle.law_tp4_history.specs.Journals.{makes_end, MakesNone, Asks, Hears, MayMake, MayFollow, Writes, Written}
 use Rattle.law_tp4_history.proofs.Agreed.{Agreed, agreed_step, agreed_start}
@@ -110,15 +110,11 @@ module _ (times : Times) (fit : IsFit times) (titles : List (List ℕ)) (w : Who
 
 -- the units that a step tells
 pub tells_by : (times : Times) (titles : List (List ℕ)) (w : Whole) (step : Step) (doing : Doing) (made : List Event) → MayMake titles w step doing made → MayTellAll w step doing made
-tells_by times titles w Tick doing made m = m.units
 tells_by times titles w (Connect e offered) doing made m = subst TellsNone (sym m.is) m.aside.units
 tells_by times titles w (Indicate o e) doing made m = subst TellsNone (sym m.is) m.aside.units
-tells_by times titles w (Reply o answer) doing made m = m.units
 tells_by times titles w (Take y o tpdu new offered) doing made m = m.0
 tells_by times titles w (Act y new offered) doing made m = m.0
-tells_by times titles w (Release y) doing made m = m.units
-tells_by times titles w (Restart address) doing made m = m.units
-tells_by times titles w Note doing made m = m.units
+tells_by times titles w other doing made m = m.units
 
 -- one end alone tells units in a step
 record ToldBy (a : ℕ) (made : List Event) : Type 0 where
@@ -128,20 +124,13 @@ told_none : (made : List Event) → TellsNone made → (a : ℕ) × ToldBy a mad
 told_none made none = (0, record { others = λ end _. none end })
 
 told_doing : (w : Whole) (y : ℕ) (doing : Doing) (made : List Event) → MayTell w y doing made → (a : ℕ) × ToldBy a made
-told_doing w y Nothing made none = told_none made none
-told_doing w y (Start z own theirs) made none = told_none made none
 told_doing w y (Go z own theirs) made tells = (y, record { others = tells.others })
+told_doing w y other made none = told_none made none
 
 told_by : (w : Whole) (step : Step) (doing : Doing) (made : List Event) → MayTellAll w step doing made → (a : ℕ) × ToldBy a made
-told_by w Tick doing made m = told_none made m
-told_by w (Connect e offered) doing made m = told_none made m
-told_by w (Indicate o e) doing made m = told_none made m
-told_by w (Reply o answer) doing made m = told_none made m
 told_by w (Take y o tpdu new offered) doing made m = told_doing w y doing made m
 told_by w (Act y new offered) doing made m = told_doing w y doing made m
-told_by w (Release y) doing made m = told_none made m
-told_by w (Restart address) doing made m = told_none made m
-told_by w Note doing made m = told_none made m
+told_by w other doing made m = told_none made m
 
 -- the places of ends after a part of what a step makes
 module _ (times : Times) (fit : IsFit times) (titles : List (List ℕ)) (w : Whole) (before : List Event) (k : Kept times titles w before) where

@@ -5,7 +5,7 @@ use Rattle.tp4_number.specs.Number.{whole}
 use Rattle.tp4_conn.specs.End.{End}
 use Rattle.tp4_conn.specs.Living.{IsFit}
 use Rattle.tp4_conn.specs.Proper.{IsProperEvent}
-use Rattle.tp4_conn.specs.Table.{Event, Called, Took, Ticked, stepped}
+use Rattle.tp4_conn.specs.Table.{Event, Called, Took, stepped}
 use Rattle.tp4_conn.specs.declared.timers.Timers.{Timers}
 use Rattle.tp4_entity.specs.Entity.{Entity, end_at, moved}
 use Rattle.law_tp4_history.specs.Ends.{Offer, Terms, Times}
@@ -31,9 +31,8 @@ pub record IsLike (now : ℕ) (entity other : Entity) : Type 0 where
 
 -- a TPDU that comes to end k is an offer as it is read, where n is its number; nothing else is
 abbrev pub Comes : Times → History → ℕ → ℕ → Event → Option Offer → Type 0
-Comes times h k n (Called call) taken = taken ≡ None
 Comes times h k n (Took tpdu sum) taken = (o : Offer) × (taken ≡ Some o) × IsTaken times h k o (seen n tpdu)
-Comes times h k n Ticked taken = taken ≡ None
+Comes times h k n other taken = taken ≡ None
 
 -- the lines of a call
 abbrev pub first_of : ℕ → Event → List Told

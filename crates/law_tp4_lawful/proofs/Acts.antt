@@ -18,7 +18,7 @@ use Rattle.tp4_conn.specs.End.{End as ConnEnd, Moved, end_of}
 use Rattle.tp4_conn.specs.Living.{IsFit}
 use Rattle.tp4_conn.specs.Matching.{wants_sum}
 use Rattle.tp4_conn.specs.Proper.{AreSendable, IsProperEvent}
-use Rattle.tp4_conn.specs.Table.{Event, Called, Took, Ticked, stepped, untaken}
+use Rattle.tp4_conn.specs.Table.{Event, Called, Took, stepped, untaken}
 use Rattle.tp4_conn.proofs.Propers.{step_row}
 use Rattle.tp4_entity.specs.Entity.{Entity, end_at, moved, with_end}
 use Rattle.law_tp4_history.specs.Ends.{Alone, Birth, End, IsMove, Offer, Terms, Times, Took as Heard, IsFit as AreFit}
@@ -43,7 +43,7 @@ use Rattle.law_tp4_lawful.proofs.Acting.{Acts, Comes, IsLike, first_of}
 use Rattle.law_tp4_lawful.proofs.Known.{AreTerms, HaveBegun, IsKnown, Known}
 use Rattle.law_tp4_lawful.proofs.Worlds.{AreOffered, Follows}
 use Rattle.law_tp4_lawful.proofs.ActsLines.{Did, Flowing, Says, acted, did}
-use Rattle.law_tp4_lawful.proofs.ActsSame.{step_leaves}
+use Rattle.law_tp4_rows.proofs.Leaving.{row_leaves}
 use Rattle.law_tp4_lawful.proofs.ActsRows.{AreTold, row_of}
 use Rattle.law_tp4_lawful.specs.Own.{IsStageOf}
 use Rattle.law_tp4_lawful.proofs.ActsTold.{ends_stay}
@@ -55,19 +55,16 @@ use Rattle.law_tp4_lawful.proofs.FramesLines.{end_here, end_other, has_begun_on}
 
 -- a TPDU lacks its checksum
 abbrev lacks : ConnEnd → Event → Bool
-lacks e (Called call) = false
 lacks e (Took tpdu sum) = wants_sum e.base e.stage tpdu && not sum
-lacks e Ticked = false
+lacks e other = false
 
 lacking : (e : ConnEnd) (now : ℕ) (event : Event) → lacks e event ≡ true → stepped whole now e event ≡ untaken e.base e.stage
-lacking e now (Called call) is = absurd cc
 lacking e now (Took tpdu sum) is = cond-true _ _ _ is
-lacking e now Ticked is = absurd cc
+lacking e now other is = absurd cc
 
 gives_none : (e : ConnEnd) (event : Event) → lacks e event ≡ true → given event ≡ []
-gives_none e (Called call) is = absurd cc
 gives_none e (Took tpdu sum) is = refl
-gives_none e Ticked is = absurd cc
+gives_none e other is = absurd cc
 
 -- ---- the step of the history
 
@@ -96,8 +93,6 @@ module _ (times : Times) (fit : AreFit times) (titles : List (List ℕ)) (w : Wh
   by_take : (e : ConnEnd) (n : ℕ) (event : Event) (taken : Option Offer) → lacks e event ≡ false → Comes times w.base k n event taken → IsMove times w.base.clock k (cause_of e n event) (w.base.end k) new offers
       → MayDo times w k new taken doing → ((p : Offer) → Contains offers p → Noted w.base (done w.track k doing) k w.base.clock p.tpdu.body)
       → MayTell w k doing made → Wrote times titles w (after_step w k new offers doing) (journal ++ made)
-  by_take e n (Called call) taken takes comes move may noted tells = by_act move (subst (λ (o : Option Offer). MayDo times w k new o doing) comes may) noted tells
-  by_take e n Ticked taken takes comes move may noted tells = by_act move (subst (λ (o : Option Offer). MayDo times w k new o doing) comes may) noted tells
   by_take e n (Took tpdu sum) taken takes comes move may noted tells =
       let hears : IsMove times w.base.clock k (Heard (seen n tpdu)) (w.base.end k) new offers =
       subst (λ (b : Bool). IsMove times w.base.clock k (if b then Alone else Heard (seen n tpdu)) (w.base.end k) new offers) takes move in
@@ -107,6 +102,7 @@ module _ (times : Times) (fit : AreFit times) (titles : List (List ℕ)) (w : Wh
         later = step_later times fit w.base (Take k comes.0 (seen n tpdu) new offers) (comes.2, hears) kept.sound;
         stay = step_stay times fit w.base kept.sound kept.agreed (Take k comes.0 (seen n tpdu) new offers) (comes.2, hears);
       }
+  by_take e n other taken takes comes move may noted tells = by_act move (subst (λ (o : Option Offer). MayDo times w k new o doing) comes may) noted tells
 
 -- ---- what is offered
 
@@ -144,11 +140,7 @@ same_frames h = record {
 pub stage_of : (birth : Birth) (took last : ℕ) (b : EndRecord) (stage : StateData) → IsSeenIn birth took last b stage → IsStageOf b.own stage
 stage_of birth took last b (stages.AkWait w) at = (ap (λ (r : FlowRules). r.own) at.halves.sending, ap (λ (r : FlowRules). r.own) at.halves.receiving)
 stage_of birth took last b (stages.Opened o) at = (ap (λ (r : FlowRules). r.own) at.halves.sending, ap (λ (r : FlowRules). r.own) at.halves.receiving)
-stage_of birth took last b (stages.CrWait w) at = tt
-stage_of birth took last b (stages.WaitBeforeClose w) at = tt
-stage_of birth took last b (stages.UserWait since) at = tt
-stage_of birth took last b (stages.Closing c) at = tt
-stage_of birth took last b (stages.Frozen when) at = tt
+stage_of birth took last b other at = tt
 
 module _ (titles : List (List ℕ)) (timers : Timers) (w : Whole) (journal : List Told) (entities : List Placed) (ends : List EndAt) (known : Known titles timers w journal entities ends)
     (system : ℕ) (entity other : Entity) (reference : ℕ) (e : ConnEnd) (kn : IsKnown w entity.own reference e) (n : ℕ) (event : Event) (taken : Option Offer)
@@ -191,7 +183,7 @@ module _ (titles : List (List ℕ)) (timers : Timers) (w : Whole) (journal : Lis
 
   -- the timers of what stands at a reference
   place_timed : (one : ConnEnd) → Some (end_of m) ≡ Some one → one.base.timers ≡ timers
-  place_timed one at = let same : end_of m ≡ one = cc at in ap (λ (x : ConnEnd). x.base.timers) (sym same) ∙ (step_leaves whole w.base.clock e event).timers ∙ timed
+  place_timed one at = let same : end_of m ≡ one = cc at in ap (λ (x : ConnEnd). x.base.timers) (sym same) ∙ (row_leaves whole w.base.clock e event).same.timers ∙ timed
 
   -- another end that stands is another end of the history
   other_k : (own : List ℕ) (r : ℕ) (one : ConnEnd) (o : IsKnown w own r one) → (own ≡ entity.own → r ≡ reference → ⊥) → o.k ≢ kn.k
@@ -223,7 +215,7 @@ module _ (titles : List (List ℕ)) (timers : Timers) (w : Whole) (journal : Lis
       k = kn.k;
       at = at_on w.base (acted w.base kn.k mv.new d.offers) frames entity.own reference kn.k (ap (λ (x : End). x.is_out) (end_here w.base.end kn.k mv.new) ∙ move.is_held) kn.at;
       sees = subst (λ (x : End). Sees (times_of m.base.timers) w.base.clock x (end_of m)) (sym (end_here w.base.end kn.k mv.new))
-          (subst (λ (t : Timers). Sees (times_of t) w.base.clock mv.new (end_of m)) (sym ((step_leaves whole w.base.clock e event).timers ∙ timed)) mv.sees);
+          (subst (λ (t : Timers). Sees (times_of t) w.base.clock mv.new (end_of m)) (sym ((row_leaves whole w.base.clock e event).same.timers ∙ timed)) mv.sees);
       proper = (step_row whole w.base.clock e event kn.proper proper).proper;
       stands = λ z terms p are. d.own z terms (partner_back w.base (acted w.base kn.k mv.new d.offers) frames kn.k z p) are;
     }
@@ -275,7 +267,7 @@ module _ (titles : List (List ℕ)) (timers : Timers) (w : Whole) (journal : Lis
     rests_here = record {
       k = kn.k;
       at = kn.at;
-      sees = subst (λ (t : Timers). Sees (times_of t) w.base.clock (w.base.end kn.k) (end_of m)) (sym ((step_leaves whole w.base.clock e event).timers ∙ timed)) rests.0;
+      sees = subst (λ (t : Timers). Sees (times_of t) w.base.clock (w.base.end kn.k) (end_of m)) (sym ((row_leaves whole w.base.clock e event).same.timers ∙ timed)) rests.0;
       proper = (step_row whole w.base.clock e event kn.proper proper).proper;
       stands = λ z terms p are. subst (λ (stage : StateData). Stands terms m.base stage (w.track kn.k) (w.track z)) (sym (frozen_since (times_of timers) w.base.clock when (w.base.end kn.k) (end_of m) rests.0 over)) tt;
     }
@@ -285,8 +277,7 @@ module _ (titles : List (List ℕ)) (timers : Timers) (w : Whole) (journal : Lis
       where
         no_call : (b : EndRecord) (stage : StateData) (call : UserCall) → stage ≡ stages.Frozen when → call_refusal b stage call ≡ None → ⊥
         no_call b stage call is none = let h = subst (λ (s : StateData). call_refusal b s call ≡ None) is none in cc h
-    no_first (Took tpdu sum) may = refl
-    no_first Ticked may = refl
+    no_first other may = refl
 
     same_journal : (journal ++ first_of (kn.k + 1) event) ++ events_after ends system entity.own m.events ≡ journal
     same_journal =

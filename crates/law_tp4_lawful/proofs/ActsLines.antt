@@ -19,7 +19,7 @@ use Rattle.tp4_conn.specs.declared.timers.Timers.{Timers}
 use Rattle.tp4_conn.specs.Agreeing.{header_of}
 use Rattle.tp4_conn.specs.End.{End as ConnEnd, Moved}
 use Rattle.tp4_conn.specs.Proper.{IsProper, IsProperEvent}
-use Rattle.tp4_conn.specs.Table.{Event, Called, Took, Ticked, stepped}
+use Rattle.tp4_conn.specs.Table.{Event, Took, stepped}
 use Rattle.law_tp4_history.specs.Ends.{Body, Birth, Cc, Cause, End, Offer, Plain, Terms, Times}
 use Rattle.law_tp4_history.specs.History.{History, IsCaller, IsPartner, IsTaken, set_end}
 use Rattle.law_tp4_history.specs.Tracks.{Accepted, CanIn, CanOut, Doing, Go, GoesOn, MayDo, Noted, Nothing, Start, Track, Whole, clocked, done, set_track}
@@ -32,7 +32,8 @@ use Rattle.law_tp4_moves.specs.Moves.{AreOwn, IsAsked, IsSeenIn, Moves, Sees}
 use Rattle.law_tp4_moves.specs.Seen.{AreOffersOf, no_terms, seen, terms_of}
 use Rattle.law_tp4_lawful.proofs.Acting.{Comes}
 use Rattle.law_tp4_lawful.proofs.Known.{AreTerms, HasBegun, piece_by}
-use Rattle.law_tp4_lawful.proofs.ActsSame.{HasHalves, IsUnagreed, step_leaves}
+use Rattle.law_tp4_rows.specs.Leaving.{HasHalves, IsUnagreed}
+use Rattle.law_tp4_rows.proofs.Leaving.{row_leaves}
 use Rattle.law_tp4_lawful.proofs.FramesLines.{apart_from, end_here, end_other, has_partner, line_other, line_own, line_theirs}
 
 -- what the rows do to the lines
@@ -72,22 +73,13 @@ terms_in (Some terms) = terms
 -- halves stand on any terms, where the line has not begun
 any_terms : (b : EndRecord) (stage : StateData) (terms other : Terms) (own theirs : Track) → (own.is_begun ≡ true → ⊥) → Stands terms b stage own theirs → Stands other b stage own theirs
 any_terms b (stages.CrWait w) terms other own theirs none stands = λ begun. absurd (none begun)
-any_terms b (stages.WaitBeforeClose w) terms other own theirs none stands = stands
-any_terms b (stages.UserWait since) terms other own theirs none stands = stands
-any_terms b (stages.AkWait w) terms other own theirs none stands = stands
-any_terms b (stages.Opened o) terms other own theirs none stands = stands
-any_terms b (stages.Closing c) terms other own theirs none stands = stands
-any_terms b (stages.Frozen when) terms other own theirs none stands = stands
+any_terms b another terms other own theirs none stands = stands
 
 -- halves stand in a line that has begun
 begun_in : (b : EndRecord) (stage : StateData) (terms : Terms) (own theirs : Track) → HasHalves stage → Stands terms b stage own theirs → own.is_begun ≡ true
 begun_in b (stages.AkWait w) terms own theirs has stands = stands.sending.begun
 begun_in b (stages.Opened o) terms own theirs has stands = stands.sending.begun
-begun_in b (stages.CrWait w) terms own theirs has stands = absurd has
-begun_in b (stages.WaitBeforeClose w) terms own theirs has stands = absurd has
-begun_in b (stages.UserWait since) terms own theirs has stands = absurd has
-begun_in b (stages.Closing c) terms own theirs has stands = absurd has
-begun_in b (stages.Frozen when) terms own theirs has stands = absurd has
+begun_in b other terms own theirs has stands = absurd has
 
 -- with pieces of the size agreed on
 size_at : (b : EndRecord) (h : Halves) (options : Options) (own : Track) → AreOwn b h → b.agreed ≡ Some options → IsSendingAt h.sending own → own.size ≡ options.size - header_of options
@@ -98,21 +90,13 @@ size_in : (birth : Birth) (took latest : ℕ) (b : EndRecord) (stage : StateData
     → IsSeenIn birth took latest b stage → b.agreed ≡ Some options → own.size ≡ options.size - header_of options
 size_in birth took latest b (stages.AkWait w) terms own theirs options has stands seen_ agreed = size_at b w.halves options own seen_.halves agreed stands.sending
 size_in birth took latest b (stages.Opened o) terms own theirs options has stands seen_ agreed = size_at b o.halves options own seen_.halves agreed stands.sending
-size_in birth took latest b (stages.CrWait w) terms own theirs options has stands seen_ agreed = absurd has
-size_in birth took latest b (stages.WaitBeforeClose w) terms own theirs options has stands seen_ agreed = absurd has
-size_in birth took latest b (stages.UserWait since) terms own theirs options has stands seen_ agreed = absurd has
-size_in birth took latest b (stages.Closing c) terms own theirs options has stands seen_ agreed = absurd has
-size_in birth took latest b (stages.Frozen when) terms own theirs options has stands seen_ agreed = absurd has
+size_in birth took latest b other terms own theirs options has stands seen_ agreed = absurd has
 
 -- an end that has not agreed
 unagreed_in : (birth : Birth) (took latest : ℕ) (b : EndRecord) (stage : StateData) → IsUnagreed stage → IsSeenIn birth took latest b stage → b.agreed ≡ None
 unagreed_in birth took latest b (stages.CrWait w) un seen_ = seen_.unagreed
 unagreed_in birth took latest b (stages.UserWait since) un seen_ = seen_.unagreed
-unagreed_in birth took latest b (stages.WaitBeforeClose w) un seen_ = absurd un
-unagreed_in birth took latest b (stages.AkWait w) un seen_ = absurd un
-unagreed_in birth took latest b (stages.Opened o) un seen_ = absurd un
-unagreed_in birth took latest b (stages.Closing c) un seen_ = absurd un
-unagreed_in birth took latest b (stages.Frozen when) un seen_ = absurd un
+unagreed_in birth took latest b other un seen_ = absurd un
 
 -- the units that the lines of a step of end k tell
 pub record Says (k : ℕ) (event : Event) (m : Moved) (made : List Told) : Type 0 where
@@ -150,7 +134,7 @@ module _ (times : Times) (w : Whole) (s : Sound times w.base) (t : Tracked times
     pub begun : (a : ℕ) (terms : Terms) → IsCaller w.base a k → (mv.new).agreed ≡ Some terms → ((w.base.end k).agreed ≡ Some terms) ⊎ (HasBegun (done w.track k doing a) terms × HasBegun (done w.track k doing k) terms)
 
   agreed_stays : (terms : Terms) → (w.base.end k).agreed ≡ Some terms → (mv.new).agreed ≡ Some terms
-  agreed_stays terms is = elim (step_leaves whole now e event).agreed [
+  agreed_stays terms is = elim (row_leaves whole now e event).agreed [
     | inl same ↦ mv.sees.agreed ∙ ap (option_map terms_of) same ∙ sym sees.agreed ∙ is
     | inr un ↦ absurd (cc (is, sees.agreed, ap (option_map terms_of) (unagreed_in (w.base.end k).birth (w.base.end k).took (w.base.end k).latest e.base e.stage un.1 sees.state)))
   ]
@@ -167,7 +151,7 @@ module _ (times : Times) (w : Whole) (s : Sound times w.base) (t : Tracked times
       ]
 
   called_stays : (mv.new).birth.is_called ≡ (w.base.end k).birth.is_called
-  called_stays = mv.sees.is_called ∙ (step_leaves whole now e event).called ∙ sym sees.is_called
+  called_stays = mv.sees.is_called ∙ (row_leaves whole now e event).same.is_called ∙ sym sees.is_called
 
   kept_at : (j : ℕ) → ((set_end w.base.end k mv.new j).birth.is_called ≡ (w.base.end j).birth.is_called) × ((terms : Terms) → (w.base.end j).agreed ≡ Some terms → (set_end w.base.end k mv.new j).agreed ≡ Some terms)
   kept_at j = elim (cases_eq j k) [
@@ -281,7 +265,7 @@ module _ (times : Times) (w : Whole) (s : Sound times w.base) (t : Tracked times
                 subst (λ (j : ℕ). Stands terms m.base m.stage (w.track k) (w.track j)) (sym same)
                 (to_all (w.track k) (w.track z) l.stands (λ none begun. agreed_then begun none) offered.offers terms (subst (λ (j : ℕ). AreTerms (acted w.base k mv.new offered.offers) k j terms) same are)));
             others = λ x y terms b stage other q timed_ are old. old (old_terms offered.offers x y terms are);
-            begun = λ a terms c agreed. elim (step_leaves whole now e event).agreed [
+            begun = λ a terms c agreed. elim (row_leaves whole now e event).agreed [
               | inl leaves ↦ inl (sees.agreed ∙ ap (option_map terms_of) (sym leaves) ∙ sym mv.sees.agreed ∙ agreed)
               | inr has ↦ inl (was_agreed a terms c agreed (begun_in m.base m.stage (terms_in now_agreed) (w.track k) (w.track z) has.0 l.stands))
             ];
@@ -346,7 +330,7 @@ module _ (times : Times) (w : Whole) (s : Sound times w.base) (t : Tracked times
           own_line : HasBegun l.own (terms_of l.options)
           own_line = record {
             begun = l.own_starts.begun;
-            size = elim (step_leaves whole now e event).agreed [
+            size = elim (row_leaves whole now e event).agreed [
               | inl leaves ↦ absurd (cc (leaves, l.agreed, asked.unagreed))
               | inr has ↦ size_in mv.new.birth mv.new.took mv.new.latest m.base m.stage (terms_in now_agreed) l.own l.theirs l.options has.0 l.stands mv.sees.state l.agreed
             ];
@@ -354,15 +338,13 @@ module _ (times : Times) (w : Whole) (s : Sound times w.base) (t : Tracked times
 
           other_end : (x y : ℕ) (terms : Terms) (b : EndRecord) (stage : StateData) → x ≡ z → b.timers ≡ timers → terms_of l.options ≡ terms → Stands terms b stage (w.track x) (w.track y) → Stands terms b stage l.theirs l.own
           other_end x y terms b (stages.CrWait r) same timed_ is old =
-              λ begun. subst (λ (to : Terms). AreUntouched to b l.theirs l.own) is (l.untouched b (timed_ ∙ sym timed ∙ sym (step_leaves whole now e event).timers))
+              λ begun. subst (λ (to : Terms). AreUntouched to b l.theirs l.own) is (l.untouched b (timed_ ∙ sym timed ∙ sym (row_leaves whole now e event).same.timers))
           other_end x y terms b (stages.UserWait since) same timed_ is old = old
           other_end x y terms b (stages.AkWait r) same timed_ is old =
               absurd (cc (old.sending.begun, ap (λ (j : ℕ). (w.track j).is_begun) same, (not_begun times w s t k z mv.new p accepted).1))
           other_end x y terms b (stages.Opened r) same timed_ is old =
               absurd (cc (old.sending.begun, ap (λ (j : ℕ). (w.track j).is_begun) same, (not_begun times w s t k z mv.new p accepted).1))
-          other_end x y terms b (stages.WaitBeforeClose r) same timed_ is old = tt
-          other_end x y terms b (stages.Closing r) same timed_ is old = tt
-          other_end x y terms b (stages.Frozen when) same timed_ is old = tt
+          other_end x y terms b other same timed_ is old = tt
 
       goes : LinesGoOn (terms_in now_agreed) now taken event m (w.track k) (w.track z) → Did
       goes l =
@@ -425,9 +407,7 @@ module _ (times : Times) (w : Whole) (s : Sound times w.base) (t : Tracked times
     no_halves b (stages.UserWait since) calls unknown at = absurd (calls at.called)
     no_halves b (stages.AkWait r) calls unknown at = absurd (calls at.called)
     no_halves b (stages.Opened o) calls unknown at = absurd (unknown at.known)
-    no_halves b (stages.WaitBeforeClose r) calls unknown at = tt
-    no_halves b (stages.Closing c) calls unknown at = tt
-    no_halves b (stages.Frozen when) calls unknown at = tt
+    no_halves b other calls unknown at = tt
 
     -- nor does it take a CC
     module _ (n : ℕ) (o : Offer) (tpdu : WireTpdu) (taken_is : IsTaken times w.base k o (seen n tpdu)) where
@@ -446,14 +426,11 @@ module _ (times : Times) (w : Whole) (s : Sound times w.base) (t : Tracked times
     knows_tpdu b (stages.UserWait since) n o tpdu calls unknown at is = absurd (calls at.called)
     knows_tpdu b (stages.AkWait r) n o tpdu calls unknown at is = absurd (calls at.called)
     knows_tpdu b (stages.Opened r) n o tpdu calls unknown at is = absurd (unknown at.known)
-    knows_tpdu b (stages.WaitBeforeClose r) n o tpdu calls unknown at is = tt
-    knows_tpdu b (stages.Closing c) n o tpdu calls unknown at is = tt
-    knows_tpdu b (stages.Frozen when) n o tpdu calls unknown at is = tt
+    knows_tpdu b other n o tpdu calls unknown at is = tt
 
     knows : (n : ℕ) (ev : Event) → Comes times w.base k n ev taken → IsKnownEvent no_terms e.base e.stage taken ev (w.track k) (w.track k)
-    knows n (Called call) comes = tt
     knows n (Took tpdu sum) comes = knows_tpdu e.base e.stage n comes.0 tpdu not_called not_known sees.state comes.2
-    knows n Ticked comes = tt
+    knows n other comes = tt
 
     alone : LinesStay no_terms event m (w.track k) (w.track k) → Did
     alone l =

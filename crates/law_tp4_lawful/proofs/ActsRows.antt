@@ -6,7 +6,7 @@ use Rattle.tpdu.specs.declared.tpdu.Tpdu.{Tpdu}
 use Rattle.tpdu.specs.declared.tpdu.Tpdu.TheVariants as wires
 use Rattle.tp4_number.specs.Number.{near}
 use Rattle.tp4_number.specs.declared.got.Got.{Got}
-use Rattle.tp4_number.specs.declared.got.Got.TheVariants.{Kept, Old, Outside, TooLarge}
+use Rattle.tp4_number.specs.declared.got.Got.TheVariants.{TooLarge}
 use Rattle.tp4_number.specs.declared.piece.Piece.{Piece}
 use Rattle.tp4_number.proofs.Past.{if_kept}
 use Rattle.tp4_flow.specs.Half.{Half, dt_arrival, half_granted, is_next, taken_dt, taken_ed}
@@ -123,9 +123,7 @@ module _ (own : ℕ) where
     dt_of : (got : Got) (o : InOpened) (w : ℕ) (piece : Piece) → AreHalvesOf own o.halves → IsRowOf (dt_as got b o (taken_dt wrap o.halves.receiving w piece))
     dt_of TooLarge o w piece halves =
         record { base = is; stage = tt; told = told_appended (taken_dt wrap o.halves.receiving w piece).events _ (gots_told _ (dt_arrival o.halves.receiving w piece).units halves.1) (is, tt) }
-    dt_of Kept o w piece halves = record { base = is; stage = halves; told = gots_told _ _ halves.1 }
-    dt_of Old o w piece halves = record { base = is; stage = halves; told = gots_told _ _ halves.1 }
-    dt_of Outside o w piece halves = record { base = is; stage = halves; told = gots_told _ _ halves.1 }
+    dt_of other o w piece halves = record { base = is; stage = halves; told = gots_told _ _ halves.1 }
 
     ed_of : (o : InOpened) (w : ℕ) (octets : List ℕ) → AreHalvesOf own o.halves → IsRowOf (receiving b o (taken_ed wrap o.halves.receiving w octets))
     ed_of o w octets halves = record {
@@ -146,9 +144,7 @@ module _ (own : ℕ) where
         sending_of o (acknowledged (at b.clock o.halves.sending) number credit subsequence) halves (acknowledged_of (at b.clock o.halves.sending) number credit subsequence halves.0)
     opened_of o (wires.Ea destination number) halves =
         sending_of o (urgent_done (at b.clock o.halves.sending) number) halves (done_of (at b.clock o.halves.sending) number halves.0)
-    opened_of o (wires.Cc credit destination source width calling called size preferred extra version classes ack_time text) halves = record { base = is; stage = halves; told = tt }
-    opened_of o (wires.Cr credit source width calling called size preferred extra version classes ack_time text) halves = record { base = is; stage = halves; told = tt }
-    opened_of o (wires.Dc destination source) halves = record { base = is; stage = halves; told = tt }
+    opened_of o other halves = record { base = is; stage = halves; told = tt }
 
     opens_of : (h : Halves) (tpdu : Tpdu) → AreHalvesOf own h → IsRowOf (opening wrap b h tpdu)
     opens_of h tpdu halves =
@@ -174,7 +170,6 @@ module _ (own : ℕ) where
     wait_of : (w : InWaitBeforeClose) (tpdu : Tpdu) → IsRowOf (wait_before_close_tpdu b w tpdu)
     unfolding wait_before_close_tpdu
     wait_of w (wires.Cc credit destination source width calling called size preferred extra version classes ack_time text) = record { base = is; stage = tt; told = tt }
-    wait_of w (wires.Dr destination source reason info text) = record { base = is; stage = tt; told = tt }
     wait_of w other = record { base = is; stage = tt; told = tt }
 
     ak_of : (w : InAkWait) (tpdu : Tpdu) → AreHalvesOf own w.halves → IsRowOf (ak_wait_tpdu wrap b w tpdu)
@@ -190,17 +185,15 @@ module _ (own : ℕ) where
     closing_of : (c : InClosing) (tpdu : Tpdu) → IsRowOf (closing_tpdu b c tpdu)
     unfolding closing_tpdu
     closing_of c (wires.Dc destination source) = record { base = is; stage = tt; told = tt }
-    closing_of c (wires.Dr destination source cause info text) = record { base = is; stage = tt; told = tt }
     closing_of c other = record { base = is; stage = tt; told = tt }
 
     tpdu_of : (stage : StateData) (tpdu : Tpdu) → IsStageOf own stage → IsRowOf (on_tpdu wrap b stage tpdu)
     tpdu_of (stages.CrWait w) tpdu halves = cr_of w tpdu
     tpdu_of (stages.WaitBeforeClose w) tpdu halves = wait_of w tpdu
-    tpdu_of (stages.UserWait since) tpdu halves = record { base = is; stage = tt; told = tt }
     tpdu_of (stages.AkWait w) tpdu halves = ak_of w tpdu halves
     tpdu_of (stages.Opened o) tpdu halves = opened_of (hearing b o) tpdu halves
     tpdu_of (stages.Closing c) tpdu halves = closing_of c tpdu
-    tpdu_of (stages.Frozen when) tpdu halves = record { base = is; stage = tt; told = tt }
+    tpdu_of other tpdu halves = record { base = is; stage = tt; told = tt }
 
     cr_tick_of : (w : InCrWait) → IsRowOf (cr_wait_tick b w)
     unfolding cr_wait_tick

@@ -8,7 +8,7 @@ use Rattle.tp4_flow.specs.declared.step.EndEvent.{EndEvent}
 use Rattle.tp4_flow.specs.declared.step.What.{What}
 use Rattle.tp4_flow.specs.declared.step.What.TheVariants as whats
 use Rattle.tp4_conn.specs.declared.call.UserCall.TheVariants as calls
-use Rattle.tp4_conn.specs.Table.{Event, Called, Took, Ticked}
+use Rattle.tp4_conn.specs.Table.{Event, Called}
 use Rattle.law_tp4_history.specs.Journals.{makes_end, MakesNone}
 use Rattle.law_tp4_moves.specs.Lines.{given, shown_as, shown_in}
 use Rattle.tp4_world.specs.Telling.{ends_after, ends_with, event_for, events_after}
@@ -92,40 +92,20 @@ one_event event is = All-cons (λ (x : Told). makes_end x ≡ false) event [] is
 
 pub first_makes_none : (number : ℕ) (event : Event) → MakesNone (first_of number event)
 first_makes_none number (Called (calls.Accept options octets)) = All-nil (λ (x : Told). makes_end x ≡ false)
-first_makes_none number (Called (calls.Refuse octets)) = one_event _ refl
-first_makes_none number (Called (calls.Normal octets)) = one_event _ refl
-first_makes_none number (Called (calls.Urgent octets)) = one_event _ refl
 first_makes_none number (Called (calls.Window credit)) = All-nil (λ (x : Told). makes_end x ≡ false)
-first_makes_none number (Called (calls.Disconnect octets)) = one_event _ refl
-first_makes_none number (Took tpdu sum) = All-nil (λ (x : Told). makes_end x ≡ false)
-first_makes_none number Ticked = All-nil (λ (x : Told). makes_end x ≡ false)
+first_makes_none number (Called call) = one_event _ refl
+first_makes_none number other = All-nil (λ (x : Told). makes_end x ≡ false)
 
 pub first_shows_none : (end number : ℕ) (event : Event) → shown end (first_of number event) ≡ []
 first_shows_none end number (Called (calls.Accept options octets)) = refl
-first_shows_none end number (Called (calls.Refuse octets)) = refl
-first_shows_none end number (Called (calls.Normal octets)) = refl
-first_shows_none end number (Called (calls.Urgent octets)) = refl
-first_shows_none end number (Called (calls.Window credit)) = refl
-first_shows_none end number (Called (calls.Disconnect octets)) = refl
-first_shows_none end number (Took tpdu sum) = refl
-first_shows_none end number Ticked = refl
+first_shows_none end number other = refl
 
 pub first_gives : (number : ℕ) (event : Event) → submitted number (first_of number event) ≡ given event
-first_gives number (Called (calls.Accept options octets)) = refl
-first_gives number (Called (calls.Refuse octets)) = refl
 first_gives number (Called (calls.Normal octets)) = ap (λ (b : Bool). if b then Normal octets ∷ [] else []) (eq-eqb number number refl)
 first_gives number (Called (calls.Urgent octets)) = ap (λ (b : Bool). if b then Expedited octets ∷ [] else []) (eq-eqb number number refl)
-first_gives number (Called (calls.Window credit)) = refl
-first_gives number (Called (calls.Disconnect octets)) = refl
-first_gives number (Took tpdu sum) = refl
-first_gives number Ticked = refl
+first_gives number other = refl
 
 pub first_gives_none : (end number : ℕ) (event : Event) → end ≢ number → submitted end (first_of number event) ≡ []
-first_gives_none end number (Called (calls.Accept options octets)) other = refl
-first_gives_none end number (Called (calls.Refuse octets)) other = refl
 first_gives_none end number (Called (calls.Normal octets)) other = ap (λ (b : Bool). if b then Normal octets ∷ [] else []) (ne_eqb number end (λ same. other (sym same)))
 first_gives_none end number (Called (calls.Urgent octets)) other = ap (λ (b : Bool). if b then Expedited octets ∷ [] else []) (ne_eqb number end (λ same. other (sym same)))
-first_gives_none end number (Called (calls.Window credit)) other = refl
-first_gives_none end number (Called (calls.Disconnect octets)) other = refl
-first_gives_none end number (Took tpdu sum) other = refl
-first_gives_none end number Ticked other = refl
+first_gives_none end number another other = refl

@@ -76,18 +76,7 @@ module _ {C : Type 0} (link : C → Link (List ℕ)) (steps : C → Call (List �
     line_called titles lines.Settle old new made s = one_call requests.Settle old new made _ s (λ proper. tt)
     line_called titles (lines.Inject lan system octets) old new made s = one_call (requests.Inject lan system octets s.0) old new made _ s.1 (λ proper. tt)
     line_called titles (lines.Restart system) old new made s = one_call (requests.Restart system) old new made _ s (λ proper. tt)
-    line_called titles (lines.Send system selector to called octets) old new made s = absurd s
-    line_called titles (lines.Version version) old new made s = absurd s
-    line_called titles (lines.Set key value) old new made s = absurd s
-    line_called titles (lines.Lan name bound room) old new made s = absurd s
-    line_called titles (lines.Es name title) old new made s = absurd s
-    line_called titles (lines.Is name title) old new made s = absurd s
-    line_called titles (lines.Port system lan snpa) old new made s = absurd s
-    line_called titles (lines.Route system prefix hop lan) old new made s = absurd s
-    line_called titles (lines.Path name kind systems) old new made s = absurd s
-    line_called titles (lines.Tsap system selector) old new made s = absurd s
-    line_called titles (lines.Relay system selector to called) old new made s = absurd s
-    line_called titles lines.Start old new made s = absurd s
+    line_called titles other old new made s = absurd s
 
     lines_called : (titles : List (List ℕ)) (script : List Line) (first last : World C) (journal : List Event) → RunsLines link steps wrap titles first script journal last
         → HaveCalls first journal last (AllByRecursion IsProperLine script)

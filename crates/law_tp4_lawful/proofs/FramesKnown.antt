@@ -7,7 +7,7 @@ use Rattle.script_journal.specs.declared.event.Event.{Event}
 use Rattle.tp4_conn.specs.End.{End as ConnEnd}
 use Rattle.tp4_conn.specs.declared.timers.Timers.{Timers}
 use Rattle.tp4_entity.specs.Entity.{Entity, end_at, with_end}
-use Rattle.law_tp4_history.specs.Ends.{Birth, End, Terms, Times}
+use Rattle.law_tp4_history.specs.Ends.{Birth, End, Terms}
 use Rattle.law_tp4_history.specs.History.{History, IsCaller, IsFree, IsPartner, next}
 use Rattle.law_tp4_history.specs.Journals.{Written}
 use Rattle.law_tp4_history.specs.Tracks.{Whole}
@@ -115,9 +115,6 @@ same_entity one other e = cc e
 -- ---- what is known
 
 module _ (titles : List (List ℕ)) (timers : Timers) (w : Whole) (journal : List Event) (entities : List Placed) (ends : List EndAt) (known : Known titles timers w journal entities ends) where
-  abbrev times : Times
-  times = times_of timers
-
   pub keeps : Kept (times_of timers) titles w journal
   keeps = written_kept (times_of timers) titles w journal (fit_times timers) known.written
 

@@ -3,7 +3,6 @@ pub mod Acts
 pub mod ActsHeld
 pub mod ActsLines
 pub mod ActsRows
-pub mod ActsSame
 pub mod ActsTold
 pub mod ActsUnits
 pub mod Along

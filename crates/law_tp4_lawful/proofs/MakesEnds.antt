@@ -7,7 +7,7 @@ use Rattle.script_journal.specs.declared.event.Event.{Event}
 use Rattle.std.specs.Prelude.{option_map}
 use Rattle.tpdu.specs.declared.service.Options.{Options}
 use Rattle.tp4_conn.specs.declared.states.StateData.{StateData}
-use Rattle.tp4_conn.specs.declared.states.StateData.TheVariants.{CrWait, WaitBeforeClose, UserWait, AkWait, Opened, Closing, Frozen}
+use Rattle.tp4_conn.specs.declared.states.StateData.TheVariants.{CrWait, UserWait, AkWait, Opened}
 use Rattle.tp4_conn.specs.declared.timers.Timers.{Timers}
 use Rattle.tp4_conn.specs.End.{End, Moved, end_of}
 use Rattle.tp4_conn.specs.Proper.{IsProper}
@@ -47,12 +47,10 @@ waits_still terms birth took latest e own theirs seen calls none idle = by e.sta
   where
     by : (stage : StateData) → IsSeenIn birth took latest e.base stage → Stands terms e.base stage own theirs
     by (CrWait w) s = λ begun. absurd (cc (begun, idle))
-    by (WaitBeforeClose w) s = tt
     by (UserWait since) s = absurd (cc (s.called, calls))
     by (AkWait w) s = absurd (cc (s.called, calls))
     by (Opened o) s = absurd (cc (s.halves.agreed, none))
-    by (Closing c) s = tt
-    by (Frozen when) s = tt
+    by other s = tt
 
 none_agreed : (agreed : Option Options) → None ≡ option_map terms_of agreed → agreed ≡ None
 none_agreed None h = refl

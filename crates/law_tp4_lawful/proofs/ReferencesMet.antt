@@ -38,14 +38,7 @@ use Rattle.law_tp4_lawful.proofs.FramesKnown.{keeps, number_at}
 
 pub target_of : (t : WireTpdu) (n r : ℕ) → destination_of t ≡ Some r → (seen n t).target ≡ r
 target_of (wires.Cr credit source width calling called size preferred extra version classes ack_time text) n r h = absurd (none-some _ h)
-target_of (wires.Cc credit destination source width calling called size preferred extra version classes ack_time text) n r h = same_Some _ _ h
-target_of (wires.Dr destination source reason info text) n r h = same_Some _ _ h
-target_of (wires.Dc destination source) n r h = same_Some _ _ h
-target_of (wires.Er destination cause rejected) n r h = same_Some _ _ h
-target_of (wires.Dt destination last number text) n r h = same_Some _ _ h
-target_of (wires.Ed destination last number text) n r h = same_Some _ _ h
-target_of (wires.Ak destination number credit subsequence confirmation) n r h = same_Some _ _ h
-target_of (wires.Ea destination number) n r h = same_Some _ _ h
+target_of other n r h = same_Some _ _ h
 
 pub no_request : (t : WireTpdu) (n r : ℕ) → destination_of t ≡ Some r → (seen n t).kind ≢ Cr
 no_request (wires.Cr credit source width calling called size preferred extra version classes ack_time text) n r h = absurd (none-some _ h)

@@ -35,13 +35,7 @@ answer_of : (t : WireTpdu) (n : ℕ) → ((seen n t).kind ≡ Dr) × ((seen n t)
 answer_of (wires.Dr destination source reason info text) n (inl dr) = dr.1
 answer_of (wires.Dr destination source reason info text) n (inr dc) = absurd (cc dc)
 answer_of (wires.Dc destination source) n is = tt
-answer_of (wires.Cr credit source width calling called size preferred extra version classes ack_time text) n is = absurd (elim is [ inl dr ↦ cc (dr.0) | inr dc ↦ cc dc ])
-answer_of (wires.Cc credit destination source width calling called size preferred extra version classes ack_time text) n is = absurd (elim is [ inl dr ↦ cc (dr.0) | inr dc ↦ cc dc ])
-answer_of (wires.Er destination cause rejected) n is = absurd (elim is [ inl dr ↦ cc (dr.0) | inr dc ↦ cc dc ])
-answer_of (wires.Dt destination last number text) n is = absurd (elim is [ inl dr ↦ cc (dr.0) | inr dc ↦ cc dc ])
-answer_of (wires.Ed destination last number text) n is = absurd (elim is [ inl dr ↦ cc (dr.0) | inr dc ↦ cc dc ])
-answer_of (wires.Ak destination number credit subsequence confirmation) n is = absurd (elim is [ inl dr ↦ cc (dr.0) | inr dc ↦ cc dc ])
-answer_of (wires.Ea destination number) n is = absurd (elim is [ inl dr ↦ cc (dr.0) | inr dc ↦ cc dc ])
+answer_of other n is = absurd (elim is [ inl dr ↦ cc (dr.0) | inr dc ↦ cc dc ])
 
 -- the place of a number
 number_there : (ends : List EndAt) (x : ℕ) → x < length ends → (place : EndAt) × (slice_get ends x ≡ Some place) × (end_numbered ends (x + 1) ≡ Some place)

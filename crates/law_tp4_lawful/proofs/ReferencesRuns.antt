@@ -56,12 +56,7 @@ upper_end e reference lower is = by (end_at e reference) refl (sym (end_on e ref
 
 fits_on : (b : EndRecord) (stage : StateData) (tpdu : Tpdu) → fits b (stage_on_wire stage) tpdu ≡ fits b stage tpdu
 fits_on b (stages.CrWait w) tpdu = refl
-fits_on b (stages.WaitBeforeClose w) tpdu = refl
-fits_on b (stages.UserWait since) tpdu = refl
-fits_on b (stages.AkWait w) tpdu = refl
-fits_on b (stages.Opened o) tpdu = refl
-fits_on b (stages.Closing c) tpdu = refl
-fits_on b (stages.Frozen when) tpdu = refl
+fits_on b other tpdu = refl
 
 match_on : (e : End) (from : List ℕ) (tpdu : Tpdu) → is_match (end_on_wire e).base (end_on_wire e).stage from tpdu ≡ is_match e.base e.stage from tpdu
 match_on e from tpdu = ap (λ (b : Bool). pointwise nat_eq e.base.to from && b) (fits_on e.base e.stage tpdu)

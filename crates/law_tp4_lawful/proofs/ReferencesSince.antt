@@ -14,7 +14,7 @@ use Rattle.osi_base.specs.declared.unit.Up.{Up}
 use Rattle.osi_base.specs.declared.unit.Up.TheVariants.{Unit as Came, Note as Noted}
 use Rattle.osi_base.specs.declared.unit.Wish.{Wish}
 use Rattle.osi_base.specs.Link.{Link}
-use Rattle.osi_base.specs.Calls.{Call, Choose, Inject, Keeps, NextUp, Offer, Tick}
+use Rattle.osi_base.specs.Calls.{Call, Inject, Keeps, Offer, Tick}
 use Rattle.script_journal.specs.RawLawful.{clock_after, raw_address}
 use Rattle.script_journal.specs.declared.cause.Refused.{Refused}
 use Rattle.script_journal.specs.declared.cause.Refused.TheVariants as refusals
@@ -84,10 +84,7 @@ drop_up c system (Dropped cause) = (λ now low. low, tt)
 
 event_up : (c system : ℕ) (own : List ℕ) (number reference : ℕ) (what : What) → IsUpTo c (event_for system own number reference what)
 event_up c system own number reference (whats.Incoming from partner calling called options octets) = λ now low. low
-event_up c system own number reference (whats.End what) = λ now low. low
-event_up c system own number reference (whats.BadTpdu cause place) = λ now low. low
-event_up c system own number reference (whats.Unknown kind) = λ now low. low
-event_up c system own number reference whats.Silent = λ now low. low
+event_up c system own number reference other = λ now low. low
 
 events_up : (c : ℕ) (made : List EndEvent) (ends : List EndAt) (system : ℕ) (own : List ℕ) → AreUpTo c (events_after ends system own made)
 events_up c [] ends system own = tt
@@ -97,11 +94,8 @@ events_up c (one ∷ others) ends system own =
 
 call_up : (c number : ℕ) (call : UserCall) → AreUpTo c (call_events number call)
 call_up c number (asks.Accept options octets) = tt
-call_up c number (asks.Refuse octets) = (λ now low. low, tt)
-call_up c number (asks.Normal octets) = (λ now low. low, tt)
-call_up c number (asks.Urgent octets) = (λ now low. low, tt)
 call_up c number (asks.Window credit) = tt
-call_up c number (asks.Disconnect octets) = (λ now low. low, tt)
+call_up c number other = (λ now low. low, tt)
 
 module _ {C : Type 0} (link : C → Link (List ℕ)) (steps : C → Call (List ℕ) → C → Type 0) (law : (old : C) (call : Call (List ℕ)) (new : C) → steps old call new → Keeps (link old) call (link new)) where
   -- so many ticks passed
@@ -143,28 +137,19 @@ module _ {C : Type 0} (link : C → Link (List ℕ)) (steps : C → Call (List �
 
   -- a call that is no tick
   abbrev ticks_by : Call (List ℕ) → ℕ
-  ticks_by (Offer unit wish answer) = 0
-  ticks_by (Choose pick system answer) = 0
-  ticks_by (Inject lan system octets answer) = 0
-  ticks_by (NextUp answer) = 0
   ticks_by Tick = 1
+  ticks_by other = 0
 
   call_clock : (old new : Link (List ℕ)) (call : Call (List ℕ)) → Keeps old call new → new.clock ≡ old.clock + ticks_by call
   call_clock old new (Offer unit wish answer) k = omega (arith, k.clock)
-  call_clock old new (Choose pick system answer) k = omega (arith, k.clock)
-  call_clock old new (Inject lan system octets answer) k = omega (arith, k.clock)
-  call_clock old new (NextUp answer) k = omega (arith, k.clock)
-  call_clock old new Tick k = omega (arith, k.clock)
+  call_clock old new other k = omega (arith, k.clock)
 
   call_grows : (old new : Link (List ℕ)) (call : Call (List ℕ)) → Keeps old call new → (entry : ℕ × CarriedUnit (List ℕ)) → Contains new.floating entry → Contains old.floating entry ⊎ (old.clock ≤ entry.0)
   call_grows old new (Offer unit wish answer) k entry there = elim (k.grows entry there) [
     | inl before ↦ inl before
     | inr now ↦ (let at : entry.0 ≡ old.clock = ap (λ (e : ℕ × CarriedUnit (List ℕ)). e.0) now.1 in inr (omega (arith, at)))
   ]
-  call_grows old new (Choose pick system answer) k entry there = inl (k.grows entry there)
-  call_grows old new (Inject lan system octets answer) k entry there = inl (k.grows entry there)
-  call_grows old new (NextUp answer) k entry there = inl (k.grows entry there)
-  call_grows old new Tick k entry there = inl (k.grows entry there)
+  call_grows old new other k entry there = inl (k.grows entry there)
 
   pub passed : (old new : C) (call : Call (List ℕ)) (ups : List (Up (List ℕ))) → Passes link steps old call ups new → SinceBy (ticks_by call) old (told ups) new
   passed old new call ups p =

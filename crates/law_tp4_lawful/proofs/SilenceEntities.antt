@@ -135,9 +135,7 @@ module _ (frozen : ℕ) (system : ℕ) (address : List ℕ) where
         ∷ kinds_of (events_after (ends_with s.ends system told what) system address others)) s
     one_told told (whats.Incoming from partner calling called options octets) others one rest = absurd one
     one_told told (whats.End what) others one rest = names told.reference _ one rest
-    one_told told (whats.BadTpdu cause place) others one rest = Goes s s s (Some Other) _ (Noting s (stays_same s) refl) rest
-    one_told told (whats.Unknown kind) others one rest = Goes s s s (Some Other) _ (Noting s (stays_same s) refl) rest
-    one_told told whats.Silent others one rest = Goes s s s (Some Other) _ (Noting s (stays_same s) refl) rest
+    one_told told other others one rest = Goes s s s (Some Other) _ (Noting s (stays_same s) refl) rest
 
     all_told : (told : List EndEvent) → AreTold own told → Runs frozen s (kinds_of (events_after s.ends system address told)) s
     all_told [] are = Stops s

@@ -93,10 +93,7 @@ sent_other system to octets (Dropped cause) = refl
 
 picked_other : (number system : ℕ) (answer : Picked) → kind_of (picked_event number system answer) ≡ Other
 picked_other number system picks.Taken = refl
-picked_other number system picks.NoSuch = refl
-picked_other number system picks.Late = refl
-picked_other number system picks.NotThere = refl
-picked_other number system picks.NotOurs = refl
+picked_other number system other = refl
 
 inject_other : (system : ℕ) (answer : Injected) → kind_of (inject_event system answer) ≡ Other
 inject_other system injects.Taken = refl
@@ -116,11 +113,8 @@ call_run frozen s system reference number call is at = by call
 
     by : (one : UserCall) → Runs frozen s (kinds_of (call_events number one)) s
     by (asks.Accept options octets) = Stops s
-    by (asks.Refuse octets) = names
-    by (asks.Normal octets) = names
-    by (asks.Urgent octets) = names
     by (asks.Window credit) = Stops s
-    by (asks.Disconnect octets) = names
+    by other = names
 
 number_by : (same : Bool) (one number : ℕ) (rest : Bool) → (one == number) ≡ same → (not same || rest) ≡ false → one ≡ number
 number_by true one number rest is ended = eqb-true one number is

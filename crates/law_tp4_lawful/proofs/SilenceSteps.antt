@@ -219,9 +219,7 @@ module _ (frozen : ℕ) where
           let below : end < latest old.ends system t.1 = k.lost front middle rest end system was t.1 (subst (λ (s : ℕ). IsStanding old s t.1) (sym one) t.2) in
           let at : latest old.ends system t.1 ≡ latest old.ends t.0 t.1 = ap (λ (s : ℕ). latest old.ends s t.1) one in
           omega (arith, below, it, at)
-      no_more front middle rest end system (Clock tick) is was same = same
-      no_more front middle rest end system (Begins at) is was same = same
-      no_more front middle rest end system Other is was same = same
+      no_more front middle rest end system other is was same = same
 
       silent_on : AreSilent frozen more
       silent_on = record {
@@ -355,14 +353,6 @@ map_append (x ∷ xs) ys = ap (λ (kinds : List Kind). kind_of x ∷ kinds) (map
 
 clock_same : (now : ℕ) (event : Event) → clock_after now (kind_of event) ≡ clock_then now event
 clock_same now (events.Tick tick) = refl
-clock_same now (events.Connect asked) = refl
-clock_same now (events.Incoming heard) = refl
-clock_same now (events.End end what) = refl
-clock_same now (events.Data end octets) = refl
-clock_same now (events.Expedite end octets) = refl
-clock_same now (events.Refuse end octets) = refl
-clock_same now (events.Disconnect end octets) = refl
-clock_same now (events.Restart system) = refl
 clock_same now event = refl
 
 clocks_same : (now : ℕ) (journal : List Event) → clock_from now (kinds_of journal) ≡ clock_of now journal

@@ -79,10 +79,7 @@ sent_quiet system to octets (Dropped cause) = record { submits = λ end. refl; s
 
 pub picked_quiet : (number system : ℕ) (answer : Picked) → IsQuiet (picked_event number system answer)
 picked_quiet number system picks.Taken = record { submits = λ end. refl; shows = λ end. refl; makes = refl }
-picked_quiet number system picks.NoSuch = record { submits = λ end. refl; shows = λ end. refl; makes = refl }
-picked_quiet number system picks.Late = record { submits = λ end. refl; shows = λ end. refl; makes = refl }
-picked_quiet number system picks.NotThere = record { submits = λ end. refl; shows = λ end. refl; makes = refl }
-picked_quiet number system picks.NotOurs = record { submits = λ end. refl; shows = λ end. refl; makes = refl }
+picked_quiet number system other = record { submits = λ end. refl; shows = λ end. refl; makes = refl }
 
 pub inject_quiet : (system : ℕ) (answer : Injected) → IsQuiet (inject_event system answer)
 inject_quiet system injects.Taken = record { submits = λ end. refl; shows = λ end. refl; makes = refl }

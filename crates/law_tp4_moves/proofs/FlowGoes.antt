@@ -16,8 +16,6 @@ goes_none can t begun = record { begun = begun; same = refl; happenings = []; ru
 
 -- what may happen does not depend on where the track stood
 out_here : (taken : Option Offer) (t : Track) (x l : Line) (happening : Happening) → CanOut taken (at_line t x) l happening → CanOut taken t l happening
-out_here taken t x l (Submit unit) can = can
-out_here taken t x l Clock can = can
 out_here taken t x l (Flows Tick) can = can
 out_here taken t x l (Flows (Open credit)) can = can
 out_here taken t x l (Flows Send) can = can
@@ -31,6 +29,7 @@ out_here taken t x l (Expedites Sends_ed) can = can
 out_here taken t x l (Expedites Resends_ed) can = can
 out_here taken t x l (Expedites (Ed_comes n tick)) can = can
 out_here taken t x l (Expedites (Ea_comes n tick)) can = can
+out_here taken t x l other can = can
 
 outs_here : (taken : Option Offer) (t : Track) (x l new : Line) (happenings : List Happening) → RunsBy (CanOut taken) (at_line t x) l happenings new → RunsBy (CanOut taken) t l happenings new
 outs_here taken t x l new [] r = r
@@ -114,8 +113,6 @@ ed_above block u n =
     (λ _. if_kept (SameEds u) (wire block (n + 1) == wire block u.expected) _ _ (λ _. record { base = refl; next = refl; blocks = refl }) (λ _. record { base = refl; next = refl; blocks = refl }))
 
 in_above : (taken : Option Offer) (t : Track) (l : Line) (happening : Happening) → CanIn taken t l happening → SameAbove l (next t.rules l happening)
-in_above taken t l (Submit unit) can = absurd can
-in_above taken t l Clock can = absurd can
 in_above taken t l (Flows Tick) can = absurd can
 in_above taken t l (Flows (Open credit)) can = absurd can
 in_above taken t l (Flows Send) can = absurd can
@@ -129,6 +126,7 @@ in_above taken t l (Expedites Sends_ed) can = absurd can
 in_above taken t l (Expedites Resends_ed) can = absurd can
 in_above taken t l (Expedites (Ed_comes n tick)) can = let e = ed_above t.rules.block l.urgent n in record { sender = refl; base = e.base; next = e.next; blocks = e.blocks; submitted = refl }
 in_above taken t l (Expedites (Ea_comes n tick)) can = absurd can
+in_above taken t l other can = absurd can
 
 pub ins_above : (taken : Option Offer) (t : Track) (l new : Line) (happenings : List Happening) → RunsBy (CanIn taken) t l happenings new → SameAbove l new
 ins_above taken t l new [] r = record {

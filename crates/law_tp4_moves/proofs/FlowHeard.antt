@@ -6,7 +6,7 @@ use Rattle.tpdu.specs.declared.tpdu.Tpdu.TheVariants as wires
 use Rattle.tp4_number.specs.Formats.{block_of}
 use Rattle.tp4_conn.specs.declared.end_record.EndRecord.{EndRecord}
 use Rattle.tp4_conn.specs.declared.states.StateData.{StateData}
-use Rattle.tp4_conn.specs.declared.states.StateData.TheVariants.{CrWait, WaitBeforeClose, UserWait, AkWait, Opened, Closing, Frozen}
+use Rattle.tp4_conn.specs.declared.states.StateData.TheVariants.{CrWait, AkWait, Opened}
 use Rattle.tp4_conn.specs.End.{agreed_format}
 use Rattle.law_tp4_history.specs.Ends.{Times, Terms, Tpdu, Cc, Flow, Offer, Sent}
 use Rattle.law_tp4_history.specs.Tracks.{Track, Whole, IsTold}
@@ -45,9 +45,6 @@ module _ (times : Times) (w : Whole) (told : IsTold times w) (x n : ℕ) (o : Of
   pub known : (terms : Terms) (b : EndRecord) (stage : StateData) (tpdu : WireTpdu) (own : Track) → o.tpdu ≡ seen n tpdu → (o.tpdu.kind ≡ Flow → IsNumbered (block_of (agreed_format b.agreed)) n tpdu) → (o.tpdu.kind ≡ Flow → o.origin ≡ Sent x)
       → (o.tpdu.kind ≡ Cc → (own.is_begun ≡ true) × (o.tpdu.terms ≡ terms)) → IsKnownTpdu terms b stage (Some o) tpdu own (w.track x)
   known terms b (CrWait c) tpdu own e number from says = confirms terms tpdu own e says
-  known terms b (WaitBeforeClose c) tpdu own e number from says = tt
-  known terms b (UserWait since) tpdu own e number from says = tt
   known terms b (AkWait a) tpdu own e number from says = heard (agreed_format b.agreed) tpdu e number from
   known terms b (Opened a) tpdu own e number from says = heard (agreed_format b.agreed) tpdu e number from
-  known terms b (Closing c) tpdu own e number from says = tt
-  known terms b (Frozen when) tpdu own e number from says = tt
+  known terms b other tpdu own e number from says = tt

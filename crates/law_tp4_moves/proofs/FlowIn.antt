@@ -8,7 +8,7 @@ use Rattle.tpdu.specs.declared.tpdu.Format.TheVariants as formats
 use Rattle.script_journal.specs.Lawful.{Marked, Expedited, expediteds}
 use Rattle.tp4_number.specs.declared.blocks.Blocks.{Blocks}
 use Rattle.tp4_number.specs.declared.got.Got.{Got}
-use Rattle.tp4_number.specs.declared.got.Got.TheVariants.{Kept, Old, Outside, TooLarge}
+use Rattle.tp4_number.specs.declared.got.Got.TheVariants.{TooLarge}
 use Rattle.tp4_number.specs.declared.piece.Piece.{Piece}
 use Rattle.tp4_number.specs.Formats.{block_of}
 use Rattle.tp4_number.specs.Number.{whole, wire}
@@ -132,9 +132,6 @@ module _ (t : Track) (begun : t.is_begun ≡ true) (taken : Option Offer) (now :
     }
 
     by_answer : (got : Got) → Comes h r (record { half = new; events = gots h.rules.own units; tpdus = aks got new })
-    by_answer Kept = answered
-    by_answer Old = answered
-    by_answer Outside = answered
     by_answer TooLarge = record {
       beside = came;
       happenings = Flows (Dt_comes n o.tick piece) ∷ [];
@@ -143,6 +140,7 @@ module _ (t : Track) (begun : t.is_begun ≡ true) (taken : Option Offer) (now :
       showed = showing;
       sent = λ own. tt;
     }
+    by_answer other = answered
 
     pub dt_comes : Comes h r (taken_dt whole h (wire (block_in h) n) piece)
     dt_comes = by_answer (dt_arrival h (wire (block_in h) n) piece).got

@@ -15,7 +15,7 @@ use Rattle.tp4_sending.specs.Kept.{urgent_base}
 use Rattle.tp4_conn.specs.declared.end_record.EndRecord.{EndRecord}
 use Rattle.tp4_conn.specs.declared.halves.Halves.{Halves}
 use Rattle.tp4_conn.specs.declared.states.StateData.{StateData}
-use Rattle.tp4_conn.specs.declared.states.StateData.TheVariants.{CrWait, WaitBeforeClose, UserWait, AkWait, Opened, Closing, Frozen}
+use Rattle.tp4_conn.specs.declared.states.StateData.TheVariants.{CrWait, UserWait, AkWait, Opened}
 use Rattle.tp4_conn.specs.declared.timers.Timers.{Timers}
 use Rattle.tp4_conn.specs.End.{Moved}
 use Rattle.tp4_conn.specs.Making.{on_cr}
@@ -80,12 +80,10 @@ module _ (taken : Option Offer) (own theirs own' theirs' : Track) (out : GoesOn 
 
   pub partner_stands : (terms : Terms) (b : EndRecord) (stage : StateData) → Stands terms b stage theirs own → Stands terms b stage theirs' own'
   partner_stands terms b (CrWait w) s = λ begun. untouched_kept terms b (s back.begun)
-  partner_stands terms b (WaitBeforeClose w) s = tt
   partner_stands terms b (UserWait since) s = s
   partner_stands terms b (AkWait w) s = halves_kept _ w.halves s
   partner_stands terms b (Opened o) s = halves_kept _ o.halves s
-  partner_stands terms b (Closing c) s = tt
-  partner_stands terms b (Frozen when) s = tt
+  partner_stands terms b other s = tt
 
 -- a tick of the clock
 sending_later : (s : FlowSender) (t : Track) → IsSendingAt s t → IsSendingAt s (clocked t)
@@ -131,12 +129,10 @@ untouched_later terms b own theirs u = record {
 
 pub later_stands : (terms : Terms) (b : EndRecord) (stage : StateData) (own theirs : Track) → Stands terms b stage own theirs → Stands terms b stage (clocked own) (clocked theirs)
 later_stands terms b (CrWait w) own theirs s = λ begun. untouched_later terms b own theirs (s begun)
-later_stands terms b (WaitBeforeClose w) own theirs s = tt
 later_stands terms b (UserWait since) own theirs s = s
 later_stands terms b (AkWait w) own theirs s = halves_later _ w.halves own theirs s
 later_stands terms b (Opened o) own theirs s = halves_later _ o.halves own theirs s
-later_stands terms b (Closing c) own theirs s = tt
-later_stands terms b (Frozen when) own theirs s = tt
+later_stands terms b other own theirs s = tt
 
 pub later_timely : (now : ℕ) (t : Track) → IsTimely now t → IsTimely (now + 1) (clocked t)
 later_timely now t c begun = let at = c begun in record { world = ap (λ (n : ℕ). n + 1) at.world; urgent = ap (λ (n : ℕ). n + 1) at.urgent }

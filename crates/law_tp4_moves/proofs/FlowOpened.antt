@@ -5,10 +5,10 @@ use Rattle.std.proofs.lemmas.Bool.{eqb-false}
 use Rattle.std.proofs.lemmas.Option.{none-some}
 use Rattle.tpdu.specs.declared.tpdu.Format.{Format}
 use Rattle.tpdu.specs.declared.tpdu.Tpdu.{Tpdu}
-use Rattle.tpdu.specs.declared.tpdu.Tpdu.TheVariants.{Cr, Cc, Dr, Dc, Dt, Ed, Ak, Ea, Er}
+use Rattle.tpdu.specs.declared.tpdu.Tpdu.TheVariants.{Cc, Dr, Dt, Ed, Ak, Ea, Er}
 use Rattle.script_journal.specs.Lawful.{Marked}
 use Rattle.tp4_number.specs.declared.got.Got.{Got}
-use Rattle.tp4_number.specs.declared.got.Got.TheVariants.{Kept, Old, Outside, TooLarge}
+use Rattle.tp4_number.specs.declared.got.Got.TheVariants.{TooLarge}
 use Rattle.tp4_number.specs.Formats.{block_of}
 use Rattle.tp4_number.specs.Number.{whole, wire}
 use Rattle.tp4_number.specs.Traffic.{Rules}
@@ -168,9 +168,7 @@ module _ (terms : Terms) (taken : Option Offer) (own theirs : Track) (b : EndRec
     showed = r.showed ∙ ap (λ (us : List Marked). theirs.line.shown ++ us) (sym (shown-append x.events (protocol_error b).events ∙ append-nil (shown_in x.events)));
     sent = sent_both own r.theirs b.clock x.tpdus (protocol_error b).tpdus (r.sent own) (plain_sent own r.theirs b.clock b b.own 133 []);
   }
-  dt_row event Kept o x here gave r = takes_row terms taken b.clock own theirs event b _ x.events x here gave refl r (took_halves terms taken b.clock here r)
-  dt_row event Old o x here gave r = takes_row terms taken b.clock own theirs event b _ x.events x here gave refl r (took_halves terms taken b.clock here r)
-  dt_row event Outside o x here gave r = takes_row terms taken b.clock own theirs event b _ x.events x here gave refl r (took_halves terms taken b.clock here r)
+  dt_row event other o x here gave r = takes_row terms taken b.clock own theirs event b _ x.events x here gave refl r (took_halves terms taken b.clock here r)
 
   protocol_row : (event : Event) (o : InOpened) → Here (agreed_format b.agreed) o.halves b.clock own theirs → given event ≡ [] → LinesGoOn terms b.clock taken event (protocol_error b) own theirs
   protocol_row event o here gave = idle terms taken b.clock own theirs event _ here gave refl tt (plain_sent own theirs b.clock b b.own 133 [])
@@ -179,12 +177,10 @@ module _ (terms : Terms) (taken : Option Offer) (own theirs : Track) (b : EndRec
   pub opened_row : (o : InOpened) (tpdu : Tpdu) (sum : Bool) → Here (agreed_format b.agreed) o.halves b.clock own theirs → IsHeard (agreed_format b.agreed) taken tpdu theirs
       → LinesGoOn terms b.clock taken (Took tpdu sum) (opened_tpdu whole b o tpdu) own theirs
   unfolding opened_tpdu
-  opened_row o (Cr credit source width calling called size preferred extra version classes ack_time text) sum here k = idle terms taken b.clock own theirs _ _ here refl refl here.halves tt
   opened_row o (Cc credit destination source width calling called size preferred extra version classes ack_time text) sum here k =
       let r = ack_takes taken b.clock theirs o.halves.receiving here.halves.receiving here.their_clocks in
       takes_row terms taken b.clock own theirs _ b _ [] _ here refl refl r (took_halves terms taken b.clock here r)
   opened_row o (Dr destination source reason info text) sum here k = idle terms taken b.clock own theirs _ _ here refl refl tt (dc_sent own theirs b.clock b source)
-  opened_row o (Dc destination source) sum here k = idle terms taken b.clock own theirs _ _ here refl refl here.halves tt
   opened_row o (Er destination cause rejected) sum here k = protocol_row _ o here refl
   opened_row o (Dt destination last number text) sum here k =
       let h = o.halves.receiving in
@@ -212,6 +208,7 @@ module _ (terms : Terms) (taken : Option Offer) (own theirs : Track) (b : EndRec
       (number_of h (agreed_format b.agreed) number k.n here.halves.sending here.halves.own_block k.numbered) k.is
       (ap (λ (x : SeenTpdu). x.kind) k.seen_as) (ap (λ (x : SeenTpdu). x.body) k.seen_as) in
       sends_row terms taken b.clock own theirs _ b _ _ here s (sent_halves terms taken b.clock here s)
+  opened_row o other sum here k = idle terms taken b.clock own theirs _ _ here refl refl here.halves tt
 
   -- a tick
   acked_row : (o : InOpened) (x : Sendings) → Here (agreed_format b.agreed) o.halves b.clock own theirs → (s : Sends taken b.clock own x []) → LinesGoOn terms b.clock taken Ticked (opened_goes b o x) own theirs
@@ -253,9 +250,7 @@ module _ (terms : Terms) (taken : Option Offer) (own theirs : Track) (b : EndRec
   ak_wait_row w (Ea destination number) sum here k = opening_row w.halves (Ea destination number) sum here k
   ak_wait_row w (Dr destination source reason info text) sum here k = idle terms taken b.clock own theirs _ _ here refl refl tt (dc_sent own theirs b.clock b source)
   ak_wait_row w (Er destination cause rejected) sum here k = idle terms taken b.clock own theirs _ _ here refl refl tt (plain_sent own theirs b.clock b b.own 133 [])
-  ak_wait_row w (Cr credit source width calling called size preferred extra version classes ack_time text) sum here k = idle terms taken b.clock own theirs _ _ here refl refl here.halves tt
-  ak_wait_row w (Cc credit destination source width calling called size preferred extra version classes ack_time text) sum here k = idle terms taken b.clock own theirs _ _ here refl refl here.halves tt
-  ak_wait_row w (Dc destination source) sum here k = idle terms taken b.clock own theirs _ _ here refl refl here.halves tt
+  ak_wait_row w other sum here k = idle terms taken b.clock own theirs _ _ here refl refl here.halves tt
 
   pub ak_tick_row : (w : InAkWait) → Here (agreed_format b.agreed) w.halves b.clock own theirs → LinesGoOn terms b.clock taken Ticked (ak_wait_tick b w) own theirs
   unfolding ak_wait_tick
@@ -295,8 +290,7 @@ module _ (terms : Terms) (taken : Option Offer) (own theirs : Track) (b : EndRec
       sends_row terms taken b.clock own theirs _ b _ _ here s (sent_halves terms taken b.clock here s)
   opened_call o (calls.Window credit) here e = grant_row o credit here
   opened_call o (calls.Disconnect octets) here e = idle terms taken b.clock own theirs _ _ here refl refl tt (plain_sent own theirs b.clock b b.own 128 octets)
-  opened_call o (calls.Accept asked octets) here e = idle terms taken b.clock own theirs _ _ here refl refl here.halves tt
-  opened_call o (calls.Refuse octets) here e = idle terms taken b.clock own theirs _ _ here refl refl here.halves tt
+  opened_call o other here e = idle terms taken b.clock own theirs _ _ here refl refl here.halves tt
 
   pub ak_wait_call : (w : InAkWait) (call : UserCall) → Here (agreed_format b.agreed) w.halves b.clock own theirs → call_refusal b (AkWait w) call ≡ None
       → LinesGoOn terms b.clock taken (Called call) (on_call b (AkWait w) call) own theirs
@@ -306,7 +300,5 @@ module _ (terms : Terms) (taken : Option Offer) (own theirs : Track) (b : EndRec
   ak_wait_call w (calls.Urgent unit) here e =
       let s = urge_sends taken b.clock own w.halves.sending here.halves.sending here.own_clocks unit in
       sends_row terms taken b.clock own theirs _ b _ _ here s (sent_halves terms taken b.clock here s)
-  ak_wait_call w (calls.Window credit) here e = idle terms taken b.clock own theirs _ _ here refl refl here.halves tt
   ak_wait_call w (calls.Disconnect octets) here e = idle terms taken b.clock own theirs _ _ here refl refl tt (plain_sent own theirs b.clock b b.own 128 octets)
-  ak_wait_call w (calls.Accept asked octets) here e = idle terms taken b.clock own theirs _ _ here refl refl here.halves tt
-  ak_wait_call w (calls.Refuse octets) here e = idle terms taken b.clock own theirs _ _ here refl refl here.halves tt
+  ak_wait_call w other here e = idle terms taken b.clock own theirs _ _ here refl refl here.halves tt

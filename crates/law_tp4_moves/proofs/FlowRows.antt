@@ -6,7 +6,7 @@ use Rattle.std.proofs.lemmas.Option.{none-some}
 use Rattle.tpdu.specs.declared.tpdu.Format.{Format}
 use Rattle.tpdu.specs.declared.tpdu.Format.TheVariants as formats
 use Rattle.tpdu.specs.declared.tpdu.Tpdu.{Tpdu}
-use Rattle.tpdu.specs.declared.tpdu.Tpdu.TheVariants.{Cr, Cc, Dr, Dc, Dt, Ed, Ak, Ea, Er}
+use Rattle.tpdu.specs.declared.tpdu.Tpdu.TheVariants.{Cc, Dr, Dc}
 use Rattle.tpdu.specs.Writing.{IsAllowed}
 use Rattle.script_journal.specs.Lawful.{Marked}
 use Rattle.tp4_number.specs.Formats.{block_of, most_of}
@@ -196,11 +196,7 @@ module _ (times : Times) (terms : Terms) (now : ℕ) (taken : Option Offer) (own
 
   cr_wait_call : (b : EndRecord) (w : InCrWait) (call : UserCall) → call_refusal b (CrWait w) call ≡ None → Flows (CrWait w) (Called call) (on_call (base_at now b) (CrWait w) call)
   cr_wait_call b w (calls.Disconnect octets) e = still _ _ tt refl refl tt
-  cr_wait_call b w (calls.Accept asked octets) e = absurd (none-some _ (sym e))
-  cr_wait_call b w (calls.Refuse octets) e = absurd (none-some _ (sym e))
-  cr_wait_call b w (calls.Normal unit) e = absurd (none-some _ (sym e))
-  cr_wait_call b w (calls.Urgent unit) e = absurd (none-some _ (sym e))
-  cr_wait_call b w (calls.Window credit) e = absurd (none-some _ (sym e))
+  cr_wait_call b w other e = absurd (none-some _ (sym e))
 
   cr_wait_ticks : (b : EndRecord) (w : InCrWait) → Stands terms b (CrWait w) own theirs → Flows (CrWait w) Ticked (cr_wait_tick b w)
   unfolding cr_wait_tick
@@ -246,13 +242,7 @@ module _ (times : Times) (terms : Terms) (now : ℕ) (taken : Option Offer) (own
       (λ _. confirmed_row (CrWait w) b source credit (options_in width size preferred extra) text _ (omega (arith, a.few_credits)) refl k.1 (s k.0) own_clock their_clock)
       (λ _. still _ _ tt refl refl ((λ n. refl), tt))
   cr_wait_row b w (Dr destination source reason info text) sum a s k own_clock their_clock = still _ _ tt refl refl (dc_plain (base_at now b) source)
-  cr_wait_row b w (Cr credit source width calling called size preferred extra version classes ack_time text) sum a s k own_clock their_clock = still _ _ (waiting b w s) refl refl tt
-  cr_wait_row b w (Dc destination source) sum a s k own_clock their_clock = still _ _ (waiting b w s) refl refl tt
-  cr_wait_row b w (Er destination cause rejected) sum a s k own_clock their_clock = still _ _ (waiting b w s) refl refl tt
-  cr_wait_row b w (Dt destination last number text) sum a s k own_clock their_clock = still _ _ (waiting b w s) refl refl tt
-  cr_wait_row b w (Ed destination last number text) sum a s k own_clock their_clock = still _ _ (waiting b w s) refl refl tt
-  cr_wait_row b w (Ak destination number credit subsequence confirmation) sum a s k own_clock their_clock = still _ _ (waiting b w s) refl refl tt
-  cr_wait_row b w (Ea destination number) sum a s k own_clock their_clock = still _ _ (waiting b w s) refl refl tt
+  cr_wait_row b w other sum a s k own_clock their_clock = still _ _ (waiting b w s) refl refl tt
 
   -- UserWait
   accepted_row : (since : ℕ) (b : EndRecord) (asked : Options) (octets : List ℕ) → times.life ≡ b.timers.life → IsTimed b.timers → IsProposal b.proposed → IsSized asked → b.credit ≤ 15
@@ -295,10 +285,7 @@ module _ (times : Times) (terms : Terms) (now : ℕ) (taken : Option Offer) (own
   unfolding user_wait_refuse
   user_wait_call b since (calls.Accept asked octets) life timed size low e c = accepted_row since b asked octets life timed size c low
   user_wait_call b since (calls.Refuse octets) life timed size low e c = still _ _ tt refl refl ((λ n. refl), tt)
-  user_wait_call b since (calls.Normal unit) life timed size low e c = absurd (none-some _ (sym e))
-  user_wait_call b since (calls.Urgent unit) life timed size low e c = absurd (none-some _ (sym e))
-  user_wait_call b since (calls.Window credit) life timed size low e c = absurd (none-some _ (sym e))
-  user_wait_call b since (calls.Disconnect octets) life timed size low e c = absurd (none-some _ (sym e))
+  user_wait_call b since other life timed size low e c = absurd (none-some _ (sym e))
 
   user_wait_ticks : (b : EndRecord) (since : ℕ) → b.credit ≤ 15 → Flows (UserWait since) Ticked (user_wait_tick b since)
   unfolding user_wait_tick
@@ -321,7 +308,6 @@ module _ (times : Times) (terms : Terms) (now : ℕ) (taken : Option Offer) (own
   closing_row : (b : EndRecord) (c : InClosing) (tpdu : Tpdu) (sum : Bool) → Flows (Closing c) (Took tpdu sum) (closing_tpdu b c tpdu)
   unfolding closing_tpdu
   closing_row b c (Dc destination source) sum = still _ _ tt refl refl tt
-  closing_row b c (Dr destination source cause info text) sum = still _ _ tt refl refl tt
   closing_row b c other sum = still _ _ tt refl refl tt
 
   closing_ticks : (b : EndRecord) (c : InClosing) → Flows (Closing c) Ticked (closing_tick b c)
@@ -338,12 +324,10 @@ module _ (times : Times) (terms : Terms) (now : ℕ) (taken : Option Offer) (own
   call_flows : (b : EndRecord) (stage : StateData) (call : UserCall) → times.life ≡ b.timers.life → IsProper b stage → call_refusal b stage call ≡ None → IsCall call → Stands terms b stage own theirs → IsTimely now own → IsTimely now theirs
       → Flows stage (Called call) (on_call (base_at now b) stage call)
   call_flows b (CrWait w) call life p e c s own_clock their_clock = cr_wait_call b w call e
-  call_flows b (WaitBeforeClose w) call life p e c s own_clock their_clock = absurd (none-some _ (sym e))
   call_flows b (UserWait since) call life p e c s own_clock their_clock = user_wait_call b since call life p.timers p.size s e c
   call_flows b (AkWait w) call life p e c s own_clock their_clock = Going (ak_wait_call terms taken own theirs (base_at now b) w call (here_at s own_clock their_clock) e)
   call_flows b (Opened o) call life p e c s own_clock their_clock = Going (opened_call terms taken own theirs (base_at now b) o call (here_at s own_clock their_clock) e)
-  call_flows b (Closing x) call life p e c s own_clock their_clock = absurd (none-some _ (sym e))
-  call_flows b (Frozen when) call life p e c s own_clock their_clock = absurd (none-some _ (sym e))
+  call_flows b other call life p e c s own_clock their_clock = absurd (none-some _ (sym e))
 
   tpdu_flows : (b : EndRecord) (stage : StateData) (tpdu : Tpdu) (sum : Bool) → IsAllowed (agreed_format b.agreed) tpdu → Stands terms b stage own theirs → IsKnownTpdu terms b stage taken tpdu own theirs → IsTimely now own → IsTimely now theirs
       → Flows stage (Took tpdu sum) (on_tpdu whole (base_at now b) stage tpdu)

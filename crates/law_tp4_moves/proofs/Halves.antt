@@ -2,7 +2,7 @@
 -- half that is not open sends nothing.
 use Rattle.std.proofs.Common.{◌≡◌, ℕ, zero, suc, ◌-◌, Bool, true, false, ◌||◌, ◌==◌, not, is_some, List, [], ◌∷◌, ◌++◌, length, drop, Option, Some, None, refl, ap, ◌∙◌, if◌then◌else◌}
 use Rattle.tp4_number.specs.declared.got.Got.{Got}
-use Rattle.tp4_number.specs.declared.got.Got.TheVariants.{Kept, Old, Outside, TooLarge}
+use Rattle.tp4_number.specs.declared.got.Got.TheVariants.{TooLarge}
 use Rattle.tp4_number.specs.declared.piece.Piece.{Piece}
 use Rattle.tp4_number.specs.Number.{near}
 use Rattle.tp4_flow.specs.Half.{Half, ak, aks, ea, taken_ed, is_next, is_before}
@@ -149,10 +149,8 @@ pub ak_flow : (rules : FlowRules) (h : Half) → h.rules ≡ rules → IsFlow ru
 ak_flow rules h e = flow_of rules (ak h) h.rules e (record { to = refl; format = refl; kind = λ _. refl; target = λ _. refl })
 
 pub aks_flow : (rules : FlowRules) (got : Got) (h : Half) → h.rules ≡ rules → AreFlows rules (aks got h)
-aks_flow rules Kept h e = (ak_flow rules h e, tt)
-aks_flow rules Old h e = (ak_flow rules h e, tt)
-aks_flow rules Outside h e = (ak_flow rules h e, tt)
 aks_flow rules TooLarge h e = tt
+aks_flow rules other h e = (ak_flow rules h e, tt)
 
 pub ea_flows : (rules : FlowRules) (wrap : ℕ → ℕ → ℕ) (h : Half) (w : ℕ) (octets : List ℕ) → h.rules ≡ rules → AreFlows rules (taken_ed wrap h w octets).tpdus
 ea_flows rules wrap h w octets e =

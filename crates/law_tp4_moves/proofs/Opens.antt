@@ -86,9 +86,7 @@ module _ (times : Times) (h : End) (b : EndRecord) (stage : StateData) (s : Sees
         → Moves times b.clock (Took x) h (led_by first front (dt_as got b o r))
     dt_takes gots.TooLarge r no_dr rules sent none =
         told times b.clock (Took x) h _ _ _ (ap (λ (ts : List Sent). front ++ (ts ++ (protocol_error b).tpdus)) (sym (none refl))) (errs r.events no_dr)
-    dt_takes gots.Kept r no_dr rules sent none = takes _ _ _ (got_own b o.halves own r.half rules) no_dr now refl sent
-    dt_takes gots.Old r no_dr rules sent none = takes _ _ _ (got_own b o.halves own r.half rules) no_dr now refl sent
-    dt_takes gots.Outside r no_dr rules sent none = takes _ _ _ (got_own b o.halves own r.half rules) no_dr now refl sent
+    dt_takes other r no_dr rules sent none = takes _ _ _ (got_own b o.halves own r.half rules) no_dr now refl sent
 
     too_large : (got : Got) (h_ : Half) → got ≡ gots.TooLarge → aks got h_ ≡ []
     too_large got h_ e = subst (λ (g : Got). aks g h_ ≡ []) (sym e) refl

@@ -43,40 +43,21 @@ took_hears h x to refused closed opens = record {
 
 -- where a row freezes the end, it is now
 abbrev pub StopsAt : ℕ → StateData → Type 0
-StopsAt now (stages.CrWait w) = Unit {0}
-StopsAt now (stages.WaitBeforeClose w) = Unit {0}
-StopsAt now (stages.UserWait since) = Unit {0}
-StopsAt now (stages.AkWait w) = Unit {0}
-StopsAt now (stages.Opened o) = Unit {0}
-StopsAt now (stages.Closing c) = Unit {0}
 StopsAt now (stages.Frozen when) = when ≡ now
+StopsAt now other = Unit {0}
 
 stopped : (now : ℕ) (to : StateData) → StopsAt now to → (stop_of to ≡ None) ⊎ (stop_of to ≡ Some now)
-stopped now (stages.CrWait w) at = inl refl
-stopped now (stages.WaitBeforeClose w) at = inl refl
-stopped now (stages.UserWait since) at = inl refl
-stopped now (stages.AkWait w) at = inl refl
-stopped now (stages.Opened o) at = inl refl
-stopped now (stages.Closing c) at = inl refl
 stopped now (stages.Frozen when) at = inr (ap (λ (t : ℕ). Some t) at)
+stopped now other at = inl refl
 
 froze : (now : ℕ) (to : StateData) → StopsAt now to → phase_of to ≡ Frozen → stop_of to ≡ Some now
-froze now (stages.CrWait w) at e = absurd cc
-froze now (stages.WaitBeforeClose w) at e = absurd cc
-froze now (stages.UserWait since) at e = absurd cc
-froze now (stages.AkWait w) at e = absurd cc
-froze now (stages.Opened o) at e = absurd cc
-froze now (stages.Closing c) at e = absurd cc
 froze now (stages.Frozen when) at e = ap (λ (t : ℕ). Some t) at
+froze now other at e = absurd cc
 
 parts_in : (to : StateData) (parted : Bool) → IsPartedIn to parted → parted ≡ true → (phase_of to ≡ Closing) ⊎ (phase_of to ≡ Frozen)
-parts_in (stages.CrWait w) parted p e = absurd cc
-parts_in (stages.WaitBeforeClose w) parted p e = absurd cc
-parts_in (stages.UserWait since) parted p e = absurd cc
-parts_in (stages.AkWait w) parted p e = absurd cc
-parts_in (stages.Opened o) parted p e = absurd cc
 parts_in (stages.Closing c) parted p e = inl refl
 parts_in (stages.Frozen when) parted p e = inr refl
+parts_in other parted p e = absurd cc
 
 in_times : (times : Times) (t : Timers) (latest took : ℕ) → times ≡ times_of t → latest ≤ took + t.inactive + span t → latest ≤ took + times.idle + times.span
 in_times times t latest took e low = subst (λ (x : Times). latest ≤ took + x.idle + x.span) (sym e) low
@@ -224,13 +205,8 @@ told times now cause h m events tpdus e g = record {
 
 -- nothing happens, and no TPDU is taken
 goes_on : (now : ℕ) (stage : StateData) → stop_of stage ≡ None → StopsAt now stage
-goes_on now (stages.CrWait w) e = tt
-goes_on now (stages.WaitBeforeClose w) e = tt
-goes_on now (stages.UserWait since) e = tt
-goes_on now (stages.AkWait w) e = tt
-goes_on now (stages.Opened o) e = tt
-goes_on now (stages.Closing c) e = tt
 goes_on now (stages.Frozen when) e = absurd cc
+goes_on now other e = tt
 
 pub rests : (times : Times) (h : End) (b : EndRecord) (stage : StateData) (s : Sees times b.clock h (record { base = b; stage = stage })) → h.stop ≡ None → b.clock ≤ h.latest
     → Moves times b.clock Alone h (stays b stage)

@@ -44,13 +44,8 @@ state_at now birth took latest b (stages.Closing c) f = record { known = f.known
 state_at now birth took latest b (stages.Frozen when) f = tt
 
 bound_at : (now tick : ℕ) (b : EndRecord) (stage : StateData) → IsInTime (acts_by b stage) tick → IsInTime (acts_by (at now b) stage) tick
-bound_at now tick b (stages.CrWait w) f = f
-bound_at now tick b (stages.WaitBeforeClose w) f = f
-bound_at now tick b (stages.UserWait since) f = f
-bound_at now tick b (stages.AkWait w) f = f
-bound_at now tick b (stages.Opened o) f = f
-bound_at now tick b (stages.Closing c) f = f
 bound_at now tick b (stages.Frozen when) f = tt
+bound_at now tick b other f = f
 
 sees_at : (times : Times) (now tick : ℕ) (h : End) (b : EndRecord) (stage : StateData) → Sees times tick h (record { base = b; stage = stage })
     → Sees times tick h (record { base = at now b; stage = stage })
@@ -125,13 +120,9 @@ first_before x y now (Some z) before = omega arith
 
 -- a tick at which it is not due passes
 passes : (b : EndRecord) (stage : StateData) (now : ℕ) → IsBefore (due b stage) now → IsInTime (acts_by b stage) (now + 1)
-passes b (stages.CrWait w) now before = omega arith
-passes b (stages.WaitBeforeClose w) now before = omega arith
-passes b (stages.UserWait since) now before = omega arith
-passes b (stages.AkWait w) now before = omega arith
 passes b (stages.Opened o) now before = first_before (o.took + b.timers.inactive) (o.acked + b.timers.window) now (due_of o.halves.sending) before
-passes b (stages.Closing c) now before = omega arith
 passes b (stages.Frozen when) now before = tt
+passes b other now before = omega arith
 
 pub passed : (times : Times) (now : ℕ) (h : End) (e : ConnEnd) → Sees times now h e → IsBefore (due e.base e.stage) now → Sees times (now + 1) h e
 passed times now h e s before = record {
@@ -186,11 +177,10 @@ tpdu_moves : (wrap : ℕ → ℕ → ℕ) (times : Times) (h : End) (b : EndReco
     → (n : ℕ) (tpdu : WireTpdu) (was : EndRecord) → fits was stage tpdu ≡ true → HasSource (seen n tpdu) → Moves times b.clock (Took (seen n tpdu)) h (on_tpdu wrap b stage tpdu)
 tpdu_moves wrap times h b (stages.CrWait w) s going low n tpdu was fit has = cr_tpdu times h b w s going low n tpdu fit has
 tpdu_moves wrap times h b (stages.WaitBeforeClose w) s going low n tpdu was fit has = wait_tpdu times h b w s going low n tpdu fit has
-tpdu_moves wrap times h b (stages.UserWait since) s going low n tpdu was fit has = never fit
 tpdu_moves wrap times h b (stages.AkWait w) s going low n tpdu was fit has = ak_tpdu times h b w s going low wrap n tpdu
 tpdu_moves wrap times h b (stages.Opened o) s going low n tpdu was fit has = opened_takes times h b o s going low wrap n tpdu
 tpdu_moves wrap times h b (stages.Closing c) s going low n tpdu was fit has = closing_takes times h b c s going low n tpdu
-tpdu_moves wrap times h b (stages.Frozen when) s going low n tpdu was fit has = never fit
+tpdu_moves wrap times h b other s going low n tpdu was fit has = never fit
 
 -- a TPDU that is taken, or one that lacks a checksum
 untaken_moves : (times : Times) (now : ℕ) (h : End) (b : EndRecord) (stage : StateData) → Moves times now Alone h (record { base = at now b; stage = stage; events = []; tpdus = [] })
@@ -226,11 +216,7 @@ stays wrap times now t h e event s stop = by e.base e.stage event s (sym s.stop 
     by b (stages.Frozen when) (Heard tpdu sum) s is fit = never fit
     by b (stages.Frozen when) Ticked s is fit = (sees_at times now now h b (stages.Frozen when) s, refl, refl)
     by b (stages.CrWait w) event s is fit = absurd (none-some _ is)
-    by b (stages.WaitBeforeClose w) event s is fit = absurd (none-some _ is)
-    by b (stages.UserWait since) event s is fit = absurd (none-some _ is)
-    by b (stages.AkWait w) event s is fit = absurd (none-some _ is)
-    by b (stages.Opened o) event s is fit = absurd (none-some _ is)
-    by b (stages.Closing c) event s is fit = absurd (none-some _ is)
+    by b other event s is fit = absurd (none-some _ is)
 
 -- since when it is frozen
 pub frozen_since : (times : Times) (now t : ℕ) (h : End) (e : ConnEnd) → Sees times now h e → h.stop ≡ Some t → e.stage ≡ stages.Frozen t
@@ -238,9 +224,4 @@ frozen_since times now t h e s stop = by e.stage (sym s.stop ∙ stop)
   where
     by : (stage : StateData) → stop_of stage ≡ Some t → stage ≡ stages.Frozen t
     by (stages.Frozen when) is = ap (λ (n : ℕ). stages.Frozen n) (same_Some _ _ is)
-    by (stages.CrWait w) is = absurd (none-some _ is)
-    by (stages.WaitBeforeClose w) is = absurd (none-some _ is)
-    by (stages.UserWait since) is = absurd (none-some _ is)
-    by (stages.AkWait w) is = absurd (none-some _ is)
-    by (stages.Opened o) is = absurd (none-some _ is)
-    by (stages.Closing c) is = absurd (none-some _ is)
+    by other is = absurd (none-some _ is)

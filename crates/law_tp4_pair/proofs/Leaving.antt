@@ -1,7 +1,7 @@
 -- An end that has left will not be Opened any more.
 use Rattle.std.proofs.Common.{ℕ, ◌+◌, nat_lt, nat_le, ◌&&◌, not}
 use Rattle.tpdu.specs.declared.tpdu.Tpdu.{Tpdu}
-use Rattle.tpdu.specs.declared.tpdu.Tpdu.TheVariants.{Cc, Dr, Dc}
+use Rattle.tpdu.specs.declared.tpdu.Tpdu.TheVariants.{Cc, Dc}
 use Rattle.tp4_number.specs.Number.{whole}
 use Rattle.tp4_number.proofs.Past.{if_kept}
 use Rattle.tp4_conn.specs.declared.end_record.EndRecord.{EndRecord}
@@ -9,7 +9,7 @@ use Rattle.tp4_conn.specs.declared.call.UserCall.{UserCall}
 use Rattle.tp4_conn.specs.declared.states.InWaitBeforeClose.{InWaitBeforeClose}
 use Rattle.tp4_conn.specs.declared.states.InClosing.{InClosing}
 use Rattle.tp4_conn.specs.declared.states.StateData.{StateData}
-use Rattle.tp4_conn.specs.declared.states.StateData.TheVariants.{CrWait, WaitBeforeClose, UserWait, AkWait, Opened, Closing, Frozen}
+use Rattle.tp4_conn.specs.declared.states.StateData.TheVariants.{WaitBeforeClose, Closing, Frozen}
 use Rattle.tp4_conn.specs.Closing.{closing_tpdu, closing_tick}
 use Rattle.tp4_conn.specs.End.{End, Moved, span}
 use Rattle.tp4_conn.specs.Matching.{wants_sum}
@@ -23,13 +23,11 @@ Leaves m = HasLeft m.stage
 parting_tpdu : (b : EndRecord) (w : InWaitBeforeClose) (tpdu : Tpdu) → Leaves (wait_before_close_tpdu b w tpdu)
 unfolding wait_before_close_tpdu
 parting_tpdu b w (Cc credit destination source width calling called size preferred extra version classes ack_time text) = tt
-parting_tpdu b w (Dr destination source reason info text) = tt
 parting_tpdu b w other = tt
 
 closes : (b : EndRecord) (c : InClosing) (tpdu : Tpdu) → Leaves (closing_tpdu b c tpdu)
 unfolding closing_tpdu
 closes b c (Dc destination source) = tt
-closes b c (Dr destination source reason info text) = tt
 closes b c other = tt
 
 parting_tick : (b : EndRecord) (w : InWaitBeforeClose) → Leaves (wait_before_close_tick b w)
@@ -41,31 +39,22 @@ unfolding closing_tick
 closes_later b c = if_kept Leaves (nat_le (c.from + span b.timers) b.clock) _ _ (λ _. tt) (λ _. if_kept Leaves (nat_lt b.clock (c.last + b.timers.t1)) _ _ (λ _. tt) (λ _. tt))
 
 pub takes_left : (b : EndRecord) (stage : StateData) (tpdu : Tpdu) → HasLeft stage → Leaves (on_tpdu whole b stage tpdu)
-takes_left b (CrWait w) tpdu left = absurd left
 takes_left b (WaitBeforeClose w) tpdu left = parting_tpdu b w tpdu
-takes_left b (UserWait since) tpdu left = absurd left
-takes_left b (AkWait w) tpdu left = absurd left
-takes_left b (Opened o) tpdu left = absurd left
 takes_left b (Closing c) tpdu left = closes b c tpdu
 takes_left b (Frozen when) tpdu left = tt
+takes_left b other tpdu left = absurd left
 
 pub calls_left : (b : EndRecord) (stage : StateData) (call : UserCall) → HasLeft stage → Leaves (on_call b stage call)
-calls_left b (CrWait w) call left = absurd left
 calls_left b (WaitBeforeClose w) call left = tt
-calls_left b (UserWait since) call left = absurd left
-calls_left b (AkWait w) call left = absurd left
-calls_left b (Opened o) call left = absurd left
 calls_left b (Closing c) call left = tt
 calls_left b (Frozen when) call left = tt
+calls_left b other call left = absurd left
 
 pub ticks_left : (b : EndRecord) (stage : StateData) → HasLeft stage → Leaves (on_tick b stage)
-ticks_left b (CrWait w) left = absurd left
 ticks_left b (WaitBeforeClose w) left = parting_tick b w
-ticks_left b (UserWait since) left = absurd left
-ticks_left b (AkWait w) left = absurd left
-ticks_left b (Opened o) left = absurd left
 ticks_left b (Closing c) left = closes_later b c
 ticks_left b (Frozen when) left = tt
+ticks_left b other left = absurd left
 
 pub stays_left : (now : ℕ) (e : End) (event : Event) → HasLeft e.stage → HasLeft (stepped whole now e event).stage
 stays_left now e (Called call) left = calls_left (at now e.base) e.stage call left

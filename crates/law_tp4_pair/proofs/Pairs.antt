@@ -181,9 +181,8 @@ confirming_on p Comes_back r w mine theirs new c may =
       where
         m : Moved
         m = stepped whole p.clock p.calling (Took (confirm p.called.base c.options c.octets).tpdu (confirm p.called.base c.options c.octets).sum)
-confirming_on p (Asks_calling call) r w mine theirs new c may = absurd (not_idle _ p.back c.back_is may.0.back)
-confirming_on p (Asks_called call) r w mine theirs new c may = absurd (not_idle _ p.back c.back_is may.0.back)
 confirming_on p (Clock calling called) r w mine theirs new c may = absurd (not_idle _ p.back c.back_is may.back)
+confirming_on p other r w mine theirs new c may = absurd (not_idle _ p.back c.back_is may.0.back)
 
 first_on : (p : Pair) (happening : Happening) (o : InOpened) (w : InAkWait) → p.calling.stage ≡ Opened o → p.called.stage ≡ AkWait w → IsFirst p.calling.base p.called.base o.halves w.halves p.forth p.back (forth_units p) (back_units p) → May p happening
     → Stands (next p happening)
@@ -201,9 +200,8 @@ first_on p Comes_forth o w mine theirs f may =
         (l ++ (stepped whole p.clock p.called (Took (ak o.halves.receiving).tpdu (ak o.halves.receiving).sum)).tpdus)
         (record { gave = p.calling_gave; showed = p.called_showed ++ shown_in (stepped whole p.clock p.called (Took (ak o.halves.receiving).tpdu (ak o.halves.receiving).sum)).events }) (back_units p)) (sym f.back_is) g.both)
 first_on p Comes_back o w mine theirs f may = subst (λ (l : List Sent). Stands (comes_back p l)) (sym f.back_is) (First o w mine theirs f)
-first_on p (Asks_calling call) o w mine theirs f may = absurd (not_idle _ p.forth f.forth_is may.0.forth)
-first_on p (Asks_called call) o w mine theirs f may = absurd (not_idle _ p.forth f.forth_is may.0.forth)
 first_on p (Clock calling called) o w mine theirs f may = absurd (not_idle _ p.forth f.forth_is may.forth)
+first_on p other o w mine theirs f may = absurd (not_idle _ p.forth f.forth_is may.0.forth)
 
 -- ---- all
 

@@ -1,8 +1,8 @@
 -- Each row tells what its sending half notes.
-use Rattle.std.proofs.Common.{ℕ, ◌+◌, ◌==◌, ◌&&◌, not, nat_le, nat_lt, Bool, true, false, List, [], ◌∷◌, ◌++◌, Some, sym, subst, append-nil, append_assoc}
+use Rattle.std.proofs.Common.{ℕ, ◌+◌, ◌==◌, ◌&&◌, not, nat_le, Bool, true, false, List, [], ◌∷◌, ◌++◌, Some, sym, subst, append-nil, append_assoc}
 use Rattle.std.proofs.lemmas.Bool.{false≢true}
 use Rattle.tpdu.specs.declared.tpdu.Tpdu.{Tpdu}
-use Rattle.tpdu.specs.declared.tpdu.Tpdu.TheVariants.{Cc, Dr, Dt, Ed, Ak, Ea, Er}
+use Rattle.tpdu.specs.declared.tpdu.Tpdu.TheVariants.{Dr, Dt, Ed, Ak, Ea, Er}
 use Rattle.tp4_flow.specs.Half.{Half, dt_arrival, half_granted, taken_dt, taken_ed}
 use Rattle.tp4_flow.specs.declared.rules.FlowRules.{FlowRules}
 use Rattle.tp4_flow.specs.declared.rules.Life.{Life}
@@ -12,53 +12,45 @@ use Rattle.tp4_flow.specs.declared.step.EndEvent.{EndEvent}
 use Rattle.tp4_flow.specs.declared.step.Sent.{Sent}
 use Rattle.tpdu.specs.declared.service.EndTold.TheVariants.{Confirm}
 use Rattle.tp4_number.specs.declared.got.Got.{Got}
-use Rattle.tp4_number.specs.declared.got.Got.TheVariants.{Kept, Old, Outside, TooLarge}
+use Rattle.tp4_number.specs.declared.got.Got.TheVariants.{TooLarge}
 use Rattle.tp4_number.specs.Number.{whole}
 use Rattle.tp4_number.proofs.Past.{if_kept}
 use Rattle.tp4_sending.specs.FlowSender.{Sendings, at, fresh, life_of, opened, ticked}
 use Rattle.tp4_conn.specs.declared.end_record.EndRecord.{EndRecord}
 use Rattle.tp4_conn.specs.declared.call.UserCall.{UserCall}
-use Rattle.tp4_conn.specs.declared.call.UserCall.TheVariants.{Accept, Refuse, Normal, Urgent, Window, Disconnect}
+use Rattle.tp4_conn.specs.declared.call.UserCall.TheVariants.{Normal, Urgent, Window, Disconnect}
 use Rattle.tp4_conn.specs.declared.halves.Halves.{Halves}
 use Rattle.tp4_conn.specs.declared.states.InAkWait.{InAkWait}
 use Rattle.tp4_conn.specs.declared.states.InOpened.{InOpened}
-use Rattle.tp4_conn.specs.declared.states.InCrWait.{InCrWait}
 use Rattle.tp4_conn.specs.declared.states.StateData.{StateData}
-use Rattle.tp4_conn.specs.declared.states.StateData.TheVariants.{CrWait, WaitBeforeClose, UserWait, AkWait, Opened, Closing, Frozen}
-use Rattle.tp4_conn.specs.Agreeing.{is_within, options_in}
-use Rattle.tp4_conn.specs.AkWait.{ak_wait_tick, ak_wait_tpdu, opening}
-use Rattle.tp4_conn.specs.CrWait.{confirmed, cr_wait_tick, cr_wait_tpdu}
+use Rattle.tp4_conn.specs.declared.states.StateData.TheVariants.{AkWait, Opened}
+use Rattle.tp4_conn.specs.AkWait.{opening}
+use Rattle.tp4_conn.specs.CrWait.{confirmed}
 use Rattle.tp4_conn.specs.End.{End, Moved, led_by, tell}
 use Rattle.tp4_conn.specs.Matching.{wants_sum}
 use Rattle.tp4_conn.specs.Opened.{dt_as, granting, hearing, is_expedited, opened_as, opened_tick, opened_tpdu}
 use Rattle.tp4_conn.specs.Table.{Called, Event, Ticked, Took, at as now_at, on_call, on_tick, on_tpdu, stepped}
-use Rattle.tp4_conn.specs.UserWait.{user_wait_accept, user_wait_refuse, user_wait_tick}
+use Rattle.law_tp4_rows.proofs.RowsWithout.{HasNone, Opens, accepts_in, ak_wait_later, ak_wait_row, call_without, opens_in, tick_without, tpdu_without}
 use Rattle.law_tp4_pair.specs.Pair.{Accepts, Asks_called, Asks_calling, Clock, Comes_back, Comes_forth, Happening, Leads, Pair, comes_back, comes_forth, next, tick_of}
-use Rattle.law_tp4_pair.specs.steps.Standing.{HasLeft}
 use Rattle.law_tp4_pair.specs.Telling.{AreTold, HasTold, Tells}
-use Rattle.law_tp4_pair.proofs.Leaving.{takes_left, ticks_left}
 use Rattle.law_tp4_pair.proofs.Told.{acknowledged_told, at_told, done_told, more_told, opened_told, submitted_told, ticked_told, urged_told}
 
 abbrev TellsRow : List EndEvent → Moved → Type 0
 TellsRow told m = Tells m.stage (told ++ m.events)
 
 more_tells : (stage : StateData) (told events : List EndEvent) → Tells stage told → Tells stage (told ++ events)
-more_tells (CrWait w) told events h = tt
-more_tells (WaitBeforeClose w) told events h = tt
-more_tells (UserWait since) told events h = tt
 more_tells (AkWait w) told events h = more_told w.halves.sending told events h
 more_tells (Opened o) told events h = more_told o.halves.sending told events h
-more_tells (Closing c) told events h = tt
-more_tells (Frozen when) told events h = tt
+more_tells other told events h = tt
 
-left_tells : (stage : StateData) (told : List EndEvent) → HasLeft stage → Tells stage told
-left_tells (CrWait w) told left = tt
-left_tells (WaitBeforeClose w) told left = tt
-left_tells (UserWait since) told left = tt
-left_tells (AkWait w) told left = absurd left
-left_tells (Opened o) told left = absurd left
-left_tells (Closing c) told left = tt
-left_tells (Frozen when) told left = tt
+-- of a state without halves nothing is asked
+none_tells : (told : List EndEvent) (m : Moved) → HasNone m.stage → TellsRow told m
+none_tells told m none = by m.stage none
+  where
+    by : (stage : StateData) → HasNone stage → Tells stage (told ++ m.events)
+    by (AkWait w) none = absurd none
+    by (Opened o) none = absurd none
+    by other none = tt
 
 fresh_told : (rules : FlowRules) (credit : ℕ) (told : List EndEvent) → HasTold (fresh rules credit) told
 fresh_told rules credit told = record { normal = λ n e. absurd (false≢true e); urgent = λ n e. absurd (false≢true e) }
@@ -67,13 +59,10 @@ fresh_told rules credit told = record { normal = λ n e. absurd (false≢true e)
 
 dt_tells : (b : EndRecord) (o : InOpened) (got : Got) (r : _) (told : List EndEvent) → HasTold o.halves.sending told → TellsRow told (dt_as got b o r)
 dt_tells b o TooLarge r told h = tt
-dt_tells b o Kept r told h = more_told o.halves.sending told r.events h
-dt_tells b o Old r told h = more_told o.halves.sending told r.events h
-dt_tells b o Outside r told h = more_told o.halves.sending told r.events h
+dt_tells b o other r told h = more_told o.halves.sending told r.events h
 
 opened_tells : (b : EndRecord) (o : InOpened) (tpdu : Tpdu) (told : List EndEvent) → HasTold o.halves.sending told → TellsRow told (opened_tpdu whole b o tpdu)
 unfolding opened_tpdu
-opened_tells b o (Cc credit destination source width calling called size preferred extra version classes ack_time text) told h = more_told o.halves.sending told [] h
 opened_tells b o (Dr destination source reason info text) told h = tt
 opened_tells b o (Er destination cause rejected) told h = tt
 opened_tells b o (Dt destination last number text) told h =
@@ -113,64 +102,25 @@ opening_tells b k tpdu told h =
     led_tells (opened_tpdu whole b o tpdu) told s.events s.tpdus
     (opened_tells b o tpdu (told ++ s.events) (opened_told (at b.clock k.sending) told (at_told b.clock k.sending told h)))
 
-ak_wait_tells : (b : EndRecord) (w : InAkWait) (tpdu : Tpdu) (told : List EndEvent) → HasTold w.halves.sending told → TellsRow told (ak_wait_tpdu whole b w tpdu)
-unfolding ak_wait_tpdu
-ak_wait_tells b w (Ak destination number credit subsequence confirmation) told h = opening_tells b w.halves (Ak destination number credit subsequence confirmation) told h
-ak_wait_tells b w (Dt destination last number text) told h = opening_tells b w.halves (Dt destination last number text) told h
-ak_wait_tells b w (Ed destination last number text) told h = opening_tells b w.halves (Ed destination last number text) told h
-ak_wait_tells b w (Ea destination number) told h = opening_tells b w.halves (Ea destination number) told h
-ak_wait_tells b w (Dr destination source reason info text) told h = tt
-ak_wait_tells b w (Er destination cause rejected) told h = tt
-ak_wait_tells b w other told h = more_told w.halves.sending told [] h
-
-ak_wait_later : (b : EndRecord) (w : InAkWait) (told : List EndEvent) → HasTold w.halves.sending told → TellsRow told (ak_wait_tick b w)
-unfolding ak_wait_tick
-ak_wait_later b w told h =
-    if_kept (TellsRow told) (nat_lt b.clock (w.tries.last + b.timers.t1)) _ _ (λ _. more_told w.halves.sending told [] h)
-    (λ _. if_kept (TellsRow told) (nat_lt w.tries.count b.timers.sendings) _ _ (λ _. more_told w.halves.sending told [] h) (λ _. tt))
-
 confirmed_tells : (b : EndRecord) (o : Options) (octets : List ℕ) (told : List EndEvent) → TellsRow told (confirmed b o octets)
 confirmed_tells b o octets told =
     let first : EndEvent = tell b (Confirm o octets) in
     subst (HasTold _) (append_assoc told (first ∷ []) _) (opened_told _ (told ++ first ∷ []) (at_told b.clock _ (told ++ first ∷ []) (fresh_told _ b.credit (told ++ first ∷ []))))
 
-cr_wait_tells : (b : EndRecord) (w : InCrWait) (tpdu : Tpdu) (told : List EndEvent) → TellsRow told (cr_wait_tpdu b w tpdu)
-unfolding cr_wait_tpdu
-cr_wait_tells b w (Cc credit destination source width calling called size preferred extra version classes ack_time text) told =
-    if_kept (TellsRow told) (is_within b.proposed width size preferred extra) _ _
-    (λ _. confirmed_tells (record b { partner = source; credit = credit; agreed = Some (options_in width size preferred extra) }) (options_in width size preferred extra) text told)
-    (λ _. tt)
-cr_wait_tells b w (Dr destination source reason info text) told = tt
-cr_wait_tells b w other told = tt
-
-cr_wait_later : (b : EndRecord) (w : InCrWait) (told : List EndEvent) → TellsRow told (cr_wait_tick b w)
-unfolding cr_wait_tick
-cr_wait_later b w told =
-    if_kept (TellsRow told) (nat_lt b.clock (w.tries.last + b.timers.t1)) _ _ (λ _. tt) (λ _. if_kept (TellsRow told) (nat_lt w.tries.count b.timers.sendings) _ _ (λ _. tt) (λ _. tt))
-
-user_wait_later : (b : EndRecord) (since : ℕ) (told : List EndEvent) → TellsRow told (user_wait_tick b since)
-unfolding user_wait_tick
-user_wait_later b since told = if_kept (TellsRow told) (nat_lt b.clock (since + b.timers.inactive)) _ _ (λ _. tt) (λ _. tt)
+opens_tell : (b : EndRecord) (told : List EndEvent) → Opens b (TellsRow told)
+opens_tell b told = λ source given options text. confirmed_tells (record b { partner = source; credit = given; agreed = Some options }) options text told
 
 -- ---- all rows
 
 takes_tells : (b : EndRecord) (stage : StateData) (tpdu : Tpdu) (told : List EndEvent) → Tells stage told → TellsRow told (on_tpdu whole b stage tpdu)
-takes_tells b (CrWait w) tpdu told h = cr_wait_tells b w tpdu told
-takes_tells b (WaitBeforeClose w) tpdu told h = left_tells _ _ (takes_left b (WaitBeforeClose w) tpdu tt)
-takes_tells b (UserWait since) tpdu told h = tt
-takes_tells b (AkWait w) tpdu told h = ak_wait_tells b w tpdu told h
+takes_tells b (AkWait w) tpdu told h = ak_wait_row whole b (TellsRow told) (none_tells told) w (more_told w.halves.sending told [] h) tpdu (opening_tells b w.halves tpdu told h)
 takes_tells b (Opened o) tpdu told h = opened_tells b (hearing b o) tpdu told h
-takes_tells b (Closing c) tpdu told h = left_tells _ _ (takes_left b (Closing c) tpdu tt)
-takes_tells b (Frozen when) tpdu told h = tt
+takes_tells b other tpdu told h = tpdu_without whole b (TellsRow told) (none_tells told) other tt tpdu (opens_in b (TellsRow told) (opens_tell b told) other tpdu)
 
 ticks_tell : (b : EndRecord) (stage : StateData) (told : List EndEvent) → Tells stage told → TellsRow told (on_tick b stage)
-ticks_tell b (CrWait w) told h = cr_wait_later b w told
-ticks_tell b (WaitBeforeClose w) told h = left_tells _ _ (ticks_left b (WaitBeforeClose w) tt)
-ticks_tell b (UserWait since) told h = user_wait_later b since told
-ticks_tell b (AkWait w) told h = ak_wait_later b w told h
+ticks_tell b (AkWait w) told h = ak_wait_later whole b (TellsRow told) (none_tells told) w (more_told w.halves.sending told [] h) (more_told w.halves.sending told [] h)
 ticks_tell b (Opened o) told h = tick_tells b o told h
-ticks_tell b (Closing c) told h = left_tells _ _ (ticks_left b (Closing c) tt)
-ticks_tell b (Frozen when) told h = tt
+ticks_tell b other told h = tick_without whole b (TellsRow told) (none_tells told) other tt
 
 grants_tell : (b : EndRecord) (o : InOpened) (new : Half) (told : List EndEvent) → HasTold o.halves.sending told → TellsRow told (granting b o new)
 grants_tell b o new told h = if_kept (TellsRow told) (new.receiver.inbox.credit == o.halves.receiving.receiver.inbox.credit) _ _
@@ -181,42 +131,19 @@ opened_call_tells b o (Normal unit) told h = submitted_told (at b.clock o.halves
 opened_call_tells b o (Urgent unit) told h = urged_told (at b.clock o.halves.sending) unit told (at_told b.clock o.halves.sending told h)
 opened_call_tells b o (Window credit) told h = grants_tell b o (half_granted o.halves.receiving credit) told h
 opened_call_tells b o (Disconnect octets) told h = tt
-opened_call_tells b o (Accept options octets) told h = more_told o.halves.sending told [] h
-opened_call_tells b o (Refuse octets) told h = more_told o.halves.sending told [] h
+opened_call_tells b o other told h = more_told o.halves.sending told [] h
 
 ak_wait_call_tells : (b : EndRecord) (w : InAkWait) (call : UserCall) (told : List EndEvent) → HasTold w.halves.sending told → TellsRow told (on_call b (AkWait w) call)
 ak_wait_call_tells b w (Normal unit) told h = submitted_told (at b.clock w.halves.sending) unit told (at_told b.clock w.halves.sending told h)
 ak_wait_call_tells b w (Urgent unit) told h = urged_told (at b.clock w.halves.sending) unit told (at_told b.clock w.halves.sending told h)
-ak_wait_call_tells b w (Window credit) told h = more_told w.halves.sending told [] h
 ak_wait_call_tells b w (Disconnect octets) told h = tt
-ak_wait_call_tells b w (Accept options octets) told h = more_told w.halves.sending told [] h
-ak_wait_call_tells b w (Refuse octets) told h = more_told w.halves.sending told [] h
-
-user_wait_call_tells : (b : EndRecord) (since : ℕ) (call : UserCall) (told : List EndEvent) → TellsRow told (on_call b (UserWait since) call)
-unfolding user_wait_accept user_wait_refuse
-user_wait_call_tells b since (Accept options octets) told = fresh_told _ b.credit _
-user_wait_call_tells b since (Refuse octets) told = tt
-user_wait_call_tells b since (Normal unit) told = tt
-user_wait_call_tells b since (Urgent unit) told = tt
-user_wait_call_tells b since (Window credit) told = tt
-user_wait_call_tells b since (Disconnect octets) told = tt
-
-cr_wait_call_tells : (b : EndRecord) (w : InCrWait) (call : UserCall) (told : List EndEvent) → TellsRow told (on_call b (CrWait w) call)
-cr_wait_call_tells b w (Accept options octets) told = tt
-cr_wait_call_tells b w (Refuse octets) told = tt
-cr_wait_call_tells b w (Normal unit) told = tt
-cr_wait_call_tells b w (Urgent unit) told = tt
-cr_wait_call_tells b w (Window credit) told = tt
-cr_wait_call_tells b w (Disconnect octets) told = tt
+ak_wait_call_tells b w other told h = more_told w.halves.sending told [] h
 
 calls_tell : (b : EndRecord) (stage : StateData) (call : UserCall) (told : List EndEvent) → Tells stage told → TellsRow told (on_call b stage call)
-calls_tell b (CrWait w) call told h = cr_wait_call_tells b w call told
-calls_tell b (WaitBeforeClose w) call told h = tt
-calls_tell b (UserWait since) call told h = user_wait_call_tells b since call told
 calls_tell b (AkWait w) call told h = ak_wait_call_tells b w call told h
 calls_tell b (Opened o) call told h = opened_call_tells b o call told h
-calls_tell b (Closing c) call told h = tt
-calls_tell b (Frozen when) call told h = tt
+calls_tell b other call told h =
+    call_without whole b (TellsRow told) (none_tells told) other tt call (accepts_in b (TellsRow told) (λ asked octets. fresh_told _ b.credit _) other)
 
 pub row_tells : (now : ℕ) (e : End) (event : Event) (told : List EndEvent) → Tells e.stage told → TellsRow told (stepped whole now e event)
 row_tells now e (Called call) told h = calls_tell (now_at now e.base) e.stage call told h

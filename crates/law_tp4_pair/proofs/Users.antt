@@ -7,7 +7,7 @@ use Rattle.tpdu.specs.declared.service.EndTold.TheVariants.{Window as WindowTold
 use Rattle.tp4_sending.specs.FlowSender.{Sendings, at, submitted, urged}
 use Rattle.tp4_conn.specs.declared.end_record.EndRecord.{EndRecord}
 use Rattle.tp4_conn.specs.declared.call.UserCall.{UserCall}
-use Rattle.tp4_conn.specs.declared.call.UserCall.TheVariants.{Accept, Refuse, Normal, Urgent, Window, Disconnect}
+use Rattle.tp4_conn.specs.declared.call.UserCall.TheVariants.{Normal, Urgent, Window, Disconnect}
 use Rattle.tp4_conn.specs.declared.halves.Halves.{Halves}
 use Rattle.tp4_conn.specs.declared.states.InOpened.{InOpened}
 use Rattle.tp4_conn.specs.declared.states.StateData.TheVariants.{Opened}
@@ -87,5 +87,4 @@ module _ (first : Party) (h : Halves) (b : EndRecord) (o : InOpened) (u v : Acco
       (urged_calm (at b.clock o.halves.sending) h.receiving [] [] [] unit (calm_at b.clock o.halves.sending h.receiving [] [] [] [] both.here))
   asked (Window credit) fits = grant_goes credit ((half_granted o.halves.receiving credit).receiver.inbox.credit == o.halves.receiving.receiver.inbox.credit) refl
   asked (Disconnect octets) fits = inl tt
-  asked (Accept options octets) fits = stays_open
-  asked (Refuse octets) fits = stays_open
+  asked other fits = stays_open

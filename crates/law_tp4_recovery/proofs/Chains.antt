@@ -6,7 +6,7 @@ use Rattle.tp4_number.specs.Window.{Held, is_held}
 use Rattle.tp4_number.proofs.Past.{blank}
 use Rattle.law_tp4_recovery.proofs.Free.{stays_free}
 use Rattle.law_tp4_recovery.proofs.Receiving.{receives}
-use Rattle.tp4_number.specs.Traffic.{Open, Rules, IsFit, Traffic, Event, Tick, Send, Resend, Dt_comes, Grant, Acknowledge, Ak_comes, May, after, Leads, start}
+use Rattle.tp4_number.specs.Traffic.{Rules, IsFit, Traffic, Event, Tick, Send, Resend, Dt_comes, Grant, Acknowledge, Ak_comes, May, after, Leads, start}
 use Rattle.tp4_number.proofs.Sound.{Sound}
 use Rattle.law_tp4_recovery.specs.Views.{AreViews, IsFair, AreFair}
 use Rattle.law_tp4_recovery.specs.Recovering.{Road, Move, Ticks, Sends, Resends, Grants, Repeats, Dt_arrives, Ak_arrives, Late_dt, Late_ak, MayMove, moved, Moves, IsRecovering, IsFitted, IsNotDue, IsLevel}
@@ -53,18 +53,13 @@ module _ (rules : Rules) (fit : IsFit rules) where
       all_moves size u (moved rules old move) new moves (stands_on size u old move st h.0) (keeps_on rules fit size u old (sound_at rules fit old.traffic st.reached) st.views j move h.0) h.1
 
 fitted_event : (rules : Rules) (fit : IsFit rules) (size : ℕ) (w : Traffic) (event : Event) → May rules w event → IsFair rules size w event → Sound rules w → IsFitted size w.receiver → IsFitted size (after rules w event).receiver
-fitted_event rules fit size w Tick may fair s f = f
-fitted_event rules fit size w (Open credit) may fair s f = f
-fitted_event rules fit size w Send may fair s f = f
-fitted_event rules fit size w (Resend n) may fair s f = f
 fitted_event rules fit size w (Dt_comes n tick piece) may fair s f =
     let x = receives rules fit w s size f.places f.room n tick piece may in
     record { places = x.places; room = omega (arith, x.credit, f.room); free = stays_free rules w n piece fair f.free }
 fitted_event rules fit size w (Grant credit) may fair s f =
     let g = gives w.receiver size credit fair in
     record { places = ap (λ (x : Held). length x.places) g.held ∙ f.places; room = g.room f.room; free = subst (λ (x : Held). is_held x 0 ≡ false) (sym g.held) f.free }
-fitted_event rules fit size w Acknowledge may fair s f = f
-fitted_event rules fit size w (Ak_comes a) may fair s f = f
+fitted_event rules fit size w other may fair s f = f
 
 fitted_leads : (rules : Rules) (fit : IsFit rules) (size : ℕ) (old new : Traffic) (events : List Event) → IsReached rules old → IsFitted size old.receiver → Leads rules old events new → AreFair rules size old events → IsFitted size new.receiver
 fitted_leads rules fit size old new [] r f h g = subst (λ (w : Traffic). IsFitted size w.receiver) (sym h) f

@@ -3,7 +3,7 @@ use Rattle.std.proofs.Common.{◌≡◌, ℕ, ◌+◌, ◌<◌, ◌≤◌, ◌�
 use Rattle.std.proofs.lemmas.List.Elements.{Contains-push_cases}
 use Rattle.tp4_number.specs.Number.{wire, ahead}
 use Rattle.tp4_number.specs.Receiver.{Receiver, judged, granted}
-use Rattle.tp4_number.specs.Traffic.{Rules, Answer, Traffic, Event, Tick, Open, Send, Resend, Dt_comes, Grant, Acknowledge, Ak_comes, after, answer_of, Leads, start}
+use Rattle.tp4_number.specs.Traffic.{Rules, Answer, Traffic, Event, Tick, Dt_comes, Grant, Acknowledge, after, answer_of, Leads, start}
 use Rattle.tp4_number.proofs.Accounts.{none}
 use Rattle.law_tp4_recovery.specs.Speaking.{Speaks, Knows, Began, Heard}
 use Rattle.law_tp4_recovery.specs.Views.{View, view_of, said, known, IsNoOlder, Wider, AreViews}
@@ -29,9 +29,6 @@ module _ (room : ℕ) (rules : Rules) (w : Traffic) (s : Speaks room w) where
 
   speaks_event : (event : Event) → Speaks room (after rules w event)
   speaks_event Tick = record { answered = s.answered; rising = s.rising; past = λ a h. omega (arith, s.past a h); least = s.least }
-  speaks_event (Open credit) = record { answered = s.answered; rising = s.rising; past = s.past; least = s.least }
-  speaks_event Send = record { answered = s.answered; rising = s.rising; past = s.past; least = s.least }
-  speaks_event (Resend n) = record { answered = s.answered; rising = s.rising; past = s.past; least = s.least }
   speaks_event (Dt_comes n tick piece) =
       let d : ℕ = ahead rules.block (wire rules.block w.receiver.expected) (wire rules.block n) in
       up_to _ (dt_rises rules.block w.receiver d piece (judged rules.block w.receiver.inbox d))
@@ -48,7 +45,7 @@ module _ (room : ℕ) (rules : Rules) (w : Traffic) (s : Speaks room w) where
     ];
     least = s.least;
   }
-  speaks_event (Ak_comes a) = record { answered = s.answered; rising = s.rising; past = s.past; least = s.least }
+  speaks_event other = record { answered = s.answered; rising = s.rising; past = s.past; least = s.least }
 
 speaks_start : (tick credit places room : ℕ) → Speaks room (start tick credit places room)
 speaks_start tick credit places room = record {

@@ -10,7 +10,7 @@ use Rattle.osi_base.specs.declared.unit.Injected.TheVariants.{Taken as WasInject
 use Rattle.osi_base.specs.declared.unit.Offered.{Offered}
 use Rattle.osi_base.specs.declared.unit.Offered.TheVariants.{Taken as WasTaken, Dropped}
 use Rattle.osi_base.specs.declared.unit.Picked.{Picked}
-use Rattle.osi_base.specs.declared.unit.Picked.TheVariants.{Taken as WasPicked, NoSuch, Late, NotThere, NotOurs}
+use Rattle.osi_base.specs.declared.unit.Picked.TheVariants.{Taken as WasPicked}
 use Rattle.osi_base.specs.declared.unit.Unit.{Unit as CarriedUnit}
 use Rattle.osi_base.specs.declared.unit.Up.{Up}
 use Rattle.osi_base.specs.declared.unit.Up.TheVariants.{Unit as Came}
@@ -28,7 +28,8 @@ use Rattle.lan_bag.specs.Rows.{is_on, sender_of}
 use Rattle.lan_bag.specs.declared.setup.Lan.{Lan}
 use Rattle.lan_bag.specs.steps.Keeping.{bag_keeps}
 use Rattle.law_clnp_answers.specs.Standing.{FitsBag, FitsKept, FitsUp, IsFrame, IsNsap, IsSnpa, are_octets, is_nsap, is_port}
-use Rattle.law_clnp_answers.proofs.written.Octets.{all_both, octets_drop, octets_take}
+use Rattle.law_clnp_step.proofs.Lists.{all_both}
+use Rattle.law_clnp_answers.proofs.written.Octets.{octets_drop, octets_take}
 
 -- ---- tests
 
@@ -102,10 +103,7 @@ pick_fits old pick system (Some frame) h k = record {
 
 choice_fits : (old : Bag) (pick system : ℕ) (answer : Picked) → FitsBag old → FitsBag (after_choose old pick system answer)
 choice_fits old pick system WasPicked h = pick_fits old pick system (frame_of old.frames pick) h (frame_fits old.frames pick h.frames)
-choice_fits old pick system NoSuch h = h
-choice_fits old pick system Late h = h
-choice_fits old pick system NotThere h = h
-choice_fits old pick system NotOurs h = h
+choice_fits old pick system other h = h
 
 -- ---- an injection
 

@@ -25,7 +25,8 @@ use Rattle.clnp_system.specs.Tables.{rows_tables}
 use Rattle.clnp_system.proofs.Initial.{IsGood, first_length_is, first_written, path_good}
 use Rattle.law_clnp_answers.specs.Standing.{FitsNode, IsFrame, IsHop, IsNsap}
 use Rattle.law_clnp_answers.proofs.written.Fitting.{FitsOctets, FitsOption, FitsPart}
-use Rattle.law_clnp_answers.proofs.written.Octets.{all_both, octets_both, octets_field}
+use Rattle.law_clnp_step.proofs.Lists.{all_both}
+use Rattle.law_clnp_answers.proofs.written.Octets.{octets_both, octets_field}
 use Rattle.law_clnp_answers.proofs.written.Pieces.{sent_cut}
 use Rattle.law_clnp_answers.proofs.written.Ways.{of_good, to_good}
 

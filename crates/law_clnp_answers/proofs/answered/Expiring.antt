@@ -7,7 +7,7 @@ use Rattle.clnp_segment.specs.declared.store.Expired.{Expired}
 use Rattle.clnp_system.specs.Ticking.{ExpiresAll}
 use Rattle.law_clnp_answers.specs.Standing.{FitsHeld}
 use Rattle.law_clnp_answers.proofs.written.Fitting.{FitsExpired}
-use Rattle.law_clnp_answers.proofs.written.Octets.{all_back, all_both, all_front, all_weaker}
+use Rattle.law_clnp_step.proofs.Lists.{all_back, all_both, all_front, all_weaker}
 
 -- the first of least deadline
 record Least (units : List Partial) : Type 0 where

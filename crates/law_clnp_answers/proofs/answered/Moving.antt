@@ -16,7 +16,7 @@ use Rattle.law_clnp_step.specs.Handling.{Changes, Handles, IsReceived, Nobody, O
 use Rattle.law_clnp_answers.specs.Serving.{ComesInOctets, WaitsInOctets}
 use Rattle.law_clnp_answers.specs.Standing.{FitsBag, FitsNode, FitsUp, IsFrame, is_nsap}
 use Rattle.law_clnp_answers.proofs.answered.Carrying.{gathered, offers_one}
-use Rattle.law_clnp_answers.proofs.written.Octets.{all_back, all_both, all_front}
+use Rattle.law_clnp_step.proofs.Lists.{all_back, all_both, all_front}
 use Rattle.law_clnp_answers.proofs.answered.Reacting.{received}
 use Rattle.law_clnp_answers.proofs.answered.Storing.{FirstOf, first_of}
 use Rattle.law_clnp_answers.proofs.answered.Ticking.{ticked}

@@ -6,7 +6,6 @@ use Rattle.std.proofs.lemmas.Bool.{cases_eq}
 use Rattle.std.proofs.lemmas.List.{length-take}
 use Rattle.nsap.specs.declared.port.Port.{Port}
 use Rattle.nsap.specs.declared.port.Hop.{Hop}
-use Rattle.osi_base.specs.declared.unit.Up.{Up}
 use Rattle.osi_base.specs.declared.unit.Up.TheVariants.{Note as Noted}
 use Rattle.osi_base.specs.declared.note.Note.TheVariants as notes
 use Rattle.osi_base.specs.declared.note.HelloKind.{HelloKind}
@@ -42,7 +41,6 @@ use Rattle.clnp_system.specs.declared.aim.Aim.{Aim}
 use Rattle.clnp_system.specs.declared.aim.Aim.TheVariants.{Free, Entry, Forbidden}
 use Rattle.clnp_system.specs.declared.verdict.Verdict.{Verdict}
 use Rattle.clnp_system.specs.declared.verdict.Verdict.TheVariants.{Discard, Tell, Take, Join, Onward}
-use Rattle.clnp_system.specs.Forwarding.{GoesOnward}
 use Rattle.clnp_system.specs.Forwarding as forwarding
 use Rattle.clnp_system.specs.Hearing.{HeardBy, Hears, HeedsIf, RedirectedBy, cause_of, only_note}
 use Rattle.clnp_system.specs.Hellos.{sender}
@@ -62,7 +60,8 @@ use Rattle.law_clnp_answers.proofs.written.Discarding.{lost}
 use Rattle.law_clnp_answers.proofs.written.Faults.{fault_fits}
 use Rattle.law_clnp_answers.proofs.written.Greeting.{group_answered, redirected}
 use Rattle.clnp_system.proofs.Hops.{heard_are}
-use Rattle.law_clnp_answers.proofs.written.Octets.{all_both, all_of, octets_take}
+use Rattle.law_clnp_step.proofs.Lists.{all_both}
+use Rattle.law_clnp_answers.proofs.written.Octets.{all_of, octets_take}
 use Rattle.law_clnp_answers.proofs.written.Onward.{goes_on}
 use Rattle.law_clnp_answers.proofs.written.Pieces.{sent_cut}
 use Rattle.law_clnp_answers.proofs.written.Reading.{front_fits, front_hello_fits}
@@ -76,10 +75,9 @@ use Rattle.law_clnp_answers.proofs.written.Writes.{FitsHello}
 -- what holds of what is to be done with a PDU
 abbrev Fits : Setting → Pdu → Verdict → Type 0
 Fits setting pdu (Discard reason place) = place < 256
-Fits setting pdu Tell = Prim.Unit {0}
-Fits setting pdu Take = Prim.Unit {0}
 Fits setting pdu Join = IsSome pdu.segment
 Fits setting pdu (Onward hop) = IsHop setting hop
+Fits setting pdu other = Prim.Unit {0}
 
 reason_fits : (system : ℕ) (value : Option (List ℕ)) → WaitsInOctets (told_reason system value ∷ [])
 reason_fits system None = (tt, tt)
@@ -137,9 +135,6 @@ module _ (node : Node Rows) (fits : FitsNode node) where
   at_tick_fits now = record { setup = fits.setup; next_id = fits.next_id; held = fits.held; neighbours = fits.neighbours; redirects = fits.redirects }
 
   -- ---- hellos
-  note_only : Up (List ℕ) → Reaction
-  note_only note = record { ups = note ∷ []; frames = [] }
-
   heard_fits : (table : Rows) (told : Told) → IsHop node.setup told.hop → FitsRows node.setup table.rows → IfSome (heard_rows table told) (λ (heard : Rows). FitsRows node.setup heard.rows)
   heard_fits table told good h = by (nat_lt 256 (count_with table.rows told))
     where

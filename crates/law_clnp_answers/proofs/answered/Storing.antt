@@ -12,7 +12,7 @@ use Rattle.clnp_segment.specs.Store.{At, Coming, HasNoRoom, Holding, Joins, Part
 use Rattle.clnp_segment.specs.declared.store.Joined.{Joined}
 use Rattle.clnp_segment.specs.declared.store.Joined.TheVariants as joined
 use Rattle.law_clnp_answers.specs.Standing.{FitsHeld, FitsSlot, IsNsap}
-use Rattle.law_clnp_answers.proofs.written.Octets.{all_back, all_both, all_front}
+use Rattle.law_clnp_step.proofs.Lists.{all_back, all_both, all_front}
 use Rattle.law_clnp_answers.proofs.answered.Slots.{Agreed, Conflict, Gap, HasAt, Whole, agreed_or_not, filled_at, held_in, length_put, out_of, put, put_fits, put_in, whole_fits, whole_or_gap}
 
 -- ---- the first that passes a test
@@ -81,10 +81,8 @@ partial_fits (Some unit) coming new deadline h may room = record { source = h.so
 -- ---- the answer
 
 abbrev pub WholeFits : Joined → Type 0
-WholeFits joined.Interference = Prim.Unit {0}
 WholeFits (joined.Whole octets) = AreOctets octets
-WholeFits joined.Full = Prim.Unit {0}
-WholeFits joined.Held = Prim.Unit {0}
+WholeFits other = Prim.Unit {0}
 
 pub record Answered (store : Holding) (now : ℕ) (coming : Coming) : Type 0 where
   pub answer : Joined
@@ -117,9 +115,6 @@ room_or_not store found old new = by (units_or_none found) (cases_lt (length sto
 
 module _ (store : Holding) (now : ℕ) (coming : Coming) (before : List Partial) (found : Option Partial) (rest : List Partial) (may : MayJoin coming) (all : AllByRecursion FitsHeld store.held)
     (fronts : AllByRecursion FitsHeld before) (backs : AllByRecursion FitsHeld rest) (there : IfSome found FitsHeld) where
-  abbrev Segm : Segment
-  Segm = coming.segment
-
   abbrev Old : Held
   Old = found_or_nothing found coming.segment
 

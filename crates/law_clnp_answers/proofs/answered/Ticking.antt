@@ -13,7 +13,7 @@ use Rattle.law_clnp_answers.proofs.written.Discarding.{reported_all}
 use Rattle.law_clnp_answers.proofs.answered.Expiring.{given_up}
 use Rattle.law_clnp_answers.proofs.written.Greeting.{greeted_if}
 use Rattle.clnp_system.proofs.Hops.{swept_are}
-use Rattle.law_clnp_answers.proofs.written.Octets.{all_both}
+use Rattle.law_clnp_step.proofs.Lists.{all_both}
 
 notes_fit : (system : ℕ) (list : List Expired) → WaitsInOctets (map (expiry_note system) list)
 notes_fit system [] = tt

@@ -24,34 +24,13 @@ use Rattle.clnp_system.proofs.Writable.{report_written}
 use Rattle.law_clnp_answers.specs.Serving.{WaitsInOctets}
 use Rattle.law_clnp_answers.specs.Standing.{FitsNode, IsFrame, IsHop}
 use Rattle.law_clnp_answers.proofs.written.Fitting.{FitsDiscarded, FitsExpired, FitsOctets}
-use Rattle.law_clnp_answers.proofs.written.Octets.{all_both}
+use Rattle.law_clnp_step.proofs.Lists.{all_both}
 use Rattle.law_clnp_answers.proofs.written.Pieces.{SentAll, sent_pdus}
 use Rattle.law_clnp_answers.proofs.written.Ways.{of_good}
 
 pub code_fits : (reason : Reason) → code_of reason < 256
 code_fits reasons.NotSpecified = omega arith
-code_fits reasons.ProtocolProcedure = omega arith
-code_fits reasons.IncorrectChecksum = omega arith
-code_fits reasons.Congestion = omega arith
-code_fits reasons.HeaderSyntax = omega arith
-code_fits reasons.SegmentationNeeded = omega arith
-code_fits reasons.IncompletePdu = omega arith
-code_fits reasons.DuplicateOption = omega arith
-code_fits reasons.DestinationUnreachable = omega arith
-code_fits reasons.DestinationUnknown = omega arith
-code_fits reasons.SourceRouting = omega arith
-code_fits reasons.SourceRoutingSyntax = omega arith
-code_fits reasons.SourceRoutingUnknownAddress = omega arith
-code_fits reasons.PathNotAcceptable = omega arith
-code_fits reasons.LifetimeExpiredInTransit = omega arith
-code_fits reasons.LifetimeExpiredInReassembly = omega arith
-code_fits reasons.UnsupportedOption = omega arith
-code_fits reasons.UnsupportedVersion = omega arith
-code_fits reasons.UnsupportedSecurity = omega arith
-code_fits reasons.UnsupportedSourceRouting = omega arith
-code_fits reasons.UnsupportedRecording = omega arith
-code_fits reasons.UnsupportedQuality = omega arith
-code_fits reasons.ReassemblyInterference = omega arith
+code_fits other = omega arith
 
 module _ (node : Node Rows) (fits : FitsNode node) where
   abbrev Set : Setting

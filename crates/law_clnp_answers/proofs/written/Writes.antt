@@ -129,8 +129,7 @@ parts_octets (Rd hold address snpa title) h size =
 
 type_fits : (hello : Hello) → type_of hello < 256
 type_fits (Esh hold addresses) = omega arith
-type_fits (Ish hold title) = omega arith
-type_fits (Rd hold address snpa title) = omega arith
+type_fits other = omega arith
 
 pub hello_frame : (setting : Setting) (to : Port) (hello : Hello) → IsSome (port_on setting to.lan) → MayBeHello hello
     → (frame : Frame) × IsHelloFrame setting to hello frame × AreOctets frame.octets

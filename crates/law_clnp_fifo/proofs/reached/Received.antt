@@ -132,8 +132,7 @@ at_room : (store : Holding) (now : ℕ) (come : Coming) (before : List Partial) 
     → TakesAt store now come before found rest answer after → HasMost after
 at_room store now come before found rest joined.Interference after most t = subst HasMost (sym t.1) (record { units = most.units; octets = most.octets })
 at_room store now come before found rest (joined.Whole octets) after most t = subst HasMost (sym t.4) (record { units = most.units; octets = most.octets })
-at_room store now come before found rest joined.Full after most t = subst HasMost (sym t.4) (record { units = most.units; octets = most.octets })
-at_room store now come before found rest joined.Held after most t = subst HasMost (sym t.4) (record { units = most.units; octets = most.octets })
+at_room store now come before found rest other after most t = subst HasMost (sym t.4) (record { units = most.units; octets = most.octets })
 
 takes_keep_room : (store : Holding) (now : ℕ) (come : Coming) (answer : Joined) (after : Holding) → HasMost store → TakesSegment store now come answer after → HasMost after
 takes_keep_room store now come answer after most t = at_room store now come t.before t.found t.rest answer after most t.takes
@@ -188,8 +187,7 @@ module _ (rows : List PortRow) (first second : Setting) (here there : Port) (cal
     gives_harmless : (answer : Joined) (reaction : Reaction) → JoinGives rows_tables node now frame own.pdu answer reaction → AllByRecursion (IsHarmless titles) reaction.frames
     gives_harmless joined.Interference reaction gives = discards_harmless ReassemblyInterference 0 reaction gives
     gives_harmless joined.Full reaction gives = discards_harmless Congestion 0 reaction gives
-    gives_harmless (joined.Whole octets) reaction gives = none_sent reaction.frames (no_group_answer reaction.frames gives.1)
-    gives_harmless joined.Held reaction gives = none_sent reaction.frames (no_group_answer reaction.frames gives.1)
+    gives_harmless other reaction gives = none_sent reaction.frames (no_group_answer reaction.frames gives.1)
 
     joins : (reaction : Reaction) (after : Node Rows) → own.pdu.kind ≡ Dt → Joins rows_tables node now frame own.pdu reaction after → Leaves node reaction after
     joins reaction after dt j = record {

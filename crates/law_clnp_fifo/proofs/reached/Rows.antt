@@ -5,7 +5,7 @@ use Rattle.osi_base.specs.declared.unit.Injected.TheVariants.{Taken as WasInject
 use Rattle.osi_base.specs.declared.unit.Offered.{Offered}
 use Rattle.osi_base.specs.declared.unit.Offered.TheVariants.{Taken as WasTaken, Dropped}
 use Rattle.osi_base.specs.declared.unit.Picked.{Picked}
-use Rattle.osi_base.specs.declared.unit.Picked.TheVariants.{Taken as WasPicked, NoSuch, Late, NotThere, NotOurs}
+use Rattle.osi_base.specs.declared.unit.Picked.TheVariants.{Taken as WasPicked}
 use Rattle.osi_base.specs.declared.unit.Unit.{Unit as CarriedUnit}
 use Rattle.osi_base.specs.declared.unit.Up.{Up}
 use Rattle.osi_base.specs.declared.unit.Up.TheVariants.{Unit as Came, Note as Noted}
@@ -34,10 +34,7 @@ pick_rows bag pick system None = refl
 
 choose_rows : (bag : Bag) (pick system : ℕ) (answer : Picked) → rows_of (after_choose bag pick system answer) ≡ bag.rows
 choose_rows bag pick system WasPicked = pick_rows bag pick system (frame_of bag.frames pick)
-choose_rows bag pick system NoSuch = refl
-choose_rows bag pick system Late = refl
-choose_rows bag pick system NotThere = refl
-choose_rows bag pick system NotOurs = refl
+choose_rows bag pick system other = refl
 
 inject_rows : (bag : Bag) (lan system : ℕ) (octets : List ℕ) (answer : Injected) → rows_of (after_inject bag lan system octets answer) ≡ bag.rows
 inject_rows bag lan system octets InjectedNowhere = refl

@@ -9,7 +9,7 @@ use Rattle.osi_base.specs.declared.unit.Unit.{Unit as CarriedUnit}
 use Rattle.osi_base.specs.declared.unit.Up.{Up}
 use Rattle.osi_base.specs.declared.unit.Up.TheVariants.{Unit as Came, Note as Noted}
 use Rattle.osi_base.specs.declared.unit.Wish.{Wish}
-use Rattle.osi_base.specs.Calls.{Call, Offer, Choose, Inject, NextUp, Tick, Chooses, Ticks}
+use Rattle.osi_base.specs.Calls.{Call, Offer, Choose, Tick, Chooses, Ticks}
 use Rattle.osi_base.specs.Link.{IsLawful}
 use Rattle.lan_bag.specs.Bag.{Bag, BagStep, link_of}
 use Rattle.lan_bag.specs.Rows.{goes_to, is_one_of}
@@ -231,6 +231,5 @@ module _ (rows : List PortRow) (first second : Setting) (here there : Port) (cal
       reached_offer old passes.called new reached (net_gathered passes.called new ups passes.gathers) unit wish answer usual.0 usual.1 passes.steps_to.1
   reached_net old new (Choose pick system answer) ups reached usual passes =
       reached_choice old passes.called new reached (net_gathered passes.called new ups passes.gathers) pick system answer passes.steps_to.1
-  reached_net old new (Inject lan system octets answer) ups reached usual passes = absurd usual
-  reached_net old new (NextUp answer) ups reached usual passes = absurd usual
   reached_net old new Tick ups reached usual passes = reached_tick old passes.called new reached (net_gathered passes.called new ups passes.gathers) passes.steps_to.1
+  reached_net old new other ups reached usual passes = absurd usual

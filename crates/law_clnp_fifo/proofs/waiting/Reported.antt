@@ -19,7 +19,7 @@ use Rattle.clnp_segment.specs.declared.store.Expired.{Expired}
 use Rattle.lan_bag.specs.declared.setup.PortRow.{PortRow}
 use Rattle.esis_tables.specs.Rows.{Rows}
 use Rattle.clnp_system.specs.declared.verdict.Verdict.{Verdict}
-use Rattle.clnp_system.specs.declared.verdict.Verdict.TheVariants.{Discard, Tell, Take, Join, Onward}
+use Rattle.clnp_system.specs.declared.verdict.Verdict.TheVariants.{Discard, Tell}
 use Rattle.clnp_system.specs.Hellos.{is_due}
 use Rattle.clnp_system.specs.Hops.{found_hop, group_hop, hop_of}
 use Rattle.clnp_system.specs.Node.{Frame, Node, Reaction}
@@ -51,9 +51,7 @@ use Rattle.law_clnp_fifo.proofs.reached.Ticked.{IsExpiredOfUsers, expires_of_use
 abbrev IsErSaid : Verdict → Type 0
 IsErSaid (Discard reason place) = Prim.Unit {0}
 IsErSaid Tell = Prim.Unit {0}
-IsErSaid Take = ⊥
-IsErSaid Join = ⊥
-IsErSaid (Onward hop) = ⊥
+IsErSaid other = ⊥
 
 this_er : (setting : Setting) (pdu : Pdu) (kind : PduKind) → kind ≡ Er → IsErSaid (for_this setting pdu kind)
 this_er setting pdu Er is = tt
@@ -96,9 +94,7 @@ module _ (node : Node Rows) (now : ℕ) (frame : Frame) (pdu : Pdu) (has : HasPd
     units = ap (λ (r : Reaction). arrivals r.ups) h.0 ∙ told_note node.setup.system (value_of 0xc1 (parameters pdu.options));
     held = ap (λ (n : Node Rows). n.store.held) h.1;
   }
-  does_quiet route Take reaction after is h = absurd is
-  does_quiet route Join reaction after is h = absurd is
-  does_quiet route (Onward hop) reaction after is h = absurd is
+  does_quiet route other reaction after is h = absurd is
 
   pub report_quiet : (reaction : Reaction) (after : Node Rows) → Receives rows_tables node now frame reaction after → IsQuiet node reaction after
   report_quiet reaction after (Elsewhere none is after_is) = record {
