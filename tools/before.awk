@@ -4,6 +4,7 @@ BEGIN {
     limit["i"] = 60
     limit["n"] = 4
     limit["t1"] = 8
+    limit["w"] = 20
 }
 function set_up_title(name, title) { system_at[tolower(substr(title, 1, length(title) - 2)) "01"] = name }
 # Of ends: their name, their partner, the lines that made, indicated and accepted them, and the first frame of each of these.
@@ -24,6 +25,7 @@ function remember_event(number, w,   caller) {
             partner_of[caller] = w[2]
         }
     } else if (w[1] == "accept") answered_at[w[2]] = number
+    else if (w[1] == "confirm") is_confirmed[w[2]]
     else if (w[1] == "restart") {
         began_at[w[2]] = clock
         began_line[w[2]] = number
@@ -45,6 +47,15 @@ function unheard(   e) {
 function is_silent(name) { return name in began_at && clock + 0 <= began_at[name] + 2 * limit["life"] + limit["i"] + limit["n"] * limit["t1"] }
 function began(name) {
     return name " began again at tick " began_at[name] " (line " began_line[name] ")"
+}
+# The longest outage that ends no open connection, by the times of the script.
+function longest_outage(   tries, idle, least) {
+    tries = (limit["n"] - 1) * limit["t1"] - 1
+    idle = limit["i"] - 2 * limit["w"]
+    if (idle < 0) return "I = " limit["i"] " is below 2W = " 2 * limit["w"] ", so one AK that is lost can end a connection that is open"
+    least = tries < idle ? tries : idle
+    return "an outage of at most " least (least == 1 ? " tick" : " ticks") " ends no connection that is open before it: by the times of the script the lesser of (N - 1) T1 - 1 = " \
+        tries " and I - 2W = " idle
 }
 function before(text, w,   e, p) {
     e = $2
@@ -68,6 +79,7 @@ function before(text, w,   e, p) {
         if (is_silent(p)) return began(p) ": it lost its ends, and is silent up to tick " \
             began_at[p] + 2 * limit["life"] + limit["i"] + limit["n"] * limit["t1"] ", so nothing answers; connect again after that tick"
         if (w[3] == "exhausted" && system_of_end[w[2]] in dropped_at) return "the TPDU was too long for the network each time: `drop " system_of_end[w[2]] " toolong` at line " dropped_at[system_of_end[w[2]]]
+        if (w[3] != "132" && (w[2] in is_confirmed || partner_of[w[2]] in is_confirmed)) return longest_outage()
     }
     return ""
 }

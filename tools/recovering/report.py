@@ -24,7 +24,7 @@ def of_parts(name, script, parts):
 def of_network(script):
     """Whether claim 5 of docs/claims.md, which is proved, speaks of the run too."""
     reason = script.why_not_one_lan()
-    return "tried and not proved: " + reason if reason else "proved of ends that are both Opened at t0 or later: two end systems on one LAN"
+    return "tried and not proved: " + reason if reason else "proved, as claim 5 says of which ends: two end systems on one LAN"
 
 
 def units(pair, place):
