@@ -1,5 +1,6 @@
 -- An entity did something at one of its references, or at none: what stands at another place of the network stands there still.
 use Rattle.std.proofs.Common.{◌≡◌, ◌≢◌, inl, inr, ℕ, ◌==◌, Bool, true, false, List, ◌∷◌, ◌++◌, Some, refl, sym, ◌∙◌, ap, subst, append_assoc}
+use Rattle.std.specs.List.{AllByRecursion}
 use Rattle.std.proofs.lemmas.Bool.{cases_eq, eqb-false, eqb-true}
 use Rattle.std.proofs.lemmas.Option.{same_Some}
 use Rattle.osi_base.specs.Link.{Link}
@@ -19,7 +20,7 @@ use Rattle.tp4_world.proofs.Addressees.{all_append}
 use Rattle.law_recovery_request.specs.Requesting.{AreListening, AreUnanswered, IsUnanswered}
 use Rattle.law_recovery_request.proofs.Coming.{AreRegistered, IsHere, IsPending, IsWaiting}
 use Rattle.law_recovery_request.proofs.Keeping.{IsKeptApart}
-use Rattle.law_recovery_asking.proofs.State.{AreApart, IsBare, IsReplied, pending_on}
+use Rattle.law_recovery_asking.proofs.State.{AreApart, IsAccepted, IsBare, IsQuiet, IsReplied, pending_on}
 
 -- an entity is another one now, but for one reference
 pub record Changes {C : Type 0} (link : C → Link (List ℕ)) (old new : World C) : Type 0 where
@@ -129,6 +130,30 @@ module _ {C : Type 0} (link : C → Link (List ℕ)) (old new : World C) (a : Ch
         → IsPending system x from N b r new (posts ++ more)
     still_pending posts more p apart =
         pending_on x system from N b r old new posts more p (λ s e there own. let n : IsNow s e = now_at s e there in (n.entity, n.there, n.own ∙ own)) (λ d. waiting_on d (apart d))
+
+    -- it is so with its called end, which was accepted
+    pub accepted_on : (y limit : ℕ) (posts more : List Post) (k : IsAccepted link x system from N y limit b r old posts) → (system ≡ a.system → b.own ≡ a.reference → ⊥)
+        → (k.at_system ≡ a.system → k.own ≡ a.reference → ⊥) → AreApart system from N b r more → AllByRecursion (IsQuiet link x system from N b.to k.at_system k.own) more
+        → IsAccepted link x system from N y limit b r new (posts ++ more)
+    accepted_on y limit posts more k apart apart_there aside quiet = let n : IsNow k.at_system k.entity = now_at k.at_system k.entity k.there in record {
+      here = here_on k.here apart;
+      listens = listens_on b.to k.listens;
+      selects = selects_on N b.to b.called k.selects;
+      apart = all_append (IsKeptApart system from N b r) posts more k.apart aside;
+      at_system = k.at_system;
+      own = k.own;
+      entity = n.entity;
+      there = n.there;
+      own_is = n.own ∙ k.own_is;
+      end = k.end;
+      w = k.w;
+      stands = n.same k.own apart_there ∙ k.stands;
+      stage = k.stage;
+      called = k.called;
+      number = a.numbers k.at_system k.own apart_there ∙ k.number;
+      past = k.past;
+      quiet = all_append (IsQuiet link x system from N b.to k.at_system k.own) posts more k.quiet quiet;
+    }
 
     pub replied_on : (posts more : List Post) (k : IsReplied link x system from N b r old posts) → (system ≡ a.system → b.own ≡ a.reference → ⊥) → IsReplied link x system from N b r new (posts ++ more)
     replied_on posts more k apart = let n : IsNow k.answer.system k.entity = now_at k.answer.system k.entity k.there in record {

@@ -1,3 +1,4 @@
+pub mod Accepting
 pub mod Asking
 pub mod Beside
 pub mod Hearing
@@ -13,4 +14,5 @@ pub mod Telling
 pub mod TickRows
 pub mod Ticking
 pub mod Trying
+pub mod Walking
 pub mod Wired

@@ -76,9 +76,9 @@ behind_lines own made later is all = (all_parts IsUndropped own later (subst (λ
 module _ {C : Type 0} (link : C → Link (List ℕ)) (steps : C → Call (List ℕ) → C → Type 0)
     (law : (old : C) (call : Call (List ℕ)) (new : C) → steps old call new → Keeps (link old) call (link new))
     (titles : List (List ℕ)) (Waits : C → List (CarriedUnit (List ℕ)) → Type 0) (fifo : IsFifo link steps titles Waits) (names : List (List ℕ)) (timers : Timers) (going : Going)
-    (follow : (titles : List (List ℕ)) (timers : Timers) → Followed titles timers) (timed : IsTimed timers) (x home : ℕ) (from : List ℕ) (N : Type 0) (first : EndRecord) (tried : InCrWait) where
+    (follow : (titles : List (List ℕ)) (timers : Timers) → Followed titles timers) (timed : IsTimed timers) (x home : ℕ) (from : List ℕ) (N : Type 0) (F : Type 0) (y limit : ℕ) (first : EndRecord) (tried : InCrWait) where
   abbrev On : List Event → World C → List Post → Type 0
-  On late world posts = IsOn link x home from N first tried late world posts
+  On late world posts = IsOn link x home from N F y limit first tried late world posts
 
   abbrev So : World C → Hall → List (CarriedUnit (List ℕ)) → Type 0
   So world hall queue = StandsSo link steps law titles Waits fifo world hall queue
@@ -87,7 +87,7 @@ module _ {C : Type 0} (link : C → Link (List ℕ)) (steps : C → Call (List �
   Resting journal world = Rests link AreProper names timers journal world
 
   abbrev Stepped : List Event → World C → Type 0
-  Stepped late new = HasStepped link steps law titles Waits fifo names timers going (follow names timers) x home from N first tried late new
+  Stepped late new = HasStepped link steps law titles Waits fifo names timers going (follow names timers) x home from N F y limit first tried late new
 
   none_waits : (hall : Hall) (queue : List (CarriedUnit (List ℕ))) → queue ≡ [] → AreUnitsOf titles queue hall.posts → hall.posts ≡ []
   none_waits hall queue none units = subst (λ (q : List (CarriedUnit (List ℕ))). AreUnitsOf titles q hall.posts) none units
@@ -99,7 +99,7 @@ module _ {C : Type 0} (link : C → Link (List ℕ)) (steps : C → Call (List �
     hall = hall;
     queue = left;
     stands = record { shows = shows; kept = s.kept; have = s.have; rest = s.rest };
-    on = same_on link old new entities ends (listens_same link old new entities clock) x home from N first tried late made hall.posts on;
+    on = same_on link old new entities ends (listens_same link old new entities clock) x home from N F y limit first tried late made hall.posts on;
   }
 
   same_steps : (old new : World C) (late made : List Event) (hall : Hall) (queue : List (CarriedUnit (List ℕ))) → So old hall queue → new ≡ old → On late old hall.posts → Stepped (late ++ made) new
@@ -147,7 +147,7 @@ module _ {C : Type 0} (link : C → Link (List ℕ)) (steps : C → Call (List �
       on = subst (λ (z : Acted). On (late ++ made) new (hall.posts ++ posted end.system z.tpdus)) (sym is)
           (call_on link names timers r.w journal old r.explains going new made number end entity call there (latest_is (latest old.ends end.system end.reference) number _ ended) k.end k.stands k.allowed proper
           (ap (λ (v : World C). v.entities) acts.becomes ∙ ap (λ (z : Acted). with_entity old.entities end.system z.entity) is)
-          (ap (λ (v : World C). v.ends) acts.becomes ∙ ap (λ (z : Acted). ends_after old.ends end.system z.events) is) (a.shows.clock ∙ sym s.shows.clock) later made_is x home from N first tried late hall.posts on);
+          (ap (λ (v : World C). v.ends) acts.becomes ∙ ap (λ (z : Acted). ends_after old.ends end.system z.events) is) (a.shows.clock ∙ sym s.shows.clock) later made_is x home from N F y limit first tried late hall.posts on);
     }
       where
         A : Acted
@@ -198,7 +198,7 @@ module _ {C : Type 0} (link : C → Link (List ℕ)) (steps : C → Call (List �
         rest = waiting_after link steps law titles Waits fifo hall system A s.rest (subst (λ (n : ℕ). first_due n A.entity ≡ None) s.shows.clock goes.rest.idle);
       };
       on = connect_on link old new made system entity there request reference free (ap (λ (v : World C). v.entities) step.1.becomes) (ap (λ (v : World C). v.ends) step.1.becomes) (a.shows.clock ∙ sym s.shows.clock)
-          x home from N first tried late hall.posts on;
+          x home from N F y limit first tried late hall.posts on;
     }
       where
         place : List EndAt
@@ -298,7 +298,7 @@ module _ {C : Type 0} (link : C → Link (List ℕ)) (steps : C → Call (List �
     line_asked (lines.Expedite end octets) script calm proper path step other = call_at end (asks.Urgent octets) (end_numbered old.ends end) tt step
     line_asked (lines.Window end credit) script calm proper path step other = call_at end (asks.Window credit) (end_numbered old.ends end) proper step
     line_asked (lines.Unit system to wish octets) script calm proper path step other = raw_steps system to step.0 step.1 wish octets step.4.0 step.2 step.3 path step.4.1 step.4.2
-    line_asked lines.Tick script calm proper path step other = tick_steps link steps law titles Waits fifo names timers going (follow names timers) x home from N first tried old new made hall queue journal late s none r all step on
+    line_asked lines.Tick script calm proper path step other = tick_steps link steps law titles Waits fifo names timers going (follow names timers) x home from N F y limit first tried old new made hall queue journal late s none r all step on
     line_asked (lines.Deliver number system) script calm proper path step other = absurd calm
     line_asked lines.Settle script calm proper path step other = absurd (other refl)
     line_asked (lines.Inject lan system octets) script calm proper path step other = absurd calm
@@ -337,7 +337,7 @@ module _ {C : Type 0} (link : C → Link (List ℕ)) (steps : C → Call (List �
       queue = queue;
       stands = record { shows = subst (λ (v : World C). IsHall link titles Waits v hall queue) (sym step.1) s.shows; kept = s.kept; have = s.have; rest = s.rest };
       on = same_on link old new (ap (λ (v : World C). v.entities) step.1) (ap (λ (v : World C). v.ends) step.1)
-          (listens_same link old new (ap (λ (v : World C). v.entities) step.1) (ap (λ (v : World C). (link v.carrier).clock) step.1)) x home from N first tried late made hall.posts on;
+          (listens_same link old new (ap (λ (v : World C). v.entities) step.1) (ap (λ (v : World C). (link v.carrier).clock) step.1)) x home from N F y limit first tried late made hall.posts on;
     };
     may = may;
     calm = calm;
@@ -350,7 +350,7 @@ module _ {C : Type 0} (link : C → Link (List ℕ)) (steps : C → Call (List �
           queue = done.went.queue;
           stands = record { shows = done.went.shows; kept = done.went.kept; have = done.went.have; rest = done.went.rest };
           on = subst (On (late ++ made) new) (sym (none_waits done.went.next done.went.queue done.none done.went.shows.units))
-              (settles_on link steps law titles Waits fifo names timers going follow timed x home from N first tried 0 old made new step journal late hall queue s r fit all on);
+              (settles_on link steps law titles Waits fifo names timers going follow timed x home from N F y limit first tried 0 old made new step journal late hall queue s r fit all on);
         };
         may = inl done.none;
         calm = calm;
@@ -385,7 +385,7 @@ module _ {C : Type 0} (link : C → Link (List ℕ)) (steps : C → Call (List �
     rests = subst (λ (es : List Event). Resting es last) (sym (append-nil journal) ∙ ap (λ (es : List Event). journal ++ es) (sym run.0)) (subst (λ (v : World C). Resting journal v) (sym run.1) r);
     fit = subst (IsFitWorld link) (sym run.1) fit;
     on = same_on link old last (ap (λ (v : World C). v.entities) run.1) (ap (λ (v : World C). v.ends) run.1)
-        (listens_same link old last (ap (λ (v : World C). v.entities) run.1) (ap (λ (v : World C). (link v.carrier).clock) run.1)) x home from N first tried late more []
+        (listens_same link old last (ap (λ (v : World C). v.entities) run.1) (ap (λ (v : World C). (link v.carrier).clock) run.1)) x home from N F y limit first tried late more []
         (subst (On late old) (none_waits hall queue none s.shows.units) on);
   }
   lines_last (line ∷ script) old last journal late more hall queue s r fit may calm proper path all on run =

@@ -2,6 +2,7 @@
 use Rattle.std.proofs.Common.{◌≡◌, inl, inr, ℕ, Bool, true, false, List, [], ◌∷◌, ◌++◌, Some, refl, sym, ◌∙◌, ap, subst, append_assoc}
 use Rattle.std.specs.Prelude.{◌&&◌, if◌then◌else◌}
 use Rattle.std.specs.Cmp.Lexicographic.{bytes_decides}
+use Rattle.std.proofs.lemmas.List.Elements.{Contains-append_left}
 use Rattle.std.proofs.lemmas.Option.{same_Some}
 use Rattle.osi_base.specs.Link.{Link}
 use Rattle.script_journal.specs.declared.event.Event.{Event as JournalEvent}
@@ -36,9 +37,10 @@ use Rattle.law_recovery_walk.proofs.Delivering.{HasActed}
 use Rattle.law_recovery_request.specs.Requesting.{IsPast, in_cr_wait}
 use Rattle.law_recovery_request.proofs.Coming.{AreRegistered, IsHere, IsRefusalOf, IsTakenHere, Read, came_as, here_on, listens_on, met_so, placed, unanswered_on, unsettled_on}
 use Rattle.law_recovery_request.proofs.Meeting.{IsMet, Makes, Stays, Takes}
-use Rattle.law_recovery_request.proofs.Keeping.{IsKeptApart, IsRefusalTo, apart_on}
-use Rattle.law_recovery_asking.specs.Asked.{IsTold}
-use Rattle.law_recovery_asking.proofs.State.{AreApart, Asked, Early, IsBare, IsOn, IsReplied, IsReply, Replied, Told}
+use Rattle.law_recovery_request.proofs.Keeping.{IsKeptApart, IsRefusalTo, apart_on, unanswered_deaf}
+use Rattle.law_recovery_service.specs.Asked.{IsTold}
+use Rattle.law_recovery_asking.proofs.Accepting.{accepted_then}
+use Rattle.law_recovery_asking.proofs.State.{Accepted, AreApart, Asked, Early, IsBare, IsOn, IsReplied, IsReply, Over, Replied, Told}
 use Rattle.law_recovery_asking.proofs.Telling.{IsNamedTpdu, Tells, tells_row, tells_taken, told_before, told_behind, told_in}
 
 -- ---- a CC or a DR
@@ -166,7 +168,7 @@ module _ {C : Type 0} (link : C → Link (List ℕ)) (titles : List (List ℕ)) 
 
     module _ (k : IsBare link x system from N b r old (post ∷ rest)) where
       apart_then : AreApart system from N b r (rest ++ more)
-      apart_then = apart_on link titles timers w journal old explains going new post rest made a system x from N b r k.here k.unanswered k.listens k.selects k.apart
+      apart_then = apart_on link titles timers w journal old explains going new post rest made a system x from N b r k.here (unanswered_deaf link old new post made a from b k.unanswered) k.listens k.selects k.apart
 
       bare_then : IsHere system x from N b r new → IsBare link x system from N b r new (rest ++ more)
       bare_then here = record {
@@ -177,9 +179,9 @@ module _ {C : Type 0} (link : C → Link (List ℕ)) (titles : List (List ℕ)) 
         apart = apart_then;
       }
 
-  module _ (first : EndRecord) (asked : InCrWait) (late : List JournalEvent) where
+  module _ (F : Type 0) (y limit : ℕ) (first : EndRecord) (asked : InCrWait) (late : List JournalEvent) where
     abbrev On : List Post → Type 0
-    On posts = IsOn link x system from N first asked (late ++ made) new posts
+    On posts = IsOn link x system from N F y limit first asked (late ++ made) new posts
 
     told_now : IsTold N made x → On (rest ++ more)
     told_now t = Told (told_behind N late made x t)
@@ -227,15 +229,20 @@ module _ {C : Type 0} (link : C → Link (List ℕ)) (titles : List (List ℕ)) 
           }
         ]
 
-    pub met_on : IsOn link x system from N first asked late old (post ∷ rest) → On (rest ++ more)
-    met_on (Early k) = elim (here_on link titles timers w journal old explains new post rest made a system x from N first asked k.here) [
-      | inl here ↦ Early (bare_then first asked k.here k here)
+    pub met_on : IsOn link x system from N F y limit first asked late old (post ∷ rest) → On (rest ++ more)
+    met_on (Early never k) = elim (here_on link titles timers w journal old explains new post rest made a system x from N first asked k.here) [
+      | inl here ↦ Early never (bare_then first asked k.here k here)
       | inr taken ↦ told_now (taken_told first asked k.here k.apart.0 taken)
     ]
-    met_on (Asked b r k p) =
+    met_on (Asked never b r k p) =
         elim (unsettled_on link titles timers w journal old explains new post rest made a system x from N b r fit k.listens k.selects (record { here = k.here; unanswered = k.unanswered; pending = p })) [
-          | inl next ↦ Asked b r (bare_then b r k.here k next.here) next.pending
+          | inl next ↦ Asked never b r (bare_then b r k.here k next.here) next.pending
           | inr taken ↦ told_now (taken_told b r k.here k.apart.0 taken)
         ]
+    met_on (Accepted on b r k) = elim (here_on link titles timers w journal old explains new post rest made a system x from N b r k.here) [
+      | inl here ↦ Accepted on b r (accepted_then link titles timers w journal old explains fit going new post rest made a x system from N y limit b r k here (selects_then b.to b.called k.selects))
+      | inr taken ↦ told_now (taken_told b r k.here k.apart.0 taken)
+    ]
     met_on (Replied b r k) = replied b r k k.front refl
+    met_on (Over on t) = Over on (Contains-append_left late made _ t)
     met_on (Told t) = Told (told_before N late made x t)

@@ -56,11 +56,11 @@ seen_calls birth took last b (stages.CrWait w) seen asking = seen.calls
 seen_calls birth took last b (stages.WaitBeforeClose w) seen asking = seen.calls
 seen_calls birth took last b stage seen asking = absurd asking
 
-both_of : (P Q R : Sent → Type 0) (sents : List Sent) → ((sent : Sent) → P sent → Q sent → R sent) → AllByRecursion P sents → AllByRecursion Q sents → AllByRecursion R sents
+pub both_of : (P Q R : Sent → Type 0) (sents : List Sent) → ((sent : Sent) → P sent → Q sent → R sent) → AllByRecursion P sents → AllByRecursion Q sents → AllByRecursion R sents
 both_of P Q R [] f ps qs = tt
 both_of P Q R (sent ∷ sents) f ps qs = (f sent ps.0 qs.0, both_of P Q R sents f ps.1 qs.1)
 
-where_so : (W : Type 0) (Q : Sent → Type 0) (sents : List Sent) → (W → AllByRecursion Q sents) → AllByRecursion (λ (sent : Sent). W → Q sent) sents
+pub where_so : (W : Type 0) (Q : Sent → Type 0) (sents : List Sent) → (W → AllByRecursion Q sents) → AllByRecursion (λ (sent : Sent). W → Q sent) sents
 where_so W Q [] all = tt
 where_so W Q (sent ∷ sents) all = ((λ v. (all v).0), where_so W Q sents (λ v. (all v).1))
 
@@ -133,6 +133,9 @@ module _ {C : Type 0} (link : C → Link (List ℕ)) (titles : List (List ℕ)) 
     numbers = λ at_system other apart. ap (λ (es : List EndAt). latest es at_system other) (ends ∙ row_stays link titles timers w journal old explains s entity there reference o event stands);
     clock = clock;
   }
+
+  pub numbers_same : (at_system other : ℕ) → latest new.ends at_system other ≡ latest old.ends at_system other
+  numbers_same at_system other = ap (λ (es : List EndAt). latest es at_system other) (ends ∙ row_stays link titles timers w journal old explains s entity there reference o event stands)
 
   pub known : IsKnown w entity.own reference o
   known = subst (IsThere w entity.own reference) stands ((explains.known.holds s entity there).there reference)
@@ -251,10 +254,10 @@ module _ {C : Type 0} (link : C → Link (List ℕ)) (titles : List (List ℕ)) 
 
     -- ---- an end that it called sends it a reply
 
-    pub row_replies : (apart : s ≡ system → reference ≡ b.own → ⊥) (posts : List Post) (sent : Sent) → IsCalled → m.tpdus ≡ sent ∷ [] → IsReply from N b.own sent → IsBare link x system from N b r old posts
+    pub row_replies : (apart : s ≡ system → reference ≡ b.own → ⊥) (posts : List Post) (sent : Sent) → IsCalled → m.tpdus ≡ sent ∷ [] → IsReply from N b.own sent → AreApart system from N b r posts
         → IsReplied link x system from N b r new (posts ++ posted s m.tpdus)
-    row_replies apart posts sent called is reply bare = record {
-      here = here_on link old new changes x system from N b r bare.here (λ at_it same. apart (sym at_it) (sym same));
+    row_replies apart posts sent called is reply quiet = record {
+      here = here_on link old new changes x system from N b r h (λ at_it same. apart (sym at_it) (sym same));
       front = posts;
       answer = record { system = s; sent = sent };
       back = [];
@@ -262,7 +265,7 @@ module _ {C : Type 0} (link : C → Link (List ℕ)) (titles : List (List ℕ)) 
       entity = changed;
       there = changed_there link old new changes;
       own_is = called.0;
-      apart = bare.apart;
+      apart = quiet;
       reply = reply;
     }
 

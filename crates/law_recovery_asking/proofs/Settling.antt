@@ -45,9 +45,9 @@ listens_same link old new entities clock to was place z there own =
 module _ {C : Type 0} (link : C → Link (List ℕ)) (steps : C → Call (List ℕ) → C → Type 0)
     (law : (old : C) (call : Call (List ℕ)) (new : C) → steps old call new → Keeps (link old) call (link new))
     (titles : List (List ℕ)) (Waits : C → List (CarriedUnit (List ℕ)) → Type 0) (fifo : IsFifo link steps titles Waits) (names : List (List ℕ)) (timers : Timers) (going : Going)
-    (follow : (titles : List (List ℕ)) (timers : Timers) → Followed titles timers) (timed : IsTimed timers) (x system : ℕ) (from : List ℕ) (N : Type 0) (first : EndRecord) (asked : InCrWait) where
+    (follow : (titles : List (List ℕ)) (timers : Timers) → Followed titles timers) (timed : IsTimed timers) (x system : ℕ) (from : List ℕ) (N : Type 0) (F : Type 0) (y limit : ℕ) (first : EndRecord) (asked : InCrWait) where
   abbrev On : List Event → World C → List Post → Type 0
-  On late world posts = IsOn link x system from N first asked late world posts
+  On late world posts = IsOn link x system from N F y limit first asked late world posts
 
   abbrev So : World C → Hall → List (CarriedUnit (List ℕ)) → Type 0
   So world hall queue = StandsSo link steps law titles Waits fifo world hall queue
@@ -69,13 +69,13 @@ module _ {C : Type 0} (link : C → Link (List ℕ)) (steps : C → Call (List �
       hall = hall;
       queue = still.queue;
       stands = still.stands;
-      on = same_on link old mid still.entities still.ends (listens_same link old mid still.entities still.clock) x system from N first asked late here hall.posts on;
+      on = same_on link old mid still.entities still.ends (listens_same link old mid still.entities still.clock) x system from N F y limit first asked late here hall.posts on;
     }
     | inr come ↦ record {
       hall = after (record hall { posts = come.come.rest }) come.come.a.system come.come.a.acted;
       queue = come.come.queue;
       stands = come.come.stands;
-      on = met_on link names timers r.w journal old r.explains fit going mid come.come.post come.come.rest here come.come.a come.front come.aside come.made_is x system from N first asked late
+      on = met_on link names timers r.w journal old r.explains fit going mid come.come.post come.come.rest here come.come.a come.front come.aside come.made_is x system from N F y limit first asked late
           (subst (On late old) come.come.posts_are on);
     }
   ]
@@ -86,7 +86,7 @@ module _ {C : Type 0} (link : C → Link (List ℕ)) (steps : C → Call (List �
       let none : queue ≡ [] = fifo.none old.carrier queue s.shows.waits fresh in
       let posts : hall.posts ≡ [] = subst (λ (q : List (CarriedUnit (List ℕ))). AreUnitsOf titles q hall.posts) none s.shows.units in
       let entities : new.entities ≡ old.entities = ap (λ (v : World C). v.entities) same in
-      same_on link old new entities (ap (λ (v : World C). v.ends) same) (listens_same link old new entities (ap (λ (v : World C). (link v.carrier).clock) same)) x system from N first asked late made []
+      same_on link old new entities (ap (λ (v : World C). v.ends) same) (listens_same link old new entities (ap (λ (v : World C). (link v.carrier).clock) same)) x system from N F y limit first asked late made []
       (subst (On late old) posts on)
   settles_on count old made new (TooMany n o m l pair fresh most made_is same) journal late hall queue s r fit all on = absurd (subst (λ (es : List Event). AllByRecursion IsUndropped es) made_is all).0
   settles_on count old made new (OneMore n o m l pair mid here rest fresh low delivers settles made_is) journal late hall queue s r fit all on =

@@ -1,7 +1,8 @@
 -- From a state in which nothing is left to deliver: lines that are settled and lose nothing, and what becomes of an end that asked. Where its tries are T1 old it has sent its CR again, since no
 -- end is due; so its called end is there, or it was answered.
-use Rattle.std.proofs.Common.{◌≡◌, ◌⊎◌, inl, inr, ℕ, ◌+◌, ◌≤◌, true, false, List, [], ◌∷◌, ◌++◌, Some, None, refl, sym, ◌∙◌, ap, subst}
+use Rattle.std.proofs.Common.{◌++◌, ◌+◌, ◌∙◌, ◌∷◌, ◌≡◌, ◌≤◌, ◌⊎◌, List, None, Some, [], ℕ, ap, false, inl, inr, refl, subst, sym, true}
 use Rattle.std.proofs.lemmas.Bool.{le-leb}
+use Rattle.std.proofs.lemmas.Option.{same_Some}
 use Rattle.osi_base.specs.Calls.{Call, Keeps}
 use Rattle.osi_base.specs.Link.{Link}
 use Rattle.osi_base.specs.declared.unit.Unit.{Unit as CarriedUnit}
@@ -9,11 +10,16 @@ use Rattle.script_journal.specs.declared.event.Event.{Event}
 use Rattle.script_lines.specs.declared.line.Line.{Line}
 use Rattle.net_world.specs.Fifo.{IsFifo}
 use Rattle.net_world.specs.Prompt.{IsPrompt}
-use Rattle.tp4_conn.specs.End.{IsTimed}
+use Rattle.tp4_conn.specs.End.{End, IsTimed}
+use Rattle.tp4_conn.specs.Matching.{is_called_by}
+use Rattle.tp4_conn.specs.Table.{due}
 use Rattle.tp4_conn.specs.declared.end_record.EndRecord.{EndRecord}
+use Rattle.tp4_conn.specs.declared.states.InAkWait.{InAkWait}
 use Rattle.tp4_conn.specs.declared.states.InCrWait.{InCrWait}
+use Rattle.tp4_conn.specs.declared.states.StateData.TheVariants.{AkWait}
 use Rattle.tp4_conn.specs.declared.timers.Timers.{Timers}
-use Rattle.tp4_entity.specs.Step.{first_due, is_due}
+use Rattle.tp4_entity.specs.Entity.{Entity, end_at}
+use Rattle.tp4_entity.specs.Step.{first_due, is_due, is_due_by}
 use Rattle.law_tp4_proper.specs.Rest.{AreProper}
 use Rattle.law_tp4_associations.proofs.Dues.{none_due}
 use Rattle.tp4_world.specs.World.{World, entity_at}
@@ -27,12 +33,12 @@ use Rattle.law_recovery_walk.specs.Following.{Stands}
 use Rattle.law_recovery_walk.proofs.Coming.{StandsSo}
 use Rattle.law_recovery_walk.proofs.Settling.{IsExplained}
 use Rattle.law_recovery_request.specs.Requesting.{AreListening, AreUnanswered, cr_from, in_cr_wait}
-use Rattle.law_recovery_request.proofs.Coming.{Asking, IsHere, IsPending, Refusing, Waiting, none_there}
+use Rattle.law_recovery_request.proofs.Coming.{Asking, IsPending, Refusing, Waiting, none_there}
 use Rattle.law_recovery_request.proofs.Settling.{here, is_indicated, own_is}
-use Rattle.law_recovery_asking.specs.Asked.{IsTold, IsUnregistered}
+use Rattle.law_recovery_service.specs.Asked.{IsExhausted, IsTold, IsUnregistered}
 use Rattle.law_recovery_asking.specs.Along.{HasIndicated}
 use Rattle.law_recovery_asking.proofs.Lines.{HasLasted, lines_last}
-use Rattle.law_recovery_asking.proofs.State.{Asked, Early, IsOn, Replied, Told}
+use Rattle.law_recovery_asking.proofs.State.{Accepted, Asked, Early, IsOn, Over, Replied, Told}
 
 none_split : {A : Type 0} (front : List A) (one : A) (back : List A) → [] ≡ front ++ (one ∷ back) → ⊥
 none_split {A} [] one back is = cc is
@@ -51,74 +57,135 @@ module _ {C : Type 0} (link : C → Link (List ℕ)) (steps : C → Call (List �
   fifo : IsFifo link ordered titles Waits
   fifo = is_fifo link steps titles (ReachedFrom link steps titles begins) Waits prompt
 
-  pub asks_along : (early late : List Event) (old last : World C) (script : List Line) (x : ℕ) (b : EndRecord) (r : InCrWait) → IsExplained link early old
-      → IsReady link steps titles begins old → (c : Stands old x (in_cr_wait b r)) → AreUnanswered old b.to c.entity.own c.reference → AreListening (link old.carrier).clock old b.to
-      → RunsInOrder link steps titles old script late last → r.tries.last + b.timers.t1 ≤ (link last.carrier).clock → HasIndicated (early ++ late) last x ⊎ IsTold (IsUnregistered old b.to b.called) late x
-  asks_along early late old last script x b r ex ready c unanswered listens run past = by lasted.on
-    where
-      from : List ℕ
-      from = c.entity.own
+  module _ (early late : List Event) (old last : World C) (script : List Line) (x : ℕ) (b : EndRecord) (r : InCrWait) (ex : IsExplained link early old) (ready : IsReady link steps titles begins old)
+      (c : Stands old x (in_cr_wait b r)) (run : RunsInOrder link steps titles old script late last) where
+    abbrev from : List ℕ
+    from = c.entity.own
 
-      N : Type 0
-      N = IsUnregistered old b.to b.called
+    abbrev N : Type 0
+    N = IsUnregistered old b.to b.called
 
-      -- the timers of an end are those of the network
-      timed : IsTimed ex.timers
-      timed =
-          let known = known_at link ex.titles ex.timers ex.w early old ex.explains x c.system c.entity c.reference (in_cr_wait b r) c.is_end in
-          subst IsTimed ((ex.explains.known.holds c.system c.entity c.is_end.there).theirs c.reference (in_cr_wait b r) c.is_end.stands) known.0.sees.timers
+    -- the timers of an end are those of the network
+    timed : IsTimed ex.timers
+    timed =
+        let known = known_at link ex.titles ex.timers ex.w early old ex.explains x c.system c.entity c.reference (in_cr_wait b r) c.is_end in
+        subst IsTimed ((ex.explains.known.holds c.system c.entity c.is_end.there).theirs c.reference (in_cr_wait b r) c.is_end.stands) known.0.sees.timers
 
-      stands : StandsSo link ordered keeps titles Waits fifo old (hall_of link old) []
-      stands = record {
-        shows = record { clock = refl; entities = refl; ends = refl; waits = prompt.begins old.carrier ready.reached ready.none_left; units = refl };
-        kept = ready.kept;
-        have = ready.have;
-        rest = ready.rest;
-      }
+    stands : StandsSo link ordered keeps titles Waits fifo old (hall_of link old) []
+    stands = record {
+      shows = record { clock = refl; entities = refl; ends = refl; waits = prompt.begins old.carrier ready.reached ready.none_left; units = refl };
+      kept = ready.kept;
+      have = ready.have;
+      rest = ready.rest;
+    }
 
-      rests : Rests link AreProper ex.titles ex.timers early old
-      rests = record {
-        w = ex.w;
-        explains = ex.explains;
-        rest = λ system e is. ((ready.kept system e is).proper, subst (λ (n : ℕ). first_due n e ≡ None) ex.explains.carries.clock (ready.rest system e is));
-      }
+    rests : Rests link AreProper ex.titles ex.timers early old
+    rests = record {
+      w = ex.w;
+      explains = ex.explains;
+      rest = λ system e is. ((ready.kept system e is).proper, subst (λ (n : ℕ). first_due n e ≡ None) ex.explains.carries.clock (ready.rest system e is));
+    }
 
-      have_run : HaveRun link steps titles script old last late
-      have_run = runs_ordered link steps titles script old last late (inl ready.none_left) run.settled run.kept run.runs
+    have_run : HaveRun link steps titles script old last late
+    have_run = runs_ordered link steps titles script old last late (inl ready.none_left) run.settled run.kept run.runs
 
-      begun : IsOn link x c.system from N b r [] old []
-      begun = Early (record {
-        here = here link early old ex x b r c N;
-        unanswered = subst (AreUnanswered old b.to from) (own_is link early old ex x b r c) unanswered;
-        listens = listens;
-        selects = λ place entity there own none. record { system = place; entity = entity; there = there; own_is = own; none = none };
-        apart = tt;
-      })
+    abbrev On : (F : Type 0) (y limit : ℕ) → List Event → World C → Type 0
+    On F y limit done world = IsOn link x c.system from N F y limit b r done world []
 
-      lasted : HasLasted link ordered keeps titles Waits fifo ex.titles ex.timers going follow timed x c.system from N b r (early ++ late) late last
-      lasted = lines_last link ordered keeps titles Waits fifo ex.titles ex.timers going follow timed x c.system from N b r script old last early [] late (hall_of link old) [] stands rests ex.fit (inl refl) run.settled
-          run.proper run.unrouted (undropped late run.kept) begun have_run.runs
+    lasted : (F : Type 0) (y limit : ℕ) → On F y limit [] old → HasLasted link ordered keeps titles Waits fifo ex.titles ex.timers going follow timed x c.system from N F y limit b r (early ++ late) late last
+    lasted F y limit begun = lines_last link ordered keeps titles Waits fifo ex.titles ex.timers going follow timed x c.system from N F y limit b r script old last early [] late (hall_of link old) [] stands rests ex.fit
+        (inl refl) run.settled run.proper run.unrouted (undropped late run.kept) begun have_run.runs
 
-      after : IsExplained link (early ++ late) last
-      after = record { titles = ex.titles; timers = ex.timers; w = lasted.rests.w; explains = lasted.rests.explains; fit = lasted.fit }
+    -- where nothing waits no end is due
+    not_due : (F : Type 0) (y limit : ℕ) (begun : On F y limit [] old) (system own : ℕ) (entity : Entity) (e : End) → entity_at last.entities system ≡ Some entity → end_at entity own ≡ Some e
+        → is_due (link last.carrier).clock (Some e) ≡ false
+    not_due F y limit begun system own entity e there at_it =
+        let l = lasted F y limit begun in
+        let here_in : entity_at l.hall.entities system ≡ Some entity = sym (ap (λ (ps : List Placed). entity_at ps system) l.stands.shows.entities) ∙ there in
+        subst (λ (n : ℕ). is_due n (Some e) ≡ false) (sym l.stands.shows.clock) (none_due l.hall.clock entity own e (l.stands.rest system entity here_in) at_it)
 
-      -- no end is due
-      not_due : (h : IsHere c.system x from N b r last) → is_due (link last.carrier).clock (Some (in_cr_wait b r)) ≡ false
-      not_due h =
-          let there : entity_at lasted.hall.entities c.system ≡ Some h.entity = sym (ap (λ (ps : List Placed). entity_at ps c.system) lasted.stands.shows.entities) ∙ h.there in
-          subst (λ (n : ℕ). is_due n (Some (in_cr_wait b r)) ≡ false) (sym lasted.stands.shows.clock)
-          (none_due lasted.hall.clock h.entity b.own (in_cr_wait b r) (lasted.stands.rest c.system h.entity there) h.stands)
+    due_or : (tick : ℕ) (e : End) → is_due (link last.carrier).clock (Some e) ≡ false → due e.base e.stage ≡ Some tick → tick ≤ (link last.carrier).clock → ⊥
+    due_or tick e none is low =
+        let at_it : is_due (link last.carrier).clock (Some e) ≡ true = ap (is_due_by (link last.carrier).clock) is ∙ le-leb tick (link last.carrier).clock low in
+        absurd (cc (at_it, none))
 
-      by : IsOn link x c.system from N b r late last [] → HasIndicated (early ++ late) last x ⊎ IsTold N late x
-      by (Early k) =
-          let due : is_due (link last.carrier).clock (Some (in_cr_wait b r)) ≡ true = le-leb (r.tries.last + b.timers.t1) (link last.carrier).clock past in
-          let none : is_due (link last.carrier).clock (Some (in_cr_wait b r)) ≡ false = not_due k.here in
-          absurd (cc (due, none))
-      by (Asked base tried k p) = there p
-        where
-          there : IsPending c.system x from N base tried last [] → HasIndicated (early ++ late) last x ⊎ IsTold N late x
-          there (Asking waits) = absurd (none_there (cr_from c.system base tried) waits)
-          there (Refusing d) = absurd (none_there _ d.waits)
-          there (Waiting d) = inl (base, tried, is_indicated link (early ++ late) last after c.system x from N base tried k.here k.unanswered d)
-      by (Replied base tried k) = absurd (none_split k.front k.answer k.back k.posts_are)
-      by (Told t) = inr t
+    -- none that it called was answered
+    pub asks_along : AreUnanswered old b.to c.entity.own c.reference → AreListening (link old.carrier).clock old b.to → r.tries.last + b.timers.t1 ≤ (link last.carrier).clock
+        → HasIndicated (early ++ late) last x ⊎ IsTold (IsUnregistered old b.to b.called) late x
+    asks_along unanswered listens past = by l.on
+      where
+        begun : On ⊥ 0 0 [] old
+        begun = Early (λ never. never) (record {
+          here = here link early old ex x b r c N;
+          unanswered = subst (AreUnanswered old b.to from) (own_is link early old ex x b r c) unanswered;
+          listens = listens;
+          selects = λ place entity there own none. record { system = place; entity = entity; there = there; own_is = own; none = none };
+          apart = tt;
+        })
+
+        l : HasLasted link ordered keeps titles Waits fifo ex.titles ex.timers going follow timed x c.system from N ⊥ 0 0 b r (early ++ late) late last
+        l = lasted ⊥ 0 0 begun
+
+        after : IsExplained link (early ++ late) last
+        after = record { titles = ex.titles; timers = ex.timers; w = l.rests.w; explains = l.rests.explains; fit = l.fit }
+
+        by : On ⊥ 0 0 late last → HasIndicated (early ++ late) last x ⊎ IsTold N late x
+        by (Early never k) = absurd (due_or (r.tries.last + b.timers.t1) (in_cr_wait b r) (not_due ⊥ 0 0 begun c.system b.own k.here.entity (in_cr_wait b r) k.here.there k.here.stands) refl past)
+        by (Asked never base tried k p) = there p
+          where
+            there : IsPending c.system x from N base tried last [] → HasIndicated (early ++ late) last x ⊎ IsTold N late x
+            there (Asking waits) = absurd (none_there (cr_from c.system base tried) waits)
+            there (Refusing d) = absurd (none_there _ d.waits)
+            there (Waiting d) = inl (base, tried, is_indicated link (early ++ late) last after c.system x from N base tried k.here k.unanswered d)
+        by (Accepted on base tried k) = absurd on
+        by (Replied base tried k) = absurd (none_split k.front k.answer k.back k.posts_are)
+        by (Told t) = inr t
+        by (Over on t) = absurd on
+
+    -- the user of the end that it called accepted
+    pub accepts_along : (y : ℕ) (f : End) (v : InAkWait) (d : Stands old y f) → f.stage ≡ AkWait v → d.entity.own ≡ b.to → is_called_by f.base c.entity.own c.reference ≡ true
+        → v.tries.last + f.base.timers.t1 ≤ (link last.carrier).clock → IsTold (IsUnregistered old b.to b.called) late x ⊎ IsExhausted late y
+    accepts_along y f v d stage address called past = by l.on
+      where
+        limit : ℕ
+        limit = (link last.carrier).clock
+
+        -- it stands there, so the entity is not silent
+        listens : AreListening (link old.carrier).clock old b.to
+        listens place entity there own =
+            let at_it : place ≡ d.system = ex.explains.known.apart place d.system entity d.entity there d.is_end.there (own ∙ sym address) in
+            let entity_is : entity ≡ d.entity = same_Some entity d.entity (sym there ∙ ap (entity_at old.entities) at_it ∙ d.is_end.there) in
+            (ex.fit place entity there).audible d.reference f (ap (λ (e : Entity). end_at e d.reference) entity_is ∙ d.is_end.stands)
+
+        begun : On (Prim.Unit {0}) y limit [] old
+        begun = Accepted tt b r (record {
+          here = here link early old ex x b r c N;
+          listens = listens;
+          selects = λ place entity there own none. record { system = place; entity = entity; there = there; own_is = own; none = none };
+          apart = tt;
+          at_system = d.system;
+          own = d.reference;
+          entity = d.entity;
+          there = d.is_end.there;
+          own_is = address;
+          end = f;
+          w = v;
+          stands = d.is_end.stands;
+          stage = stage;
+          called = subst (λ (n : ℕ). is_called_by f.base from n ≡ true) (own_is link early old ex x b r c) called;
+          number = d.is_end.number;
+          past = past;
+          quiet = tt;
+        })
+
+        l : HasLasted link ordered keeps titles Waits fifo ex.titles ex.timers going follow timed x c.system from N (Prim.Unit {0}) y limit b r (early ++ late) late last
+        l = lasted (Prim.Unit {0}) y limit begun
+
+        by : On (Prim.Unit {0}) y limit late last → IsTold N late x ⊎ IsExhausted late y
+        by (Early never k) = absurd (never tt)
+        by (Asked never base tried k p) = absurd (never tt)
+        by (Accepted on base tried k) =
+            absurd (due_or (k.w.tries.last + k.end.base.timers.t1) k.end (not_due (Prim.Unit {0}) y limit begun k.at_system k.own k.entity k.end k.there k.stands) (ap (due k.end.base) k.stage) k.past)
+        by (Replied base tried k) = absurd (none_split k.front k.answer k.back k.posts_are)
+        by (Told t) = inl t
+        by (Over on t) = inr t

@@ -1,5 +1,5 @@
 -- An end that was in CrWait, since when nothing is lost: what waits for it, and what is known of the end that it calls.
-use Rattle.std.proofs.Common.{◌≡◌, ℕ, true, false, List, [], ◌∷◌, ◌++◌, Some}
+use Rattle.std.proofs.Common.{◌≡◌, ℕ, ◌+◌, ◌≤◌, true, false, List, [], ◌∷◌, ◌++◌, Some}
 use Rattle.std.specs.Prelude.{◌&&◌, not}
 use Rattle.std.specs.List.{AllByRecursion}
 use Rattle.std.proofs.lemmas.List.Elements.{Contains-append_left}
@@ -9,17 +9,21 @@ use Rattle.tpdu.specs.Values.{destination_of}
 use Rattle.tpdu.specs.Writing.{is_summed}
 use Rattle.tp4_sending.specs.declared.tries.Tries.{Tries}
 use Rattle.tp4_flow.specs.declared.step.Sent.{Sent}
-use Rattle.tp4_conn.specs.Matching.{is_answer, is_summed_confirm}
+use Rattle.tp4_conn.specs.End.{End}
+use Rattle.tp4_conn.specs.Matching.{is_answer, is_called_by, is_summed_confirm}
 use Rattle.tp4_conn.specs.Table.{at as now_at}
 use Rattle.tp4_conn.specs.declared.end_record.EndRecord.{EndRecord}
+use Rattle.tp4_conn.specs.declared.states.InAkWait.{InAkWait}
 use Rattle.tp4_conn.specs.declared.states.InCrWait.{InCrWait}
-use Rattle.tp4_entity.specs.Entity.{Entity}
-use Rattle.tp4_world.specs.World.{World, entity_at}
+use Rattle.tp4_conn.specs.declared.states.StateData.TheVariants.{AkWait}
+use Rattle.tp4_entity.specs.Entity.{Entity, end_at}
+use Rattle.tp4_world.specs.World.{World, entity_at, latest}
 use Rattle.law_calm_run.proofs.Hall.{Post}
+use Rattle.law_recovery_run.specs.Aside.{IsSentTo, Names}
 use Rattle.law_recovery_request.specs.Requesting.{AreListening, AreUnanswered, cr_from}
 use Rattle.law_recovery_request.proofs.Coming.{AreRegistered, Asking, IsHere, IsPending, IsWaiting, Refusing, Waiting}
 use Rattle.law_recovery_request.proofs.Keeping.{IsKeptApart}
-use Rattle.law_recovery_asking.specs.Asked.{IsTold}
+use Rattle.law_recovery_service.specs.Asked.{IsExhausted, IsTold}
 use Rattle.law_recovery_asking.proofs.Telling.{IsNamedTpdu}
 
 -- ---- what waits
@@ -63,12 +67,40 @@ module _ {C : Type 0} (link : C → Link (List ℕ)) (x system : ℕ) (from : Li
     pub apart : AreApart system from N b r front
     pub reply : IsReply from N b.own answer.sent
 
-  -- Of an end that was so at t0: it sent nothing since; or its CR waits, or its called end is there; or a reply waits; or these lines tell what became of it
-  pub data IsOn (first : EndRecord) (asked : InCrWait) (late : List JournalEvent) (world : World C) (posts : List Post) : Type 0 where
-    Early : IsBare first asked world posts → IsOn first asked late world posts
-    Asked : (b : EndRecord) (r : InCrWait) → IsBare b r world posts → IsPending system x from N b r world posts → IsOn first asked late world posts
-    Replied : (b : EndRecord) (r : InCrWait) → IsReplied b r world posts → IsOn first asked late world posts
-    Told : IsTold N late x → IsOn first asked late world posts
+  -- What waits is not from its system for the end of the reference `own` of another one, nor in the name of that end
+  pub record IsQuiet (to : List ℕ) (at_system own : ℕ) (post : Post) : Type 0 where
+    pub none : post.system ≡ system → IsSentTo to own post.sent → ⊥
+    pub unnamed : post.system ≡ at_system → Names own post.sent.tpdu → ⊥
+
+  -- It is in CrWait, and the end y that it called is in AkWait, and sent its CC T1 before that tick at the latest; none waits for it, or for y from it
+  pub record IsAccepted (y limit : ℕ) (b : EndRecord) (r : InCrWait) (world : World C) (posts : List Post) : Type 0 where
+    pub here : IsHere system x from N b r world
+    pub listens : AreListening (link world.carrier).clock world b.to
+    pub selects : AreRegistered N world b.to b.called
+    pub apart : AreApart system from N b r posts
+    pub at_system : ℕ
+    pub own : ℕ
+    pub entity : Entity
+    pub there : entity_at world.entities at_system ≡ Some entity
+    pub own_is : entity.own ≡ b.to
+    pub end : End
+    pub w : InAkWait
+    pub stands : end_at entity own ≡ Some end
+    pub stage : end.stage ≡ AkWait w
+    pub called : is_called_by end.base from b.own ≡ true
+    pub number : latest world.ends at_system own ≡ y
+    pub past : w.tries.last + end.base.timers.t1 ≤ limit
+    pub quiet : AllByRecursion (IsQuiet b.to at_system own) posts
+
+  -- Of an end that was so at t0: it sent nothing since; or its CR waits, or its called end is there; or that was accepted before; or a reply waits; or these lines tell what became of it, or that
+  -- the end y is exhausted
+  pub data IsOn (F : Type 0) (y limit : ℕ) (first : EndRecord) (asked : InCrWait) (late : List JournalEvent) (world : World C) (posts : List Post) : Type 0 where
+    Early : (F → ⊥) → IsBare first asked world posts → IsOn F y limit first asked late world posts
+    Asked : (F → ⊥) → (b : EndRecord) (r : InCrWait) → IsBare b r world posts → IsPending system x from N b r world posts → IsOn F y limit first asked late world posts
+    Accepted : F → (b : EndRecord) (r : InCrWait) → IsAccepted y limit b r world posts → IsOn F y limit first asked late world posts
+    Replied : (b : EndRecord) (r : InCrWait) → IsReplied b r world posts → IsOn F y limit first asked late world posts
+    Told : IsTold N late x → IsOn F y limit first asked late world posts
+    Over : F → IsExhausted late y → IsOn F y limit first asked late world posts
 
 -- ---- with more that waits
 

@@ -26,7 +26,7 @@ use Rattle.tp4_world.specs.World.{latest}
 use Rattle.tp4_world.specs.declared.place.EndAt.{EndAt}
 use Rattle.law_recovery_request.specs.Requesting.{IsPast}
 use Rattle.law_recovery_request.proofs.Meeting.{IsReasonOf}
-use Rattle.law_recovery_asking.specs.Asked.{By_itself, By_user, Confirmed, IsNamedCause, IsTold}
+use Rattle.law_recovery_service.specs.Asked.{By_itself, By_user, Confirmed, IsNamedCause, IsTold}
 
 -- ---- lists
 

@@ -1,15 +1,19 @@
--- An end ticks that is due: the end that asked sends its CR again, or its sendings are over; an end that it called gives up its user; or neither sees anything of it.
+-- An end ticks that is due: the end that asked sends its CR again, or its sendings are over; an end that it called gives up its user, or sends its CC again, or its sendings are over; or neither sees
+-- anything of it.
 use Rattle.std.proofs.Common.{◌≡◌, ◌⊎◌, inl, inr, ℕ, ◌+◌, nat_lt, true, false, List, [], ◌∷◌, ◌++◌, Option, Some, None, refl, sym, ◌∙◌, ap, subst, arith, append-nil, append_assoc}
 use Rattle.std.proofs.lemmas.Bool.{leb-true, ltb-true}
-use Rattle.std.proofs.lemmas.List.Elements.{Contains-append_right, Contains-push}
+use Rattle.std.proofs.lemmas.List.Elements.{Contains-append_left, Contains-append_right, Contains-push}
 use Rattle.std.proofs.lemmas.Option.{none-some, same_Some}
-use Rattle.std.specs.List.{Contains}
+use Rattle.std.specs.List.{AllByRecursion, Contains}
 use Rattle.osi_base.specs.Link.{Link}
 use Rattle.script_journal.specs.declared.event.Event.{Event as JournalEvent}
+use Rattle.script_journal.specs.declared.event.Event.TheVariants as events
 use Rattle.tpdu.specs.declared.service.EndTold.TheVariants as tells
 use Rattle.tpdu.specs.declared.service.GoneCause.TheVariants.{Exhausted}
+use Rattle.tpdu.specs.declared.service.Options.{Options}
 use Rattle.tp4_number.specs.Number.{whole}
 use Rattle.tp4_number.proofs.Past.{if_kept}
+use Rattle.tp4_flow.specs.declared.step.EndEvent.{EndEvent}
 use Rattle.tp4_flow.specs.declared.step.Sent.{Sent}
 use Rattle.tp4_sending.specs.Pieces.{again}
 use Rattle.tp4_conn.specs.Agreeing.{request}
@@ -25,7 +29,7 @@ use Rattle.tp4_conn.specs.declared.timers.Timers.{Timers}
 use Rattle.tp4_entity.specs.Entity.{Entity, at, end_at, with_end}
 use Rattle.tp4_entity.specs.Step.{is_due, kept_end}
 use Rattle.law_tp4_history.specs.Tracks.{Whole}
-use Rattle.law_tp4_moves.specs.Moves.{stop_of}
+use Rattle.law_tp4_moves.specs.Moves.{IsSeenIn, stop_of}
 use Rattle.tp4_world.specs.Telling.{ends_after, events_after}
 use Rattle.tp4_world.specs.World.{World, entity_at, latest, with_entity}
 use Rattle.tp4_world.specs.declared.place.EndAt.{EndAt}
@@ -35,16 +39,18 @@ use Rattle.law_tp4_lawful.proofs.Worlds.{Explains}
 use Rattle.law_calm_run.proofs.Hall.{Post, posted}
 use Rattle.law_recovery_run.proofs.Aiming.{Going}
 use Rattle.law_recovery_run.proofs.Aside.{both_are}
+use Rattle.law_recovery_walk.proofs.Waiting.{posted_each}
 use Rattle.law_recovery_request.specs.Requesting.{AreListening, IsUnanswered, cr_from, in_cr_wait}
 use Rattle.law_recovery_request.proofs.Coming.{Asking, IsHere, IsPending, IsWaiting}
 use Rattle.law_recovery_request.proofs.Keeping.{IsKeptApart}
 use Rattle.law_recovery_script.proofs.Asking.{at_place}
 use Rattle.law_recovery_script.proofs.Outlasting.{kept_is}
-use Rattle.law_recovery_asking.proofs.Beside.{Changes, IsNow, bare_on, changed_there, listens_on, now_at as now_there, replied_on, selects_on, still_pending, unanswered_on}
-use Rattle.law_recovery_asking.proofs.Replying.{Replies, tick_replies}
-use Rattle.law_recovery_asking.proofs.Rowing.{IsCalled, apart_posts, called_or, calls, changes, is_it, placed, row_bare, row_pending, row_replied, row_replies}
-use Rattle.law_recovery_asking.proofs.State.{AreApart, Asked, Early, IsBare, IsOn, IsReplied, Replied, Told, apart_as, pending_on}
-use Rattle.law_recovery_asking.proofs.Telling.{told_before, told_behind, told_in}
+use Rattle.law_recovery_asking.proofs.Accepting.{only_called, quiet_row}
+use Rattle.law_recovery_asking.proofs.Beside.{Changes, IsNow, accepted_on, bare_on, changed_there, listens_on, now_at as now_there, replied_on, selects_on, still_pending, unanswered_on}
+use Rattle.law_recovery_asking.proofs.Replying.{Replies, ak_wait_due, tick_replies}
+use Rattle.law_recovery_asking.proofs.Rowing.{IsCalled, apart_posts, called_or, calls, changes, is_it, known, numbers_same, placed, row_bare, row_pending, row_replied, row_replies}
+use Rattle.law_recovery_asking.proofs.State.{Accepted, AreApart, Asked, Early, IsAccepted, IsBare, IsOn, IsQuiet, IsReplied, Over, Replied, Told, apart_as, pending_on}
+use Rattle.law_recovery_asking.proofs.Telling.{first_is, told_before, told_behind, told_in}
 
 -- ---- an end in CrWait
 
@@ -96,9 +102,9 @@ module _ {C : Type 0} (link : C → Link (List ℕ)) (titles : List (List ℕ)) 
   abbrev a : Changes link old new
   a = changes link titles timers w journal old explains going new s entity there reference o stands Ticked place place_is entities ends clock
 
-  module _ (x system : ℕ) (from : List ℕ) (N : Type 0) (first : EndRecord) (asked : InCrWait) (late : List JournalEvent) (posts : List Post) where
+  module _ (x system : ℕ) (from : List ℕ) (N : Type 0) (F : Type 0) (y limit : ℕ) (first : EndRecord) (asked : InCrWait) (late : List JournalEvent) (posts : List Post) where
     abbrev On : Type 0
-    On = IsOn link x system from N first asked (late ++ made) new (posts ++ posted s m.tpdus)
+    On = IsOn link x system from N F y limit first asked (late ++ made) new (posts ++ posted s m.tpdus)
 
     module _ (b : EndRecord) (r : InCrWait) (h : IsHere system x from N b r old) where
       abbrev sent_base : EndRecord
@@ -156,8 +162,8 @@ module _ {C : Type 0} (link : C → Link (List ℕ)) (titles : List (List ℕ)) 
             tt,
           )
 
-          asks_again : IsBare link x system from N b r old posts → On
-          asks_again bare = Asked sent_base sent_stage
+          asks_again : (F → ⊥) → IsBare link x system from N b r old posts → On
+          asks_again never bare = Asked never sent_base sent_stage
               (record {
                 here = here_now;
                 unanswered = unanswered_on link old new a x system from N b r bare.unanswered (λ p at_p to called. absurd (not_called p at_p called));
@@ -236,14 +242,14 @@ module _ {C : Type 0} (link : C → Link (List ℕ)) (titles : List (List ℕ)) 
               let same : o ≡ record { base = o.base; stage = stages.UserWait since } = ap (λ (z : StateData). record { base = o.base; stage = z }) is in
               let says : Replies from N b.own m = subst (λ (z : End). Replies from N b.own (stepped whole now z Ticked)) (sym same)
               (tick_replies now o.base since from N b.own called.1 (subst (λ (z : End). is_due now (Some z) ≡ true) same is_due_now)) in
-              Replied b r (row_replies link titles timers w journal old explains going new s entity there reference o stands Ticked place place_is entities ends clock x system from N b r h apart posts says.sent called says.is says.reply bare)
+              Replied b r (row_replies link titles timers w journal old explains going new s entity there reference o stands Ticked place place_is entities ends clock x system from N b r h apart posts says.sent called says.is says.reply bare.apart)
           by (stages.Frozen when) is un = frozen when is
           by other is un = absurd (subst IsUnanswered is un)
 
-      which : IsBare link x system from N b r old posts → ((s ≡ system → reference ≡ b.own → ⊥) → (Calls → ⊥) → On) → ((s ≡ system → reference ≡ b.own → ⊥) → (when : ℕ) → o.stage ≡ stages.Frozen when → On) → On
-      which bare still frozen = elim (at_place s reference system b.own) [
+      which : (F → ⊥) → IsBare link x system from N b r old posts → ((s ≡ system → reference ≡ b.own → ⊥) → (Calls → ⊥) → On) → ((s ≡ system → reference ≡ b.own → ⊥) → (when : ℕ) → o.stage ≡ stages.Frozen when → On) → On
+      which never bare still frozen = elim (at_place s reference system b.own) [
         | inl here ↦ elim (row here.0 here.1) [
-          | inl sent ↦ asks_again here.0 here.1 sent bare
+          | inl sent ↦ asks_again here.0 here.1 sent never bare
           | inr spent ↦ over here.0 here.1 spent
         ]
         | inr apart ↦ elim (called_or link titles timers w journal old explains going new s entity there reference o stands Ticked place place_is entities ends clock x system from N b r h) [
@@ -256,12 +262,128 @@ module _ {C : Type 0} (link : C → Link (List ℕ)) (titles : List (List ℕ)) 
       stays apart other bare =
           row_bare link titles timers w journal old explains going new s entity there reference o stands Ticked place place_is entities ends clock x system from N b r h apart other posts (aside_of apart other) bare
 
-    pub tick_on : IsOn link x system from N first asked late old posts → On
-    tick_on (Early k) = which first asked k.here k (λ apart other. Early (stays first asked k.here apart other k)) (λ apart when is. Early (frozen_bare first asked k.here apart when is k))
-    tick_on (Asked b r k p) = which b r k.here k
-        (λ apart other. Asked b r (stays b r k.here apart other k)
+    -- ---- its called end was accepted
+
+    module _ (on : F) (b : EndRecord) (r : InCrWait) (k : IsAccepted link x system from N y limit b r old posts) where
+      -- the two stand at two places
+      two_places : s ≡ system → reference ≡ b.own → k.at_system ≡ s → k.own ≡ reference → ⊥
+      two_places at_it same at_its its =
+          let mine : o ≡ in_cr_wait b r = is b r k.here at_it same in
+          let owner : k.entity ≡ entity = same_Some k.entity entity (sym k.there ∙ ap (entity_at old.entities) at_its ∙ there) in
+          let theirs : k.end ≡ o = same_Some k.end o (sym k.stands ∙ (λ i. end_at (owner i) (its i)) ∙ stands) in
+          apart_stages (sym k.stage ∙ ap (λ (z : End). z.stage) (theirs ∙ mine))
+        where
+          apart_stages : stages.AkWait k.w ≡ stages.CrWait r → ⊥
+          apart_stages e = cc e
+
+      -- the end that asked sends its CR again
+      mine_again : (at_it : s ≡ system) (same : reference ≡ b.own) → m ≡ sends now b r → On
+      mine_again at_it same sent = let n : IsNow link old new a k.at_system k.entity = now_there link old new a k.at_system k.entity k.there in
+          Accepted on (sent_base b r k.here) (sent_stage b r k.here) (record {
+            here = here_now b r k.here at_it same sent;
+            listens = listens_on link old new a b.to k.listens;
+            selects = selects_on link old new a N b.to b.called k.selects;
+            apart = all_append (IsKeptApart system from N (sent_base b r k.here) (sent_stage b r k.here)) posts (posted s m.tpdus) (apart_as system from N b r now (again now r.tries) posts k.apart)
+                (own_apart b r k.here at_it same sent);
+            at_system = k.at_system;
+            own = k.own;
+            entity = n.entity;
+            there = n.there;
+            own_is = n.own ∙ k.own_is;
+            end = k.end;
+            w = k.w;
+            stands = n.same k.own (two_places at_it same) ∙ k.stands;
+            stage = k.stage;
+            called = k.called;
+            number = numbers_same link titles timers w journal old explains going new s entity there reference o stands Ticked place place_is entities ends clock k.at_system k.own ∙ k.number;
+            past = k.past;
+            quiet = all_append (IsQuiet link x system from N b.to k.at_system k.own) posts (posted s m.tpdus) k.quiet
+                (subst (λ (l : List Sent). AllByRecursion (IsQuiet link x system from N b.to k.at_system k.own) (posted s l)) (sym (ap (λ (z : Moved). z.tpdus) sent))
+                (record { none = λ here to_it. none-some k.own to_it.target; unnamed = λ at_its names. two_places at_it same (sym at_its) (sym names ∙ sym same) }, tt));
+          })
+
+      -- its called end sends its CC again, or its sendings are over
+      module _ (apart : s ≡ system → reference ≡ b.own → ⊥) (at_it : s ≡ k.at_system) (same : reference ≡ k.own) where
+        owner : entity ≡ k.entity
+        owner = same_Some entity k.entity (sym there ∙ ap (entity_at old.entities) at_it ∙ k.there)
+
+        as_it : o ≡ record { base = k.end.base; stage = stages.AkWait k.w }
+        as_it = same_Some o k.end (sym stands ∙ (λ i. end_at (owner i) (same i)) ∙ k.stands) ∙ ap (λ (z : StateData). record { base = k.end.base; stage = z }) k.stage
+
+        abbrev its : Moved
+        its = stepped whole now (record { base = k.end.base; stage = stages.AkWait k.w }) Ticked
+
+        m_is : its ≡ m
+        m_is = ap (λ (z : End). stepped whole now z Ticked) (sym as_it)
+
+        agreed : (options : Options) × (k.end.base.agreed ≡ Some options)
+        agreed =
+            let its_known = known link titles timers w journal old explains going new s entity there reference o stands Ticked place place_is entities ends clock in
+            let state : IsSeenIn (w.base.end its_known.k).birth (w.base.end its_known.k).took (w.base.end its_known.k).latest k.end.base (stages.AkWait k.w) =
+            subst (λ (z : End). IsSeenIn (w.base.end its_known.k).birth (w.base.end its_known.k).took (w.base.end its_known.k).latest z.base z.stage) as_it its_known.sees.state in
+            (state.halves.terms, state.halves.agreed)
+
+        own_is : k.end.base.own ≡ k.own
+        own_is =
+            let its_known = known link titles timers w journal old explains going new s entity there reference o stands Ticked place place_is entities ends clock in
+            ap (λ (z : End). z.base.own) (sym as_it) ∙ sym its_known.sees.reference ∙ its_known.at.reference_is ∙ same
+
+        ticks_it : Replies from N b.own its ⊎ (its.events ≡ gone (now_at now k.end.base) Exhausted []) → On
+        ticks_it (inl says) = Replied b r (row_replies link titles timers w journal old explains going new s entity there reference o stands Ticked place place_is entities ends clock x system from N b r k.here apart posts says.sent
+            (ap (λ (z : Entity). z.own) owner ∙ k.own_is, subst (λ (z : End). is_called_by z.base from b.own ≡ true) (sym as_it) k.called) (ap (λ (z : Moved). z.tpdus) (sym m_is) ∙ says.is) says.reply k.apart)
+        ticks_it (inr spent) = Over on (Contains-append_right late made event (subst (λ (es : List JournalEvent). Contains es event) (sym lines) (first_is event aside)))
+          where
+            event : JournalEvent
+            event = events.End y (tells.Gone Exhausted [])
+
+            number : latest old.ends s k.end.base.own ≡ y
+            number = (λ i. latest old.ends (at_it i) (own_is i)) ∙ k.number
+
+            lines : made ≡ event ∷ aside
+            lines = made_is ∙ ap (λ (es : List EndEvent). events_after old.ends s entity.own es ++ aside) (ap (λ (z : Moved). z.events) (sym m_is) ∙ spent)
+                ∙ ap (λ (n : ℕ). events.End n (tells.Gone Exhausted []) ∷ aside) number
+
+        its_tick : On
+        its_tick = ticks_it (ak_wait_due now k.end.base k.w agreed.0 from N b.own k.called agreed.1 (subst (λ (z : End). is_due now (Some z) ≡ true) as_it is_due_now))
+
+      -- another end ticks
+      beside_it : (s ≡ system → reference ≡ b.own → ⊥) → (s ≡ k.at_system → reference ≡ k.own → ⊥) → On
+      beside_it apart apart_there = Accepted on b r (accepted_on link old new a x system from N b r y limit posts (posted s m.tpdus) k (λ at_it same. apart (sym at_it) (sym same)) (λ at_it same. apart_there (sym at_it) (sym same))
+          both.0 both.1)
+        where
+          by : (stop : Option ℕ) → stop_of o.stage ≡ stop → AreApart system from N b r (posted s m.tpdus) × AllByRecursion (IsQuiet link x system from N b.to k.at_system k.own) (posted s m.tpdus)
+          by None goes = (
+            apart_posts link titles timers w journal old explains going new s entity there reference o stands Ticked place place_is entities ends clock x system from N b r k.here apart
+                (λ called. let at = only_called link titles timers w journal old explains x system from N y limit b r posts k s entity there reference o stands goes called.0 called.1 in apart_there at.0 at.1) goes tt tt tt
+                (λ named. named),
+            posted_each (IsQuiet link x system from N b.to k.at_system k.own) s m.tpdus
+                (quiet_row link titles timers w journal old explains x system from N y limit b r posts k s entity there reference o stands goes going Ticked tt tt tt (λ to named. named) apart_there),
+          )
+          by (Some when) is =
+              let none : m.tpdus ≡ [] = still_none b r k.here when (frozen_of o.stage when is) in
+              (none_apart b r k.here none, subst (λ (l : List Sent). AllByRecursion (IsQuiet link x system from N b.to k.at_system k.own) (posted s l)) (sym none) tt)
+
+          both : AreApart system from N b r (posted s m.tpdus) × AllByRecursion (IsQuiet link x system from N b.to k.at_system k.own) (posted s m.tpdus)
+          both = by (stop_of o.stage) refl
+
+    accepted_tick : (on : F) (b : EndRecord) (r : InCrWait) → IsAccepted link x system from N y limit b r old posts → On
+    accepted_tick on b r k = elim (at_place s reference system b.own) [
+      | inl here ↦ elim (row b r k.here here.0 here.1) [
+        | inl sent ↦ mine_again on b r k here.0 here.1 sent
+        | inr spent ↦ over b r k.here here.0 here.1 spent
+      ]
+      | inr apart ↦ elim (at_place s reference k.at_system k.own) [
+        | inl it ↦ its_tick on b r k apart it.0 it.1
+        | inr other ↦ beside_it on b r k apart other
+      ]
+    ]
+
+    pub tick_on : IsOn link x system from N F y limit first asked late old posts → On
+    tick_on (Early never k) = which first asked k.here never k (λ apart other. Early never (stays first asked k.here apart other k)) (λ apart when is. Early never (frozen_bare first asked k.here apart when is k))
+    tick_on (Asked never b r k p) = which b r k.here never k
+        (λ apart other. Asked never b r (stays b r k.here apart other k)
         (row_pending link titles timers w journal old explains going new s entity there reference o stands Ticked place place_is entities ends clock x system from N b r k.here apart other posts p))
-        (λ apart when is. Asked b r (frozen_bare b r k.here apart when is k) (still_pending link old new a x system from N b r posts (posted s m.tpdus) p (not_frozen b r k.here when is)))
+        (λ apart when is. Asked never b r (frozen_bare b r k.here apart when is k) (still_pending link old new a x system from N b r posts (posted s m.tpdus) p (not_frozen b r k.here when is)))
     tick_on (Replied b r k) = elim (at_place s reference system b.own) [
       | inl here ↦ elim (row b r k.here here.0 here.1) [
         | inl sent ↦ replied_again b r k.here here.0 here.1 sent k
@@ -269,7 +391,9 @@ module _ {C : Type 0} (link : C → Link (List ℕ)) (titles : List (List ℕ)) 
       ]
       | inr apart ↦ Replied b r (row_replied link titles timers w journal old explains going new s entity there reference o stands Ticked place place_is entities ends clock x system from N b r k.here apart posts k)
     ]
+    tick_on (Accepted on b r k) = accepted_tick on b r k
     tick_on (Told t) = Told (told_before N late made x t)
+    tick_on (Over on t) = Over on (Contains-append_left late made _ t)
 
 -- ---- no end of an entity is due
 
@@ -291,7 +415,7 @@ module _ {C : Type 0} (link : C → Link (List ℕ)) (old new : World C) (s : �
     clock = clock;
   }
 
-  module _ (x system : ℕ) (from : List ℕ) (N : Type 0) (first : EndRecord) (asked : InCrWait) (late made : List JournalEvent) (posts : List Post) where
+  module _ (x system : ℕ) (from : List ℕ) (N : Type 0) (F : Type 0) (y limit : ℕ) (first : EndRecord) (asked : InCrWait) (late made : List JournalEvent) (posts : List Post) where
     module _ (b : EndRecord) (r : InCrWait) where
       some : IsHere system x from N b r old → system ≡ s → b.own ≡ 0 → ⊥
       some h at_it zero = none-some (in_cr_wait b r) (ap (end_at h.entity) (sym zero) ∙ h.stands)
@@ -302,20 +426,22 @@ module _ {C : Type 0} (link : C → Link (List ℕ)) (old new : World C) (s : �
       pending_none : IsPending system x from N b r old posts → IsPending system x from N b r new (posts ++ [])
       pending_none p = still_pending link old new none x system from N b r posts [] p (λ d at_it zero. none-some d.end (ap (end_at d.entity) (sym zero) ∙ d.stands))
 
-    none_so : IsOn link x system from N first asked late old posts → IsOn link x system from N first asked (late ++ made) new (posts ++ [])
-    none_so (Early k) = Early (bare_none first asked k)
-    none_so (Asked b r k p) = Asked b r (bare_none b r k) (pending_none b r p)
+    none_so : IsOn link x system from N F y limit first asked late old posts → IsOn link x system from N F y limit first asked (late ++ made) new (posts ++ [])
+    none_so (Early never k) = Early never (bare_none first asked k)
+    none_so (Asked never b r k p) = Asked never b r (bare_none b r k) (pending_none b r p)
     none_so (Replied b r k) = Replied b r (replied_on link old new none x system from N b r posts [] k (some b r k.here))
+    none_so (Accepted on b r k) = Accepted on b r (accepted_on link old new none x system from N b r y limit posts [] k (some b r k.here) (λ at_it zero. none-some k.end (ap (end_at k.entity) (sym zero) ∙ k.stands)) tt tt)
     none_so (Told t) = Told (told_before N late made x t)
+    none_so (Over on t) = Over on (Contains-append_left late made _ t)
 
-    pub none_on : IsOn link x system from N first asked late old posts → IsOn link x system from N first asked (late ++ made) new posts
-    none_on on = subst (IsOn link x system from N first asked (late ++ made) new) (append-nil posts) (none_so on)
+    pub none_on : IsOn link x system from N F y limit first asked late old posts → IsOn link x system from N F y limit first asked (late ++ made) new posts
+    none_on on = subst (IsOn link x system from N F y limit first asked (late ++ made) new) (append-nil posts) (none_so on)
 
 -- ---- the clock goes on, or nothing that an entity knows of
 
 module _ {C : Type 0} (link : C → Link (List ℕ)) (old new : World C) (entities : new.entities ≡ old.entities) (ends : new.ends ≡ old.ends)
     (longer : (to : List ℕ) → AreListening (link old.carrier).clock old to → AreListening (link new.carrier).clock new to) where
-  module _ (x system : ℕ) (from : List ℕ) (N : Type 0) (first : EndRecord) (asked : InCrWait) (late made : List JournalEvent) (posts : List Post) where
+  module _ (x system : ℕ) (from : List ℕ) (N : Type 0) (F : Type 0) (y limit : ℕ) (first : EndRecord) (asked : InCrWait) (late made : List JournalEvent) (posts : List Post) where
     module _ (b : EndRecord) (r : InCrWait) where
       here_same : IsHere system x from N b r old → IsHere system x from N b r new
       here_same h = record {
@@ -367,8 +493,28 @@ module _ {C : Type 0} (link : C → Link (List ℕ)) (old new : World C) (entiti
         reply = k.reply;
       }
 
-    pub same_on : IsOn link x system from N first asked late old posts → IsOn link x system from N first asked (late ++ made) new posts
-    same_on (Early k) = Early (bare_same first asked k)
-    same_on (Asked b r k p) = Asked b r (bare_same b r k) (pending_same b r p)
+    pub same_on : IsOn link x system from N F y limit first asked late old posts → IsOn link x system from N F y limit first asked (late ++ made) new posts
+    same_on (Early never k) = Early never (bare_same first asked k)
+    same_on (Asked never b r k p) = Asked never b r (bare_same b r k) (pending_same b r p)
     same_on (Replied b r k) = Replied b r (replied_same b r k)
+    same_on (Accepted on b r k) = Accepted on b r (record {
+      here = here_same b r k.here;
+      listens = longer b.to k.listens;
+      selects = λ place z at_it. k.selects place z (ap (λ (ps : List Placed). entity_at ps place) (sym entities) ∙ at_it);
+      apart = k.apart;
+      at_system = k.at_system;
+      own = k.own;
+      entity = k.entity;
+      there = ap (λ (ps : List Placed). entity_at ps k.at_system) entities ∙ k.there;
+      own_is = k.own_is;
+      end = k.end;
+      w = k.w;
+      stands = k.stands;
+      stage = k.stage;
+      called = k.called;
+      number = ap (λ (es : List EndAt). latest es k.at_system k.own) ends ∙ k.number;
+      past = k.past;
+      quiet = k.quiet;
+    })
     same_on (Told t) = Told (told_before N late made x t)
+    same_on (Over on t) = Over on (Contains-append_left late made _ t)

@@ -63,9 +63,9 @@ in_time_with now placed system new all one other e is = elim (with_any placed sy
 module _ {C : Type 0} (link : C → Link (List ℕ)) (steps : C → Call (List ℕ) → C → Type 0)
     (law : (old : C) (call : Call (List ℕ)) (new : C) → steps old call new → Keeps (link old) call (link new))
     (titles : List (List ℕ)) (Waits : C → List (CarriedUnit (List ℕ)) → Type 0) (fifo : IsFifo link steps titles Waits) (names : List (List ℕ)) (timers : Timers) (going : Going) (followed : Followed names timers)
-    (x system : ℕ) (from : List ℕ) (N : Type 0) (first : EndRecord) (asked : InCrWait) where
+    (x system : ℕ) (from : List ℕ) (N : Type 0) (F : Type 0) (y limit : ℕ) (first : EndRecord) (asked : InCrWait) where
   abbrev On : List JournalEvent → World C → List Post → Type 0
-  On late world posts = IsOn link x system from N first asked late world posts
+  On late world posts = IsOn link x system from N F y limit first asked late world posts
 
   -- the network within a tick, and the end
   record Ticking (journal late : List JournalEvent) (world : World C) : Type 0 where
@@ -112,7 +112,7 @@ module _ {C : Type 0} (link : C → Link (List ℕ)) (steps : C → Call (List �
         };
         kept = kept_after titles t.hall.entities s entity (record { entity = at t.hall.clock entity; events = []; tpdus = [] }) t.kept there_now proper fine;
         in_time = in_time_with t.hall.clock t.hall.entities s (at t.hall.clock entity) t.in_time (t.in_time s entity there_now);
-        on = none_on link old new s entity there_it (ap (λ (v : World C). v.entities) becomes_so) (ap (λ (v : World C). v.ends) becomes_so) (ap (λ (v : World C). (link v.carrier).clock) becomes_so) x system from N first asked
+        on = none_on link old new s entity there_it (ap (λ (v : World C). v.entities) becomes_so) (ap (λ (v : World C). v.ends) becomes_so) (ap (λ (v : World C). (link v.carrier).clock) becomes_so) x system from N F y limit first asked
             late made t.hall.posts t.on;
       }
 
@@ -131,7 +131,7 @@ module _ {C : Type 0} (link : C → Link (List ℕ)) (steps : C → Call (List �
     on = subst (λ (z : Acted). On (late ++ here) mid (t.hall.posts ++ posted s z.tpdus)) (sym is)
         (tick_on link names timers t.w journal old t.explains going mid here s entity there_it reference o stands due_now
         (ap (λ (v : World C). v.entities) acts.becomes ∙ ap (λ (z : Acted). with_entity old.entities s z.entity) is) (ap (λ (v : World C). v.ends) acts.becomes ∙ ap (λ (z : Acted). ends_after old.ends s z.events) is)
-        (a.shows.clock ∙ sym t.shows.clock) a.does.aside (a.does.made_is ∙ (λ i. events_after (sym t.shows.ends i) s entity.own (is i).events ++ a.does.aside)) x system from N first asked late t.hall.posts t.on);
+        (a.shows.clock ∙ sym t.shows.clock) a.does.aside (a.does.made_is ∙ (λ i. events_after (sym t.shows.ends i) s entity.own (is i).events ++ a.does.aside)) x system from N F y limit first asked late t.hall.posts t.on);
   }
     where
       now : ℕ
@@ -270,7 +270,7 @@ module _ {C : Type 0} (link : C → Link (List ℕ)) (steps : C → Call (List �
         };
         kept = s.kept;
         in_time = λ system e is. (waits hall.clock e (s.rest system e is)).1;
-        on = same_on link old mid refl refl longer x system from N first asked late front hall.posts on;
+        on = same_on link old mid refl refl longer x system from N F y limit first asked late front hall.posts on;
       }
 
       t : Ticking (journal ++ made) (late ++ made) new

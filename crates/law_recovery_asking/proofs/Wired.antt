@@ -1,5 +1,5 @@
 -- What ends in CrWait come to over whole numbers they come to over those of the wire: neither they nor the ends that they called have a number that the wire has not.
-use Rattle.std.proofs.Common.{◌≡◌, inl, inr, ℕ, ◌++◌, List, Some, sym, ◌∙◌, ap, subst}
+use Rattle.std.proofs.Common.{◌++◌, ◌∙◌, ◌≡◌, List, Some, ℕ, ap, inl, inr, refl, subst, sym}
 use Rattle.std.specs.Prelude.{option_map}
 use Rattle.std.specs.List.{AllByRecursion}
 use Rattle.osi_base.specs.Calls.{Call}
@@ -9,6 +9,7 @@ use Rattle.tpdu.specs.declared.service.GoneCause.{GoneCause}
 use Rattle.tpdu.specs.declared.service.GoneCause.TheVariants.{Exhausted, Protocol, Reason}
 use Rattle.tp4_conn.specs.End.{End}
 use Rattle.tp4_conn.specs.Wire.{end_on_wire, stage_on_wire}
+use Rattle.tp4_conn.specs.declared.states.InAkWait.{InAkWait}
 use Rattle.tp4_conn.specs.declared.states.StateData.{StateData}
 use Rattle.tp4_conn.specs.declared.states.StateData.TheVariants.{AkWait, Closing, CrWait, Frozen, Opened, UserWait, WaitBeforeClose}
 use Rattle.tp4_conn.specs.declared.timers.Timers.{Timers}
@@ -24,7 +25,7 @@ use Rattle.law_calm_service.proofs.Wired.{no_ends}
 use Rattle.law_calm_service.proofs.WiredEnds.{placed_on, upper_end, upper_waiting}
 use Rattle.law_recovery_request.specs.Requesting.{AreListening, IsUnanswered}
 use Rattle.law_recovery_wire.proofs.Wired.{run_above}
-use Rattle.law_recovery_asking.specs.Asked.{AreAsked, By_itself, By_user, Confirmed, IsIndicatedNow, IsNamedCause, IsOpenStill, IsTold, IsUnregistered}
+use Rattle.law_recovery_service.specs.Asked.{AreAccepted, AreAsked, By_itself, By_user, Confirmed, HaveAsked, IsIndicatedNow, IsNamedCause, IsOpenStill, IsTold, IsUnregistered}
 use Rattle.law_recovery_asking.specs.Laws.{AsksOnWire}
 
 lower_end : {C : Type 0} (world : World C) (number : ℕ) (end : End) → end_at_number world number ≡ Some end → end_at_number (world_on_wire world) number ≡ Some (end_on_wire end)
@@ -70,7 +71,13 @@ told_as One Other f late x (Confirmed options octets stands) = Confirmed options
 told_as One Other f late x (By_user octets stands) = By_user octets stands
 told_as One Other f late x (By_itself cause octets named stands) = By_itself cause octets (cause_as One Other f cause named) stands
 
-pub asked_on_wire : {C : Type 0} (link : C → Link (List ℕ)) (t : Timers) (at_t0 last : World C) (early late : List Event) → AreAsked link t at_t0 last early late
+told_above : {C : Type 0} (at_t0 : World C) (e upper : End) → e ≡ end_on_wire upper → (late : List Event) (x : ℕ) → IsTold (IsUnregistered at_t0 upper.base.to upper.base.called) late x
+    → IsTold (IsUnregistered (world_on_wire at_t0) e.base.to e.base.called) late x
+told_above at_t0 e upper is late x told = subst (λ (z : End). IsTold (IsUnregistered (world_on_wire at_t0) z.base.to z.base.called) late x) (sym is)
+    (told_as (IsUnregistered at_t0 upper.base.to upper.base.called) (IsUnregistered (world_on_wire at_t0) upper.base.to upper.base.called)
+    (λ u. record { system = u.system; entity = entity_on_wire u.entity; there = found_on at_t0.entities u.system ∙ ap (option_map entity_on_wire) u.there; own_is = u.own_is; none = u.none }) late x told)
+
+asked_on_wire : {C : Type 0} (link : C → Link (List ℕ)) (t : Timers) (at_t0 last : World C) (early late : List Event) → AreAsked link t at_t0 last early late
     → AreAsked link t (world_on_wire at_t0) (world_on_wire last) early late
 asked_on_wire {C} link t at_t0 last early late asked x e w e_is e_asks still past =
     let one = upper_end at_t0 x e e_is in
@@ -81,17 +88,40 @@ asked_on_wire {C} link t at_t0 last early late asked x e w e_is e_asks still pas
     } in
     elim (asked x one.end w one.stands asks above past) [
       | inl i ↦ inl (indicated_on_wire (early ++ late) last x i)
-      | inr told ↦ inr (subst (λ (z : End). IsTold (IsUnregistered (world_on_wire at_t0) z.base.to z.base.called) late x) (sym one.is)
-          (told_as (IsUnregistered at_t0 one.end.base.to one.end.base.called) (IsUnregistered (world_on_wire at_t0) one.end.base.to one.end.base.called)
-          (λ u. record { system = u.system; entity = entity_on_wire u.entity; there = found_on at_t0.entities u.system ∙ ap (option_map entity_on_wire) u.there; own_is = u.own_is; none = u.none }) late x told))
+      | inr told ↦ inr (told_above at_t0 e one.end one.is late x told)
     ]
+
+ak_above : (stage : StateData) (v : InAkWait) → stage_on_wire stage ≡ AkWait v → (upper : InAkWait) × (stage ≡ AkWait upper)
+ak_above (AkWait w) v is = (w, refl)
+ak_above (CrWait w) v is = absurd (cc is)
+ak_above (WaitBeforeClose w) v is = absurd (cc is)
+ak_above (UserWait since) v is = absurd (cc is)
+ak_above (Opened o) v is = absurd (cc is)
+ak_above (Closing c) v is = absurd (cc is)
+ak_above (Frozen when) v is = absurd (cc is)
+
+accepted_on_wire : {C : Type 0} (link : C → Link (List ℕ)) (t : Timers) (at_t0 last : World C) (early late : List Event) → AreAccepted link t at_t0 last early late
+    → AreAccepted link t (world_on_wire at_t0) (world_on_wire last) early late
+accepted_on_wire {C} link t at_t0 last early late accepted x y e f w v partners e_is f_is e_asks f_accepted past =
+    let one = upper_end at_t0 x e e_is in
+    let other = upper_end at_t0 y f f_is in
+    let asks : one.end.stage ≡ CrWait w = upper_waiting one.end.stage w (sym (ap (λ (z : End). z.stage) one.is) ∙ e_asks) in
+    let accepts = ak_above other.end.stage v (sym (ap (λ (z : End). z.stage) other.is) ∙ f_accepted) in
+    elim (accepted x y one.end other.end w accepts.0 partners one.stands other.stands asks accepts.1 past) [
+      | inl told ↦ inl (told_above at_t0 e one.end one.is late x told)
+      | inr spent ↦ inr spent
+    ]
+
+have_on_wire : {C : Type 0} (link : C → Link (List ℕ)) (t : Timers) (at_t0 last : World C) (early late : List Event) → HaveAsked link t at_t0 last early late
+    → HaveAsked link t (world_on_wire at_t0) (world_on_wire last) early late
+have_on_wire {C} link t at_t0 last early late both = record { asked = asked_on_wire link t at_t0 last early late both.asked; accepted = accepted_on_wire link t at_t0 last early late both.accepted }
 
 module _ {C : Type 0} (link : C → Link (List ℕ)) (steps : C → Call (List ℕ) → C → Type 0) (whole_run : WholeRun link steps) (whole_line : WholeLine link steps) where
   pub asks_on_wire : AsksOnWire link steps
   asks_on_wire titles begins asks timers made placed begun early late script first at_t0 last begins_is timed distinct have is_first untouched starts run =
       let none = subst (λ (w : World C). AllByRecursion (λ (one : Placed). HasNoEnd one.entity) w.entities) (sym starts.becomes) (no_ends titles placed is_first.entities) in
       let above = run_above link steps whole_run whole_line titles first at_t0 last script early late none run in
-      subst (λ (w : World C). AreAsked link timers w last (begun ++ early) late) (sym above.mid_is)
-      (subst (λ (w : World C). AreAsked link timers (world_on_wire above.mid) w (begun ++ early) late) (sym above.end_is)
-      (asked_on_wire link timers above.mid above.end (begun ++ early) late
+      subst (λ (w : World C). HaveAsked link timers w last (begun ++ early) late) (sym above.mid_is)
+      (subst (λ (w : World C). HaveAsked link timers (world_on_wire above.mid) w (begun ++ early) late) (sym above.end_is)
+      (have_on_wire link timers above.mid above.end (begun ++ early) late
       (asks timers made placed begun early late script first above.mid above.end begins_is timed distinct have is_first untouched starts above.run)))

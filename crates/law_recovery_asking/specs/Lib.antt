@@ -1,4 +1,3 @@
 pub mod Along
-pub mod Asked
 pub mod Laws
 pub mod Service

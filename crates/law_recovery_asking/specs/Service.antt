@@ -16,7 +16,7 @@ use Rattle.law_tp4_lawful.specs.First.{AreDistinct, IsUntouched}
 use Rattle.law_calm_run.specs.Run.{HaveEntities}
 use Rattle.law_recovery_run.specs.Ordered.{OnPrompt}
 use Rattle.law_recovery_run.specs.Run.{RunsOn}
-pub use Rattle.law_recovery_asking.specs.Asked.{AreAsked, By_itself, By_user, Confirmed, IsIndicatedNow, IsNamedCause, IsOpenStill, IsTold, IsUnregistered}
+pub use Rattle.law_recovery_service.specs.Asked.{AreAccepted, AreAsked, By_itself, By_user, Confirmed, HaveAsked, IsExhausted, IsIndicatedNow, IsNamedCause, IsOpenStill, IsTold, IsUnregistered}
 
 -- of each run of a network that recovers, from its start on
 abbrev pub AsksFrom : {C : Type 0} → (C → Link (List ℕ)) → (C → Call (List ℕ) → C → Type 0) → (ℕ → ℕ → ℕ) → List (List ℕ) → C → Type 0
@@ -24,7 +24,7 @@ AsksFrom {C} link steps wrap titles begins =
     (timers : Timers) (made : C) (placed : List Placed) (begun early late : List Event) (script : List Line) (first at_t0 last : World C) → first.carrier ≡ begins
     → IsTimed timers → AreDistinct titles → HaveEntities titles placed
     → IsFirst timers.life titles (link made) placed → AllByRecursion (IsUntouched timers) placed → Starts link steps made placed begun first
-    → RunsOn link steps wrap titles first at_t0 last script early late → AreAsked link timers at_t0 last (begun ++ early) late
+    → RunsOn link steps wrap titles first at_t0 last script early late → HaveAsked link timers at_t0 last (begun ++ early) late
 
 -- over each carrier that serves again once nothing is lost
 abbrev pub AsksOnPrompt : {C : Type 0} → (C → Link (List ℕ)) → (C → Call (List ℕ) → C → Type 0) → (ℕ → ℕ → ℕ) → Type 0

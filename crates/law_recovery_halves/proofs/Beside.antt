@@ -54,7 +54,7 @@ use Rattle.law_recovery_walk.proofs.Speaking.{row_speaks}
 use Rattle.law_recovery_walk.proofs.Waiting.{posted_each}
 use Rattle.law_recovery_request.proofs.Coming.{met_so}
 use Rattle.law_recovery_request.proofs.Meeting.{IsMet, Makes, Stays, Takes}
-use Rattle.law_recovery_script.specs.Over.{HasLeftAt, HasLeftEnd, KeepsLeft}
+use Rattle.law_recovery_service.specs.Over.{HasLeftAt, HasLeftEnd, KeepsLeft}
 use Rattle.law_recovery_script.proofs.Asking.{at_place}
 use Rattle.law_recovery_script.proofs.Outlasting.{end_keeps, left_on, made_so, met_kind, row_stays}
 use Rattle.law_recovery_script.proofs.Outlasting as outlasting
@@ -62,7 +62,7 @@ use Rattle.law_recovery_halves.proofs.Deeds.{AreSame, Begins, Deed, DoesRow, Hea
 use Rattle.law_recovery_halves.proofs.Partner.{IsHalf, IsQuiet, IsStill, Parties, known, partner_stands, still_goes}
 use Rattle.law_recovery_halves.proofs.Quiet.{Apart, all_of, all_quiet, answers_quiet, both_of, dr_plain, from_is, other_quiet, row_quiet, sources, taking_quiet}
 use Rattle.law_recovery_halves.proofs.Rows.{AreFlow, HasAccepted, IsAlone, IsDr, IsFlow, IsParting, StaysAccepted, StaysAsked, StaysOpened, accepted_alone, asked_alone, dr_row, left_alone, opened_alone}
-use Rattle.law_recovery_halves.specs.Halves.{KnowsPartner}
+use Rattle.law_recovery_service.specs.Halves.{KnowsPartner}
 
 -- it has left, or stands so
 abbrev pub Holds : {C : Type 0} → ℕ → Parties → List JournalEvent → World C → List Post → Type 0

@@ -1,5 +1,5 @@
 -- An end that stood half-open beside a partner that had left, after lines that are settled and lose nothing: where it is Opened still, its time of inactivity has not passed.
-use Rattle.std.proofs.Common.{◌≡◌, ◌⊎◌, inl, inr, ℕ, ◌+◌, ◌<◌, ◌≤◌, ◌==◌, min, nat_le, Bool, true, false, if◌then◌else◌, List, [], ◌++◌, Option, Some, None, refl, sym, ◌∙◌, ap, subst, arith}
+use Rattle.std.proofs.Common.{◌≡◌, ◌⊎◌, inl, inr, ℕ, ◌+◌, ◌*◌, ◌<◌, ◌≤◌, ◌==◌, min, nat_le, Bool, true, false, if◌then◌else◌, List, [], ◌++◌, Option, Some, None, refl, sym, ◌∙◌, ap, subst, arith}
 use Rattle.std.specs.Prelude.{option_and_then}
 use Rattle.std.proofs.lemmas.Bool.{eqb-true, leb-false}
 use Rattle.std.proofs.lemmas.Option.{none-some, same_Some}
@@ -11,6 +11,7 @@ use Rattle.script_journal.specs.declared.event.Event.{Event}
 use Rattle.script_lines.specs.declared.line.Line.{Line}
 use Rattle.net_world.specs.Fifo.{IsFifo}
 use Rattle.net_world.specs.Prompt.{IsPrompt}
+use Rattle.tpdu.specs.declared.service.Options.{Options}
 use Rattle.tp4_number.specs.Number.{whole}
 use Rattle.tp4_sending.specs.FlowSender.{due_of}
 use Rattle.tp4_sending.specs.Pieces.{sooner}
@@ -50,16 +51,18 @@ use Rattle.law_recovery_service.specs.Recovered.{IsOver}
 use Rattle.law_recovery_walk.specs.Following.{Stands}
 use Rattle.law_recovery_walk.proofs.Coming.{StandsSo}
 use Rattle.law_recovery_walk.proofs.Fitting.{calls_fit}
-use Rattle.law_recovery_script.specs.Over.{HasLeftEnd}
+use Rattle.law_recovery_service.specs.Over.{HasLeftEnd}
 use Rattle.law_recovery_script.proofs.Numbers.{stands_at}
 use Rattle.law_recovery_world.specs.Steady.{EndsAreSteady, StageMade}
 use Rattle.law_recovery_request.specs.Requesting.{AreListening}
 use Rattle.law_recovery_request.proofs.Coming.{none_there}
-use Rattle.law_recovery_halves.specs.Halves.{IsFrozenOrGone, KnowsPartner, IsNotAccepted}
-use Rattle.law_recovery_halves.proofs.Accepted.{Answers, Confirms, IsAnswerable, IsAwaited, IsNotParting, IsTriedBy, Keeps, answer_to, kept as kept_answerable}
+use Rattle.law_recovery_service.specs.Halves.{IsFrozenOrGone, KnowsPartner, IsNotAccepted}
+use Rattle.law_recovery_halves.proofs.Accepted.{Answers, Confirms, IsAnswerable, IsAwaited, IsClosedBy, IsTriedBy, Keeps, kept as kept_answerable, not_closed}
 use Rattle.law_recovery_halves.proofs.Beside.{Holds, kept}
 use Rattle.law_recovery_halves.proofs.Deeds.{IsKept}
+use Rattle.law_recovery_halves.proofs.Parting.{IsNotClosing}
 use Rattle.law_recovery_halves.proofs.Partner.{IsHalf, IsStill, Parties, partner_number}
+use Rattle.law_recovery_halves.proofs.Past.{HasParted, parted_by}
 use Rattle.law_recovery_halves.proofs.Starting.{half_here, parties}
 use Rattle.law_recovery_halves.proofs.Walking.{HasReached, lines_reach}
 
@@ -90,20 +93,33 @@ left_by_number {C} last x h e at = by_number (latest last.ends h.system h.refere
 
 -- ---- an end in AkWait
 
-frozen_out : (stage : StateData) → is_frozen stage ≡ true → IsNotParting stage
+frozen_out : (stage : StateData) → is_frozen stage ≡ true → IsNotClosing stage
 frozen_out (stages.Frozen when) is = tt
 frozen_out other is = absurd (cc is)
 
-tried_by_now : (now : ℕ) (p : Parties) (b : EndRecord) (stage : StateData) → KnowsPartner stage → StageMade now b stage → IsTriedBy now p [] stage
-tried_by_now now p b (stages.AkWait v) half made = inl made.0
-tried_by_now now p b (stages.Opened o) half made = tt
-tried_by_now now p b (stages.UserWait since) half made = tt
-tried_by_now now p b stage half made = absurd half
+tried_by_now : (bound now : ℕ) (p : Parties) (b : EndRecord) (agreed : Option Options) (stage : StateData) → now ≤ bound → KnowsPartner stage → StageMade now b stage → IsTriedBy bound now p [] agreed stage
+tried_by_now bound now p b agreed (stages.AkWait v) low half made = inl (let last = made.0 in omega (arith, low, last))
+tried_by_now bound now p b agreed (stages.Opened o) low half made = tt
+tried_by_now bound now p b agreed (stages.UserWait since) low half made = tt
+tried_by_now bound now p b agreed stage low half made = absurd half
 
-none_awaited : (t0 : ℕ) (p : Parties) (v : InAkWait) → (v.tries.last ≤ t0) ⊎ IsAwaited p [] → v.tries.last ≤ t0
-none_awaited t0 p v (inl early) = early
-none_awaited t0 p v (inr (Confirms post among own)) = absurd (none_there post among)
-none_awaited t0 p v (inr (Answers among)) = absurd (none_there (answer_to p) among)
+-- an end that is Closing sent its DR by now
+closed_by_now : (bound now : ℕ) (p : Parties) (agreed : Option Options) (b : EndRecord) (stage : StateData) → now + b.timers.t1 ≤ bound → HasParted now stage → IsClosedBy bound now p agreed [] b stage
+closed_by_now bound now p agreed b (stages.Closing c) low parted = inl (omega (arith, low, parted), omega (arith, low))
+closed_by_now bound now p agreed b (stages.CrWait c) low parted = tt
+closed_by_now bound now p agreed b (stages.WaitBeforeClose c) low parted = tt
+closed_by_now bound now p agreed b (stages.UserWait c) low parted = tt
+closed_by_now bound now p agreed b (stages.AkWait c) low parted = tt
+closed_by_now bound now p agreed b (stages.Opened c) low parted = tt
+closed_by_now bound now p agreed b (stages.Frozen c) low parted = tt
+
+none_awaited : (bound now : ℕ) (p : Parties) (agreed : Option Options) (v : InAkWait) → (v.tries.last ≤ bound) ⊎ ((v.tries.last ≤ now) × IsAwaited p agreed []) → v.tries.last ≤ bound
+none_awaited bound now p agreed v (inl early) = early
+none_awaited bound now p agreed v (inr awaited) = by awaited.1
+  where
+    by : IsAwaited p agreed [] → v.tries.last ≤ bound
+    by (Confirms post among own) = absurd (none_there post among)
+    by (Answers answered) = absurd (none_there answered.post answered.among)
 
 -- ---- a network after calls
 
@@ -195,50 +211,66 @@ module _ {C : Type 0} (link : C → Link (List ℕ)) (steps : C → Call (List �
 
     -- ---- in AkWait
 
-    module _ (far_gone : IsFrozenOrGone old y) (listens : AreListening (link old.carrier).clock old e.base.to) (steady : EndsAreSteady link timers old) where
+    module _ (listens : AreListening (link old.carrier).clock old e.base.to) (steady : EndsAreSteady link timers old) where
       abbrev here_now : IsHalf (link old.carrier).clock (parties link names timers rests.w early old rests.explains x y e partners s half left) early old []
       here_now = half_here link names timers rests.w early old rests.explains x y e partners s half left
-
-      -- what stands at the place of the partner is that, and frozen
-      out : (v : End) → end_at here_now.far left.reference ≡ Some v → IsNotParting v.stage
-      out v at_place = frozen_out v.stage (far_gone v (stands_at link names timers rests.w early old rests.explains y v (record {
-        system = left.system;
-        reference = left.reference;
-        entity = here_now.far;
-        is_end = record { there = here_now.far_placed; stands = at_place; number = partner_number link names timers rests.w early old rests.explains t0 p [] here_now v at_place };
-      })))
 
       end_here : here_now.end ≡ e
       end_here =
           let owner : here_now.entity ≡ s.entity = same_Some here_now.entity s.entity (sym here_now.placed ∙ s.is_end.there) in
           same_Some here_now.end e (sym here_now.stands ∙ ap (λ (z : Entity). end_at z s.reference) owner ∙ s.is_end.stands)
 
-      begins_so : IsAnswerable link t0 p early old []
-      begins_so = record {
-        half = here_now;
-        awake = listens left.system here_now.far here_now.far_placed here_now.far_own;
-        out = out;
-        tried = subst (λ (z : End). IsTriedBy t0 p [] z.stage) (sym end_here) (tried_by_now t0 p e.base e.stage half (steady s.system s.entity s.is_end.there s.reference e s.is_end.stands).made);
-      }
+      -- where what stands at the place of the partner is so
+      module _ (bound : ℕ) (low : (link old.carrier).clock ≤ bound)
+          (out : (v : End) → end_at here_now.far left.reference ≡ Some v → IsClosedBy bound (link old.carrier).clock p here_now.end.base.agreed [] v.base v.stage) where
+        begins_so : IsAnswerable link t0 bound p early old []
+        begins_so = record {
+          half = here_now;
+          awake = listens left.system here_now.far here_now.far_placed here_now.far_own;
+          out = λ accepted. out;
+          tried = subst (λ (z : End). IsTriedBy bound t0 p [] z.base.agreed z.stage) (sym end_here)
+              (tried_by_now bound t0 p e.base e.base.agreed e.stage low half (steady s.system s.entity s.is_end.there s.reference e s.is_end.stands).made);
+        }
 
-      answered : HasReached link names timers (Keeps link t0 p) (early ++ late) last
-      answered = reaches (Keeps link t0 p) (kept_answerable link names timers going t0 p) (inr begins_so)
+        answered : HasReached link names timers (Keeps link t0 bound p) (early ++ late) last
+        answered = reaches (Keeps link t0 bound p) (kept_answerable link names timers going t0 bound p) (inr begins_so)
 
-      over_answerable : t0 + timers.t1 ≤ (link last.carrier).clock → IsAnswerable link t0 p (early ++ late) last [] → IsNotAccepted last x
-      over_answerable passed k d v at is =
-          let h = k.half in
-          let it : end_at_number last x ≡ Some h.end = stands_at link names timers answered.w (early ++ late) last answered.explains x h.end
-          (record { system = p.system; reference = p.reference; entity = h.entity; is_end = record { there = h.placed; stands = h.stands; number = h.number } }) in
-          let stage : h.end.stage ≡ stages.AkWait v = ap (λ (z : End). z.stage) (same_Some h.end d (sym it ∙ at)) ∙ is in
-          let due_none = none_due (link last.carrier).clock h.entity p.reference h.end (answered.waiting p.system h.entity h.placed) h.stands in
-          let t_is : h.end.base.timers ≡ timers = (answered.explains.known.holds p.system h.entity h.placed).theirs p.reference h.end h.stands in
-          let early_still = leb-false (v.tries.last + timers.t1) (link last.carrier).clock
-          (subst (λ (t : Timers). nat_le (v.tries.last + t.t1) (link last.carrier).clock ≡ false) t_is (subst (λ (z : StateData). is_due_by (link last.carrier).clock (due h.end.base z) ≡ false) stage due_none)) in
-          let tried : v.tries.last ≤ t0 = none_awaited t0 p v (subst (IsTriedBy t0 p []) stage k.tried) in
-          omega (arith, early_still, tried, passed)
+        over_answerable : bound + timers.t1 ≤ (link last.carrier).clock → IsAnswerable link t0 bound p (early ++ late) last [] → IsNotAccepted last x
+        over_answerable passed k d v at is =
+            let h = k.half in
+            let it : end_at_number last x ≡ Some h.end = stands_at link names timers answered.w (early ++ late) last answered.explains x h.end
+            (record { system = p.system; reference = p.reference; entity = h.entity; is_end = record { there = h.placed; stands = h.stands; number = h.number } }) in
+            let stage : h.end.stage ≡ stages.AkWait v = ap (λ (z : End). z.stage) (same_Some h.end d (sym it ∙ at)) ∙ is in
+            let due_none = none_due (link last.carrier).clock h.entity p.reference h.end (answered.waiting p.system h.entity h.placed) h.stands in
+            let t_is : h.end.base.timers ≡ timers = (answered.explains.known.holds p.system h.entity h.placed).theirs p.reference h.end h.stands in
+            let early_still = leb-false (v.tries.last + timers.t1) (link last.carrier).clock
+            (subst (λ (t : Timers). nat_le (v.tries.last + t.t1) (link last.carrier).clock ≡ false) t_is (subst (λ (z : StateData). is_due_by (link last.carrier).clock (due h.end.base z) ≡ false) stage due_none)) in
+            let tried : v.tries.last ≤ bound =
+            none_awaited bound (link last.carrier).clock p h.end.base.agreed v (subst (IsTriedBy bound (link last.carrier).clock p [] h.end.base.agreed) stage k.tried) in
+            omega (arith, early_still, tried, passed)
 
-      pub over_accepted : t0 + timers.t1 ≤ (link last.carrier).clock → IsNotAccepted last x
-      over_accepted passed d v at is = elim answered.holds [
-        | inl gone ↦ subst HasLeft is (left_by_number last x gone d at)
-        | inr k ↦ over_answerable passed k d v at is
-      ]
+        over_bound : bound + timers.t1 ≤ (link last.carrier).clock → IsNotAccepted last x
+        over_bound passed d v at is = elim answered.holds [
+          | inl gone ↦ subst HasLeft is (left_by_number last x gone d at)
+          | inr k ↦ over_answerable passed k d v at is
+        ]
+
+      -- the partner was frozen or gone
+      pub over_accepted : IsFrozenOrGone old y → t0 + timers.t1 ≤ (link last.carrier).clock → IsNotAccepted last x
+      over_accepted far_gone = over_bound t0 (omega arith) (λ v at_place. not_closed t0 t0 p here_now.end.base.agreed [] v.base v.stage (frozen_out v.stage (far_gone v (its_end v at_place))))
+        where
+          its_end : (v : End) → end_at here_now.far left.reference ≡ Some v → end_at_number old y ≡ Some v
+          its_end v at_place = stands_at link names timers rests.w early old rests.explains y v (record {
+            system = left.system;
+            reference = left.reference;
+            entity = here_now.far;
+            is_end = record { there = here_now.far_placed; stands = at_place; number = partner_number link names timers rests.w early old rests.explains t0 p [] here_now v at_place };
+          })
+
+      -- however the partner had left
+      pub over_closing : t0 + 2 * timers.t1 ≤ (link last.carrier).clock → IsNotAccepted last x
+      over_closing passed = over_bound (t0 + timers.t1) (omega arith)
+          (λ v at_place.
+          let t_is : v.base.timers ≡ timers = (rests.explains.known.holds left.system here_now.far here_now.far_placed).theirs left.reference v at_place in
+          closed_by_now (t0 + timers.t1) t0 p here_now.end.base.agreed v.base v.stage (subst (λ (t : Timers). t0 + t.t1 ≤ t0 + timers.t1) (sym t_is) (omega arith))
+          (parted_by link steps law names timers early old calls left.system left.reference here_now.far v here_now.far_placed at_place)) (omega (arith, passed))

@@ -1,8 +1,12 @@
 pub mod Accepted
+pub mod Answered
 pub mod Beside
 pub mod Deeds
 pub mod Ending
+pub mod Lasting
+pub mod Parting
 pub mod Partner
+pub mod Past
 pub mod Quiet
 pub mod Rows
 pub mod Running

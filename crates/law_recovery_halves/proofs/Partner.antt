@@ -30,7 +30,7 @@ use Rattle.law_calm_run.proofs.Hall.{Post}
 use Rattle.law_recovery_run.specs.Aside.{IsSentTo, Names}
 use Rattle.law_recovery_run.specs.Rivals.{IsFor, IsGoing}
 use Rattle.law_recovery_run.proofs.Rivals.{far as known_far, here as known_here, partner_there, sound as sound_of}
-use Rattle.law_recovery_script.specs.Over.{HasLeftAt}
+use Rattle.law_recovery_service.specs.Over.{HasLeftAt}
 use Rattle.law_tp4_moves.specs.Moves.{HasSource}
 use Rattle.law_tp4_moves.specs.Seen.{seen}
 use Rattle.law_recovery_halves.proofs.Rows.{IsCc, IsDr}

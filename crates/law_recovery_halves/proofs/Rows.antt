@@ -38,7 +38,7 @@ use Rattle.tp4_world.proofs.Addressees.{all_append, either}
 use Rattle.law_recovery_run.specs.Aside.{Names}
 use Rattle.law_recovery_walk.specs.Following.{IsBy}
 use Rattle.law_recovery_walk.proofs.Speaking.{HalvesSay, Sends, ak_said, submitted_sent, ticked_sent, urged_sent}
-use Rattle.law_recovery_halves.specs.Halves.{KnowsPartner}
+use Rattle.law_recovery_service.specs.Halves.{KnowsPartner}
 
 -- ---- kinds
 
@@ -223,6 +223,7 @@ pub record HasAccepted (b : EndRecord) (m : Moved) : Type 0 where
   pub base : m.base ≡ record b { agreed = Some options }
   pub next : InAkWait
   pub stage : m.stage ≡ stages.AkWait next
+  pub last : next.tries.last ≡ b.clock
   pub octets : List ℕ
   pub tpdus : m.tpdus ≡ confirm (record b { agreed = Some options }) options octets ∷ []
 
@@ -232,7 +233,7 @@ module _ (b : EndRecord) (since : ℕ) where
 
   answer_row : (call : UserCall) → Answers_or (on_call b (stages.UserWait since) call)
   unfolding user_wait_accept user_wait_refuse
-  answer_row (calls.Accept options octets) = inr (inr (record { options = _; base = refl; next = _; stage = refl; octets = octets; tpdus = refl }))
+  answer_row (calls.Accept options octets) = inr (inr (record { options = _; base = refl; next = _; stage = refl; last = refl; octets = octets; tpdus = refl }))
   answer_row (calls.Refuse octets) = inl tt
   answer_row (calls.Normal unit) = inr (inl (record { base = refl; stage = refl; none = refl }))
   answer_row (calls.Urgent unit) = inr (inl (record { base = refl; stage = refl; none = refl }))

@@ -1,8 +1,10 @@
--- Of a run that recovers: its recovering settle leaves nothing to deliver, and the lines since are settled and lose nothing. And of an indication, after any calls.
+-- Of a run that recovers: its recovering settle leaves nothing to deliver, and the lines since are settled and lose nothing. And of an indication, after any calls, and so after such a run.
 use Rattle.std.proofs.Common.{◌≡◌, ℕ, ◌+◌, ◌<◌, ◌≤◌, nat_le, false, List, [], None, sym, subst, ◌++◌, arith}
 use Rattle.std.proofs.lemmas.Bool.{leb-false}
 use Rattle.osi_base.specs.Calls.{Call, Keeps}
 use Rattle.osi_base.specs.Link.{Link}
+use Rattle.osi_base.specs.declared.unit.Unit.{Unit as CarriedUnit}
+use Rattle.net_world.specs.Prompt.{IsPrompt}
 use Rattle.script_journal.specs.declared.event.Event.{Event}
 use Rattle.tp4_number.specs.Number.{whole}
 use Rattle.tp4_conn.specs.End.{End}
@@ -23,18 +25,42 @@ use Rattle.law_tp4_lawful.proofs.ActsLines.{Flowing}
 use Rattle.law_tp4_lawful.proofs.MeetsOthers.{KnowsTaken}
 use Rattle.law_tp4_lawful.proofs.ReferencesHalves.{known_at}
 use Rattle.law_tp4_lawful.proofs.Worlds.{Rests}
-use Rattle.law_recovery_run.specs.Ordered.{IsReady}
+use Rattle.law_recovery_run.specs.Ordered.{IsReady, ReachedFrom}
+use Rattle.law_recovery_run.proofs.Aiming.{Going}
 use Rattle.law_recovery_run.proofs.Rivals.{sound}
 use Rattle.law_recovery_walk.specs.Following.{Stands}
-use Rattle.law_recovery_ready.specs.Laws.{RunsAreCalls, RunsAreReady, RunsGoOn}
-use Rattle.law_recovery_halves.proofs.Ending.{calls_rest}
-use Rattle.law_recovery_halves.specs.Laws.{LinesFollow, RunsFollow}
+use Rattle.law_recovery_ready.specs.Laws.{EndsHaveNumbers, RunsAreCalls, RunsAreReady, RunsGoOn}
+use Rattle.law_recovery_world.specs.Laws.{CallsKeepSteady}
+use Rattle.law_recovery_halves.specs.Along.{FollowsAlong}
+use Rattle.law_recovery_halves.specs.Laws.{AlongRunsFollow, CallsEndIndications, RunsEndIndications}
+use Rattle.law_recovery_halves.proofs.Ending.{calls_rest, over_accepted, over_closing, over_opened}
 
-pub runs_follow : {C : Type 0} (link : C → Link (List ℕ)) (steps : C → Call (List ℕ) → C → Type 0) → LinesFollow link steps → RunsAreCalls link steps whole → RunsAreReady link steps → RunsGoOn link steps
-    → RunsFollow link steps whole
-runs_follow {C} link steps lines calls ready goes titles begins queue_of prompt timers begun early late script first at_t0 last begins_is started run =
-    lines titles begins queue_of prompt timers (begun ++ early) late at_t0 last run.recovers.after (calls titles timers begun early late first at_t0 last script started run).0
+pub along_follows : {C : Type 0} (link : C → Link (List ℕ)) (steps : C → Call (List ℕ) → C → Type 0) → RunsAreCalls link steps whole → RunsAreReady link steps → RunsGoOn link steps → AlongRunsFollow link steps
+along_follows {C} link steps calls ready goes titles begins along timers begun early late script first at_t0 last begins_is started run =
+    along timers (begun ++ early) late at_t0 last run.recovers.after (calls titles timers begun early late first at_t0 last script started run).0
     (subst (λ (state : C). IsReady link steps titles state at_t0) begins_is (ready titles timers begun early late first at_t0 last script started run)) (goes titles early late first at_t0 last script run)
+
+pub runs_end : {C : Type 0} (link : C → Link (List ℕ)) (steps : C → Call (List ℕ) → C → Type 0) → CallsEndIndications link steps → RunsAreCalls link steps whole → RunsEndIndications link steps whole
+runs_end link steps ends calls titles timers begun early late script first at_t0 last started run =
+    ends titles timers ((begun ++ early) ++ late) last (calls titles timers begun early late first at_t0 last script started run).1
+
+-- lines, over each carrier that serves again once nothing is lost, whatever relation tells what waits in it
+module _ {C : Type 0} (link : C → Link (List ℕ)) (steps : C → Call (List ℕ) → C → Type 0) (law : (old : C) (call : Call (List ℕ)) (new : C) → steps old call new → Keeps (link old) call (link new))
+    (flowing : Flowing) (knows : KnowsTaken) (begun : (times : Times) (titles : List (List ℕ)) (w : Whole) → IsNothing w → Written times titles w []) (going : Going)
+    (numbers : EndsHaveNumbers link steps) (steady : CallsKeepSteady link steps) where
+  pub follows_over : (titles : List (List ℕ)) (first : C) (Waits : C → List (CarriedUnit (List ℕ)) → Type 0) → IsPrompt link steps titles (ReachedFrom link steps titles first) Waits
+      → FollowsAlong link steps titles first
+  follows_over titles first Waits prompt timers early late old last script calls ready run x y e partners at half left =
+      let stands = (numbers titles timers early old calls x e).1 at in
+      record {
+        opened = over_opened link steps law titles first Waits prompt going flowing knows begun titles timers early late old last script calls ready run x y e partners stands half left;
+        accepted = λ gone listens.
+            over_accepted link steps law titles first Waits prompt going flowing knows begun titles timers early late old last script calls ready run x y e partners stands half left listens
+            (steady titles timers early old calls) gone;
+        closing = λ listens.
+            over_closing link steps law titles first Waits prompt going flowing knows begun titles timers early late old last script calls ready run x y e partners stands half left listens
+            (steady titles timers early old calls);
+      }
 
 module _ {C : Type 0} (link : C → Link (List ℕ)) (steps : C → Call (List ℕ) → C → Type 0) (law : (old : C) (call : Call (List ℕ)) (new : C) → steps old call new → Keeps (link old) call (link new))
     (flowing : Flowing) (knows : KnowsTaken) (begins : (times : Times) (titles : List (List ℕ)) (w : Whole) → IsNothing w → Written times titles w [])

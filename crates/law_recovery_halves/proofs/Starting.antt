@@ -23,8 +23,8 @@ use Rattle.law_tp4_lawful.proofs.Worlds.{Explains}
 use Rattle.law_recovery_run.specs.Rivals.{IsFor, IsGoing}
 use Rattle.law_recovery_run.proofs.Rivals.{far as known_far, here as known_here, partner_there, sound as sound_of}
 use Rattle.law_recovery_walk.specs.Following.{Stands}
-use Rattle.law_recovery_script.specs.Over.{HasLeftEnd}
-use Rattle.law_recovery_halves.specs.Halves.{KnowsPartner}
+use Rattle.law_recovery_service.specs.Over.{HasLeftEnd}
+use Rattle.law_recovery_service.specs.Halves.{KnowsPartner}
 use Rattle.law_recovery_halves.proofs.Partner.{IsHalf, IsStill, Parties}
 
 half_goes : (stage : StateData) → KnowsPartner stage → stop_of stage ≡ None

@@ -27,11 +27,12 @@ use Rattle.law_calm_run.specs.Service.{end_at_number, end_placed}
 use Rattle.law_calm_service.proofs.Wired.{no_ends}
 use Rattle.law_calm_service.proofs.WiredEnds.{placed_on, upper_end, upper_open}
 use Rattle.law_recovery_request.specs.Requesting.{AreListening}
-use Rattle.law_recovery_script.specs.Over.{HasLeftEnd}
+use Rattle.law_recovery_ready.specs.Ready.{HasStarted}
+use Rattle.law_recovery_service.specs.Over.{HasLeftEnd}
 use Rattle.law_recovery_service.specs.Recovered.{IsOver}
 use Rattle.law_recovery_wire.proofs.Wired.{run_above}
-use Rattle.law_recovery_halves.specs.Halves.{HalvesFollow, HasFollowed, IsFrozenOrGone, IsNotAccepted, KnowsPartner}
-use Rattle.law_recovery_halves.specs.Laws.{RunsFollow}
+use Rattle.law_recovery_service.specs.Halves.{HalvesFollow, HasFollowed, IndicationsEnd, IsFrozenOrGone, IsNotAccepted, KnowsPartner}
+use Rattle.law_recovery_halves.specs.Laws.{FollowsOnWire, RunsEndIndications}
 use Rattle.law_recovery_halves.proofs.Ending.{left_by_number}
 
 -- ---- states
@@ -123,13 +124,43 @@ follow_on_wire {C} t t0 now early at_t0 last follow x y e partners at knows left
       opened = λ past. over_on_wire last x (has.opened past);
       accepted = λ gone listens past.
           not_accepted_on_wire last x (has.accepted (gone_above at_t0 y gone) (listens_above t0 at_t0 upper.end.base.to (subst (λ (l : List ℕ). AreListening t0 (world_on_wire at_t0) l) to listens)) past);
+      closing = λ listens past.
+          not_accepted_on_wire last x (has.closing (listens_above t0 at_t0 upper.end.base.to (subst (λ (l : List ℕ). AreListening t0 (world_on_wire at_t0) l) to listens)) past);
     }
 
-pub runs_on_wire : {C : Type 0} (link : C → Link (List ℕ)) (steps : C → Call (List ℕ) → C → Type 0) → WholeRun link steps → WholeLine link steps → RunsFollow link steps whole → RunsFollow link steps wire
-runs_on_wire {C} link steps whole_run whole_line follow titles begins queue_of prompt timers begun early late script first at_t0 last begins_is started run =
-    let none = subst (λ (w : World C). AllByRecursion (λ (one : Placed). HasNoEnd one.entity) w.entities) (sym started.starts.becomes) (no_ends titles started.placed started.is_first.entities) in
-    let above = run_above link steps whole_run whole_line titles first at_t0 last script early late none run in
-    subst (λ (w : World C). HalvesFollow timers (link w.carrier).clock (link last.carrier).clock (begun ++ early) w last) (sym above.mid_is)
-    (subst (λ (w : World C). HalvesFollow timers (link above.mid.carrier).clock (link w.carrier).clock (begun ++ early) (world_on_wire above.mid) w) (sym above.end_is)
-    (follow_on_wire timers (link above.mid.carrier).clock (link above.end.carrier).clock (begun ++ early) above.mid above.end
-    (follow titles begins queue_of prompt timers begun early late script first above.mid above.end begins_is started above.run)))
+-- an indication that no user has answered is the same there
+asked_above : (stage : StateData) (since : ℕ) → stage_on_wire stage ≡ stages.UserWait since → stage ≡ stages.UserWait since
+asked_above (stages.UserWait when) since is = is
+asked_above (stages.AkWait v) since is = absurd (cc is)
+asked_above (stages.Opened o) since is = absurd (cc is)
+asked_above (stages.CrWait w) since is = absurd (cc is)
+asked_above (stages.WaitBeforeClose w) since is = absurd (cc is)
+asked_above (stages.Closing c) since is = absurd (cc is)
+asked_above (stages.Frozen when) since is = absurd (cc is)
+
+pub indications_on_wire : {C : Type 0} (t : Timers) (now : ℕ) (last : World C) → IndicationsEnd t now last → IndicationsEnd t now (world_on_wire last)
+indications_on_wire t now last ends x since e at is =
+    let upper = upper_end last x e at in
+    ends x since upper.end upper.stands (asked_above upper.end.stage since (sym (ap (λ (z : End). z.stage) upper.is) ∙ is))
+
+-- ---- runs
+
+module _ {C : Type 0} (link : C → Link (List ℕ)) (steps : C → Call (List ℕ) → C → Type 0) (whole_run : WholeRun link steps) (whole_line : WholeLine link steps) where
+  none : (titles : List (List ℕ)) (timers : Timers) (begun : List Event) (first : World C) → HasStarted link steps titles timers begun first
+      → AllByRecursion (λ (one : Placed). HasNoEnd one.entity) first.entities
+  none titles timers begun first started =
+      subst (λ (w : World C). AllByRecursion (λ (one : Placed). HasNoEnd one.entity) w.entities) (sym started.starts.becomes) (no_ends titles started.placed started.is_first.entities)
+
+  pub follows_on_wire : FollowsOnWire link steps
+  follows_on_wire titles begins follow timers begun early late script first at_t0 last begins_is started run =
+      let above = run_above link steps whole_run whole_line titles first at_t0 last script early late (none titles timers begun first started) run in
+      subst (λ (w : World C). HalvesFollow timers (link w.carrier).clock (link last.carrier).clock (begun ++ early) w last) (sym above.mid_is)
+      (subst (λ (w : World C). HalvesFollow timers (link above.mid.carrier).clock (link w.carrier).clock (begun ++ early) (world_on_wire above.mid) w) (sym above.end_is)
+      (follow_on_wire timers (link above.mid.carrier).clock (link above.end.carrier).clock (begun ++ early) above.mid above.end
+      (follow timers begun early late script first above.mid above.end begins_is started above.run)))
+
+  pub ends_on_wire : RunsEndIndications link steps whole → RunsEndIndications link steps wire
+  ends_on_wire ends titles timers begun early late script first at_t0 last started run =
+      let above = run_above link steps whole_run whole_line titles first at_t0 last script early late (none titles timers begun first started) run in
+      subst (λ (w : World C). IndicationsEnd timers (link w.carrier).clock w) (sym above.end_is)
+      (indications_on_wire timers (link above.end.carrier).clock above.end (ends titles timers begun early late script first above.mid above.end started above.run))

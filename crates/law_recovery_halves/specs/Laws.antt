@@ -3,21 +3,25 @@ use Rattle.std.specs.Prelude.{ℕ, List}
 use Rattle.osi_base.specs.Calls.{Call}
 use Rattle.osi_base.specs.Link.{Link}
 use Rattle.script_journal.specs.declared.event.Event.{Event}
-use Rattle.script_lines.specs.declared.line.Line.{Line}
-use Rattle.tp4_number.specs.Number.{whole}
+use Rattle.tp4_number.specs.Number.{whole, wire}
 use Rattle.tp4_conn.specs.declared.timers.Timers.{Timers}
 use Rattle.tp4_world.specs.World.{World}
 use Rattle.law_tp4_lawful.specs.Called.{AreHonestCalls}
-use Rattle.law_recovery_run.specs.Ordered.{IsReady, OnPrompt, RunsInOrder}
-use Rattle.law_recovery_halves.specs.Halves.{HalvesFollow, IndicationsEnd}
-use Rattle.law_recovery_halves.specs.Runs.{FollowsFrom}
+use Rattle.law_recovery_run.specs.Ordered.{OnPrompt}
+use Rattle.law_recovery_halves.specs.Along.{FollowsAlong}
+use Rattle.law_recovery_service.specs.Halves.{IndicationsEnd}
+use Rattle.law_recovery_halves.specs.Runs.{FollowsFrom, IndicationsFrom}
 
--- Over each carrier that serves again once nothing is lost: in a network in which nothing is left to deliver, lines that are settled and lose nothing leave no end Opened or in AkWait beside a
--- partner that had left before
+-- over each carrier that serves again once nothing is lost, in a network in which nothing is left to deliver: lines that are settled and lose nothing leave no end beside a partner that had left
 abbrev pub LinesFollow : {C : Type 0} → (C → Link (List ℕ)) → (C → Call (List ℕ) → C → Type 0) → Type 0
-LinesFollow {C} link steps = OnPrompt link steps (λ titles first Waits. (timers : Timers) (early late : List Event) (old last : World C) (script : List Line)
-    → AreHonestCalls link steps whole titles timers early old → IsReady link steps titles first old → RunsInOrder link steps titles old script late last
-    → HalvesFollow timers (link old.carrier).clock (link last.carrier).clock early old last)
+LinesFollow link steps = OnPrompt link steps (λ titles first Waits. FollowsAlong link steps titles first)
+
+-- where that is so from a state of the carrier on, the claim holds of each run that recovers; and over the numbers of the wire where it does over whole ones
+abbrev pub AlongRunsFollow : {C : Type 0} → (C → Link (List ℕ)) → (C → Call (List ℕ) → C → Type 0) → Type 0
+AlongRunsFollow {C} link steps = (titles : List (List ℕ)) (begins : C) → FollowsAlong link steps titles begins → FollowsFrom link steps whole titles begins
+
+abbrev pub FollowsOnWire : {C : Type 0} → (C → Link (List ℕ)) → (C → Call (List ℕ) → C → Type 0) → Type 0
+FollowsOnWire {C} link steps = (titles : List (List ℕ)) (begins : C) → FollowsFrom link steps whole titles begins → FollowsFrom link steps wire titles begins
 
 -- over each carrier that serves again once nothing is lost
 abbrev pub RunsFollow : {C : Type 0} → (C → Link (List ℕ)) → (C → Call (List ℕ) → C → Type 0) → (ℕ → ℕ → ℕ) → Type 0
@@ -27,3 +31,7 @@ RunsFollow link steps wrap = OnPrompt link steps (λ titles begins Waits. Follow
 abbrev pub CallsEndIndications : {C : Type 0} → (C → Link (List ℕ)) → (C → Call (List ℕ) → C → Type 0) → Type 0
 CallsEndIndications {C} link steps = (titles : List (List ℕ)) (timers : Timers) (journal : List Event) (last : World C) → AreHonestCalls link steps whole titles timers journal last
     → IndicationsEnd timers (link last.carrier).clock last
+
+-- so in each run that recovers, over any carrier
+abbrev pub RunsEndIndications : {C : Type 0} → (C → Link (List ℕ)) → (C → Call (List ℕ) → C → Type 0) → (ℕ → ℕ → ℕ) → Type 0
+RunsEndIndications {C} link steps wrap = (titles : List (List ℕ)) → IndicationsFrom link steps wrap titles

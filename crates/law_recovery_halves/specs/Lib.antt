@@ -1,3 +1,3 @@
-pub mod Halves
+pub mod Along
 pub mod Laws
 pub mod Runs

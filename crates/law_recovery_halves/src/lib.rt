@@ -3,4 +3,4 @@
 
 mod laws;
 
-pub use laws::{indications_end, lines_follow, runs_follow};
+pub use laws::{indications_end, lines_follow, runs_end_indications, runs_follow};

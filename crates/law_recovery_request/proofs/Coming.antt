@@ -192,7 +192,7 @@ module _ {C : Type 0} (link : C → Link (List ℕ)) (titles : List (List ℕ)) 
       by false apart = inr (ap (λ (ps : List Placed). entity_at ps s) a.entities ∙ entity_other old.entities a.system s a.acted.entity (eqb-false s a.system apart) ∙ there)
 
   -- an end that stands and is not frozen has its number still
-  number_on : (s reference n : ℕ) (z : Entity) (o : End) → entity_at old.entities s ≡ Some z → end_at z reference ≡ Some o → stop_of o.stage ≡ None → latest old.ends s reference ≡ n
+  pub number_on : (s reference n : ℕ) (z : Entity) (o : End) → entity_at old.entities s ≡ Some z → end_at z reference ≡ Some o → stop_of o.stage ≡ None → latest old.ends s reference ≡ n
       → latest new.ends s reference ≡ n
   number_on s reference n z o there stands goes number = ap (λ (es : List EndAt). latest es s reference) a.ends ∙ by met_so
     where

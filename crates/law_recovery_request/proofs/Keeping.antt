@@ -18,7 +18,7 @@ use Rattle.tp4_flow.specs.declared.step.Sent.{Sent}
 use Rattle.tp4_conn.specs.Agreeing.{request}
 use Rattle.tp4_conn.specs.CrWait.{cr_wait_tpdu}
 use Rattle.tp4_conn.specs.End.{End, Moved, agreed_format}
-use Rattle.tp4_conn.specs.Matching.{fits, is_match}
+use Rattle.tp4_conn.specs.Matching.{fits, is_called_by, is_match}
 use Rattle.tp4_conn.specs.Table.{Took, stepped}
 use Rattle.tp4_conn.specs.declared.end_record.EndRecord.{EndRecord}
 use Rattle.tp4_conn.specs.declared.states.InCrWait.{InCrWait}
@@ -66,10 +66,10 @@ no_cc (wires.Ak destination number credit subsequence confirmation) has = λ kin
 no_cc (wires.Ea destination number) has = λ kind. absurd (cc kind)
 no_cc other has = absurd (cc has)
 
-read_names : (entity : Entity) (sent : Sent) (t : WireTpdu) (sum : Bool) (reference : ℕ) → IsReadAs entity sent (t, sum) → Names reference t → Names reference sent.tpdu
+pub read_names : (entity : Entity) (sent : Sent) (t : WireTpdu) (sum : Bool) (reference : ℕ) → IsReadAs entity sent (t, sum) → Names reference t → Names reference sent.tpdu
 read_names entity sent t sum reference read names = subst (Names reference) (read.control (ap has_number (sym read.kind) ∙ no_number t reference names)) names
 
-read_sourced : (entity : Entity) (sent : Sent) (t : WireTpdu) (sum : Bool) → IsReadAs entity sent (t, sum) → HasSource (seen 0 sent.tpdu) → HasSource (seen 0 t)
+pub read_sourced : (entity : Entity) (sent : Sent) (t : WireTpdu) (sum : Bool) → IsReadAs entity sent (t, sum) → HasSource (seen 0 sent.tpdu) → HasSource (seen 0 t)
 read_sourced entity sent t sum read has = by (has_number (kind_for sent.tpdu)) refl
   where
     by : (c : Bool) → has_number (kind_for sent.tpdu) ≡ c → HasSource (seen 0 t)
@@ -100,9 +100,19 @@ both_of : (P Q : Sent → Type 0) (R : Sent → Type 0) (sents : List Sent) → 
 both_of P Q R [] f ps qs = tt
 both_of P Q R (sent ∷ sents) f ps qs = (f sent ps.0 qs.0, both_of P Q R sents f ps.1 qs.1)
 
+-- no end that it called takes what came
+module _ {C : Type 0} (link : C → Link (List ℕ)) (old new : World C) (post : Post) (made : List JournalEvent) (a : HasActed link old new post made) (from : List ℕ) (b : EndRecord) where
+  abbrev pub AreDeaf : Type 0
+  AreDeaf = (reference : ℕ) (o : End) (t : WireTpdu) (sum : Bool) → IsReadAs a.entity post.sent (t, sum) → destination_of t ≡ Some reference → end_at a.entity reference ≡ Some o
+      → is_match o.base o.stage a.sender.own t ≡ true → a.entity.own ≡ b.to → is_called_by o.base from b.own ≡ true → ⊥
+
+  -- those of which none was answered
+  pub unanswered_deaf : AreUnanswered old b.to from b.own → AreDeaf
+  unanswered_deaf was reference o t sum read target there match address called = no_fit o.base o.stage t (was a.system reference a.entity o a.there address there called) (both_are _ _ match).1
+
 module _ {C : Type 0} (link : C → Link (List ℕ)) (titles : List (List ℕ)) (timers : Timers) (w : Whole) (journal : List JournalEvent) (old : World C) (explains : Explains link titles timers w journal old)
     (going : Going) (new : World C) (post : Post) (rest : List Post) (made : List JournalEvent) (a : HasActed link old new post made) (system x : ℕ) (from : List ℕ) (N : Type 0) (b : EndRecord) (r : InCrWait)
-    (h : IsHere system x from N b r old) (was : AreUnanswered old b.to from b.own) (listens : AreListening (link old.carrier).clock old b.to)
+    (h : IsHere system x from N b r old) (deaf : AreDeaf link old new post made a from b) (listens : AreListening (link old.carrier).clock old b.to)
     (selects : AreRegistered N old b.to b.called) (quiet : AllByRecursion (IsKeptApart system from N b r) (post ∷ rest)) where
   abbrev now : ℕ
   now = (link old.carrier).clock
@@ -231,7 +241,7 @@ module _ {C : Type 0} (link : C → Link (List ℕ)) (titles : List (List ℕ)) 
             let called : o.base.is_called ≡ true = sym other.0.sees.is_called ∙ c.called in
             let address : a.entity.own ≡ b.to = sym other.0.at.address ∙ sym (partner_address (times_of timers) w.base (sound link titles timers w journal old explains) k.0.k other.0.k (inl c)) ∙ k.0.sees.partner in
             let to_true : pointwise nat_eq o.base.to from ≡ true = (bytes_decides o.base.to from).1 to in
-            no_fit o.base o.stage t (was a.system reference a.entity o a.there address there (λ i. called i && (to_true i && eq-eqb o.base.partner b.own partner_is i))) is.1
+            deaf reference o t sum read target there match address (λ i. called i && (to_true i && eq-eqb o.base.partner b.own partner_is i))
 
     bad : o.base.to ≡ from → (o.base.partner ≡ b.own) ⊎ NamedBy (Took t sum) b.own → ⊥
     bad to (inl partner) = mine to partner
@@ -299,12 +309,12 @@ pub unsettled_so : {C : Type 0} (link : C → Link (List ℕ)) (titles : List (L
     ⊎ ((has : HasTaken link new x b r) × (P → IsRefusalOf from N b.own has.tpdu))
 unsettled_so {C} link titles timers w journal old explains fit going new post rest made a system x from N b r P listens selects u quiet =
     elim (unsettled_on link titles timers w journal old explains new post rest made a system x from N b r fit listens selects u) [
-      | inl next ↦ inl (next, λ p. apart_on link titles timers w journal old explains going new post rest made a system x from N b r u.here u.unanswered listens selects (quiet p))
+      | inl next ↦ inl (next, λ p. apart_on link titles timers w journal old explains going new post rest made a system x from N b r u.here (unanswered_deaf link old new post made a from b u.unanswered) listens selects (quiet p))
       | inr taken ↦ inr (
         taken.has,
         λ p. elim taken.whence [
           | inl is ↦ is
-          | inr q ↦ turned link titles timers w journal old explains going new post rest made a system x from N b r u.here u.unanswered listens selects (quiet p) taken.has.tpdu q.0 q.1 q.2 q.3
+          | inr q ↦ turned link titles timers w journal old explains going new post rest made a system x from N b r u.here (unanswered_deaf link old new post made a from b u.unanswered) listens selects (quiet p) taken.has.tpdu q.0 q.1 q.2 q.3
         ],
       )
     ]

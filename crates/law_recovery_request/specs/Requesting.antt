@@ -1,6 +1,6 @@
 -- An end in CrWait of a network whose CR waits, and the end that it calls: there is none yet, or its user has not answered (X.224, class 4: connection establishment, retransmission on
 -- time-out).
-use Rattle.std.specs.Prelude.{◌≡◌, ◌⊎◌, ℕ, Bool, true, false, List, ◌++◌, Some}
+use Rattle.std.specs.Prelude.{◌≡◌, ◌⊎◌, ℕ, Bool, true, List, ◌++◌, Some}
 use Rattle.std.specs.List.{Contains}
 use Rattle.osi_base.specs.Calls.{Call}
 use Rattle.osi_base.specs.Link.{Link}
@@ -17,10 +17,9 @@ use Rattle.tp4_conn.specs.declared.end_record.EndRecord.{EndRecord}
 use Rattle.tp4_conn.specs.declared.states.InCrWait.{InCrWait}
 use Rattle.tp4_conn.specs.declared.states.InOpened.{InOpened}
 use Rattle.tp4_conn.specs.declared.states.StateData.{StateData}
-use Rattle.tp4_conn.specs.declared.states.StateData.TheVariants.{CrWait, Frozen, Opened, UserWait}
+use Rattle.tp4_conn.specs.declared.states.StateData.TheVariants.{CrWait, Opened, UserWait}
 use Rattle.tp4_entity.specs.Association.{refusal}
 use Rattle.tp4_entity.specs.Entity.{Entity, end_at}
-use Rattle.tp4_entity.specs.References.{is_silent}
 use Rattle.law_tp4_moves.specs.Moves.{HasSource}
 use Rattle.law_tp4_moves.specs.Seen.{seen}
 use Rattle.law_tp4_pair.specs.steps.Standing.{HasLeft}
@@ -29,6 +28,7 @@ use Rattle.tp4_world.specs.World.{World, entity_at}
 use Rattle.law_calm_run.proofs.Hall.{Hall, Post}
 use Rattle.law_recovery_run.specs.Aside.{IsSentTo, Names}
 use Rattle.law_recovery_walk.specs.Following.{Stands}
+pub use Rattle.law_recovery_run.specs.Unanswered.{AreListening, AreUnanswered, IsUnanswered}
 
 -- ---- before a settle
 
@@ -49,21 +49,6 @@ pub record IsSentAgain (now system own : ℕ) (b : EndRecord) (r : InCrWait) (ha
   pub there : entity_at hall.entities system ≡ Some entity
   pub stands : end_at entity own ≡ Some (sent_again now b r)
   pub waits : Contains hall.posts (cr_from system b r)
-
--- the user of a called end has not answered, or the end is frozen
-abbrev pub IsUnanswered : StateData → Type 0
-IsUnanswered (UserWait since) = Unit {0}
-IsUnanswered (Frozen when) = Unit {0}
-IsUnanswered stage = ⊥
-
--- of the called ends at the address `to` that are for that calling address and reference none was answered that is not frozen
-abbrev pub AreUnanswered : {C : Type 0} → World C → List ℕ → List ℕ → ℕ → Type 0
-AreUnanswered last to from reference = (system own : ℕ) (entity : Entity) (end : End) → entity_at last.entities system ≡ Some entity → entity.own ≡ to → end_at entity own ≡ Some end
-    → is_called_by end.base from reference ≡ true → IsUnanswered end.stage
-
--- none of the entities at that address is silent at that tick
-abbrev pub AreListening : {C : Type 0} → ℕ → World C → List ℕ → Type 0
-AreListening now last to = (system : ℕ) (entity : Entity) → entity_at last.entities system ≡ Some entity → entity.own ≡ to → is_silent now entity ≡ false
 
 -- the end of the number x is in CrWait, and its CR waits
 pub record IsRequesting {C : Type 0} (last : World C) (posts : List Post) (x : ℕ) (b : EndRecord) (r : InCrWait) : Type 0 where

@@ -3,3 +3,4 @@ pub mod Laws
 pub mod Ordered
 pub mod Rivals
 pub mod Run
+pub mod Unanswered

@@ -40,7 +40,7 @@ use Rattle.law_recovery_script.proofs.Asking.{idle_of}
 use Rattle.law_recovery_script.proofs.Ticking.{HasStepped, later_of}
 use Rattle.law_recovery_going.specs.Going.{AreBothLeft}
 use Rattle.law_recovery_walk.proofs.Settling.{IsStopped, WentOn, settles_so, timed as timed_by}
-use Rattle.law_recovery_script.specs.Over.{HaveLeft, KeepsLeft}
+use Rattle.law_recovery_service.specs.Over.{HaveLeft, KeepsLeft}
 use Rattle.law_recovery_script.proofs.Clocks.{none_ticks, ticked_then}
 use Rattle.law_recovery_script.proofs.Lasting.{asked, line_honest, line_rests, none_waits, still_moves}
 use Rattle.law_recovery_script.proofs.Outlasting.{end_keeps, left_end}

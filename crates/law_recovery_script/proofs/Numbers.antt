@@ -16,7 +16,7 @@ use Rattle.tp4_world.specs.World.{World, entity_at, latest}
 use Rattle.law_tp4_lawful.proofs.Worlds.{Explains}
 use Rattle.law_calm_run.specs.Service.{end_at_number, end_placed}
 use Rattle.law_recovery_walk.specs.Following.{Stands}
-use Rattle.law_recovery_script.specs.Over.{HasLeftEnd}
+use Rattle.law_recovery_service.specs.Over.{HasLeftEnd}
 use Rattle.law_recovery_script.proofs.Outlasting.{made_so}
 
 pub left_over : {C : Type 0} (last : World C) (x : ℕ) → HasLeftEnd last x → (e : End) (o : InOpened) → end_at_number last x ≡ Some e → e.stage ≡ Opened o → ⊥

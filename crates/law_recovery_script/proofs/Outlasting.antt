@@ -38,7 +38,7 @@ use Rattle.law_tp4_lawful.proofs.Worlds.{Explains}
 use Rattle.law_recovery_run.proofs.Aside.{either}
 use Rattle.law_recovery_walk.proofs.Beside.{latest_elsewhere}
 use Rattle.law_recovery_walk.specs.Following.{Stands}
-use Rattle.law_recovery_script.specs.Over.{HasLeftAt, HasLeftEnd, KeepsLeft}
+use Rattle.law_recovery_service.specs.Over.{HasLeftAt, HasLeftEnd, KeepsLeft}
 
 -- what an entity did to its places
 pub data Kind (now : ℕ) (ends after : List EndAt) (system : ℕ) (entity changed : Entity) : Type 0 where

@@ -14,7 +14,7 @@ use Rattle.law_recovery_going.specs.Laws.{PairsPart}
 use Rattle.law_recovery_walk.specs.Following.{IsFollowed, IsLive}
 use Rattle.law_recovery_walk.specs.Settling.{IsEnded}
 use Rattle.law_recovery_script.specs.Moving.{HasLasted, HasPlayed}
-use Rattle.law_recovery_script.specs.Over.{HaveLeft}
+use Rattle.law_recovery_service.specs.Over.{HaveLeft}
 use Rattle.law_recovery_script.proofs.Releasing.{ended_left}
 
 both_live : (p : Pair) → AreBothOpened p → IsEnded p → ⊥

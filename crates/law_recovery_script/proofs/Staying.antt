@@ -62,7 +62,7 @@ use Rattle.law_calm_run.proofs.Ticking as calm_ticking
 use Rattle.law_recovery_run.proofs.Aiming.{Going}
 use Rattle.law_recovery_walk.proofs.Coming.{StandsSo, delivered}
 use Rattle.law_recovery_walk.proofs.Delivering.{HasActed}
-use Rattle.law_recovery_script.specs.Over.{KeepsLeft}
+use Rattle.law_recovery_service.specs.Over.{KeepsLeft}
 use Rattle.law_recovery_script.proofs.Asking.{IsTaker, taker}
 use Rattle.law_recovery_script.proofs.Lasting.{did_rests, line_honest, line_rests}
 use Rattle.law_recovery_script.proofs.Outlasting.{Kind, New, Row, Same, kept_is, left_on, met_kind, row_stays}

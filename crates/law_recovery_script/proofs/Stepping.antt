@@ -9,7 +9,7 @@ use Rattle.law_recovery_going.specs.Going.{AreBothLeft, AreTicked}
 use Rattle.law_recovery_walk.specs.Following.{IsFollowed}
 use Rattle.law_recovery_walk.specs.Settling.{IsEnded}
 use Rattle.law_recovery_script.specs.Moving.{AreTold}
-use Rattle.law_recovery_script.specs.Over.{HaveLeft}
+use Rattle.law_recovery_service.specs.Over.{HaveLeft}
 
 -- The pair went on, with a tick of each end where it is due: it has the two ends still, and what waits between them, with the units of the journal; or one of them is frozen, and
 -- if both had left, the two ends have left in the network

@@ -73,7 +73,7 @@ use Rattle.law_recovery_walk.proofs.Leaving.{Leaves, nothing_leaves}
 use Rattle.law_recovery_walk.proofs.Settling.{live_or}
 use Rattle.law_recovery_script.specs.Moving.{IsGoneTold}
 use Rattle.law_recovery_script.proofs.Stepping.{HasMoved}
-use Rattle.law_recovery_script.specs.Over.{HaveLeft, KeepsLeft}
+use Rattle.law_recovery_service.specs.Over.{HaveLeft, KeepsLeft}
 use Rattle.law_recovery_script.proofs.Outlasting.{Row, Same, end_keeps, kept_is, left_end, left_on, row_stays}
 use Rattle.law_recovery_script.proofs.Releasing.{frozen_left}
 use Rattle.law_recovery_going.specs.Going.{AreBothLeft}

@@ -20,7 +20,7 @@ use Rattle.law_recovery_run.specs.Ordered.{IsReady, OnPrompt, RunsInOrder}
 use Rattle.law_recovery_walk.specs.Following.{IsFollowed, IsLive, Stands}
 use Rattle.law_recovery_walk.specs.Settling.{IsEnded}
 use Rattle.law_recovery_script.specs.Moving.{HasLasted, HasLastedTold, HasPlayed}
-use Rattle.law_recovery_script.specs.Over.{HasLeftEnd}
+use Rattle.law_recovery_service.specs.Over.{HasLeftEnd}
 
 -- Over each carrier that serves again once nothing is lost: of two ends that are Opened or Closing and know each other, in a network in which nothing is left to deliver, lines that are settled
 -- and lose nothing are steps of their pair, until one of them is frozen; from there on the two have left, if both had left by then

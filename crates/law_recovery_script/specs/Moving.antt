@@ -19,7 +19,7 @@ use Rattle.law_recovery_service.specs.Service.{HappensAt}
 use Rattle.law_recovery_steps.specs.Resting.{AreLater}
 use Rattle.law_recovery_walk.specs.Following.{IsFollowed}
 use Rattle.law_recovery_walk.specs.Settling.{IsEnded}
-use Rattle.law_recovery_script.specs.Over.{HaveLeft}
+use Rattle.law_recovery_service.specs.Over.{HaveLeft}
 
 -- The pair went on, with a tick of each end where it is due: nothing waits and no end is due, and it has the two ends still, with the units of the journal; or one of them is frozen. If both of
 -- the pair have left, the two ends have left in the network

@@ -7,9 +7,12 @@ use Rattle.script_lines.specs.Script.{Says}
 use Rattle.script_lines.specs.declared.line.Line.{Line}
 use Rattle.script_lines.specs.declared.line.Line.TheVariants as lines
 use Rattle.script_setup.specs.SetUp.{SetUp, set_up}
+use Rattle.script_world.specs.Transports.{TransportRun}
+use Rattle.script_world.specs.declared.play.World.TheVariants.{Running}
+use Rattle.tp4_conn.specs.declared.timers.Timers.{Timers}
 use Rattle.tp4_number.specs.Number.{wire}
 use Rattle.tp4_world.specs.Run.{RunsLine, RunsLines}
-use Rattle.law_run.specs.World.{NetDoes, TransportNet, link_of_net}
+use Rattle.law_run.specs.World.{Net, NetDoes, TransportNet, link_of_net}
 use Rattle.law_run.proofs.CalmDrawn.{SetBy}
 use Rattle.law_setup_times.specs.Ordered.{set_up_by}
 
@@ -65,6 +68,13 @@ settle_alone titles old made new run =
     let same : made ≡ run.1 = run.4 ∙ ap (λ (rest : List Event). run.1 ++ rest) run.5.0 ∙ append-nil run.1 in
     subst (λ (w : TransportNet). RunsLine link_of_net NetDoes wire titles old lines.Settle made w) (sym run.5.1)
     (subst (λ (events : List Event). RunsLine link_of_net NetDoes wire titles old lines.Settle events run.0) (sym same) run.3)
+
+-- what runs, with these titles and times
+abbrev pub run_of : List (List ℕ) → Timers → TransportNet → TransportRun Net
+run_of titles timers ends = record { titles = titles; timers = timers; ends = ends }
+
+pub same_run : (one other : TransportRun Net) → Running one ≡ Running other → one ≡ other
+same_run one other is = cc is
 
 -- ---- what they set up
 

@@ -7,15 +7,14 @@ use Rattle.osi_base.specs.declared.unit.Unit.{Unit as CarriedUnit}
 use Rattle.osi_base.specs.declared.unit.Up.{Up}
 use Rattle.net_world.specs.Prompt.{IsPrompt, IsUsual}
 use Rattle.net_world.specs.Run.{Passes}
-use Rattle.tp4_number.specs.Number.{whole}
 use Rattle.law_clnp_fifo.specs.Calm.{titles_of}
 use Rattle.law_clnp_fifo.specs.Reached.{Reached}
 use Rattle.law_clnp_fifo.specs.Waiting.{Waits}
 use Rattle.law_clnp_fifo.proofs.Prompt.{is_prompt}
 use Rattle.law_recovery_run.specs.Ordered.{LeadsOn, ReachedFrom}
-use Rattle.law_recovery_service.specs.Service.{RecoversFrom}
 use Rattle.law_run.specs.World.{Net, NetDoes, link_of_net}
-use Rattle.law_recovery_scripts.specs.Laws.{NetsArePrompt, NetsRecover}
+use Rattle.law_recovery_scripts.specs.Laws.{NetsArePrompt}
+use Rattle.law_recovery_scripts.specs.Nets.{OnNets}
 
 module _ {C : Type 0} (link : C → Link (List ℕ)) (steps : C → Call (List ℕ) → C → Type 0) (titles : List (List ℕ)) where
   -- one call more
@@ -43,8 +42,8 @@ pub nets_prompt : NetsArePrompt
 nets_prompt rows first second here there begins calm reached =
     prompt_from link_of_net NetDoes (titles_of first second) (Reached rows first second) (Waits rows first second here there) (is_prompt rows first second here there calm) begins reached
 
--- what holds of each run over each carrier that serves again, whatever relation tells what waits in it, holds of these networks
-pub nets_recover : ((titles : List (List ℕ)) (begins : Net) (Waiting : Net → List (CarriedUnit (List ℕ)) → Type 0) → IsPrompt link_of_net NetDoes titles (ReachedFrom link_of_net NetDoes titles begins) Waiting
-    → RecoversFrom link_of_net NetDoes whole titles begins) → NetsRecover whole
-nets_recover recovers rows first second here there begins calm reached =
-    recovers (titles_of first second) begins (Waits rows first second here there) (nets_prompt rows first second here there begins calm reached)
+-- what holds from a state of each carrier on that serves again from there, whatever relation tells what waits in it, holds of these networks
+pub on_nets : (Holds : List (List ℕ) → Net → Type 0) → ((titles : List (List ℕ)) (begins : Net) (Waiting : Net → List (CarriedUnit (List ℕ)) → Type 0)
+    → IsPrompt link_of_net NetDoes titles (ReachedFrom link_of_net NetDoes titles begins) Waiting → Holds titles begins) → OnNets Holds
+on_nets Holds holds rows first second here there begins calm reached =
+    holds (titles_of first second) begins (Waits rows first second here there) (nets_prompt rows first second here there begins calm reached)

@@ -1,6 +1,6 @@
 //! What a script of `run` promises the users of its network once nothing is lost any more (X.214, service primitives; queue model of the transport service).
 
-ghost use Rattle.law_recovery_scripts.specs.Laws.{NetsArePrompt, NetsRecover, OctetsRecover, ScriptsRecover};
+ghost use Rattle.law_recovery_scripts.specs.Laws.{NetsArePrompt, NetsAsk, NetsFollow, NetsRecover, OctetsKept, OctetsRecover, ScriptsKept, ScriptsRecover};
 ghost use Rattle.tp4_number.specs.Number.{whole};
 
 use script_world::RoutedNet;
@@ -20,13 +20,52 @@ pub fn nets_recover()
     law_tp4_moves::moved();
 }
 
-/// So do those of each script whose lines were read, and after whatever part of octets was run whole, over the numbers of the wire: all that the set-up has to be, two end systems on one LAN
-/// come to, and the reader of `set` lines keeps W below I.
+/// Each end of such a network that was in CrWait is answered, or its called user alone is missing, or it went; over whole numbers.
+pub fn nets_ask()
+    ensures { NetsAsk whole }
+{
+    law_recovery_asking::networks_ask::<RoutedNet>();
+    law_tp4_history::journals_are_lawful();
+    law_tp4_moves::flowed();
+    law_tp4_moves::moved();
+}
+
+/// No end of such a network is left beside a partner that had left; over whole numbers.
+pub fn nets_follow()
+    ensures { NetsFollow whole }
+{
+    law_recovery_halves::runs_follow::<RoutedNet>();
+    law_recovery_ready::ends_have_numbers::<RoutedNet>();
+    law_recovery_world::over_calls::<RoutedNet>();
+    law_tp4_history::journals_are_lawful();
+    law_tp4_moves::flowed();
+    law_tp4_moves::moved();
+}
+
+/// So it is of the ends of each script whose lines were read, and after whatever part of octets was run whole, over the numbers of the wire: all that the set-up has to be, two end systems on
+/// one LAN come to, and the reader of `set` lines keeps W below I. And no indication is left without an answer for I ticks.
 pub fn scripts_recover()
     ensures scripts { ScriptsRecover }
     ensures octets { OctetsRecover }
 {
     nets_recover();
+    nets_ask();
+    nets_follow();
     law_recovery_wire::recovers_on_wire::<RoutedNet>();
+    law_recovery_asking::asks_on_wire::<RoutedNet>();
+    law_recovery_halves::runs_follow::<RoutedNet>();
+    law_recovery_halves::runs_end_indications::<RoutedNet>();
+    law_setup_times::scripts_are_ordered();
+}
+
+/// A short outage of such a script ends no connection of two ends that were up to date before it, and none at all where the script was calm up to there; so it is of each script whose lines were
+/// read, and after whatever part of octets was run whole, over the numbers of the wire.
+pub fn outages_are_kept()
+    ensures scripts { ScriptsKept }
+    ensures octets { OctetsKept }
+{
+    nets_recover();
+    law_recovery_outage::outages_end_none::<RoutedNet>();
+    law_recovery_outage::outages_end_none_on_wire::<RoutedNet>();
     law_setup_times::scripts_are_ordered();
 }

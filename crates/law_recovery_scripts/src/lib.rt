@@ -3,4 +3,6 @@
 
 mod laws;
 
-pub use laws::{nets_are_prompt, nets_recover, scripts_recover};
+pub use laws::{
+    nets_are_prompt, nets_ask, nets_follow, nets_recover, outages_are_kept, scripts_recover,
+};

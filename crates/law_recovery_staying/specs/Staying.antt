@@ -1,7 +1,5 @@
 -- Two Opened partners of a network while its carrier may lose, repeat, delay and reorder (X.224, class 4: retransmission on time-out; inactivity control).
-use Rattle.std.specs.Prelude.{◌≡◌, ℕ, List, Contains}
-use Rattle.script_journal.specs.declared.event.Event.{Event}
-use Rattle.script_journal.specs.declared.event.Event.TheVariants as events
+use Rattle.std.specs.Prelude.{◌≡◌, ℕ}
 use Rattle.tp4_conn.specs.End.{End}
 use Rattle.tp4_conn.specs.declared.states.InOpened.{InOpened}
 use Rattle.tp4_conn.specs.declared.states.StateData.TheVariants.{Opened}
@@ -10,6 +8,7 @@ use Rattle.tp4_entity.specs.Entity.{Entity}
 use Rattle.tp4_world.specs.World.{World}
 use Rattle.law_tp4_lawful.specs.References.{IsEnd}
 use Rattle.law_recovery_tries.specs.Since.{IsUpToDate}
+pub use Rattle.law_recovery_service.specs.Alone.{IsLeftAlone}
 
 -- the end of the number x is Opened, and up to date since tick s
 pub record IsOpenedSince {C : Type 0} (t : Timers) (s : ℕ) (world : World C) (x : ℕ) : Type 0 where
@@ -21,8 +20,3 @@ pub record IsOpenedSince {C : Type 0} (t : Timers) (s : ℕ) (world : World C) (
   pub o : InOpened
   pub stage : end.stage ≡ Opened o
   pub since : IsUpToDate t s o
-
--- in these events the user of the end x does not disconnect, and its system does not begin again
-pub record IsLeftAlone (x system : ℕ) (journal : List Event) : Type 0 where
-  pub user : (octets : List ℕ) → Contains journal (events.Disconnect x octets) → ⊥
-  pub again : Contains journal (events.Restart system) → ⊥

@@ -1,3 +1,4 @@
 pub mod Ers
 pub mod Laws
 pub mod Since
+pub mod UpToDate

@@ -1,30 +1,15 @@
--- What an Opened end has outstanding since a tick at which all that it had sent before was acknowledged, and when it heard of its partner last (X.224, class 4: retention until
--- acknowledgement; retransmission on time-out; inactivity control).
+-- What a row does of an Opened end that is up to date since a tick: it stays so, or it may leave (X.224, class 4: retention until acknowledgement; retransmission on time-out; inactivity control).
 use Rattle.std.specs.Prelude.{◌≡◌, ◌⊎◌, ◌<◌, ◌≤◌, ℕ, ◌+◌, ◌*◌}
 use Rattle.tpdu.specs.declared.tpdu.Tpdu.{Tpdu}
 use Rattle.tpdu.specs.declared.tpdu.Tpdu.TheVariants.{Dr, Er}
-use Rattle.tp4_sending.specs.declared.tries.Tries.{Tries}
 use Rattle.tp4_conn.specs.declared.end_record.EndRecord.{EndRecord}
 use Rattle.tp4_conn.specs.declared.states.InOpened.{InOpened}
 use Rattle.tp4_conn.specs.declared.states.StateData.TheVariants.{Opened}
 use Rattle.tp4_conn.specs.declared.timers.Timers.{Timers}
 use Rattle.tp4_conn.specs.End.{Moved}
 use Rattle.tp4_conn.specs.Table.{Called, Event, Ticked, Took}
-use Rattle.law_recovery_going.specs.Causes.{IsTryOf}
 use Rattle.law_recovery_going.specs.Going.{IsDisconnect, IsWrong}
-
--- ---- an end
-
--- so many sendings since tick s, the first at s or later, and each T1 after the one before or later
-abbrev pub IsTriedSince : (s t1 : ℕ) → Tries → Type 0
-IsTriedSince s t1 tries = s + tries.count * t1 ≤ tries.last + t1
-
--- An Opened end is up to date since tick s: each DT and ED that is outstanding was sent at s or later for the first time; and a TPDU was taken less than W ticks before s, or later
-pub record IsUpToDate (t : Timers) (s : ℕ) (o : InOpened) : Type 0 where
-  pub tried : (tries : Tries) → IsTryOf o.halves.sending tries → IsTriedSince s t.t1 tries
-  pub heard : s < o.took + t.window
-
--- ---- what a row does
+pub use Rattle.law_recovery_tries.specs.UpToDate.{IsTriedSince, IsUpToDate}
 
 -- it stays so
 pub record StaysUpToDate (t : Timers) (s : ℕ) (m : Moved) : Type 0 where

@@ -13,7 +13,7 @@ use Rattle.script_bench.proofs.Given.{outcome_run, ran_script}
 use Rattle.script_bench.proofs.Runs.{filled_run as filled_of, script_run as run_of}
 use Rattle.law_run.specs.Bench.{Bench, FillsJournal, first_bench, bench_meaning, most_events}
 use Rattle.law_run.specs.World.{life_of, titles_of, world_acts}
-use Rattle.law_run.specs.Transcript.{IsFilledRun, IsScriptRun, IsTranscript, RecoversWhereKept, ServesWhereCalm, ShowsSentUnits, ShowsSilence, ShowsWhatWasSubmitted}
+use Rattle.law_run.specs.Transcript.{IsFilledRun, IsScriptRun, IsTranscript, KeptThroughOutages, RecoversWhereKept, ServesWhereCalm, ShowsSentUnits, ShowsSilence, ShowsWhatWasSubmitted}
 use Rattle.law_run.proofs.Lawful.{raw_lawful}
 
 pub script_run : (texts : List (List ℕ)) (journal : List Event) (last : Bench) → Runs bench_meaning first_bench texts journal last → IsScriptRun texts journal last
@@ -47,7 +47,7 @@ shows_sent read = λ front journal last begins run. ran_script world_acts IsScri
 
 module _ {S K : Type 0} (left : S → Option (List ℕ)) (held : K → Option (List ℕ)) (source : S) (sink : K) (now_source : S) (now_sink : K) (answer : Status)
     (lawful : (octets : List ℕ) → ShowsWhatWasSubmitted octets) (silent : (octets : List ℕ) → ShowsSilence octets) (calm : (octets : List ℕ) → ServesWhereCalm octets)
-    (recovers : (octets : List ℕ) → RecoversWhereKept octets) where
+    (recovers : (octets : List ℕ) → RecoversWhereKept octets) (outages : (octets : List ℕ) → KeptThroughOutages octets) where
   pub transcript : ((read : List ℕ) × (written : List ℕ) × Took (left source) read (left now_source) × Put (held sink) written (held now_sink)
       × Outcome bench_meaning (IsAtEnd (left now_source)) first_bench read written answer × (length read ≤ most_octets + most_read))
       → (read : List ℕ) × (written : List ℕ) × Took (left source) read (left now_source) × Put (held sink) written (held now_sink) × IsTranscript (IsAtEnd (left now_source)) read written answer
@@ -64,6 +64,7 @@ module _ {S K : Type 0} (left : S → Option (List ℕ)) (held : K → Option (L
       silent = silent h.0;
       calm = calm h.0;
       recovers = recovers h.0;
+      outages = outages h.0;
       within = h.5;
     },
   )

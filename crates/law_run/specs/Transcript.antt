@@ -15,12 +15,13 @@ use Rattle.script_bench.specs.Told.{OutcomeRun as OutcomeRunOf, RanScript as Ran
 use Rattle.script_lines.specs.declared.words.Dialect.TheVariants as dialects
 use Rattle.law_run.specs.Bench.{Bench, first_bench, bench_meaning, most_events}
 use Rattle.law_run.specs.Calm.{ServesUsers}
+use Rattle.law_run.specs.Outage.{KeepsThrough, RunsThroughOutage}
 use Rattle.law_run.specs.Recovery.{RunsRecovering}
-use Rattle.law_run.specs.World.{TransportNet, frozen_of, life_of, link_of_net, running, strays_of, titles_of, world_acts, WorldRun}
+use Rattle.law_run.specs.Serving.{ServesAgain}
+use Rattle.law_run.specs.World.{TransportNet, frozen_of, life_of, running, strays_of, titles_of, world_acts, WorldRun}
 use Rattle.script_journal.specs.Lawful.{KeepsSilence, Lawful}
 use Rattle.script_journal.specs.RawLawful.{RawLawful}
 use Rattle.line_loop.specs.Writing.{IsPrefix}
-use Rattle.law_recovery_service.specs.Recovered.{Recovered}
 use Rattle.tp4_conn.specs.declared.timers.Timers.{Timers}
 
 -- the texts are the lines of a script, and by the run of the network they have this journal and leave that network; where that tells no
@@ -89,15 +90,23 @@ abbrev pub ServesWhereCalm : List ℕ → Type 0
 ServesWhereCalm octets = (front : List ℕ) (journal : List Event) (last : Bench) → IsPrefix front octets → (run : IsRun front journal last) → RanWhole front journal last run
     → (titles : List (List ℕ)) (timers : Timers) (ends : TransportNet) → last.world ≡ running titles timers ends → IsCalmScript (lines_handled front journal last run) → ServesUsers last.names journal titles ends
 
--- whatever front of the octets was run whole: where its lines are such a script and ran so, its ends recover
+-- whatever front of the octets was run whole: where its lines are such a script and ran so, its ends recover; each that waited for an answer has it, or waits for its called user alone, or went; and
+-- none is left beside a partner that had left
 abbrev pub RecoversWhereKept : List ℕ → Type 0
 RecoversWhereKept octets = (front : List ℕ) (journal : List Event) (last : Bench) → IsPrefix front octets → (run : IsRun front journal last) → RanWhole front journal last run
     → (titles : List (List ℕ)) (timers : Timers) (early late : List Event) (at_t0 ends : TransportNet) → RunsRecovering (lines_handled front journal last run) titles timers early late at_t0 ends
-    → Recovered link_of_net timers at_t0 ends early late
+    → ServesAgain timers at_t0 ends early late
+
+-- whatever front of the octets was run whole: where its lines are a script with an outage and ran so, a short one ends no connection that was up to date before it
+abbrev pub KeptThroughOutages : List ℕ → Type 0
+KeptThroughOutages octets = (front : List ℕ) (journal : List Event) (last : Bench) → IsPrefix front octets → (run : IsRun front journal last) → RanWhole front journal last run
+    → (titles : List (List ℕ)) (timers : Timers) (early lost late : List Event) (at_s at_t0 ends : TransportNet)
+    → (runs : RunsThroughOutage (lines_handled front journal last run) titles timers early lost late at_s at_t0 ends) → KeepsThrough timers runs.parts.front early lost late at_s at_t0 ends
 
 -- of the octets read, what was written is told as the status says, and tells the run of the network for the lines of the
 -- script; whatever part of the octets was run, each raw unit that is shown was sent, and each end shows what its partner submitted,
--- unless a frame was injected; a system that began again is silent; where the lines are calm, nothing is missing; where they lose nothing any more, ends recover; and no more was read than an input may have, and one read more
+-- unless a frame was injected; a system that began again is silent; where the lines are calm, nothing is missing; where they lose nothing any more, ends recover, and none goes by a short
+-- outage; and no more was read than an input may have, and one read more
 pub record IsTranscript (end : Type 0) (read written : List ℕ) (status : Status) : Type 0 where
   pub outcome : Outcome bench_meaning end first_bench read written status
   pub run : OutcomeRun end read written status outcome
@@ -106,4 +115,5 @@ pub record IsTranscript (end : Type 0) (read written : List ℕ) (status : Statu
   pub silent : ShowsSilence read
   pub calm : ServesWhereCalm read
   pub recovers : RecoversWhereKept read
+  pub outages : KeptThroughOutages read
   pub within : length read ≤ most_octets + most_read

@@ -1,5 +1,6 @@
 pub mod Calm
 pub mod Claim
+pub mod Left
 pub mod Meeting
 pub mod Pair
 pub mod Telling

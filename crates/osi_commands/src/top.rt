@@ -14,7 +14,7 @@ use crate::kinds::run_kind;
 use crate::laws::generated_scripts_are_lawful;
 use crate::storm::write_storm;
 use capture_decode::decode;
-use law_recovery_scripts::scripts_recover;
+use law_recovery_scripts::{outages_are_kept, scripts_recover};
 use law_run::{NetWorld, calm_scripts_are_served, ends_are_lawful, systems_are_silent};
 use line_loop::write_last;
 use osi_base::{Bytes, NoMemory, PlainSink, PlainSource, Sink, Source, Status};
@@ -82,6 +82,7 @@ fn carry_out<S: Source, K: Sink>(
             systems_are_silent();
             calm_scripts_are_served();
             scripts_recover();
+            outages_are_kept();
             run_script::<NetWorld, S, K>(alloc, source, sink)
         }
         Command::Frames => write_capture(alloc, source, sink),

@@ -10,24 +10,14 @@ use Rattle.tp4_conn.specs.declared.halves.Halves.{Halves}
 use Rattle.tp4_conn.specs.declared.states.InAkWait.{InAkWait}
 use Rattle.tp4_conn.specs.declared.states.InOpened.{InOpened}
 use Rattle.tp4_conn.specs.declared.states.InCrWait.{InCrWait}
-use Rattle.tp4_conn.specs.declared.states.StateData.{StateData}
-use Rattle.tp4_conn.specs.declared.states.StateData.TheVariants.{CrWait, WaitBeforeClose, UserWait, AkWait, Opened, Closing, Frozen}
+use Rattle.tp4_conn.specs.declared.states.StateData.TheVariants.{CrWait, AkWait, Opened}
 use Rattle.tp4_conn.specs.Agreeing.{confirm, halves_of}
 use Rattle.tp4_conn.specs.End.{IsSized}
 use Rattle.law_tp4_pair.specs.steps.Carrying.{Carries, pieces_in, units_in}
 use Rattle.law_tp4_pair.specs.steps.Waiting.{AreData, dts_in, eds_in, aks_in, eas_in}
 use Rattle.law_tp4_pair.specs.steps.Flowing.{IsCalm}
 use Rattle.law_tp4_pair.specs.Pair.{Account, IsNew, Pair, back_units, forth_units}
-
--- the end will not be Opened any more
-abbrev pub HasLeft : StateData → Type 0
-HasLeft (CrWait w) = ⊥
-HasLeft (WaitBeforeClose w) = Unit {0}
-HasLeft (UserWait since) = ⊥
-HasLeft (AkWait w) = ⊥
-HasLeft (Opened o) = ⊥
-HasLeft (Closing c) = Unit {0}
-HasLeft (Frozen when) = Unit {0}
+pub use Rattle.law_tp4_pair.specs.Left.{HasLeft}
 
 -- what an end has that is Opened: its reference and that of its partner, the partner's address, and what was agreed
 pub record Party : Type 0 where
